@@ -1,0 +1,66 @@
+-- Laws of handles in a list.
+use Rattle.std.proofs.Common.{◌≡◌, ℕ, zero, suc, ◌+◌, ◌-◌, Bool, true, false, cond, List, [], ◌∷◌, ◌++◌, length, take, drop, set, refl, ap, sym, zero-add, suc-add, arith}
+use Rattle.std.specs.Prelude.{Option, Some, None, slice_get}
+use Rattle.std.proofs.lemmas.List.{take_at, length_push}
+use Rattle.rw_handles.specs.declared.kinds.HandleFault.TheVariants.{WrongKind}
+use Rattle.rw_handles.specs.declared.kinds.Kind.{Kind}
+use Rattle.rw_handles.specs.declared.kinds.Kind.TheVariants.{Sender, Receiver}
+use Rattle.rw_handles.specs.declared.kinds.Slot.{Slot}
+use Rattle.rw_handles.specs.declared.kinds.Slot.TheVariants.{Live, Spent}
+use Rattle.rw_handles.specs.declared.kinds.Found.TheVariants.{Fault, Handle}
+use Rattle.rw_handles.specs.Slots.{serves, same_kind, found_at, values}
+
+-- a handle that is found stands under its number
+pub found_at_is : {X : Type 0} (wanted : Option Kind) (o : Option (Slot X)) (kind : Kind) (x : X) → found_at wanted o ≡ Handle kind x → o ≡ Some (Live kind x)
+found_at_is wanted None kind x h = cc
+found_at_is wanted (Some Spent) kind x h = cc
+found_at_is wanted (Some (Live own y)) kind x h = found_live (serves wanted own) own y kind x h where
+  found_live : {X : Type 0} (b : Bool) (own : Kind) (y : X) (kind : Kind) (x : X) → cond b (Handle own y) (Fault WrongKind) ≡ Handle kind x → Some (Live own y) ≡ Some (Live kind x)
+  found_live true own y kind x h = cc
+  found_live false own y kind x h = cc
+
+-- what a write replaced, written back
+pub set_back : {A : Type 0} (xs : List A) (i : ℕ) (a b : A) → slice_get xs i ≡ Some b → set (set xs i a) i b ≡ xs
+set_back [] i a b h = refl
+set_back (x ∷ xs) zero a b h = let e : x ≡ b = cc in ap (λ y. y ∷ xs) (sym e)
+set_back (x ∷ xs) (suc i) a b h = ap (λ ys. x ∷ ys) (set_back xs i a b h)
+
+-- the list from before a push
+pub push_back : {A : Type 0} (xs : List A) (a : A) → take (length (xs ++ a ∷ []) - 1) (xs ++ a ∷ []) ≡ xs
+push_back xs a = take_at xs (a ∷ []) (length (xs ++ a ∷ []) - 1) (omega (arith, length_push xs a))
+
+-- an element under its place, in a list from which the first ones are dropped
+pub slice_get-drop : {A : Type 0} (n : ℕ) (xs : List A) (i : ℕ) → slice_get (drop n xs) i ≡ slice_get xs (n + i)
+slice_get-drop zero xs i = rw zero-add refl
+slice_get-drop (suc n) [] i = refl
+slice_get-drop (suc n) (x ∷ xs) i = rw suc-add (slice_get-drop n xs i)
+
+same_kind_is : (a b : Kind) → same_kind a b ≡ true → a ≡ b
+same_kind_is Sender Sender h = refl
+same_kind_is Receiver Receiver h = refl
+same_kind_is Sender Receiver h = cc
+same_kind_is Receiver Sender h = cc
+
+-- and where a kind is wanted, it is of that kind
+pub found_at_wanted : {X : Type 0} (wanted : Kind) (o : Option (Slot X)) (kind : Kind) (x : X) → found_at (Some wanted) o ≡ Handle kind x → o ≡ Some (Live wanted x)
+found_at_wanted wanted None kind x h = cc
+found_at_wanted wanted (Some Spent) kind x h = cc
+found_at_wanted wanted (Some (Live own y)) kind x h = found_live (same_kind wanted own) (same_kind_is wanted own) y h where
+  found_live : (b : Bool) (same : b ≡ true → wanted ≡ own) (y : _) → cond b (Handle own y) (Fault WrongKind) ≡ Handle kind x → Some (Live own y) ≡ Some (Live wanted x)
+  found_live true same y h = let e : wanted ≡ own = same refl in cc
+  found_live false same y h = cc
+
+-- what is read where it was written
+pub slice_get-set : {A : Type 0} (xs : List A) (i : ℕ) (a b : A) → slice_get xs i ≡ Some b → slice_get (set xs i a) i ≡ Some a
+slice_get-set [] i a b h = cc
+slice_get-set (x ∷ xs) zero a b h = refl
+slice_get-set (x ∷ xs) (suc i) a b h = slice_get-set xs i a b h
+
+-- the values of one more slot
+pub values-append : {X : Type 0} (kind : Kind) (xs ys : List (Slot X)) → values kind (xs ++ ys) ≡ values kind xs ++ values kind ys
+values-append kind [] ys = refl
+values-append kind (Spent ∷ xs) ys = values-append kind xs ys
+values-append kind (Live own x ∷ xs) ys = appended (same_kind kind own) (values-append kind xs ys) where
+  appended : (b : Bool) → values kind (xs ++ ys) ≡ values kind xs ++ values kind ys → cond b (x ∷ values kind (xs ++ ys)) (values kind (xs ++ ys)) ≡ cond b (x ∷ values kind xs) (values kind xs) ++ values kind ys
+  appended true h = ap (λ l. x ∷ l) h
+  appended false h = h

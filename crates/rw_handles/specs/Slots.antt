@@ -1,0 +1,45 @@
+-- The handles of a channel as the list of what stands under each number, in the order of making.
+-- So its length is the number of handles made, and a dropped handle keeps its number.
+use Rattle.std.specs.Prelude.{ℕ, Bool, true, false, cond, List, [], ◌∷◌, Option, Some, None, slice_get, count_by}
+use Rattle.rw_handles.specs.declared.kinds.Kind.{Kind}
+use Rattle.rw_handles.specs.declared.kinds.Kind.TheVariants.{Sender, Receiver}
+use Rattle.rw_handles.specs.declared.kinds.Slot.{Slot}
+use Rattle.rw_handles.specs.declared.kinds.Slot.TheVariants.{Live, Spent}
+use Rattle.rw_handles.specs.declared.kinds.HandleFault.TheVariants.{Unknown, Gone, WrongKind}
+use Rattle.rw_handles.specs.declared.kinds.Found.{Found}
+use Rattle.rw_handles.specs.declared.kinds.Found.TheVariants.{Fault, Handle}
+
+abbrev pub same_kind : Kind → Kind → Bool
+same_kind Sender Sender = true
+same_kind Receiver Receiver = true
+same_kind _ _ = false
+
+-- whether a handle of this kind serves where one of the wanted kind is asked for; at None any kind serves
+abbrev pub serves : Option Kind → Kind → Bool
+serves None kind = true
+serves (Some wanted) kind = same_kind wanted kind
+
+-- what is found where this stands under a number, if anything
+abbrev pub found_at : {X : Type 0} → Option Kind → Option (Slot X) → Found X
+found_at wanted None = Fault Unknown
+found_at wanted (Some Spent) = Fault Gone
+found_at wanted (Some (Live kind x)) = cond (serves wanted kind) (Handle kind x) (Fault WrongKind)
+
+-- the handle of this number, where it is alive and of the wanted kind
+abbrev pub found : {X : Type 0} → Option Kind → List (Slot X) → ℕ → Found X
+found wanted slots h = found_at wanted (slice_get slots h)
+
+-- a live handle of this kind
+abbrev pub is_alive : {X : Type 0} → Kind → Slot X → Bool
+is_alive kind (Live own x) = same_kind kind own
+is_alive kind Spent = false
+
+-- how many handles of this kind are alive
+abbrev pub alive : {X : Type 0} → Kind → List (Slot X) → ℕ
+alive kind slots = count_by (is_alive kind) slots
+
+-- the values of the live handles of this kind, in order of number
+abbrev pub values : {X : Type 0} → Kind → List (Slot X) → List X
+values kind [] = []
+values kind (Live own x ∷ slots) = cond (same_kind kind own) (x ∷ values kind slots) (values kind slots)
+values kind (Spent ∷ slots) = values kind slots

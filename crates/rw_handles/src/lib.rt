@@ -1,0 +1,12 @@
+//! Handles of a channel, numbered in order of making, with a value each.
+//!
+//! The one contract: a table is a finite map from live numbers to a kind and a value, beside the count of all numbers ever
+//! made, as the list of what stands under each number (`specs/Slots.antt`). Numbers aren't used again, and each making,
+//! drop and write has its undoing.
+//! Start reading at `kinds.rt`, the words, and then at `specs/Slots.antt`.
+#![tactic(auto)]
+
+mod kinds;
+pub mod slots;
+
+pub use kinds::{Found, HandleFault, Kind, Slot};

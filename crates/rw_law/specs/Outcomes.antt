@@ -1,0 +1,37 @@
+-- A machine that is given by one function: what a call leads to, from what is shown. Each law is then a fact of one outcome.
+use Rattle.std.specs.Prelude.{◌≡◌, ℕ, ◌+◌, ◌≤◌, Bool, true, false, if◌then◌else◌, refl}
+use Rattle.rw_law.specs.Laws.{Laws}
+
+-- what a call leads to: what is shown then, the reply, and the patch that undoes it
+pub record Outcome (V R P : Type 0) : Type 0 where
+  pub next : V
+  pub reply : R
+  pub patch : P
+
+module _ {V C R P : Type 0} (allowed : V → Type 0) (weigh : V → ℕ) (back : V → C → P → V) (fits : V → C → P → Type 0) (refuses : R → Bool) where
+  -- the laws of a machine, of one outcome of a call from x
+  pub record IsSound (x : V) (c : C) (o : Outcome V R P) : Type 0 where
+    pub undone : allowed x → back o.next c o.patch ≡ x
+    pub next_allowed : allowed x → allowed o.next
+    pub patch_fits : allowed x → fits o.next c o.patch
+    pub refused : refuses o.reply ≡ true → o.next ≡ x
+    pub weight_rises : weigh o.next ≤ weigh x + 1
+
+  -- an outcome that depends on a test is sound where both of its cases are
+  pub sound_if : {x : V} {c : C} (b : Bool) {o p : Outcome V R P} → (b ≡ true → IsSound x c o) → (b ≡ false → IsSound x c p) → IsSound x c (if b then o else p)
+  sound_if true h k = h refl
+  sound_if false h k = k refl
+
+  -- sound outcomes make the laws of a machine
+  pub laws_of : (outcome : V → C → Outcome V R P) (is_waiting is_straying : R → Bool) → ((x : V) (c : C) → IsSound x c (outcome x c))
+      → ((r : R) → is_waiting r ≡ true → refuses r ≡ true) → ((r : R) → is_straying r ≡ true → refuses r ≡ true)
+      → Laws allowed weigh (λ x c. (outcome x c).next) (λ x c. (outcome x c).reply) (λ x c. (outcome x c).patch) back fits refuses is_waiting is_straying
+  laws_of outcome is_waiting is_straying sound waits strays = record {
+    undone = λ x c. (sound x c).undone;
+    next_allowed = λ x c. (sound x c).next_allowed;
+    patch_fits = λ x c. (sound x c).patch_fits;
+    refused = λ x c a. (sound x c).refused;
+    waiting_refuses = waits;
+    straying_refuses = strays;
+    weight_rises = λ x c a. (sound x c).weight_rises;
+  }
