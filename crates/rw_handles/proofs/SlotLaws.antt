@@ -1,14 +1,17 @@
 -- Laws of handles in a list.
-use Rattle.std.proofs.Common.{◌≡◌, ℕ, zero, suc, ◌+◌, ◌-◌, Bool, true, false, cond, List, [], ◌∷◌, ◌++◌, length, take, drop, set, refl, ap, sym, zero-add, suc-add, arith}
-use Rattle.std.specs.Prelude.{Option, Some, None, slice_get}
+use Rattle.std.proofs.Common.{◌≡◌, ℕ, zero, suc, ◌+◌, ◌-◌, ◌<◌, Bool, true, false, cond, List, [], ◌∷◌, ◌++◌, length, take, drop, set, refl, ap, sym, subst, zero-add, suc-add, arith, length-set}
+use Rattle.std.specs.Prelude.{Option, Some, None, All, slice_get, ◌&&◌, nat_le}
+use Rattle.std.proofs.lemmas.Bool.{leb-false}
 use Rattle.std.proofs.lemmas.List.{take_at, length_push}
+use Rattle.std.proofs.lemmas.List.Elements.{All-get_or}
+use Rattle.std.proofs.lemmas.Option.{slice_get_within, get_or_from_slice_get}
 use Rattle.rw_handles.specs.declared.kinds.HandleFault.TheVariants.{WrongKind}
 use Rattle.rw_handles.specs.declared.kinds.Kind.{Kind}
 use Rattle.rw_handles.specs.declared.kinds.Kind.TheVariants.{Sender, Receiver}
 use Rattle.rw_handles.specs.declared.kinds.Slot.{Slot}
 use Rattle.rw_handles.specs.declared.kinds.Slot.TheVariants.{Live, Spent}
 use Rattle.rw_handles.specs.declared.kinds.Found.TheVariants.{Fault, Handle}
-use Rattle.rw_handles.specs.Slots.{serves, same_kind, found_at, values}
+use Rattle.rw_handles.specs.Slots.{HANDLES, serves, same_kind, found_at, values}
 
 -- a handle that is found stands under its number
 pub found_at_is : {X : Type 0} (wanted : Option Kind) (o : Option (Slot X)) (kind : Kind) (x : X) → found_at wanted o ≡ Handle kind x → o ≡ Some (Live kind x)
@@ -64,3 +67,25 @@ values-append kind (Live own x ∷ xs) ys = appended (same_kind kind own) (value
   appended : (b : Bool) → values kind (xs ++ ys) ≡ values kind xs ++ values kind ys → cond b (x ∷ values kind (xs ++ ys)) (values kind (xs ++ ys)) ≡ cond b (x ∷ values kind xs) (values kind xs) ++ values kind ys
   appended true h = ap (λ l. x ∷ l) h
   appended false h = h
+
+-- the slot that was pushed last stands under the last number
+pub slice_get-push : {A : Type 0} (xs : List A) (a : A) → slice_get (xs ++ a ∷ []) (length (xs ++ a ∷ []) - 1) ≡ Some a
+slice_get-push xs a =
+    let last : length (xs ++ a ∷ []) - 1 ≡ length xs = omega (arith, length_push xs a) in
+    rw last (at_end xs a) where
+      at_end : {A : Type 0} (xs : List A) (a : A) → slice_get (xs ++ a ∷ []) (length xs) ≡ Some a
+      at_end [] a = refl
+      at_end (x ∷ xs) a = at_end xs a
+
+-- what holds of all slots holds of the one under a number
+pub All-slice_get : {A : Type 0} (P : A → Type 0) (xs : List A) (i : ℕ) (a : A) → slice_get xs i ≡ Some a → All P xs → P a
+All-slice_get P xs i a is all = subst P (get_or_from_slice_get xs i a a is) (All-get_or P xs i a (slice_get_within xs i a is) all)
+
+-- a number under which something stands is within the list after a write, too
+pub within_set : {A : Type 0} (xs : List A) (i j : ℕ) (was a : A) → slice_get xs i ≡ Some was → i < length (set xs j a)
+within_set xs i j was a is = omega (arith, length-set xs j a, slice_get_within xs i was is)
+
+-- what a call that makes a handle learns of the check on their number
+pub room_for_more : (b : Bool) (n : ℕ) → (b && nat_le HANDLES n) ≡ false → b ≡ true → n < HANDLES
+room_for_more true n h _ = leb-false HANDLES n h
+room_for_more false n h is = cc

@@ -1,13 +1,18 @@
 -- The handles of a channel as the list of what stands under each number, in the order of making.
 -- So its length is the number of handles made, and a dropped handle keeps its number.
-use Rattle.std.specs.Prelude.{ℕ, Bool, true, false, cond, List, [], ◌∷◌, Option, Some, None, slice_get, count_by}
+use Rattle.std.specs.Prelude.{ℕ, Bool, true, false, cond, List, [], ◌∷◌, Option, Some, None, IsSome, Result, Ok, Err, slice_get, count_by}
 use Rattle.rw_handles.specs.declared.kinds.Kind.{Kind}
 use Rattle.rw_handles.specs.declared.kinds.Kind.TheVariants.{Sender, Receiver}
 use Rattle.rw_handles.specs.declared.kinds.Slot.{Slot}
 use Rattle.rw_handles.specs.declared.kinds.Slot.TheVariants.{Live, Spent}
+use Rattle.rw_handles.specs.declared.kinds.HandleFault.{HandleFault}
 use Rattle.rw_handles.specs.declared.kinds.HandleFault.TheVariants.{Unknown, Gone, WrongKind}
 use Rattle.rw_handles.specs.declared.kinds.Found.{Found}
 use Rattle.rw_handles.specs.declared.kinds.Found.TheVariants.{Fault, Handle}
+
+-- how many handles a channel makes at most
+abbrev pub HANDLES : ℕ
+HANDLES = 65536
 
 abbrev pub same_kind : Kind → Kind → Bool
 same_kind Sender Sender = true
@@ -28,6 +33,33 @@ found_at wanted (Some (Live kind x)) = cond (serves wanted kind) (Handle kind x)
 -- the handle of this number, where it is alive and of the wanted kind
 abbrev pub found : {X : Type 0} → Option Kind → List (Slot X) → ℕ → Found X
 found wanted slots h = found_at wanted (slice_get slots h)
+
+-- whether a handle was found, or the fault
+abbrev pub looked : {X : Type 0} → Found X → Result (Unit {0}) HandleFault
+looked (Fault fault) = Err fault
+looked (Handle kind x) = Ok tt
+
+-- the kind of the live handle that stands under a number, if one does
+abbrev pub kind_at : {X : Type 0} → Option (Slot X) → Option Kind
+kind_at None = None
+kind_at (Some Spent) = None
+kind_at (Some (Live kind x)) = Some kind
+
+-- its value
+abbrev pub value_at : {X : Type 0} → Option (Slot X) → Option X
+value_at None = None
+value_at (Some Spent) = None
+value_at (Some (Live kind x)) = Some x
+
+-- a live handle stands under the number
+abbrev pub IsLive : {X : Type 0} → Option (Slot X) → Type 0
+IsLive o = IsSome (value_at o)
+
+-- the handle with another value and its own kind
+abbrev pub with_value : {X : Type 0} → X → Option (Slot X) → Slot X
+with_value x (Some (Live kind old)) = Live kind x
+with_value x (Some Spent) = Spent
+with_value x None = Spent
 
 -- a live handle of this kind
 abbrev pub is_alive : {X : Type 0} → Kind → Slot X → Bool

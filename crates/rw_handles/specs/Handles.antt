@@ -1,0 +1,8 @@
+-- A table of handles, as its callers see it.
+use Rattle.std.specs.Prelude.{ℕ, List}
+use Rattle.rw_handles.specs.declared.kinds.Slot.{Slot}
+
+-- what stands under each number, and how many more handles can be made without memory
+pub record Handles (X : Type 0) : Type 0 where
+  pub slots : List (Slot X)
+  pub room : ℕ

@@ -1,0 +1,221 @@
+//! The table of a channel's handles.
+ghost use Rattle.std.specs.Prelude.{◌≡◌, ◌+◌, ◌-◌, ◌<◌, ◌≤◌, ◌++◌, ◌∷◌, [], length, take, slice_get, slice_set, Some, IfOk, OnOk, IsOk};
+ghost use Rattle.rw_handles.specs.declared.kinds.Slot.TheVariants.{Live, Spent};
+ghost use Rattle.rw_handles.specs.Slots.{HANDLES, IsLive, found, looked, serves, alive, kind_at, value_at, with_value};
+
+use crate::kinds::{Found, HandleFault, Kind, Slot};
+use crate::tally::Tally;
+use rw_law::NoMemory;
+use std::alloc::Global;
+use std::marker::Model;
+
+/// How many handles a table makes at most.
+pub const MOST_HANDLES: usize = 65536;
+
+/// Numbered handles of a kind with a value each.
+#[derive(Drop)]
+pub struct Table<X: Copy> {
+    slots: Vec<Slot<X>>,
+    tally: Tally,
+}
+
+impl<X: Copy> Model for Table<X> {
+    ghost use Rattle.std.specs.Prelude.{◌≡◌, ◌-◌, ◌≤◌, vec_len, vec_capacity};
+    ghost use Rattle.rw_handles.specs.declared.kinds.Kind.{Kind};
+    ghost use Rattle.rw_handles.specs.Slots.{HANDLES, alive};
+    ghost use Rattle.rw_handles.specs.Handles.{Handles};
+    ghost use Rattle.rw_handles.specs.Tally.{tally_of};
+
+    ghost Value = { Handles X };
+
+    ghost view = { λ t. record { slots = t.slots.items; room = vec_capacity t.slots - vec_len t.slots } };
+
+    ghost invariant = { λ t. (vec_len t.slots ≤ HANDLES) × ((kind : Kind) → tally_of t.tally kind ≡ alive kind t.slots.items) };
+}
+
+/// Whether a handle of this kind serves where one of the wanted kind is asked for.
+fn serves(wanted: Option<Kind>, kind: Kind) -> bool
+    ensures { result ≡ serves wanted kind }
+{
+    match wanted {
+        None => true,
+        Some(wanted) => wanted == kind,
+    }
+}
+
+impl<X: Copy> Table<X> {
+    /// A table with no handle.
+    pub fn new(alloc: Global) -> Result<Self, NoMemory>
+        ensures made { IfOk result (λ t. t.slots ≡ []) }
+        ensures ok { IsOk result }
+    {
+        Ok(Table {
+            slots: Vec::new(alloc),
+            tally: Tally {
+                senders: 0,
+                receivers: 0,
+            },
+        })
+    }
+
+    /// How many handles were made.
+    pub fn made(&self) -> u32
+        ensures made { result ≡ length self.now.slots }
+        ensures limited { result ≤ HANDLES }
+    {
+        self.slots.len() as u32
+    }
+
+    /// How many more can be made without memory.
+    pub fn room(&self) -> u64
+        ensures { result ≡ self.now.room }
+    {
+        (self.slots.capacity() - self.slots.len()) as u64
+    }
+
+    /// Makes room for n more. Where it is there already, no memory is taken.
+    pub fn ready(&mut self, n: u64) -> Result<(), NoMemory>
+        requires { length self.old.slots + n ≤ HANDLES }
+        ensures same { self.new.slots ≡ self.old.slots }
+        ensures grown { self.old.room ≤ self.new.room }
+        ensures ok { OnOk result (n ≤ self.new.room) }
+        ensures has_room { n ≤ self.old.room → IsOk result × (self.new.room ≡ self.old.room) }
+    {
+        if n <= self.room() {
+            return Ok(());
+        }
+        self.slots.reserve(n as usize)?;
+        Ok(())
+    }
+
+    /// Makes the next number's handle.
+    pub fn make(&mut self, kind: Kind, x: X) -> u32
+        requires room { 0 < self.old.room }
+        requires limit { length self.old.slots < HANDLES }
+        ensures number { result ≡ length self.old.slots }
+        ensures slots { self.new.slots ≡ self.old.slots ++ Live kind x ∷ [] }
+        ensures room { self.new.room + 1 ≡ self.old.room }
+    {
+        let id = self.slots.len() as u32;
+        self.tally.add(kind);
+        self.slots.push_reserved(Slot::Live(kind, x));
+        id
+    }
+
+    /// Undoes the last making: the number is as if never made.
+    pub fn unmake(&mut self)
+        requires { IsLive (slice_get self.old.slots (length self.old.slots - 1)) }
+        ensures slots { self.new.slots ≡ take (length self.old.slots - 1) self.old.slots }
+        ensures room { self.new.room ≡ self.old.room + 1 }
+    {
+        if let Some(Slot::Live(kind, _)) = self.slots.pop() {
+            self.tally.remove(kind);
+        }
+    }
+
+    /// Drops a live handle, and gives its kind and value.
+    pub fn drop_one(&mut self, id: u32) -> (Kind, X)
+        requires { IsLive (slice_get self.old.slots id) }
+        ensures dropped { slice_get self.old.slots id ≡ Some (Live result.0 result.1) }
+        ensures slots { self.new.slots ≡ slice_set self.old.slots id Spent }
+        ensures room { self.new.room ≡ self.old.room }
+    {
+        match self.slot(id) {
+            Some(Slot::Live(kind, x)) => {
+                self.tally.remove(kind);
+                self.slots[id as usize] = Slot::Spent;
+                (kind, x)
+            }
+            _ => unreachable!(),
+        }
+    }
+
+    /// Undoes a drop.
+    pub fn undrop(&mut self, id: u32, kind: Kind, x: X)
+        requires { slice_get self.old.slots id ≡ Some Spent }
+        ensures slots { self.new.slots ≡ slice_set self.old.slots id (Live kind x) }
+        ensures room { self.new.room ≡ self.old.room }
+    {
+        self.tally.add(kind);
+        self.slots[id as usize] = Slot::Live(kind, x);
+    }
+
+    /// The value of a live handle.
+    pub fn get(&self, id: u32) -> Option<X>
+        ensures { result ≡ value_at (slice_get self.now.slots id) }
+    {
+        match self.slot(id) {
+            Some(Slot::Live(_, x)) => Some(x),
+            _ => None,
+        }
+    }
+
+    /// The kind of a live handle.
+    pub fn kind(&self, id: u32) -> Option<Kind>
+        ensures { result ≡ kind_at (slice_get self.now.slots id) }
+    {
+        match self.slot(id) {
+            Some(Slot::Live(kind, _)) => Some(kind),
+            _ => None,
+        }
+    }
+
+    /// Writes the value of a live handle, which keeps its kind.
+    pub fn set(&mut self, id: u32, x: X)
+        requires { IsLive (slice_get self.old.slots id) }
+        ensures slots { self.new.slots ≡ slice_set self.old.slots id (with_value x (slice_get self.old.slots id)) }
+        ensures room { self.new.room ≡ self.old.room }
+    {
+        if let Some(Slot::Live(kind, _)) = self.slot(id) {
+            self.slots[id as usize] = Slot::Live(kind, x);
+        }
+    }
+
+    /// How many handles of this kind are alive. It reads a count and looks at no handle.
+    pub fn alive(&self, kind: Kind) -> u64
+        ensures { result ≡ alive kind self.now.slots }
+    {
+        self.tally.of(kind)
+    }
+
+    /// The handle of this number, where it is alive and of the wanted kind, if one is wanted.
+    pub fn find(&self, id: u32, wanted: Option<Kind>) -> Found<X>
+        ensures { result ≡ found wanted self.now.slots id }
+    {
+        match self.slot(id) {
+            None => Found::Fault(HandleFault::Unknown),
+            Some(Slot::Spent) => Found::Fault(HandleFault::Gone),
+            Some(Slot::Live(kind, x)) => {
+                if serves(wanted, kind) {
+                    Found::Handle(kind, x)
+                } else {
+                    Found::Fault(HandleFault::WrongKind)
+                }
+            }
+        }
+    }
+
+    /// Whether the number is that of a live handle of this kind.
+    pub fn look(&self, id: u32, kind: Kind) -> Result<(), HandleFault>
+        ensures { result ≡ looked (found (Some kind) self.now.slots id) }
+    {
+        match self.find(id, Some(kind)) {
+            Found::Fault(fault) => Err(fault),
+            Found::Handle(_, _) => Ok(()),
+        }
+    }
+
+    /// What stands under this number, if it was made.
+    fn slot(&self, id: u32) -> Option<Slot<X>>
+        ensures { result ≡ slice_get self.now.slots id }
+    {
+        self.slots.get(id as usize).copied()
+    }
+
+    /// What stands under each number, in order of making.
+    pub fn slots(&self) -> &[Slot<X>]
+        ensures { result.now ≡ self.now.slots }
+    {
+        self.slots.as_slice()
+    }
+}
