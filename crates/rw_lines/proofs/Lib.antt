@@ -1,0 +1,5 @@
+pub mod CutLaws
+pub mod Known
+pub mod LineLaws
+pub mod NumeralLaws
+mod PartLine

@@ -1,0 +1,49 @@
+use Rattle.std.proofs.Common.{◌++◌, ◌∷◌, [], arith, refl}
+use Rattle.std.proofs.lemmas.Grind.{common_steps}
+use Rattle.std.proofs.lemmas.List.{length_push}
+use Rattle.rw_lines.proofs.CutLaws.{lacks-append, lacks_one}
+use Rattle.rw_lines.proofs.Known.{Consumes-then}
+use Rattle.rw_lines.proofs.PartLine.{next_part}
+use Rattle.rw_lines.proofs.lines.next_line.Goals as goal
+use Rattle.rw_lines.proofs.lines.next_line.Goals.{else-len-le-LONGEST_LINE-via-then-len-le-LONGEST_LINE+else-is_err, else-len-le-LONGEST_LINE-via-else-len-le-LONGEST_LINE}
+
+pub returns-then-allowed-eq0-clause-err : goal.returns-then-allowed-eq0-clause-err
+returns-then-allowed-eq0-clause-err g c =
+    let p = c.each_byte.invariant in
+    record {
+      text = p.text ++ c.in-Some.byte ∷ [];
+      read = Consumes-then _ _ _ _ _ p.read (rw c.in-Some.is at c.in_ok-byte.ensures.byte);
+      why = omega (arith, length_push p.text c.in-Some.byte, p.count);
+    }
+
+pub returns-then-byte-eq10-clause-ok : goal.returns-then-byte-eq10-clause-ok
+returns-then-byte-eq10-clause-ok g c =
+    let p = c.each_byte.invariant in
+    record {
+      text = p.text;
+      unbroken = p.unbroken;
+      fits = p.fits;
+      read = Consumes-then _ _ _ _ _ p.read (rw (← c.if-byte-eq10.true) (rw c.in-Some.is at c.in_ok-byte.ensures.byte));
+      count = omega (arith, p.count);
+    }
+
+pub returns-then-is_err-clause-err : goal.returns-then-is_err-clause-err
+returns-then-is_err-clause-err g c =
+    let p = c.each_byte.invariant in
+    record {
+      text = p.text ++ c.in-Some.byte ∷ [];
+      read = Consumes-then _ _ _ _ _ p.read (rw c.in-Some.is at c.in_ok-byte.ensures.byte);
+      why = (lacks-append 10 p.text (c.in-Some.byte ∷ []) p.unbroken (lacks_one 10 c.in-Some.byte c.if-byte-eq10.false), omega (arith, length_push p.text c.in-Some.byte, p.count));
+    }
+
+pub each_byte-preserved : goal.each_byte-preserved
+each_byte-preserved g c =
+    next_part _ _ _ _ _ _ _ c.in-Some.byte c.each_byte.invariant (rw c.in-Some.is at c.in_ok-byte.ensures.byte) c.if-byte-eq10.false (omega arith)
+    (elim c.else-len-le-LONGEST_LINE.branch [
+      | else-len-le-LONGEST_LINE-via-then-len-le-LONGEST_LINE+else-is_err w ↦ λ le. rw w.line-is (grind (arith, common_steps))
+      | else-len-le-LONGEST_LINE-via-else-len-le-LONGEST_LINE w ↦ λ le. absurd (omega (arith, c.each_byte.line.ok.0))
+    ])
+    (elim c.else-len-le-LONGEST_LINE.branch [
+      | else-len-le-LONGEST_LINE-via-then-len-le-LONGEST_LINE+else-is_err w ↦ λ lt. absurd (omega (arith, c.each_byte.line.ok.0))
+      | else-len-le-LONGEST_LINE-via-else-len-le-LONGEST_LINE w ↦ λ lt. rw w.line-is refl
+    ])

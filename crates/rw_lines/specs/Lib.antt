@@ -1,0 +1,5 @@
+pub mod Cut
+pub mod Lines
+pub mod Numerals
+pub mod Reading
+pub mod Tokens

@@ -1,0 +1,67 @@
+//! Lines of bytes.
+
+ghost use Rattle.std.specs.Prelude.{◌≡◌, IfOk, IfErr};
+ghost use Rattle.rw_lines.specs.Lines.{is_skipped};
+ghost use Rattle.rw_lines.specs.Reading.{GivesNext, StopsInLine};
+
+use crate::streams::{StreamFault, next_byte};
+use std::io::Read;
+
+/// The most bytes that a line may have, without its LF.
+pub const LONGEST_LINE: usize = 256;
+
+/// What came next.
+#[derive(Clone, Copy, Debug, PartialEq, Eq)]
+pub enum Next {
+    /// A line that ended with LF.
+    Line,
+    /// The last line, which lacks its LF.
+    Last,
+    /// No byte was left.
+    End,
+}
+
+/// Reads the next line into `line`, without its LF. Of a line that is too long the first 257 bytes are kept, so that its
+/// reader sees that it is.
+///
+/// `allowed` is how many bytes the reader may still give; it counts down. Memory is taken only until `line` has held the
+/// longest line.
+pub fn next_line<R: Read>(
+    reader: &mut R,
+    allowed: &mut u64,
+    line: &mut Vec<u8>,
+) -> Result<Next, StreamFault>
+    ensures ok { IfOk result (GivesNext (R.remaining reader.old) (R.remaining reader.new) allowed.old allowed.new line.new.items) }
+    ensures err { IfErr result (StopsInLine (R.remaining reader.old) (R.remaining reader.new) allowed.old) }
+{
+    line.clear();
+    'each_byte: loop {
+        let Some(byte) = next_byte(reader)? else {
+            return Ok(if line.is_empty() {
+                Next::End
+            } else {
+                Next::Last
+            });
+        };
+        if *allowed == 0 {
+            return Err(StreamFault::TooMuch);
+        }
+        *allowed -= 1;
+        if byte == b'\n' {
+            return Ok(Next::Line);
+        }
+        if line.len() <= LONGEST_LINE && line.push(byte).is_err() {
+            return Err(StreamFault::NoMemory);
+        }
+    }
+}
+
+/// Whether a line says nothing: it is empty, or begins with `#`.
+pub fn is_skipped(line: &[u8]) -> bool
+    ensures { result ≡ is_skipped line.now }
+{
+    match line {
+        [] => true,
+        [first, ..] => *first == b'#',
+    }
+}
