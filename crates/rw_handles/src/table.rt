@@ -34,12 +34,12 @@ impl<X: Copy> Model for Table<X> {
 }
 
 /// Whether a handle of this kind serves where one of the wanted kind is asked for.
-fn serves(wanted: Option<Kind>, kind: Kind) -> bool
-    ensures { result ≡ serves wanted kind }
+fn serves(wanted: Option<Kind>, own: Kind) -> bool
+    ensures { result ≡ serves wanted own }
 {
     match wanted {
         None => true,
-        Some(wanted) => wanted == kind,
+        Some(kind) => kind == own,
     }
 }
 
@@ -166,8 +166,8 @@ impl<X: Copy> Table<X> {
         ensures slots { self.new.slots ≡ slice_set self.old.slots id (with_value x (slice_get self.old.slots id)) }
         ensures room { self.new.room ≡ self.old.room }
     {
-        if let Some(Slot::Live(kind, _)) = self.slot(id) {
-            self.slots[id as usize] = Slot::Live(kind, x);
+        if let Some(Slot::Live(own, _)) = self.slot(id) {
+            self.slots[id as usize] = Slot::Live(own, x);
         }
     }
 
@@ -185,9 +185,9 @@ impl<X: Copy> Table<X> {
         match self.slot(id) {
             None => Found::Fault(HandleFault::Unknown),
             Some(Slot::Spent) => Found::Fault(HandleFault::Gone),
-            Some(Slot::Live(kind, x)) => {
-                if serves(wanted, kind) {
-                    Found::Handle(kind, x)
+            Some(Slot::Live(own, x)) => {
+                if serves(wanted, own) {
+                    Found::Handle(own, x)
                 } else {
                     Found::Fault(HandleFault::WrongKind)
                 }

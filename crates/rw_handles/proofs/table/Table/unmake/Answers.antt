@@ -1,4 +1,4 @@
-use Rattle.std.proofs.Common.{arith, ap, ◌∙◌, ◌++◌, ◌∷◌, []}
+use Rattle.std.proofs.Common.{arith, ap, ◌++◌, ◌∷◌, []}
 use Rattle.rw_handles.specs.declared.kinds.Slot.TheVariants.{Live}
 use Rattle.rw_handles.specs.Slots.{alive}
 use Rattle.rw_handles.proofs.Tallies.{alive-push}
