@@ -1,0 +1,4 @@
+pub mod Modified
+pub mod OneMember
+pub mod Parting
+pub mod Shaping

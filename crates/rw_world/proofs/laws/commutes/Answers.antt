@@ -1,0 +1,5 @@
+use Rattle.rw_world.proofs.Modified.{commutes}
+use Rattle.rw_world.proofs.laws.commutes.Goals as goal
+
+pub returns : goal.returns
+returns g c = commutes g.M.Reversible

@@ -1,0 +1,100 @@
+-- The steps of a channel of either kind: a call of its own kind goes to its machine, one of the other kind strays.
+use Rattle.std.specs.Prelude.{ℕ, Bool, true, false}
+use Rattle.rw_law.specs.declared.machine.Reversible.{Ghosts}
+use Rattle.rw_world.specs.Kinds.{Kind, broadcast, watch, Shown, broadcast_shown, watch_shown}
+use Rattle.rw_world.specs.declared.channels.Channel.{Channel}
+use Rattle.rw_world.specs.declared.channels.Channel.TheVariants as machine
+use Rattle.rw_world.specs.declared.channels.ChannelCall.{ChannelCall}
+use Rattle.rw_world.specs.declared.channels.ChannelCall.TheVariants as call
+use Rattle.rw_world.specs.declared.channels.ChannelReply.{ChannelReply}
+use Rattle.rw_world.specs.declared.channels.ChannelReply.TheVariants as reply
+use Rattle.rw_world.specs.declared.channels.ChannelPatch.{ChannelPatch}
+use Rattle.rw_world.specs.declared.channels.ChannelPatch.TheVariants as patch
+
+-- whether a call is of the other kind
+abbrev pub strays_at : {C D : Type 0} → Kind → ChannelCall C D → Bool
+strays_at broadcast (call.B c) = false
+strays_at broadcast (call.W d) = true
+strays_at watch (call.B c) = true
+strays_at watch (call.W d) = false
+
+module _ {B C R P : Type 0} {W D S Q : Type 0} (b : Ghosts B C R P) (w : Ghosts W D S Q) where
+  abbrev pub shown : Channel B W → Shown b.View w.View
+  shown (machine.Broadcast x) = broadcast_shown (b.shown x)
+  shown (machine.Watch y) = watch_shown (w.shown y)
+
+  abbrev pub reserved : Channel B W → ℕ
+  reserved (machine.Broadcast x) = b.reserved x
+  reserved (machine.Watch y) = w.reserved y
+
+  abbrev pub IsAllowed : Shown b.View w.View → Type 0
+  IsAllowed (broadcast_shown x) = b.allowed x
+  IsAllowed (watch_shown y) = w.allowed y
+
+  abbrev pub weigh : Shown b.View w.View → ℕ
+  weigh (broadcast_shown x) = b.weigh x
+  weigh (watch_shown y) = w.weigh y
+
+  abbrev pub next : Shown b.View w.View → ChannelCall C D → Shown b.View w.View
+  next (broadcast_shown x) (call.B c) = broadcast_shown (b.next x c)
+  next (broadcast_shown x) (call.W d) = broadcast_shown x
+  next (watch_shown y) (call.B c) = watch_shown y
+  next (watch_shown y) (call.W d) = watch_shown (w.next y d)
+
+  abbrev pub reply_of : Shown b.View w.View → ChannelCall C D → ChannelReply R S
+  reply_of (broadcast_shown x) (call.B c) = reply.B (b.reply_of x c)
+  reply_of (broadcast_shown x) (call.W d) = reply.NoChannel
+  reply_of (watch_shown y) (call.B c) = reply.NoChannel
+  reply_of (watch_shown y) (call.W d) = reply.W (w.reply_of y d)
+
+  abbrev pub patch_of : Shown b.View w.View → ChannelCall C D → ChannelPatch P Q
+  patch_of (broadcast_shown x) (call.B c) = patch.B (b.patch_of x c)
+  patch_of (broadcast_shown x) (call.W d) = patch.NoChannel
+  patch_of (watch_shown y) (call.B c) = patch.NoChannel
+  patch_of (watch_shown y) (call.W d) = patch.W (w.patch_of y d)
+
+  abbrev pub back : Shown b.View w.View → ChannelCall C D → ChannelPatch P Q → Shown b.View w.View
+  back (broadcast_shown x) (call.B c) (patch.B p) = broadcast_shown (b.back x c p)
+  back (watch_shown y) (call.W d) (patch.W q) = watch_shown (w.back y d q)
+  back x c p = x
+
+  -- a patch fits a call of the channel's kind where it fits its machine, and a call that strays has no patch
+  abbrev pub Fits : Shown b.View w.View → ChannelCall C D → ChannelPatch P Q → Type 0
+  Fits (broadcast_shown x) (call.B c) (patch.B p) = b.fits x c p
+  Fits (broadcast_shown x) (call.W d) patch.NoChannel = Unit {0}
+  Fits (watch_shown y) (call.B c) patch.NoChannel = Unit {0}
+  Fits (watch_shown y) (call.W d) (patch.W q) = w.fits y d q
+  Fits x c p = ⊥
+
+  abbrev pub refuses : ChannelReply R S → Bool
+  refuses (reply.B r) = b.refuses r
+  refuses (reply.W s) = w.refuses s
+  refuses reply.NoChannel = true
+
+  abbrev pub waits : ChannelReply R S → Bool
+  waits (reply.B r) = b.is_waiting r
+  waits (reply.W s) = w.is_waiting s
+  waits reply.NoChannel = false
+
+  abbrev pub strays : ChannelReply R S → Bool
+  strays (reply.B r) = false
+  strays (reply.W s) = false
+  strays reply.NoChannel = true
+
+  -- the channel of either kind, as one machine
+  abbrev pub of_channel : Ghosts (Channel B W) (ChannelCall C D) (ChannelReply R S) (ChannelPatch P Q)
+  of_channel = record {
+    View = Shown b.View w.View;
+    shown = shown;
+    reserved = reserved;
+    allowed = IsAllowed;
+    weigh = weigh;
+    next = next;
+    reply_of = reply_of;
+    patch_of = patch_of;
+    back = back;
+    fits = Fits;
+    refuses = refuses;
+    is_waiting = waits;
+    is_straying = strays;
+  }

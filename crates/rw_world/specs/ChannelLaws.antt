@@ -1,0 +1,78 @@
+-- A channel of either kind keeps the laws that the machines of both kinds keep.
+use Rattle.std.proofs.Common.{◌≡◌, ◌+◌, ◌≤◌, true, refl, ap, arith}
+use Rattle.rw_law.specs.declared.machine.Reversible.{Ghosts}
+use Rattle.rw_law.specs.Journal.{LawsOf}
+use Rattle.rw_law.specs.Laws.{Laws}
+use Rattle.rw_world.specs.Kinds.{Shown, broadcast_shown, watch_shown, kind_of}
+use Rattle.rw_world.specs.Channel.{strays_at, IsAllowed, weigh, next, reply_of, patch_of, back, Fits, refuses, waits, strays}
+use Rattle.rw_world.specs.declared.channels.ChannelCall.{ChannelCall}
+use Rattle.rw_world.specs.declared.channels.ChannelCall.TheVariants as call
+use Rattle.rw_world.specs.declared.channels.ChannelReply.{ChannelReply}
+use Rattle.rw_world.specs.declared.channels.ChannelReply.TheVariants as reply
+
+module _ {B C R P : Type 0} {W D S Q : Type 0} (b : Ghosts B C R P) (w : Ghosts W D S Q) where
+  -- a call doesn't change the kind
+  pub kind_stays : (x : Shown b.View w.View) (c : ChannelCall C D) → kind_of (next b w x c) ≡ kind_of x
+  kind_stays (broadcast_shown x) (call.B c) = refl
+  kind_stays (broadcast_shown x) (call.W d) = refl
+  kind_stays (watch_shown y) (call.B c) = refl
+  kind_stays (watch_shown y) (call.W d) = refl
+
+  -- a call strays exactly where it is of the other kind
+  pub strays_by_kind : (x : Shown b.View w.View) (c : ChannelCall C D) → strays b w (reply_of b w x c) ≡ strays_at (kind_of x) c
+  strays_by_kind (broadcast_shown x) (call.B c) = refl
+  strays_by_kind (broadcast_shown x) (call.W d) = refl
+  strays_by_kind (watch_shown y) (call.B c) = refl
+  strays_by_kind (watch_shown y) (call.W d) = refl
+
+  module _ (of_b : LawsOf b) (of_w : LawsOf w) where
+    undone_at : (x : Shown b.View w.View) (c : ChannelCall C D) → IsAllowed b w x → back b w (next b w x c) c (patch_of b w x c) ≡ x
+    undone_at (broadcast_shown x) (call.B c) h = ap broadcast_shown (of_b.undone x c h)
+    undone_at (broadcast_shown x) (call.W d) h = refl
+    undone_at (watch_shown y) (call.B c) h = refl
+    undone_at (watch_shown y) (call.W d) h = ap watch_shown (of_w.undone y d h)
+
+    allowed_at : (x : Shown b.View w.View) (c : ChannelCall C D) → IsAllowed b w x → IsAllowed b w (next b w x c)
+    allowed_at (broadcast_shown x) (call.B c) h = of_b.next_allowed x c h
+    allowed_at (broadcast_shown x) (call.W d) h = h
+    allowed_at (watch_shown y) (call.B c) h = h
+    allowed_at (watch_shown y) (call.W d) h = of_w.next_allowed y d h
+
+    fits_at : (x : Shown b.View w.View) (c : ChannelCall C D) → IsAllowed b w x → Fits b w (next b w x c) c (patch_of b w x c)
+    fits_at (broadcast_shown x) (call.B c) h = of_b.patch_fits x c h
+    fits_at (broadcast_shown x) (call.W d) h = tt
+    fits_at (watch_shown y) (call.B c) h = tt
+    fits_at (watch_shown y) (call.W d) h = of_w.patch_fits y d h
+
+    refused_at : (x : Shown b.View w.View) (c : ChannelCall C D) → IsAllowed b w x → refuses b w (reply_of b w x c) ≡ true → next b w x c ≡ x
+    refused_at (broadcast_shown x) (call.B c) h r = ap broadcast_shown (of_b.refused x c h r)
+    refused_at (broadcast_shown x) (call.W d) h r = refl
+    refused_at (watch_shown y) (call.B c) h r = refl
+    refused_at (watch_shown y) (call.W d) h r = ap watch_shown (of_w.refused y d h r)
+
+    waiting_at : (r : ChannelReply R S) → waits b w r ≡ true → refuses b w r ≡ true
+    waiting_at (reply.B r) h = of_b.waiting_refuses r h
+    waiting_at (reply.W s) h = of_w.waiting_refuses s h
+    waiting_at reply.NoChannel h = refl
+
+    straying_at : (r : ChannelReply R S) → strays b w r ≡ true → refuses b w r ≡ true
+    straying_at (reply.B r) h = cc
+    straying_at (reply.W s) h = cc
+    straying_at reply.NoChannel h = refl
+
+    rises_at : (x : Shown b.View w.View) (c : ChannelCall C D) → IsAllowed b w x → weigh b w (next b w x c) ≤ weigh b w x + 1
+    rises_at (broadcast_shown x) (call.B c) h = of_b.weight_rises x c h
+    rises_at (broadcast_shown x) (call.W d) h = omega arith
+    rises_at (watch_shown y) (call.B c) h = omega arith
+    rises_at (watch_shown y) (call.W d) h = of_w.weight_rises y d h
+
+    pub channel_laws : Laws (IsAllowed b w) (weigh b w) (next b w) (reply_of b w) (patch_of b w) (back b w) (Fits b w) (refuses b w) (waits b w) (strays b w)
+    channel_laws = record {
+      undone = undone_at;
+      next_allowed = allowed_at;
+      patch_fits = fits_at;
+      refused = refused_at;
+      waiting_refuses = waiting_at;
+      straying_refuses = straying_at;
+      weight_rises = rises_at;
+    }

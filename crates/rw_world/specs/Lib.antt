@@ -1,0 +1,9 @@
+pub mod Channel
+pub mod ChannelLaws
+pub mod Commuting
+pub mod Kinds
+pub mod Lists
+pub mod Parts
+pub mod Row
+pub mod RowLaws
+pub mod Shapes

@@ -1,0 +1,23 @@
+-- One element of a list changed, and the extremes of a list of numbers.
+use Rattle.std.specs.Prelude.{ℕ, zero, suc, ◌^◌, max, min, List, [], ◌∷◌}
+
+-- the list with f of the element at index i, where there is one
+abbrev pub modified : {X : Type 0} → (X → X) → List X → ℕ → List X
+modified f [] i = []
+modified f (x ∷ xs) zero = f x ∷ xs
+modified f (x ∷ xs) (suc i) = x ∷ modified f xs i
+
+-- P holds of each element
+abbrev pub Each : {X : Type 0} → (X → Type 0) → List X → Type 0
+Each P [] = Unit {0}
+Each P (x ∷ xs) = P x × Each P xs
+
+-- the greatest of f of each element, or 0 where there is none
+abbrev pub greatest : {X : Type 0} → (X → ℕ) → List X → ℕ
+greatest f [] = 0
+greatest f (x ∷ xs) = max (f x) (greatest f xs)
+
+-- the least of f of each element, at most 2 ^ 62
+abbrev pub least : {X : Type 0} → (X → ℕ) → List X → ℕ
+least f [] = 2 ^ 62
+least f (x ∷ xs) = min (f x) (least f xs)

@@ -1,0 +1,65 @@
+-- A row keeps the laws that its members keep.
+use Rattle.std.proofs.Common.{◌∙◌, ◌≡◌, ℕ, zero, suc, ◌+◌, ◌≤◌, true, List, [], ◌∷◌, Option, Some, None, refl, ap, arith}
+use Rattle.rw_law.specs.declared.machine.Reversible.{Ghosts}
+use Rattle.rw_law.specs.Journal.{LawsOf}
+use Rattle.rw_law.specs.Laws.{Laws}
+use Rattle.rw_world.specs.declared.rows.RowCall.{RowCall}
+use Rattle.rw_world.specs.Lists.{Each, greatest}
+use Rattle.rw_world.specs.Row.{next, reply_of, patch_of, back, Fits, IsAllowed, weigh, refuses, waits, strays}
+
+module _ {M C R P : Type 0} (m : Ghosts M C R P) where
+  abbrev to : ℕ → C → RowCall C
+  to i c = record { channel = i; call = c }
+
+  back_behind : (x : m.View) (xs : List m.View) (i : ℕ) (c : C) (o : Option P) → back m (x ∷ xs) (to (suc i) c) o ≡ x ∷ back m xs (to i c) o
+  back_behind x xs i c None = refl
+  back_behind x xs i c (Some p) = refl
+
+  fits_behind : (x : m.View) (xs : List m.View) (i : ℕ) (c : C) (o : Option P) → Fits m xs (to i c) o → Fits m (x ∷ xs) (to (suc i) c) o
+  fits_behind x xs i c None h = tt
+  fits_behind x xs i c (Some p) h = h
+
+  waiting_at : (laws : LawsOf m) (o : Option R) → waits m o ≡ true → refuses m o ≡ true
+  waiting_at laws None h = refl
+  waiting_at laws (Some r) h = laws.waiting_refuses r h
+
+  straying_at : (laws : LawsOf m) (o : Option R) → strays m o ≡ true → refuses m o ≡ true
+  straying_at laws None h = refl
+  straying_at laws (Some r) h = laws.straying_refuses r h
+
+  module _ (laws : LawsOf m) where
+    undone_at : (xs : List m.View) (i : ℕ) (c : C) → Each m.allowed xs → back m (next m xs (to i c)) (to i c) (patch_of m xs (to i c)) ≡ xs
+    undone_at [] i c a = refl
+    undone_at (x ∷ xs) zero c a = ap (λ y. y ∷ xs) (laws.undone x c a.0)
+    undone_at (x ∷ xs) (suc i) c a = back_behind x (next m xs (to i c)) i c (patch_of m xs (to i c)) ∙ ap (λ ys. x ∷ ys) (undone_at xs i c a.1)
+
+    allowed_at : (xs : List m.View) (i : ℕ) (c : C) → Each m.allowed xs → Each m.allowed (next m xs (to i c))
+    allowed_at [] i c a = tt
+    allowed_at (x ∷ xs) zero c a = (laws.next_allowed x c a.0, a.1)
+    allowed_at (x ∷ xs) (suc i) c a = (a.0, allowed_at xs i c a.1)
+
+    fits_at : (xs : List m.View) (i : ℕ) (c : C) → Each m.allowed xs → Fits m (next m xs (to i c)) (to i c) (patch_of m xs (to i c))
+    fits_at [] i c a = tt
+    fits_at (x ∷ xs) zero c a = laws.patch_fits x c a.0
+    fits_at (x ∷ xs) (suc i) c a = fits_behind x (next m xs (to i c)) i c (patch_of m xs (to i c)) (fits_at xs i c a.1)
+
+    refused_at : (xs : List m.View) (i : ℕ) (c : C) → Each m.allowed xs → refuses m (reply_of m xs (to i c)) ≡ true → next m xs (to i c) ≡ xs
+    refused_at [] i c a h = refl
+    refused_at (x ∷ xs) zero c a h = ap (λ y. y ∷ xs) (laws.refused x c a.0 h)
+    refused_at (x ∷ xs) (suc i) c a h = ap (λ ys. x ∷ ys) (refused_at xs i c a.1 h)
+
+    rises_at : (xs : List m.View) (i : ℕ) (c : C) → Each m.allowed xs → greatest m.weigh (next m xs (to i c)) ≤ greatest m.weigh xs + 1
+    rises_at [] i c a = omega arith
+    rises_at (x ∷ xs) zero c a = omega (arith, laws.weight_rises x c a.0)
+    rises_at (x ∷ xs) (suc i) c a = omega (arith, rises_at xs i c a.1)
+
+    pub row_laws : Laws (IsAllowed m) (weigh m) (next m) (reply_of m) (patch_of m) (back m) (Fits m) (refuses m) (waits m) (strays m)
+    row_laws = record {
+      undone = λ x c a. undone_at x c.channel c.call a;
+      next_allowed = λ x c a. allowed_at x c.channel c.call a;
+      patch_fits = λ x c a. fits_at x c.channel c.call a;
+      refused = λ x c a h. refused_at x c.channel c.call a h;
+      waiting_refuses = waiting_at laws;
+      straying_refuses = straying_at laws;
+      weight_rises = λ x c a. rises_at x c.channel c.call a;
+    }

@@ -1,0 +1,33 @@
+-- The shape of a row: which kind of machine stands at which number.
+use Rattle.std.specs.Prelude.{◌≡◌, Bool, true, List, map, slice_get}
+use Rattle.std.specs.Option.{option_map_or}
+use Rattle.rw_law.specs.declared.machine.Reversible.{Ghosts}
+use Rattle.rw_law.specs.Journal.{after_all}
+use Rattle.rw_world.specs.declared.rows.RowCall.{RowCall}
+use Rattle.rw_world.specs.Row.{next, reply_of, strays, of_row}
+use Rattle.rw_world.specs.Parts.{RowEntry}
+
+-- a call strays in a row of these kinds: there is no such channel, or its kind doesn't know the call
+abbrev pub stray_of : {K C : Type 0} → (K → C → Bool) → List K → RowCall C → Bool
+stray_of strays_at ks c = option_map_or (λ k. strays_at k c.call) (slice_get ks c.channel) true
+
+module _ {M C R P : Type 0} (m : Ghosts M C R P) {K : Type 0} (kind : m.View → K) (strays_at : K → C → Bool) where
+  -- a step of one machine doesn't change its kind
+  abbrev pub KeepsKind : Type 0
+  KeepsKind = (x : m.View) (c : C) → kind (m.next x c) ≡ kind x
+
+  -- a call of one machine strays exactly by its kind
+  abbrev pub StraysByKind : Type 0
+  StraysByKind = (x : m.View) (c : C) → m.is_straying (m.reply_of x c) ≡ strays_at (kind x) c
+
+  -- no step changes the shape of the row
+  abbrev pub KeepsShape : Type 0
+  KeepsShape = (xs : List m.View) (c : RowCall C) → map kind (next m xs c) ≡ map kind xs
+
+  -- no journal changes the shape of the row
+  abbrev pub KeepsShapeThroughout : Type 0
+  KeepsShapeThroughout = (xs : List m.View) (es : List (RowEntry M C R P)) → map kind (after_all (of_row m) xs es) ≡ map kind xs
+
+  -- a call strays exactly by the shape of the row
+  abbrev pub StraysByShape : Type 0
+  StraysByShape = (xs : List m.View) (c : RowCall C) → strays m (reply_of m xs c) ≡ stray_of strays_at (map kind xs) c

@@ -1,0 +1,28 @@
+//! Laws of rows and of worlds, for the layers above. Each is the contract of a function that does nothing.
+
+ghost use Rattle.rw_world.specs.Kinds.{kind_of};
+ghost use Rattle.rw_world.specs.Channel.{strays_at};
+ghost use Rattle.rw_world.specs.Commuting.{Commutes};
+ghost use Rattle.rw_world.specs.Shapes.{KeepsShape, KeepsShapeThroughout, StraysByShape};
+ghost use Rattle.rw_world.specs.Parts.{IsLegalExactlyByParts};
+
+use crate::channels::Channel;
+use rw_law::Reversible;
+
+/// Calls on two different channels lead to the same row in either order, and get the same replies and patches.
+pub fn commutes<M: Reversible>()
+    ensures { Commutes M.Reversible }
+{}
+
+/// A journal of a row is legal exactly where each channel's part of it is legal from the channel's machine, and each
+/// entry's channel is there.
+pub fn legal_by_parts<M: Reversible>()
+    ensures { IsLegalExactlyByParts M.Reversible }
+{}
+
+/// No step changes which kind of channel stands at which number, and a call gets `NoChannel` exactly by that.
+pub fn shape<B: Reversible, W: Reversible>()
+    ensures keeps { KeepsShape ⟦<Channel<B, W> as Reversible>⟧ kind_of strays_at }
+    ensures throughout { KeepsShapeThroughout ⟦<Channel<B, W> as Reversible>⟧ kind_of strays_at }
+    ensures strays { StraysByShape ⟦<Channel<B, W> as Reversible>⟧ kind_of strays_at }
+{}

@@ -1,0 +1,17 @@
+//! Worlds: channels of both kinds in a row, which are one machine whose steps can be undone.
+//!
+//! The one contract: whatever machines are put in a row, the row keeps the laws of `rw_law` that they keep (`Row` in
+//! `rows.rt`); so does a channel that is a machine of one kind or of another (`Channel` in `channels.rt`).
+//! Start reading at `specs/Row.antt`, which says what a call to a row does. `laws.rt` has what the layers above build on:
+//! calls on two channels commute, a journal is legal exactly where each channel's part of it is, and no step changes which
+//! channels there are.
+#![tactic(auto)]
+
+mod channels;
+mod laws;
+mod members;
+mod rows;
+
+pub use channels::{Channel, ChannelCall, ChannelPatch, ChannelReply};
+pub use laws::{commutes, legal_by_parts, shape};
+pub use rows::{Row, RowCall};

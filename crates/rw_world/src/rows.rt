@@ -1,0 +1,143 @@
+//! Machines in a row.
+
+ghost use Rattle.std.specs.Prelude.{◌≡◌, length, slice_get};
+ghost use Rattle.std.specs.Option.{option_map};
+
+use crate::members::{apply_at, greatest_weight, least_limit, ready_all, undo_at};
+use rw_law::{NoMemory, Reversible};
+use std::marker::Model;
+
+/// A call to one of the machines in a row.
+#[derive(Clone, Copy, Debug, PartialEq, Eq)]
+pub struct RowCall<C> {
+    pub channel: u32,
+    pub call: C,
+}
+
+/// Machines that are called one at a time, each by its number: 0, 1, 2, ..
+///
+/// A row weighs as much as its heaviest member, and its limit is the least of theirs. `weight`, `limit` and `ready` ask each
+/// member; `apply` and `undo` touch the one that is called alone.
+#[derive(Drop)]
+pub struct Row<M: Reversible> {
+    members: Vec<M>,
+}
+
+impl<M: Reversible> Model for Row<M> {
+    ghost use Rattle.std.specs.Prelude.{List};
+
+    ghost Value = { List M };
+
+    ghost view = { λ a. a.members.items };
+}
+
+impl<M: Reversible> Row<M> {
+    /// These machines in a row. It takes no memory.
+    pub fn of(members: Vec<M>) -> Row<M>
+        ensures { result ≡ members.items }
+    {
+        Row { members }
+    }
+
+    /// How many channels there are.
+    pub fn len(&self) -> usize
+        ensures { result ≡ length self.now }
+    {
+        self.members.len()
+    }
+
+    /// The machine of a channel.
+    pub fn channel(&self, i: usize) -> Option<&M>
+        ensures { option_map (λ r. r.now) result ≡ slice_get self.now i }
+    {
+        self.members.get(i)
+    }
+}
+
+impl<M: Reversible> Reversible for Row<M> {
+    ghost use Rattle.std.specs.Prelude.{List, map};
+    ghost use Rattle.rw_world.specs.Row as row;
+    ghost use Rattle.rw_world.specs.Lists.{least};
+    ghost use Rattle.rw_world.specs.RowLaws.{row_laws};
+
+    type Call = RowCall<M::Call>;
+
+    /// `None` where there is no such channel.
+    type Reply = Option<M::Reply>;
+
+    type Patch = Option<M::Patch>;
+
+    ghost View = { List M.View };
+
+    ghost shown = { λ s. map M.shown s };
+
+    ghost reserved = { λ s. least M.reserved s };
+
+    ghost allowed = { row.IsAllowed M.Reversible };
+
+    ghost weigh = { row.weigh M.Reversible };
+
+    ghost next = { row.next M.Reversible };
+
+    ghost reply_of = { row.reply_of M.Reversible };
+
+    ghost patch_of = { row.patch_of M.Reversible };
+
+    ghost back = { row.back M.Reversible };
+
+    ghost fits = { row.Fits M.Reversible };
+
+    ghost refuses = { row.refuses M.Reversible };
+
+    ghost is_waiting = { row.waits M.Reversible };
+
+    ghost is_straying = { row.strays M.Reversible };
+
+    ghost laws = { row_laws ⟦<M as Reversible>⟧ M.laws };
+
+    fn weight(&self) -> u64 {
+        greatest_weight(&self.members)
+    }
+
+    fn limit(&self) -> u64 {
+        least_limit(&self.members)
+    }
+
+    fn ready(&mut self, n: u64) -> Result<(), NoMemory> {
+        let wanted = self.weight() + n;
+        ready_all(&mut self.members, wanted)
+    }
+
+    fn apply(&mut self, call: &RowCall<M::Call>) -> (Option<M::Reply>, Option<M::Patch>) {
+        let channel = call.channel as usize;
+        if channel < self.members.len() {
+            let (reply, patch) = apply_at(&mut self.members, channel, &call.call);
+            (Some(reply), Some(patch))
+        } else {
+            (None, None)
+        }
+    }
+
+    fn undo(&mut self, call: &RowCall<M::Call>, patch: &Option<M::Patch>) {
+        let channel = call.channel as usize;
+        if let Some(patch) = patch {
+            if channel < self.members.len() {
+                undo_at(&mut self.members, channel, &call.call, patch);
+            }
+        }
+    }
+
+    fn waits(reply: &Option<M::Reply>) -> bool {
+        match reply {
+            Some(reply) => M::waits(reply),
+            None => false,
+        }
+    }
+
+    fn strays(reply: &Option<M::Reply>) -> bool {
+        match reply {
+            Some(reply) => M::strays(reply),
+            None => true,
+        }
+    }
+}
