@@ -1,0 +1,3 @@
+pub mod LeastPosition
+pub mod Powers
+pub mod Showing

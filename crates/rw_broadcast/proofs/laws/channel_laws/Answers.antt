@@ -1,0 +1,15 @@
+use Rattle.rw_broadcast.proofs.Powers.{retains_next_power}
+use Rattle.rw_broadcast.proofs.Showing.{is_shown_by_some, shows_allowed, shows_its_steps}
+use Rattle.rw_broadcast.proofs.laws.channel_laws.Goals as goal
+
+pub returns-clause-steps : goal.returns-clause-steps
+returns-clause-steps g c = shows_its_steps _
+
+pub returns-clause-allowed : goal.returns-clause-allowed
+returns-clause-allowed g c = shows_allowed _
+
+pub returns-clause-power : goal.returns-clause-power
+returns-clause-power g c = retains_next_power
+
+pub returns-clause-shown : goal.returns-clause-shown
+returns-clause-shown g c = is_shown_by_some _

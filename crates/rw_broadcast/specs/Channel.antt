@@ -1,0 +1,146 @@
+-- The calls of a broadcast channel: what each does, and its reply. The sentences in quotes are tokio's.
+--
+-- A call reads four things of a channel: its capacity, how many values were ever sent, the value at a position, and the
+-- handles. So the one table of calls serves the record of all that was ever sent (`Record`), of which tokio's
+-- documentation speaks, and what a machine still shows that has let the evicted values go (`Shown`).
+use Rattle.std.specs.Prelude.{ℕ, ◌+◌, Bool, true, false, ◌&&◌, ◌==◌, nat_lt, nat_le, if◌then◌else◌, List, Option, Some, None, length}
+use Rattle.rw_handles.specs.declared.kinds.Kind.{Kind}
+use Rattle.rw_handles.specs.declared.kinds.Kind.TheVariants.{Sender, Receiver}
+use Rattle.rw_handles.specs.declared.kinds.Slot.{Slot}
+use Rattle.rw_handles.specs.declared.kinds.HandleFault.{HandleFault}
+use Rattle.rw_handles.specs.declared.kinds.HandleFault.TheVariants as fault
+use Rattle.rw_handles.specs.declared.kinds.Found.{Found}
+use Rattle.rw_handles.specs.declared.kinds.Found.TheVariants.{Fault, Handle}
+use Rattle.rw_handles.specs.Slots.{HANDLES, found, alive, values}
+use Rattle.rw_broadcast.specs.declared.calls.BCall.{BCall}
+use Rattle.rw_broadcast.specs.declared.calls.BCall.TheVariants.{Send, Subscribe, CloneSender, Resubscribe, TryRecv, Recv, DropHandle, SenderLen, ReceiverCount, ReceiverLen}
+use Rattle.rw_broadcast.specs.declared.calls.BReply.{BReply}
+use Rattle.rw_broadcast.specs.declared.calls.BReply.TheVariants.{Sent, NoReceivers, Value, Lagged, Empty, Closed, Waits, New, Dropped, Count, Unknown, Gone, WrongKind, TooManyHandles}
+use Rattle.rw_broadcast.specs.Arithmetic as number
+
+-- a channel, as its calls read it
+pub record Channel (V : Type 0) : Type 0 where
+  -- how many values are retained
+  pub capacity : ℕ
+  -- how many values were ever sent
+  pub sent : ℕ
+  -- the value at a position, if one was sent there
+  pub value : ℕ → Option V
+  -- what stands under each handle's number: a receiver with its position, a sender with 0, or nothing any more
+  pub slots : List (Slot ℕ)
+
+-- what a call changes
+pub data Change (V : Type 0) : Type 0 where
+  -- nothing
+  Keep : Change V
+  -- this value is sent
+  Append : V → Change V
+  -- the next number becomes a handle of this kind, with this position
+  Make : Kind → ℕ → Change V
+  -- the receiver of this number goes from one position to another
+  Move : (h from to : ℕ) → Change V
+  -- the handle of this number, of this kind and at this position, is dropped
+  Leave : (h : ℕ) → Kind → ℕ → Change V
+
+-- how many receivers are alive
+abbrev pub receivers : {V : Type 0} → Channel V → ℕ
+receivers c = alive Receiver c.slots
+
+-- "When all Sender handles have been dropped, no new values may be sent. At this point, the channel is "closed"."
+abbrev pub is_closed : {V : Type 0} → Channel V → Bool
+is_closed c = alive Sender c.slots == 0
+
+-- the position of the oldest value that is retained
+abbrev pub oldest : {V : Type 0} → Channel V → ℕ
+oldest c = number.oldest c.sent c.capacity
+
+-- how many values the channel retains for some receiver
+abbrev pub queued : {V : Type 0} → Channel V → ℕ
+queued c = number.queued c.sent (oldest c) (values Receiver c.slots)
+
+-- the number of the handle that a call is made with
+abbrev pub handle_of : {V : Type 0} → BCall V → ℕ
+handle_of (Send h v) = h
+handle_of (Subscribe h) = h
+handle_of (CloneSender h) = h
+handle_of (Resubscribe h) = h
+handle_of (TryRecv h) = h
+handle_of (Recv h) = h
+handle_of (DropHandle h) = h
+handle_of (SenderLen h) = h
+handle_of (ReceiverCount h) = h
+handle_of (ReceiverLen h) = h
+
+-- the kind that this handle has to be of; None: any
+abbrev pub wanted : {V : Type 0} → BCall V → Option Kind
+wanted (Send h v) = Some Sender
+wanted (Subscribe h) = Some Sender
+wanted (CloneSender h) = Some Sender
+wanted (Resubscribe h) = Some Receiver
+wanted (TryRecv h) = Some Receiver
+wanted (Recv h) = Some Receiver
+wanted (DropHandle h) = None
+wanted (SenderLen h) = Some Sender
+wanted (ReceiverCount h) = Some Sender
+wanted (ReceiverLen h) = Some Receiver
+
+-- whether a call makes a handle, where it isn't refused
+abbrev pub makes : {V : Type 0} → BCall V → Bool
+makes (Subscribe h) = true
+makes (CloneSender h) = true
+makes (Resubscribe h) = true
+makes _ = false
+
+-- the reply for a handle that can't be used
+abbrev pub refused : {V : Type 0} → HandleFault → BReply V
+refused fault.Unknown = Unknown
+refused fault.Gone = Gone
+refused fault.WrongKind = WrongKind
+
+-- "A successful send occurs when there is at least one active Receiver handle." "On success, the number of subscribed
+-- Receiver handles is returned."
+abbrev pub send : {V : Type 0} → Channel V → V → Change V × BReply V
+send c v = if receivers c == 0 then (Keep, NoReceivers v) else (Append v, Sent (receivers c))
+
+-- a new handle has the next number; a new receiver "will receive values sent after the call"
+abbrev pub make : {V : Type 0} → Channel V → Kind → ℕ → Change V × BReply V
+make c kind position = (Make kind position, New (length c.slots))
+
+-- what receiver h gets of the value at its position, if there is one. "Once a receiver has received all values retained
+-- by the channel, the next call to recv will return with RecvError::Closed." Where more may come, the reply is `nothing`.
+abbrev pub read : {V : Type 0} → Channel V → (h position : ℕ) → Option V → (nothing : BReply V) → Change V × BReply V
+read c h position (Some v) nothing = (Move h position (position + 1), Value v)
+read c h position None nothing = (Keep, if is_closed c then Closed else nothing)
+
+-- what receiver h gets. "Any receiver that has not yet seen the released value will return RecvError::Lagged the next
+-- time recv is called. Once RecvError::Lagged is returned, the lagging receiver's position is updated to the oldest value
+-- contained by the channel."
+abbrev pub receive : {V : Type 0} → Channel V → (h position : ℕ) → (nothing : BReply V) → Change V × BReply V
+receive c h position nothing =
+    if nat_lt 0 (number.lag (oldest c) position)
+    then (Move h position (oldest c), Lagged (number.lag (oldest c) position))
+    else read c h position (c.value position) nothing
+
+-- the table: what a call does and its reply, with the live handle of this kind and position that it names
+abbrev pub effect_with : {V : Type 0} → Channel V → BCall V → Kind → ℕ → Change V × BReply V
+effect_with c (Send h v) kind position = send c v
+effect_with c (Subscribe h) kind position = make c Receiver c.sent
+effect_with c (CloneSender h) kind position = make c Sender 0
+effect_with c (Resubscribe h) kind position = make c Receiver c.sent
+effect_with c (TryRecv h) kind position = receive c h position Empty
+effect_with c (Recv h) kind position = receive c h position Waits
+effect_with c (DropHandle h) kind position = (Leave h kind position, Dropped)
+effect_with c (SenderLen h) kind position = (Keep, Count (queued c))
+effect_with c (ReceiverCount h) kind position = (Keep, Count (receivers c))
+effect_with c (ReceiverLen h) kind position = (Keep, Count (number.unread c.sent position))
+
+-- the same, where the handle is looked for: a call is checked for an unknown number, a dropped handle, one of the wrong
+-- kind, and too many handles, in this order
+abbrev pub effect_found : {V : Type 0} → Channel V → BCall V → Found ℕ → Change V × BReply V
+effect_found c call (Fault f) = (Keep, refused f)
+effect_found c call (Handle kind position) =
+    if makes call && nat_le HANDLES (length c.slots) then (Keep, TooManyHandles) else effect_with c call kind position
+
+-- what a call does, and its reply
+abbrev pub effect : {V : Type 0} → Channel V → BCall V → Change V × BReply V
+effect c call = effect_found c call (found (wanted call) c.slots (handle_of call))

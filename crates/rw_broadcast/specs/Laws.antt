@@ -1,0 +1,32 @@
+-- The laws of a broadcast channel, beside those of any machine whose steps can be undone.
+use Rattle.std.specs.Prelude.{◌≡◌, ℕ, ◌<◌, ◌≤◌, List}
+use Rattle.std.specs.Int.{IsNextPowerOfTwo}
+use Rattle.rw_handles.specs.Slots.{HANDLES}
+use Rattle.rw_broadcast.specs.declared.calls.BCall.{BCall}
+use Rattle.rw_broadcast.specs.declared.calls.BReply.{BReply}
+use Rattle.rw_broadcast.specs.Arithmetic.{retained_capacity}
+use Rattle.rw_broadcast.specs.Record.{Record, step, opened, after}
+use Rattle.rw_broadcast.specs.Shown.{Shown, shown, next, reply_of, IsAllowed}
+
+-- a step on what is shown is the documented step of the record: its reply is that of the record, and what is shown after
+-- it is what the record after it shows
+abbrev pub ShowsItsSteps : Type 0 → Type 0
+ShowsItsSteps V = (r : Record V) (call : BCall V) → 0 < r.capacity →
+    (reply_of (shown r) call ≡ (step r call).1) × (next (shown r) call ≡ shown (step r call).0)
+
+-- what a channel shows after any calls is allowed
+abbrev pub ShowsAllowed : Type 0 → Type 0
+ShowsAllowed V = (asked : ℕ) (calls : List (BCall V)) → IsAllowed (shown (after (opened asked) calls))
+
+-- all that is allowed is shown by some record
+abbrev pub IsShownBySome : Type 0 → Type 0
+IsShownBySome V = (x : Shown V) → IsAllowed x → (r : Record V) × (0 < r.capacity) × (shown r ≡ x)
+
+-- the retained capacity is the least power of two that is at least the one asked for
+abbrev pub RetainsNextPower : Type 0
+RetainsNextPower = (asked : ℕ) → 0 < asked → asked ≤ HANDLES → IsNextPowerOfTwo asked (retained_capacity asked)
+
+-- from x to y, the call was answered and made as documented: for each record that shows x, the reply is that of its step,
+-- and y is what the record after it shows
+abbrev pub IsDocumented : {V : Type 0} → Shown V → BCall V → BReply V → Shown V → Type 0
+IsDocumented {V} x call reply y = (r : Record V) → 0 < r.capacity → shown r ≡ x → (reply ≡ (step r call).1) × (y ≡ shown (step r call).0)

@@ -1,0 +1,153 @@
+-- What a broadcast channel shows, which is the record without the values that were evicted: its steps, and their undoing.
+use Rattle.std.specs.Prelude.{◌≡◌, ℕ, ◌+◌, ◌-◌, ◌≤◌, ◌<◌, min, Bool, true, false, nat_lt, if◌then◌else◌, List, [], ◌∷◌, ◌++◌, Option, Some, None, All, slice_get, slice_set, length, take, drop, ⊤}
+use Rattle.rw_handles.specs.declared.kinds.Kind.TheVariants.{Sender, Receiver}
+use Rattle.rw_handles.specs.declared.kinds.Slot.{Slot}
+use Rattle.rw_handles.specs.declared.kinds.Slot.TheVariants.{Live, Spent}
+use Rattle.rw_handles.specs.Slots.{HANDLES, IsLive}
+use Rattle.rw_law.specs.Outcomes.{Outcome}
+use Rattle.rw_broadcast.specs.declared.calls.BCall.{BCall}
+use Rattle.rw_broadcast.specs.declared.calls.BReply.{BReply}
+use Rattle.rw_broadcast.specs.declared.calls.BReply.TheVariants.{NoReceivers, Empty, Closed, Waits, Unknown, Gone, WrongKind, TooManyHandles}
+use Rattle.rw_broadcast.specs.declared.calls.BPatch.{BPatch}
+use Rattle.rw_broadcast.specs.declared.calls.BPatch.TheVariants.{Same, Pushed, Evicted, Made, Moved, Left}
+use Rattle.rw_broadcast.specs.Arithmetic.{oldest}
+use Rattle.rw_broadcast.specs.Record.{Record}
+use Rattle.rw_broadcast.specs.Channel.{Channel, Change, Keep, Append, Make, Move, Leave, effect, handle_of}
+
+-- the retained capacity, how many values were ever sent, the retained ones of them, the oldest first, and what stands under
+-- each handle's number
+pub record Shown (V : Type 0) : Type 0 where
+  pub capacity : ℕ
+  pub sent : ℕ
+  pub window : List V
+  pub slots : List (Slot ℕ)
+
+-- what a record shows
+abbrev pub shown : {V : Type 0} → Record V → Shown V
+shown r = record { capacity = r.capacity; sent = length r.sent; window = drop (oldest (length r.sent) r.capacity) r.sent; slots = r.slots }
+
+-- what is shown, as calls read it
+abbrev pub channel_of : {V : Type 0} → Shown V → Channel V
+channel_of x = record { capacity = x.capacity; sent = x.sent; value = λ position. slice_get x.window (position - oldest x.sent x.capacity); slots = x.slots }
+
+-- the retained values after one more is sent. "If a value is sent when the channel is at capacity, the oldest value
+-- currently held by the channel is released."
+abbrev pub put : {V : Type 0} → ℕ → List V → V → List V
+put capacity window v = if nat_lt (length window) capacity then window ++ v ∷ [] else drop 1 window ++ v ∷ []
+
+-- the value that is released
+abbrev pub evicted : {V : Type 0} → ℕ → List V → Option V
+evicted capacity window = if nat_lt (length window) capacity then None else slice_get window 0
+
+-- the retained values from before the last one was sent, given the value that was released for it
+abbrev pub unput : {V : Type 0} → Option V → List V → List V
+unput None window = take (length window - 1) window
+unput (Some v) window = v ∷ take (length window - 1) window
+
+-- what is shown after a change
+abbrev pub changed : {V : Type 0} → Shown V → Change V → Shown V
+changed x Keep = x
+changed x (Append v) = record x { sent = x.sent + 1; window = put x.capacity x.window v }
+changed x (Make kind position) = record x { slots = x.slots ++ Live kind position ∷ [] }
+changed x (Move h from to) = record x { slots = slice_set x.slots h (Live Receiver to) }
+changed x (Leave h kind position) = record x { slots = slice_set x.slots h Spent }
+
+-- the patch of a value that was sent
+abbrev pub patch_of_send : {V : Type 0} → Option V → BPatch V
+patch_of_send None = Pushed
+patch_of_send (Some old) = Evicted old
+
+-- what undoes a change
+abbrev pub patch_for : {V : Type 0} → Shown V → Change V → BPatch V
+patch_for x Keep = Same
+patch_for x (Append v) = patch_of_send (evicted x.capacity x.window)
+patch_for x (Make kind position) = Made
+patch_for x (Move h from to) = Moved from
+patch_for x (Leave h kind position) = Left kind position
+
+-- a change and a reply, as the outcome of a call
+abbrev pub outcome_of : {V : Type 0} → Shown V → Change V × BReply V → Outcome (Shown V) (BReply V) (BPatch V)
+outcome_of x e = record { next = changed x e.0; reply = e.1; patch = patch_for x e.0 }
+
+-- what a call leads to
+abbrev pub outcome : {V : Type 0} → Shown V → BCall V → Outcome (Shown V) (BReply V) (BPatch V)
+outcome x call = outcome_of x (effect (channel_of x) call)
+
+-- what is shown after a call
+abbrev pub next : {V : Type 0} → Shown V → BCall V → Shown V
+next x call = (outcome x call).next
+
+-- the reply to a call
+abbrev pub reply_of : {V : Type 0} → Shown V → BCall V → BReply V
+reply_of x call = (outcome x call).reply
+
+-- what undoes a call
+abbrev pub patch_of : {V : Type 0} → Shown V → BCall V → BPatch V
+patch_of x call = (outcome x call).patch
+
+-- what was shown before this call, which left this patch
+abbrev pub back : {V : Type 0} → Shown V → BCall V → BPatch V → Shown V
+back x call Same = x
+back x call Pushed = record x { sent = x.sent - 1; window = unput None x.window }
+back x call (Evicted old) = record x { sent = x.sent - 1; window = unput (Some old) x.window }
+back x call Made = record x { slots = take (length x.slots - 1) x.slots }
+back x call (Moved from) = record x { slots = slice_set x.slots (handle_of call) (Live Receiver from) }
+back x call (Left kind position) = record x { slots = slice_set x.slots (handle_of call) (Live kind position) }
+
+-- what can stand under a number, of a channel with so many values sent: a sender with 0, a receiver at one of their ends
+abbrev pub IsPlaced : ℕ → Slot ℕ → Type 0
+IsPlaced sent (Live Sender position) = position ≡ 0
+IsPlaced sent (Live Receiver position) = position ≤ sent
+IsPlaced sent Spent = ⊤
+
+-- what channels show
+pub record IsAllowed {V : Type 0} (x : Shown V) : Type 0 where
+  pub some_capacity : 0 < x.capacity
+  pub small_capacity : x.capacity ≤ HANDLES
+  pub retained : length x.window ≡ min x.sent x.capacity
+  pub few_slots : length x.slots ≤ HANDLES
+  pub placed : All (IsPlaced x.sent) x.slots
+
+-- a live receiver
+abbrev pub IsReceiver : Option (Slot ℕ) → Type 0
+IsReceiver (Some (Live Receiver position)) = ⊤
+IsReceiver _ = ⊥
+
+-- a value was sent last, and everything was in its place before
+pub record CanUnsend {V : Type 0} (y : Shown V) : Type 0 where
+  pub some_sent : 0 < y.sent
+  pub placed : All (IsPlaced (y.sent - 1)) y.slots
+
+-- the patch has all that is needed to undo this call here: what `back` shows is allowed again
+abbrev pub Fits : {V : Type 0} → Shown V → BCall V → BPatch V → Type 0
+Fits y call Same = ⊤
+Fits y call Pushed = CanUnsend y × (y.sent ≤ y.capacity)
+Fits y call (Evicted old) = CanUnsend y × (y.capacity < y.sent)
+Fits y call Made = IsLive (slice_get y.slots (length y.slots - 1))
+Fits y call (Moved from) = IsReceiver (slice_get y.slots (handle_of call)) × (from ≤ y.sent)
+Fits y call (Left kind position) = (slice_get y.slots (handle_of call) ≡ Some Spent) × IsPlaced y.sent (Live kind position)
+
+-- how many values were sent and handles made
+abbrev pub weight : {V : Type 0} → Shown V → ℕ
+weight x = x.sent + length x.slots
+
+-- the reply says that nothing changed
+abbrev pub refuses : {V : Type 0} → BReply V → Bool
+refuses (NoReceivers v) = true
+refuses Empty = true
+refuses Closed = true
+refuses Waits = true
+refuses Unknown = true
+refuses Gone = true
+refuses WrongKind = true
+refuses TooManyHandles = true
+refuses _ = false
+
+-- the reply says that the call would wait
+abbrev pub waits : {V : Type 0} → BReply V → Bool
+waits Waits = true
+waits _ = false
+
+-- no reply of a broadcast channel says that there is no such channel
+abbrev pub strays : {V : Type 0} → BReply V → Bool
+strays _ = false

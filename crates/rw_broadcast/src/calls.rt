@@ -1,0 +1,154 @@
+//! The calls of a broadcast channel, their replies, and what a step leaves for its undoing.
+ghost use Rattle.std.specs.Prelude.{◌≡◌};
+ghost use Rattle.rw_broadcast.specs.Channel.{handle_of, makes, refused, wanted};
+ghost use Rattle.rw_broadcast.specs.Shown.{patch_of_send};
+
+use rw_handles::{HandleFault, Kind};
+
+/// A call. The number is that of the handle that it is made with.
+#[derive(Clone, Copy)]
+pub enum BCall<V> {
+    /// Sends a value to all live receivers.
+    Send(u32, V),
+    /// Makes a receiver that gets the values sent from now on.
+    Subscribe(u32),
+    /// Makes another sender.
+    CloneSender(u32),
+    /// Makes a receiver out of another; it gets the values sent from now on.
+    Resubscribe(u32),
+    /// Receives a value, if there is one.
+    TryRecv(u32),
+    /// Receives a value, and waits for one where there is none yet.
+    Recv(u32),
+    /// Drops a handle of either kind.
+    DropHandle(u32),
+    /// Asks a sender how many values are queued.
+    SenderLen(u32),
+    /// Asks a sender how many receivers are alive.
+    ReceiverCount(u32),
+    /// Asks a receiver how many values it has yet to receive.
+    ReceiverLen(u32),
+}
+
+/// What a call answers.
+#[derive(Clone, Copy, Debug, PartialEq)]
+pub enum BReply<V> {
+    /// The value was sent to so many receivers.
+    Sent(u64),
+    /// No receiver is alive, so the value comes back.
+    NoReceivers(V),
+    /// The receiver's next value.
+    Value(V),
+    /// So many values were skipped, which the receiver had not received when they were evicted.
+    Lagged(u64),
+    /// There is no value yet.
+    Empty,
+    /// There is no value, and no sender any more.
+    Closed,
+    /// There is no value yet, and the call would wait.
+    Waits,
+    /// A handle of this number was made.
+    New(u32),
+    /// The handle was dropped.
+    Dropped,
+    /// What was asked for.
+    Count(u64),
+    /// No handle of this number was made.
+    Unknown,
+    /// The handle was dropped before.
+    Gone,
+    /// The handle is of the other kind.
+    WrongKind,
+    /// The channel has made all the handles that it may make.
+    TooManyHandles,
+}
+
+/// What undoing a step needs beside its call.
+#[derive(Clone, Copy)]
+pub enum BPatch<V> {
+    /// Nothing changed.
+    Same,
+    /// A value was sent, and none was evicted for it.
+    Pushed,
+    /// A value was sent, and this one was evicted for it.
+    Evicted(V),
+    /// A handle was made.
+    Made,
+    /// The receiver stood at this position.
+    Moved(u64),
+    /// The dropped handle was of this kind, and stood at this position.
+    Left(Kind, u64),
+}
+
+impl<V: Copy> BCall<V> {
+    /// The number of the handle that the call is made with.
+    pub fn handle(&self) -> u32
+        ensures { result ≡ handle_of self.now }
+    {
+        match self {
+            BCall::Send(handle, _) => *handle,
+            BCall::Subscribe(handle) => *handle,
+            BCall::CloneSender(handle) => *handle,
+            BCall::Resubscribe(handle) => *handle,
+            BCall::TryRecv(handle) => *handle,
+            BCall::Recv(handle) => *handle,
+            BCall::DropHandle(handle) => *handle,
+            BCall::SenderLen(handle) => *handle,
+            BCall::ReceiverCount(handle) => *handle,
+            BCall::ReceiverLen(handle) => *handle,
+        }
+    }
+
+    /// The kind that this handle has to be of; `None` where either kind will do.
+    pub fn wanted(&self) -> Option<Kind>
+        ensures { result ≡ wanted self.now }
+    {
+        match self {
+            BCall::Send(_, _) => Some(Kind::Sender),
+            BCall::Subscribe(_) => Some(Kind::Sender),
+            BCall::CloneSender(_) => Some(Kind::Sender),
+            BCall::Resubscribe(_) => Some(Kind::Receiver),
+            BCall::TryRecv(_) => Some(Kind::Receiver),
+            BCall::Recv(_) => Some(Kind::Receiver),
+            BCall::DropHandle(_) => None,
+            BCall::SenderLen(_) => Some(Kind::Sender),
+            BCall::ReceiverCount(_) => Some(Kind::Sender),
+            BCall::ReceiverLen(_) => Some(Kind::Receiver),
+        }
+    }
+
+    /// Whether the call makes a handle, where it isn't refused.
+    pub fn makes(&self) -> bool
+        ensures { result ≡ makes self.now }
+    {
+        matches!(
+            self,
+            BCall::Subscribe(_) | BCall::CloneSender(_) | BCall::Resubscribe(_)
+        )
+    }
+}
+
+impl<V: Copy> BReply<V> {
+    /// The reply for a handle that can't be used.
+    pub fn refused(fault: HandleFault) -> BReply<V>
+        ensures { result ≡ refused fault }
+    {
+        match fault {
+            HandleFault::Unknown => BReply::Unknown,
+            HandleFault::Gone => BReply::Gone,
+            HandleFault::WrongKind => BReply::WrongKind,
+        }
+    }
+}
+
+impl<V: Copy> BPatch<V> {
+    /// The patch of a value that was sent, given the value that was evicted for it.
+    pub fn of_send(evicted: Option<V>) -> BPatch<V>
+        ensures { result ≡ patch_of_send evicted }
+    {
+        match evicted {
+            None => BPatch::Pushed,
+            Some(old) => BPatch::Evicted(old),
+        }
+    }
+}

@@ -1,0 +1,17 @@
+//! A broadcast channel whose steps can be undone.
+//!
+//! The one contract: `Broadcast` is a machine whose steps can be undone (`rw_law::Reversible`), and its steps are those of
+//! tokio's documentation of `tokio::sync::broadcast`, by the table of calls in `specs/Channel.antt`.
+//! Start reading at that table, go on with `specs/Record.antt`, the record of all that was ever sent, and `specs/Shown.antt`,
+//! what a machine still shows of it, and then read `machine.rt`.
+#![tactic(auto)]
+
+mod calls;
+mod laws;
+mod least;
+mod machine;
+mod window;
+
+pub use calls::{BCall, BPatch, BReply};
+pub use laws::channel_laws;
+pub use machine::{Broadcast, OpenFault};

@@ -1,0 +1,110 @@
+//! The machine of a broadcast channel.
+ghost use Rattle.std.specs.Prelude.{◌≡◌, ◌<◌, ◌≤◌, ◌↔◌, ◌⊎◌, [], IfOk, vec_capacity};
+ghost use Rattle.rw_handles.specs.Slots.{HANDLES};
+ghost use Rattle.rw_broadcast.specs.Arithmetic.{retained_capacity};
+ghost use Rattle.rw_broadcast.specs.Record.{first_slots, opened};
+ghost use Rattle.rw_broadcast.specs.Shown.{shown};
+
+mod readers;
+mod reversible;
+mod steps;
+
+use rw_handles::{Kind, Table};
+use rw_law::NoMemory;
+use std::alloc::Global;
+use std::marker::Model;
+
+/// The greatest capacity that may be asked for.
+const MOST_CAPACITY: u32 = 65536;
+
+/// A broadcast channel: the last values that were sent, as many as it retains, and its handles.
+#[derive(Drop)]
+pub struct Broadcast<V: Copy> {
+    capacity: u64,
+    sent: u64,
+    limit: u64,
+    window: Vec<V>,
+    handles: Table<u64>,
+}
+
+impl<V: Copy> Model for Broadcast<V> {
+    ghost use Rattle.rw_broadcast.specs.Machine.{Machine};
+
+    ghost Value = { Machine V };
+
+    ghost use Rattle.rw_broadcast.specs.Inside.{HasRoom, machine_of};
+
+    ghost view = { machine_of };
+
+    ghost invariant = { HasRoom };
+}
+
+/// Why a channel isn't opened.
+#[derive(Clone, Copy, Debug, PartialEq, Eq)]
+pub enum OpenFault {
+    /// The capacity that was asked for is 0 or above 65,536.
+    BadCapacity,
+    /// A growth was refused.
+    NoMemory,
+}
+
+impl From<NoMemory> for OpenFault {
+    ghost use Rattle.std.specs.Prelude.{◌≡◌};
+    ghost use Rattle.rw_broadcast.specs.declared.machine.OpenFault.{OpenFault};
+
+    ghost from_gives = { λ _ fault. fault ≡ OpenFault.NoMemory };
+
+    fn from(_error: NoMemory) -> OpenFault {
+        OpenFault::NoMemory
+    }
+}
+
+impl<V: Copy> Broadcast<V> {
+    /// Opens a channel with one sender, 0, and one receiver, 1. It retains as many values as the least power of two that is
+    /// at least this capacity.
+    pub fn open(alloc: Global, capacity: u32) -> Result<Broadcast<V>, OpenFault>
+        ensures ok { IfOk result (λ machine. machine.shown ≡ shown (opened capacity)) }
+        ensures bad { (result ≡ Err OpenFault.BadCapacity) ↔ ((capacity ≡ 0) ⊎ (MOST_CAPACITY < capacity)) }
+    {
+        if capacity == 0 || capacity > MOST_CAPACITY {
+            return Err(OpenFault::BadCapacity);
+        }
+        let handles = first_handles(alloc)?;
+        let window = first_window(alloc)?;
+        Ok(Broadcast {
+            capacity: retained_capacity(capacity),
+            sent: 0,
+            limit: 2,
+            window,
+            handles,
+        })
+    }
+}
+
+/// The handles of a channel at its opening.
+fn first_handles(alloc: Global) -> Result<Table<u64>, NoMemory>
+    ensures { IfOk result (λ handles. handles.slots ≡ first_slots) }
+{
+    let mut handles = Table::new(alloc)?;
+    handles.ready(2)?;
+    let _sender = handles.make(Kind::Sender, 0);
+    let _receiver = handles.make(Kind::Receiver, 0);
+    Ok(handles)
+}
+
+/// How many values are retained where this many are asked for.
+fn retained_capacity(asked: u32) -> u64
+    requires some { 0 < asked }
+    requires small { asked ≤ HANDLES }
+    ensures { result ≡ retained_capacity asked }
+{
+    u64::from(asked).next_power_of_two()
+}
+
+/// A list with room for the first values.
+fn first_window<V: Copy>(alloc: Global) -> Result<Vec<V>, NoMemory>
+    ensures items { IfOk result (λ window. window.items ≡ []) }
+    ensures room { IfOk result (λ window. 2 ≤ vec_capacity window) }
+{
+    Ok(Vec::with_capacity(alloc, 2)?)
+}

@@ -1,0 +1,87 @@
+//! What a broadcast channel shows.
+ghost use Rattle.std.specs.Prelude.{◌≡◌, length, slice_get, option_map};
+ghost use Rattle.rw_handles.specs.Slots.{kind_at};
+ghost use Rattle.rw_broadcast.specs.Arithmetic.{lag, unread};
+ghost use Rattle.rw_broadcast.specs.Channel.{is_closed, oldest, queued};
+ghost use Rattle.rw_broadcast.specs.Shown.{channel_of};
+ghost use Rattle.rw_broadcast.specs.Machine.{position_at};
+
+use super::Broadcast;
+use rw_handles::{Found, Kind};
+
+impl<V: Copy> Broadcast<V> {
+    /// How many values the channel retains.
+    pub fn capacity(&self) -> u64
+        ensures { result ≡ self.now.shown.capacity }
+    {
+        self.capacity
+    }
+
+    /// How many values were ever sent.
+    pub fn sent(&self) -> u64
+        ensures { result ≡ self.now.shown.sent }
+    {
+        self.sent
+    }
+
+    /// The retained value with this many older ones, if there is one.
+    pub fn window(&self, i: u64) -> Option<V>
+        ensures { result ≡ slice_get self.now.shown.window i }
+    {
+        self.window.get(i as usize).copied()
+    }
+
+    /// The position of a live receiver, which is how many values were sent before the one that it receives next.
+    pub fn position(&self, id: u32) -> Option<u64>
+        ensures { result ≡ position_at (slice_get self.now.shown.slots id) }
+    {
+        match self.handles.find(id, Some(Kind::Receiver)) {
+            Found::Fault(_) => None,
+            Found::Handle(_, position) => Some(position),
+        }
+    }
+
+    /// How many values a live receiver has yet to receive.
+    pub fn unread(&self, id: u32) -> Option<u64>
+        ensures { result ≡ option_map (unread self.now.shown.sent) (position_at (slice_get self.now.shown.slots id)) }
+    {
+        let position = self.position(id)?;
+        Some(self.sent - position)
+    }
+
+    /// How many of these are retained no longer.
+    pub fn lag(&self, id: u32) -> Option<u64>
+        ensures { result ≡ option_map (lag (oldest (channel_of self.now.shown))) (position_at (slice_get self.now.shown.slots id)) }
+    {
+        let position = self.position(id)?;
+        Some(self.oldest().saturating_sub(position))
+    }
+
+    /// How many values are retained for some live receiver. It looks at every handle.
+    pub fn queued(&self) -> u64
+        ensures { result ≡ queued (channel_of self.now.shown) }
+    {
+        self.count_queued()
+    }
+
+    /// How many handles were made.
+    pub fn made(&self) -> u32
+        ensures { result ≡ length self.now.shown.slots }
+    {
+        self.handles.made()
+    }
+
+    /// The kind of a live handle.
+    pub fn kind(&self, id: u32) -> Option<Kind>
+        ensures { result ≡ kind_at (slice_get self.now.shown.slots id) }
+    {
+        self.handles.kind(id)
+    }
+
+    /// Whether no sender is alive.
+    pub fn closed(&self) -> bool
+        ensures { result ≡ is_closed (channel_of self.now.shown) }
+    {
+        self.handles.alive(Kind::Sender) == 0
+    }
+}

@@ -1,0 +1,179 @@
+//! The steps of a broadcast channel, by the table of calls.
+ghost use Rattle.std.specs.Prelude.{◌≡◌, ◌-◌, ◌<◌, ◌≤◌, length, slice_get, Some, IsTrue, is_some, nat_lt};
+ghost use Rattle.rw_handles.specs.declared.kinds.Kind.TheVariants.{Receiver};
+ghost use Rattle.rw_handles.specs.declared.kinds.Slot.TheVariants.{Live};
+ghost use Rattle.rw_handles.specs.declared.kinds.Found.TheVariants.{Handle};
+ghost use Rattle.rw_handles.specs.Slots.{HANDLES, found};
+ghost use Rattle.rw_broadcast.specs.Channel.{Keep, Make, Move, Leave, send, read, receive, effect, effect_with, handle_of, wanted, makes, oldest, receivers, queued};
+ghost use Rattle.rw_broadcast.specs.Shown.{CanUnsend, IsPlaced, channel_of, unput, weight};
+ghost use Rattle.rw_broadcast.specs.Machine.{Takes};
+
+use super::Broadcast;
+use crate::calls::{BCall, BPatch, BReply};
+use crate::least::least_position;
+use crate::window::{put, unput};
+use rw_handles::{Found, Kind, MOST_HANDLES};
+
+impl<V: Copy> Broadcast<V> {
+    /// The position of the oldest retained value.
+    pub(super) fn oldest(&self) -> u64
+        ensures { result ≡ oldest (channel_of self.now.shown) }
+    {
+        self.sent.saturating_sub(self.capacity)
+    }
+
+    /// How many receivers are alive.
+    fn receivers(&self) -> u64
+        ensures { result ≡ receivers (channel_of self.now.shown) }
+    {
+        self.handles.alive(Kind::Receiver)
+    }
+
+    /// Keeps everything as it is.
+    fn keep(&self, reply: BReply<V>) -> (BReply<V>, BPatch<V>)
+        ensures { Takes self.now self.now result (Keep, reply) }
+    {
+        (reply, BPatch::Same)
+    }
+
+    /// Makes the handle of the next number.
+    fn make(&mut self, kind: Kind, position: u64) -> (BReply<V>, BPatch<V>)
+        requires few { length self.old.shown.slots < HANDLES }
+        requires room { weight self.old.shown < self.old.limit }
+        requires placed { IsPlaced self.old.shown.sent (Live kind position) }
+        ensures { Takes self.old self.new result (Make kind position, BReply.New (length self.old.shown.slots)) }
+    {
+        let made = self.handles.make(kind, position);
+        (BReply::New(made), BPatch::Made)
+    }
+
+    /// Moves a receiver from one position to another.
+    fn move_receiver(
+        &mut self,
+        handle: u32,
+        from: u64,
+        to: u64,
+        reply: BReply<V>,
+    ) -> (BReply<V>, BPatch<V>)
+        requires here { slice_get self.old.shown.slots handle ≡ Some (Live Receiver from) }
+        requires within { to ≤ self.old.shown.sent }
+        ensures { Takes self.old self.new result (Move handle from to, reply) }
+    {
+        self.handles.set(handle, to);
+        (reply, BPatch::Moved(from))
+    }
+
+    /// Drops a handle.
+    fn leave(&mut self, handle: u32, kind: Kind, position: u64) -> (BReply<V>, BPatch<V>)
+        requires { slice_get self.old.shown.slots handle ≡ Some (Live kind position) }
+        ensures { Takes self.old self.new result (Leave handle kind position, BReply.Dropped) }
+    {
+        let _dropped = self.handles.drop_one(handle);
+        (BReply::Dropped, BPatch::Left(kind, position))
+    }
+
+    /// Sends a value, if there is a receiver.
+    fn send(&mut self, value: V) -> (BReply<V>, BPatch<V>)
+        requires { weight self.old.shown < self.old.limit }
+        ensures { Takes self.old self.new result (send (channel_of self.old.shown) value) }
+    {
+        let receivers = self.receivers();
+        if receivers == 0 {
+            return self.keep(BReply::NoReceivers(value));
+        }
+        let evicted = put(&mut self.window, self.capacity, value);
+        self.sent += 1;
+        (BReply::Sent(receivers), BPatch::of_send(evicted))
+    }
+
+    /// Gives a receiver the value at its position, if there is one.
+    fn read(&mut self, handle: u32, position: u64, nothing: BReply<V>) -> (BReply<V>, BPatch<V>)
+        requires here { slice_get self.old.shown.slots handle ≡ Some (Live Receiver position) }
+        requires retained { oldest (channel_of self.old.shown) ≤ position }
+        ensures { Takes self.old self.new result (read (channel_of self.old.shown) handle position ((channel_of self.old.shown).value position) nothing) }
+    {
+        let place = position - self.oldest();
+        match self.window.get(place as usize).copied() {
+            Some(value) => self.move_receiver(handle, position, position + 1, BReply::Value(value)),
+            None => {
+                if self.closed() {
+                    self.keep(BReply::Closed)
+                } else {
+                    self.keep(nothing)
+                }
+            }
+        }
+    }
+
+    /// Gives a receiver what it gets next; `nothing` is the reply where more may come.
+    fn receive(&mut self, handle: u32, position: u64, nothing: BReply<V>) -> (BReply<V>, BPatch<V>)
+        requires { slice_get self.old.shown.slots handle ≡ Some (Live Receiver position) }
+        ensures { Takes self.old self.new result (receive (channel_of self.old.shown) handle position nothing) }
+    {
+        let oldest = self.oldest();
+        if position < oldest {
+            self.move_receiver(handle, position, oldest, BReply::Lagged(oldest - position))
+        } else {
+            self.read(handle, position, nothing)
+        }
+    }
+
+    /// How many values are retained for some receiver. It looks at every handle.
+    pub(super) fn count_queued(&self) -> u64
+        ensures { result ≡ queued (channel_of self.now.shown) }
+    {
+        match least_position(self.handles.slots()) {
+            None => 0,
+            Some(position) => self.sent.saturating_sub(position.max(self.oldest())),
+        }
+    }
+
+    /// Makes a call with the live handle that it found.
+    fn perform(&mut self, call: &BCall<V>, kind: Kind, position: u64) -> (BReply<V>, BPatch<V>)
+        requires room { weight self.old.shown < self.old.limit }
+        requires found { found (wanted call.now) self.old.shown.slots (handle_of call.now) ≡ Handle kind position }
+        requires few { IsTrue (makes call.now) → length self.old.shown.slots < HANDLES }
+        ensures { Takes self.old self.new result (effect_with (channel_of self.old.shown) call.now kind position) }
+    {
+        match *call {
+            BCall::Send(_, value) => self.send(value),
+            BCall::Subscribe(_) => self.make(Kind::Receiver, self.sent),
+            BCall::CloneSender(_) => self.make(Kind::Sender, 0),
+            BCall::Resubscribe(_) => self.make(Kind::Receiver, self.sent),
+            BCall::TryRecv(handle) => self.receive(handle, position, BReply::Empty),
+            BCall::Recv(handle) => self.receive(handle, position, BReply::Waits),
+            BCall::DropHandle(handle) => self.leave(handle, kind, position),
+            BCall::SenderLen(_) => self.keep(BReply::Count(self.count_queued())),
+            BCall::ReceiverCount(_) => self.keep(BReply::Count(self.receivers())),
+            BCall::ReceiverLen(_) => self.keep(BReply::Count(self.sent - position)),
+        }
+    }
+
+    /// Makes a call.
+    pub(super) fn step(&mut self, call: &BCall<V>) -> (BReply<V>, BPatch<V>)
+        requires { weight self.old.shown < self.old.limit }
+        ensures { Takes self.old self.new result (effect (channel_of self.old.shown) call.now) }
+    {
+        match self.handles.find(call.handle(), call.wanted()) {
+            Found::Fault(fault) => self.keep(BReply::refused(fault)),
+            Found::Handle(kind, position) => {
+                if call.makes() && self.handles.made() as usize >= MOST_HANDLES {
+                    self.keep(BReply::TooManyHandles)
+                } else {
+                    self.perform(call, kind, position)
+                }
+            }
+        }
+    }
+
+    /// Takes back the last send, given the value that was evicted for it.
+    pub(super) fn unsend(&mut self, evicted: Option<V>)
+        requires some { CanUnsend self.old.shown }
+        requires evicted { is_some evicted ≡ nat_lt self.old.shown.capacity self.old.shown.sent }
+        ensures shown { self.new.shown ≡ record self.old.shown { sent = self.old.shown.sent - 1; window = unput evicted self.old.shown.window } }
+        ensures room { self.new.limit ≡ self.old.limit }
+    {
+        unput(&mut self.window, evicted);
+        self.sent -= 1;
+    }
+}
