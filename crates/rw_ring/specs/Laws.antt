@@ -1,0 +1,18 @@
+-- What a window is, among all the values that were put.
+use Rattle.std.specs.Prelude.{◌≡◌, ℕ, ◌-◌, ◌<◌, ◌≤◌, List, [], ◌∷◌, ◌++◌, length, slice_get}
+use Rattle.rw_ring.specs.Windows.{put, evicted, unput, last_values}
+
+-- taking a value back gives the window from before it
+abbrev pub UnputUndoesPut : Type 0 → Type 0
+UnputUndoesPut V = (capacity : ℕ) (window : List V) (v : V) → 0 < capacity
+    → unput (evicted capacity window) (put capacity window v) ≡ window
+
+-- with one more value, the last values of all are still those in the window
+abbrev pub PutKeepsTheLast : Type 0 → Type 0
+PutKeepsTheLast V = (capacity : ℕ) (all : List V) (v : V) → 0 < capacity
+    → put capacity (last_values capacity all) v ≡ last_values capacity (all ++ v ∷ [])
+
+-- a value of the window has its position among all
+abbrev pub ReadsByPosition : Type 0 → Type 0
+ReadsByPosition V = (capacity : ℕ) (all : List V) (position : ℕ) → length all - capacity ≤ position
+    → slice_get (last_values capacity all) (position - (length all - capacity)) ≡ slice_get all position

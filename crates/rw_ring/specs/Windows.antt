@@ -1,0 +1,92 @@
+-- The last values of all that were put, as many as the capacity: their window under one more value, and its undoing.
+use Rattle.std.proofs.Common.{◌≡◌, ℕ, ◌+◌, ◌-◌, ◌<◌, ◌≤◌, min, Bool, true, false, cond, List, [], ◌∷◌, ◌++◌, length, take, drop, refl, ap, sym, ◌∙◌, arith, length-drop}
+use Rattle.std.specs.Prelude.{Option, Some, None, slice_get, nat_lt, is_some}
+use Rattle.std.proofs.lemmas.Bool.{cond_both, ltb-true, ltb-false, le-ltb, lt-ltb}
+use Rattle.std.proofs.lemmas.List.{length_push, take_at, drop-drop, drop-append-le}
+
+-- how many values a window has at most
+abbrev pub VALUES : ℕ
+VALUES = 65536
+
+-- what a ring shows
+pub record Window (V : Type 0) : Type 0 where
+  -- how many values are kept
+  pub capacity : ℕ
+  -- how many were ever put
+  pub count : ℕ
+  -- the last of them, as many as are kept, the oldest first
+  pub values : List V
+
+-- before the first value
+abbrev pub opened : {V : Type 0} → ℕ → Window V
+opened capacity = record { capacity = capacity; count = 0; values = [] }
+
+-- the position of the oldest value that is kept
+abbrev pub oldest : {V : Type 0} → Window V → ℕ
+oldest w = w.count - w.capacity
+
+-- the last of all values that were put
+abbrev pub last_values : {V : Type 0} → ℕ → List V → List V
+last_values capacity all = drop (length all - capacity) all
+
+-- the window after one more value
+abbrev pub put : {V : Type 0} → ℕ → List V → V → List V
+put capacity window v = cond (nat_lt (length window) capacity) (window ++ v ∷ []) (drop 1 window ++ v ∷ [])
+
+-- the value that is evicted for it
+abbrev pub evicted : {V : Type 0} → ℕ → List V → Option V
+evicted capacity window = cond (nat_lt (length window) capacity) None (slice_get window 0)
+
+-- the window from before a value, given the value that was evicted for it
+abbrev pub unput : {V : Type 0} → Option V → List V → List V
+unput None window = take (length window - 1) window
+unput (Some v) window = v ∷ take (length window - 1) window
+
+-- a list from before a push
+pub push_back : {A : Type 0} (xs : List A) (a : A) → take (length (xs ++ a ∷ []) - 1) (xs ++ a ∷ []) ≡ xs
+push_back xs a = take_at xs (a ∷ []) (length (xs ++ a ∷ []) - 1) (omega (arith, length_push xs a))
+
+-- by whether there is room
+unput-put_by : {V : Type 0} (b : Bool) (w : List V) (v : V) → (b ≡ false → 0 < length w) → unput (cond b None (slice_get w 0)) (cond b (w ++ v ∷ []) (drop 1 w ++ v ∷ [])) ≡ w
+unput-put_by true w v some = push_back w v
+unput-put_by false [] v some = absurd (omega (arith, some refl))
+unput-put_by false (x ∷ xs) v some = ap (λ ys. x ∷ ys) (push_back xs v)
+
+-- the window from before a value
+pub unput-put : {V : Type 0} (capacity : ℕ) (w : List V) (v : V) → 0 < capacity → unput (evicted capacity w) (put capacity w v) ≡ w
+unput-put capacity w v some = unput-put_by (nat_lt (length w) capacity) w v (λ full. omega (arith, ltb-false (length w) capacity full))
+
+-- a window grows up to its capacity
+pub length-put : {V : Type 0} (capacity : ℕ) (w : List V) (v : V) (n : ℕ) → 0 < capacity → length w ≡ min n capacity → length (put capacity w v) ≡ min (n + 1) capacity
+length-put capacity w v n some is =
+    let P = λ (l : List _). length l ≡ min (n + 1) capacity in
+    cond_both (nat_lt (length w) capacity) _ _ P
+    (λ room. omega (arith, ltb-true (length w) capacity room, length_push w v))
+    (λ full. omega (arith, ltb-false (length w) capacity full, length_push (drop 1 w) v, length-drop 1 w))
+
+-- the last values of a list with one more value
+pub put-drop : {V : Type 0} (capacity : ℕ) (s : List V) (v : V) → 0 < capacity → drop (length (s ++ v ∷ []) - capacity) (s ++ v ∷ []) ≡ put capacity (drop (length s - capacity) s) v
+put-drop capacity s v some =
+    let P = λ (l : List _). drop (length (s ++ v ∷ []) - capacity) (s ++ v ∷ []) ≡ l in
+    let w = drop (length s - capacity) s in
+    cond_both (nat_lt (length w) capacity) _ _ P
+    (λ room. let short : length s < capacity = omega (arith, ltb-true (length w) capacity room, length-drop (length s - capacity) s) in
+    let none_before : length s - capacity ≡ 0 = omega arith in
+    let none_after : length (s ++ v ∷ []) - capacity ≡ 0 = omega (arith, length_push s v) in
+    rw (none_before, none_after) refl)
+    (λ full. let long : capacity ≤ length s = omega (arith, ltb-false (length w) capacity full, length-drop (length s - capacity) s) in
+    let one_more : length (s ++ v ∷ []) - capacity ≡ length s - capacity + 1 = omega (arith, length_push s v) in
+    let within : length s - capacity + 1 ≤ length s = omega arith in
+    rw (one_more, drop-append-le, drop-drop) refl)
+
+-- a value is evicted where more were put than are kept
+pub is_some-evicted : {V : Type 0} (capacity : ℕ) (w : List V) (n : ℕ) → 0 < capacity → length w ≡ min n capacity → is_some (evicted capacity w) ≡ nat_lt capacity (n + 1)
+is_some-evicted capacity w n some is =
+    let P = λ (o : Option _). is_some o ≡ nat_lt capacity (n + 1) in
+    cond_both (nat_lt (length w) capacity) _ _ P
+    (λ room. sym (le-ltb capacity (n + 1) (omega (arith, ltb-true (length w) capacity room))))
+    (λ full. some_first w (omega (arith, ltb-false (length w) capacity full)) ∙ sym (lt-ltb capacity (n + 1) (omega (arith, ltb-false (length w) capacity full))))
+  where
+    some_first : {V : Type 0} (w : List V) → 0 < length w → is_some (slice_get w 0) ≡ true
+    some_first [] h = absurd (omega (arith, h))
+    some_first (x ∷ xs) h = refl

@@ -1,0 +1,120 @@
+//! The ring: a value stands in the cell whose number is its position's remainder by the capacity.
+ghost use Rattle.std.specs.Prelude.{◌≡◌, ◌+◌, ◌-◌, ◌<◌, ◌≤◌, ◌^◌, min, [], length, slice_get, None, IfOk, is_some, nat_lt};
+ghost use Rattle.rw_ring.specs.Windows.{put, evicted, unput, oldest, opened};
+
+use rw_law::NoMemory;
+use std::alloc::Global;
+use std::marker::Model;
+use std::mem;
+
+/// How many values a ring keeps at most.
+pub const MOST_VALUES: u64 = 65536;
+
+/// The last values of all that were put.
+#[derive(Drop)]
+pub struct Ring<V: Copy> {
+    cells: Vec<V>,
+    capacity: u64,
+    count: u64,
+}
+
+impl<V: Copy> Model for Ring<V> {
+    ghost use Rattle.std.specs.Prelude.{◌≡◌, ◌<◌, ◌≤◌, min, vec_len, vec_capacity};
+    ghost use Rattle.rw_ring.specs.Cells.{in_order};
+    ghost use Rattle.rw_ring.specs.Windows.{Window, VALUES};
+
+    ghost Value = { Window V };
+
+    ghost view = { λ r. record { capacity = r.capacity; count = r.count; values = in_order r.capacity r.count r.cells.items } };
+
+    ghost invariant = { λ r. (0 < r.capacity) × (r.capacity ≤ VALUES) × (vec_len r.cells ≡ min r.count r.capacity) × (r.capacity ≤ vec_capacity r.cells) };
+}
+
+impl<V: Copy> Ring<V> {
+    /// A ring to which nothing was put. All the memory it will need is taken here, and no cell is written.
+    pub fn new(alloc: Global, capacity: u64) -> Result<Self, NoMemory>
+        requires some { 0 < capacity }
+        requires most { capacity ≤ MOST_VALUES }
+        ensures { IfOk result (λ r. r ≡ opened capacity) }
+    {
+        Ok(Ring {
+            cells: Vec::with_capacity(alloc, capacity as usize)?,
+            capacity,
+            count: 0,
+        })
+    }
+
+    /// How many values the ring keeps at most.
+    pub fn capacity(&self) -> u64
+        ensures capacity { result ≡ self.now.capacity }
+        ensures some { 0 < result }
+        ensures most { result ≤ MOST_VALUES }
+    {
+        self.capacity
+    }
+
+    /// How many values were put. The next one has this position.
+    pub fn count(&self) -> u64
+        ensures count { result ≡ self.now.count }
+        ensures kept { length self.now.values ≡ min result self.now.capacity }
+    {
+        self.count
+    }
+
+    /// The position of the oldest value that is kept, or of the next one where none is.
+    pub fn oldest(&self) -> u64
+        ensures { result ≡ oldest self.now }
+    {
+        self.count.saturating_sub(self.capacity)
+    }
+
+    /// The value at a position, if it was put and is kept.
+    pub fn at(&self, position: u64) -> Option<V>
+        ensures evicted { position < oldest self.now → result ≡ None }
+        ensures kept { oldest self.now ≤ position → result ≡ slice_get self.now.values (position - oldest self.now) }
+    {
+        if position < self.oldest() || position >= self.count {
+            return None;
+        }
+        Some(self.cells[(position % self.capacity) as usize])
+    }
+
+    /// Puts one more value, and gives the one that is evicted for it.
+    pub fn put(&mut self, v: V) -> Option<V>
+        requires { self.old.count < 2 ^ 62 }
+        ensures evicted { result ≡ evicted self.old.capacity self.old.values }
+        ensures values { self.new.values ≡ put self.old.capacity self.old.values v }
+        ensures count { self.new.count ≡ self.old.count + 1 }
+        ensures capacity { self.new.capacity ≡ self.old.capacity }
+    {
+        let cell = (self.count % self.capacity) as usize;
+        let full = self.count >= self.capacity;
+        self.count += 1;
+        if full {
+            Some(mem::replace(&mut self.cells[cell], v))
+        } else {
+            self.cells.push_reserved(v);
+            None
+        }
+    }
+
+    /// Takes the last value back, given the one that was evicted for it.
+    pub fn unput(&mut self, evicted: Option<V>)
+        requires some { 0 < self.old.count }
+        requires evicted { is_some evicted ≡ nat_lt self.old.capacity self.old.count }
+        ensures values { self.new.values ≡ unput evicted self.old.values }
+        ensures count { self.new.count ≡ self.old.count - 1 }
+        ensures capacity { self.new.capacity ≡ self.old.capacity }
+    {
+        self.count -= 1;
+        match evicted {
+            None => {
+                self.cells.pop();
+            }
+            Some(v) => {
+                let cell = (self.count % self.capacity) as usize;
+                self.cells[cell] = v;
+            }
+        }
+    }
+}
