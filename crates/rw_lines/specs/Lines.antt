@@ -1,5 +1,5 @@
 -- The lines of bytes.
-use Rattle.std.specs.Prelude.{◌≡◌, ℕ, List, [], ◌∷◌, ◌++◌, ◌==◌, Bool, true, if◌then◌else◌}
+use Rattle.std.specs.Prelude.{ℕ, List, [], ◌∷◌, ◌++◌, ◌==◌, Bool, true, if◌then◌else◌, IsTrue}
 use Rattle.std.specs.List.{onto_first, flat_map}
 use Rattle.rw_lines.specs.Cut.{lacks}
 
@@ -14,7 +14,7 @@ unlines ls = flat_map (λ l. l ++ 10 ∷ []) ls
 
 -- a line, or a front of one: there is no LF in it
 abbrev pub IsUnbroken : List ℕ → Type 0
-IsUnbroken text = lacks 10 text ≡ true
+IsUnbroken text = IsTrue (lacks 10 text)
 
 -- a line that says nothing: it is empty, or begins with '#'
 abbrev pub is_skipped : List ℕ → Bool

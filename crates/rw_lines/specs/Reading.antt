@@ -41,7 +41,8 @@ GivesNext old new before after line Line = GivesLine old new before after line
 GivesNext old new before after line Last = GivesLast old new before after line
 GivesNext old new before after line End = GivesNone old new before after
 
--- Why reading stopped in the midst of a line, of which this text was read. At too much, the text's last byte is the one that wasn't allowed.
+-- Why reading stopped in the midst of a line of which this text was read.
+-- At too much, the text's last byte is the first one that wasn't allowed.
 abbrev pub StopsBecause : List ℕ → ℕ → StreamFault → Type 0
 StopsBecause text before Read = IsUnbroken text × (length text ≤ before)
 StopsBecause text before TooMuch = length text ≡ before + 1

@@ -1,9 +1,10 @@
 //! Lines from any reader, bytes to any writer, and the tokens and numerals that lines are made of.
 //!
 //! Sessions, scripts, journal texts and the console stand on these. The one contract is that no byte is lost or made up:
-//! `next_line` says which bytes it took from the reader and which line they make, also where it stops in the midst of one,
-//! and `put` says which bytes the writer holds, also where it stops before the last.
+//! `next_line` says which bytes it took from the reader and which line they make, also where it stops in the midst of
+//! one, and `put` says which bytes the writer holds, also where it stops before the last.
 //! Start reading at `specs/Lines.antt`, which says what the lines of bytes are, and then at `lines.rt`.
+//! The crate `rw_devices` above has the tests, over readers and writers that fail.
 #![tactic(auto)]
 
 mod lines;

@@ -21,18 +21,19 @@ pub enum Next {
     End,
 }
 
-/// Reads the next line into `line`, without its LF. Of a line that is too long the first 257 bytes are kept, so that its
-/// reader sees that it is.
+/// Reads the next line into `line`, without its LF. Of a line that is too long 257 bytes are kept, which show that it is.
 ///
-/// `allowed` is how many bytes the reader may still give; it counts down. Memory is taken only until `line` has held the
-/// longest line.
+/// `allowed` is how many bytes the reader may still give, and counts down. Memory is taken only until `line` has held
+/// the longest line. After an `Err` neither of the two says anything.
 pub fn next_line<R: Read>(
     reader: &mut R,
     allowed: &mut u64,
     line: &mut Vec<u8>,
 ) -> Result<Next, StreamFault>
-    ensures ok { IfOk result (GivesNext (R.remaining reader.old) (R.remaining reader.new) allowed.old allowed.new line.new.items) }
-    ensures err { IfErr result (StopsInLine (R.remaining reader.old) (R.remaining reader.new) allowed.old) }
+    ensures ok { IfOk result (GivesNext (R.remaining reader.old) (R.remaining reader.new)
+        allowed.old allowed.new line.new.items) }
+    ensures err { IfErr result
+        (StopsInLine (R.remaining reader.old) (R.remaining reader.new) allowed.old) }
 {
     line.clear();
     'each_byte: loop {

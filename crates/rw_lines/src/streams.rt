@@ -42,9 +42,11 @@ impl From<ShortWrite> for StreamFault {
 
 /// The next byte, or none at the end.
 pub fn next_byte<R: io::Read>(reader: &mut R) -> Result<Option<u8>, StreamFault>
-    ensures byte { IfOk result (λ o. Consumes (R.remaining reader.old) (R.remaining reader.new) (option_to_list o)) }
+    ensures byte { IfOk result
+        (λ o. Consumes (R.remaining reader.old) (R.remaining reader.new) (option_to_list o)) }
     ensures end { IfOk result (λ o. IsNone o → IsAtEnd (R.remaining reader.new)) }
-    ensures err { IfErr result (λ e. (e ≡ StreamFault.Read) × Keeps (R.remaining reader.old) (R.remaining reader.new)) }
+    ensures err { IfErr result
+        (λ e. (e ≡ StreamFault.Read) × Keeps (R.remaining reader.old) (R.remaining reader.new)) }
 {
     let mut one = [0u8; 1];
     match reader.read(&mut one) {
@@ -54,11 +56,12 @@ pub fn next_byte<R: io::Read>(reader: &mut R) -> Result<Option<u8>, StreamFault>
     }
 }
 
-/// Writes all of the bytes. It doesn't flush: see `flush`.
+/// Writes all of the bytes. At an `Err` the writer holds exactly those that it says. This doesn't flush.
 pub fn put<W: io::Write>(writer: &mut W, bytes: &[u8]) -> Result<(), ShortWrite>
     ensures ok { OnOk result (Appends (W.contents writer.old) (W.contents writer.new) bytes.now) }
     ensures short { IfErr result (λ e. e.written < length bytes.now) }
-    ensures err { IfErr result (λ e. Appends (W.contents writer.old) (W.contents writer.new) (take e.written bytes.now)) }
+    ensures err { IfErr result
+        (λ e. Appends (W.contents writer.old) (W.contents writer.new) (take e.written bytes.now)) }
 {
     let mut written = 0;
     'each_write: while written < bytes.len() {
@@ -70,7 +73,7 @@ pub fn put<W: io::Write>(writer: &mut W, bytes: &[u8]) -> Result<(), ShortWrite>
     Ok(())
 }
 
-/// Hands on what the writer may still hold back. Do this once per command, so that many lines go out together.
+/// Makes a writer hand on what it holds back. Once per command is enough, so that many lines go out together.
 pub fn flush<W: io::Write>(writer: &mut W) -> Result<(), StreamFault>
     ensures bytes { Keeps (W.contents writer.old) (W.contents writer.new) }
     ensures err { IfErr result (λ e. e ≡ StreamFault.Write) }

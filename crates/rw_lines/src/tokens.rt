@@ -13,7 +13,9 @@ fn place_of(bytes: &[u8], mark: u8) -> Option<usize>
     bytes.iter().position(|b| *b == mark)
 }
 
-/// What stands before the first such byte, and what stands behind it. At a space: the first token of a line, and the rest.
+/// What stands before the first such byte, and what stands behind it, or none where there is no such byte.
+///
+/// A cut at a space gives the first token of a line and the rest, a cut at LF the first line.
 #[inline]
 #[tactic(auto, using(crate::proofs::CutLaws::cut_none, crate::proofs::CutLaws::cut_some))]
 pub fn cut(bytes: &[u8], mark: u8) -> Option<(&[u8], &[u8])>

@@ -1,0 +1,19 @@
+-- What a failing writer shows.
+use Rattle.std.specs.Prelude.{ℕ, List, Option}
+use Rattle.rw_devices.specs.declared.writers.FailingWriter.{FailingWriter}
+
+-- the bytes that it took
+abbrev pub written : FailingWriter → List ℕ
+written w = w.kept.items
+
+-- how many it takes at a call
+abbrev pub most_of : FailingWriter → ℕ
+most_of w = w.most
+
+-- how many calls go well before the one that fails
+abbrev pub calls_of : FailingWriter → Option ℕ
+calls_of w = w.calls
+
+-- how many flushes went well
+abbrev pub flushes_of : FailingWriter → ℕ
+flushes_of w = w.flushes
