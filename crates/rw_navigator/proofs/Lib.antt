@@ -1,0 +1,4 @@
+pub mod MoveLists
+pub mod MovesMade
+pub mod Recorded
+pub mod Visits

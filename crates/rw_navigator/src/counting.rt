@@ -1,0 +1,70 @@
+//! A machine whose calls are counted.
+
+ghost use Rattle.std.specs.Prelude.{◌≡◌, ◌<◌};
+ghost use Rattle.rw_navigator.specs.Counting.{count_after};
+
+use rw_law::Reversible;
+use std::marker::Model;
+
+/// A machine, and the number of its calls. It never gives the machine out, so no call goes uncounted.
+#[derive(Drop)]
+pub struct Counted<R: Reversible> {
+    machine: R,
+    count: u64,
+}
+
+impl<R: Reversible> Model for Counted<R> {
+    ghost use Rattle.rw_navigator.specs.Counting.{Counting};
+
+    ghost Value = { Counting R };
+
+    ghost view = { λ a. record { state = a.machine; turns = a.count } };
+}
+
+impl<R: Reversible> Counted<R> {
+    /// Takes a machine, with no call counted yet.
+    pub fn new(machine: R) -> Counted<R>
+        ensures machine { result.state ≡ machine }
+        ensures turns { result.turns ≡ 0 }
+    {
+        Counted { machine, count: 0 }
+    }
+
+    /// The machine as it is now.
+    pub fn state(&self) -> &R
+        ensures { result.now ≡ self.now.state }
+    {
+        &self.machine
+    }
+
+    /// How many calls of `apply` and `undo` there were. The count stops at the greatest `u64`.
+    pub fn turns(&self) -> u64
+        ensures { result ≡ self.now.turns }
+    {
+        self.count
+    }
+
+    /// The machine's own `apply`, counted as one call.
+    pub fn apply(&mut self, call: &R::Call) -> (R::Reply, R::Patch)
+        requires { R.weigh (R.shown self.old.state) < R.reserved self.old.state }
+        ensures view { R.shown self.new.state ≡ R.next (R.shown self.old.state) call.now }
+        ensures reply { result.0 ≡ R.reply_of (R.shown self.old.state) call.now }
+        ensures patch { result.1 ≡ R.patch_of (R.shown self.old.state) call.now }
+        ensures room { R.reserved self.new.state ≡ R.reserved self.old.state }
+        ensures turns { self.new.turns ≡ count_after self.old.turns 1 }
+    {
+        self.count = self.count.saturating_add(1);
+        self.machine.apply(call)
+    }
+
+    /// The machine's own `undo`, counted as one call.
+    pub fn undo(&mut self, call: &R::Call, patch: &R::Patch)
+        requires { R.fits (R.shown self.old.state) call.now patch.now }
+        ensures view { R.shown self.new.state ≡ R.back (R.shown self.old.state) call.now patch.now }
+        ensures room { R.reserved self.new.state ≡ R.reserved self.old.state }
+        ensures turns { self.new.turns ≡ count_after self.old.turns 1 }
+    {
+        self.count = self.count.saturating_add(1);
+        self.machine.undo(call, patch)
+    }
+}

@@ -1,0 +1,20 @@
+//! Moves a machine to any place of its journal, in both directions.
+//!
+//! Place n of a journal is where its first n entries lead. A `Navigator` holds the entries and one machine, and goes from
+//! place to place by undoing or redoing one entry per place: it never starts again from the opening.
+//! The one contract is the record `MovedTo` of `specs/Visit.antt`, which every move ensures: the machine shows the state of
+//! its new place, and has made as many calls more as there are places in between.
+//! Start reading at `places.rt`, the Navigator and its single steps, and go on with `walks.rt`.
+#![tactic(auto)]
+
+mod counting;
+mod moves;
+mod places;
+mod walks;
+
+pub use counting::Counted;
+pub use moves::{Move, OutOfRange};
+pub use places::Navigator;
+
+#[cfg(test)]
+mod tests;

@@ -1,0 +1,39 @@
+//! Moves between the places of a journal.
+
+ghost use Rattle.std.specs.Prelude.{◌≡◌, ◌≤◌};
+ghost use Rattle.rw_navigator.specs.Moves.{place_after};
+
+/// Where to go from a place.
+#[derive(Clone, Copy, Debug, PartialEq, Eq)]
+pub enum Move {
+    /// So many places towards the start.
+    Back(u64),
+    /// So many places towards the end.
+    Forward(u64),
+    /// To the place of this number.
+    Goto(u64),
+    /// To place 0, before the first entry.
+    Start,
+    /// To the last place, after all entries.
+    End,
+}
+
+/// The move leads to no place of the journal. It has changed nothing.
+#[derive(Clone, Copy, Debug, PartialEq, Eq)]
+pub struct OutOfRange;
+
+impl Move {
+    /// Where the move leads from a place, on the places 0 to `len`.
+    pub(crate) fn destination(self, place: u64, len: u64) -> Option<u64>
+        requires { place ≤ len }
+        ensures { result ≡ place_after len place self }
+    {
+        match self {
+            Move::Back(n) => place.checked_sub(n),
+            Move::Forward(n) => place.checked_add(n).filter(|p| *p <= len),
+            Move::Goto(n) => Some(n).filter(|p| *p <= len),
+            Move::Start => Some(0),
+            Move::End => Some(len),
+        }
+    }
+}
