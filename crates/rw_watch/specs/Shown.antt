@@ -1,0 +1,133 @@
+-- What a watch channel shows, which is the record without the earlier values: its steps, and their undoing.
+use Rattle.std.specs.Prelude.{◌≡◌, ℕ, ◌+◌, ◌-◌, ◌≤◌, ◌<◌, Bool, true, false, if◌then◌else◌, [], ◌∷◌, ◌++◌, Option, Some, None, All, slice_get, slice_set, length, take, ⊤}
+use Rattle.rw_handles.specs.declared.kinds.Kind.TheVariants.{Sender, Receiver}
+use Rattle.rw_handles.specs.declared.kinds.Slot.{Slot}
+use Rattle.rw_handles.specs.declared.kinds.Slot.TheVariants.{Live, Spent}
+use Rattle.rw_handles.specs.Slots.{HANDLES, IsLive}
+use Rattle.rw_law.specs.Outcomes.{Outcome}
+use Rattle.rw_watch.specs.declared.calls.WCall.{WCall}
+use Rattle.rw_watch.specs.declared.calls.WReply.{WReply}
+use Rattle.rw_watch.specs.declared.calls.WReply.TheVariants.{NoReceivers, Closed, Waits, Unknown, Gone, WrongKind, TooManyHandles}
+use Rattle.rw_watch.specs.declared.calls.WPatch.{WPatch}
+use Rattle.rw_watch.specs.declared.calls.WPatch.TheVariants.{Same, Wrote, Made, Marked, Left}
+use Rattle.rw_watch.specs.Channel.{Channel, Change, Keep, Write, Make, Mark, Leave, effect, handle_of}
+use Rattle.rw_watch.specs.Record.{Record, channel_of}
+
+-- the version, the value, and what stands under each handle's number: all that calls read
+abbrev pub Shown : Type 0 → Type 0
+Shown V = Channel V
+
+-- what a record shows
+abbrev pub shown : {V : Type 0} → Record V → Shown V
+shown r = channel_of r
+
+-- the version after a change that is told or not
+abbrev pub raised : ℕ → (told : Bool) → ℕ
+raised version told = if told then version + 1 else version
+
+-- the version before it
+abbrev pub lowered : ℕ → (told : Bool) → ℕ
+lowered version told = if told then version - 1 else version
+
+-- what is shown after a change
+abbrev pub changed : {V : Type 0} → Shown V → Change V → Shown V
+changed x Keep = x
+changed x (Write v told) = record x { version = raised x.version told; value = v }
+changed x (Make kind mark) = record x { slots = x.slots ++ Live kind mark ∷ [] }
+changed x (Mark h from to) = record x { slots = slice_set x.slots h (Live Receiver to) }
+changed x (Leave h kind mark) = record x { slots = slice_set x.slots h Spent }
+
+-- what undoes a change
+abbrev pub patch_for : {V : Type 0} → Shown V → Change V → WPatch V
+patch_for x Keep = Same
+patch_for x (Write v told) = Wrote x.value told
+patch_for x (Make kind mark) = Made
+patch_for x (Mark h from to) = Marked from
+patch_for x (Leave h kind mark) = Left kind mark
+
+-- a change and a reply, as the outcome of a call
+abbrev pub outcome_of : {V : Type 0} → Shown V → Change V × WReply V → Outcome (Shown V) (WReply V) (WPatch V)
+outcome_of x e = record { next = changed x e.0; reply = e.1; patch = patch_for x e.0 }
+
+-- what a call leads to
+abbrev pub outcome : {V : Type 0} → Shown V → WCall V → Outcome (Shown V) (WReply V) (WPatch V)
+outcome x call = outcome_of x (effect x call)
+
+-- what is shown after a call
+abbrev pub next : {V : Type 0} → Shown V → WCall V → Shown V
+next x call = (outcome x call).next
+
+-- the reply to a call
+abbrev pub reply_of : {V : Type 0} → Shown V → WCall V → WReply V
+reply_of x call = (outcome x call).reply
+
+-- what undoes a call
+abbrev pub patch_of : {V : Type 0} → Shown V → WCall V → WPatch V
+patch_of x call = (outcome x call).patch
+
+-- what was shown before this call, which left this patch
+abbrev pub back : {V : Type 0} → Shown V → WCall V → WPatch V → Shown V
+back x call Same = x
+back x call (Wrote old told) = record x { version = lowered x.version told; value = old }
+back x call Made = record x { slots = take (length x.slots - 1) x.slots }
+back x call (Marked from) = record x { slots = slice_set x.slots (handle_of call) (Live Receiver from) }
+back x call (Left kind mark) = record x { slots = slice_set x.slots (handle_of call) (Live kind mark) }
+
+-- a receiver's mark, in a channel of this version
+abbrev pub IsMark : (version : ℕ) → Option ℕ → Type 0
+IsMark version None = ⊤
+IsMark version (Some mark) = mark ≤ version
+
+-- what can stand under a number, in a channel of this version: a sender with None, a receiver that has seen no later one
+abbrev pub IsMarked : (version : ℕ) → Slot (Option ℕ) → Type 0
+IsMarked version (Live Sender mark) = mark ≡ None
+IsMarked version (Live Receiver mark) = IsMark version mark
+IsMarked version Spent = ⊤
+
+-- what channels show
+pub record IsAllowed {V : Type 0} (x : Shown V) : Type 0 where
+  pub few_slots : length x.slots ≤ HANDLES
+  pub marked : All (IsMarked x.version) x.slots
+
+-- a live receiver
+abbrev pub IsReceiver : Option (Slot (Option ℕ)) → Type 0
+IsReceiver (Some (Live Receiver mark)) = ⊤
+IsReceiver _ = ⊥
+
+-- the last change was told, and no receiver has seen it
+pub record CanUntell {V : Type 0} (y : Shown V) : Type 0 where
+  pub some_told : 0 < y.version
+  pub marked : All (IsMarked (y.version - 1)) y.slots
+
+-- the patch has all that is needed to undo this call here: what `back` shows is allowed again
+abbrev pub Fits : {V : Type 0} → Shown V → WCall V → WPatch V → Type 0
+Fits y call Same = ⊤
+Fits y call (Wrote old true) = CanUntell y
+Fits y call (Wrote old false) = ⊤
+Fits y call Made = IsLive (slice_get y.slots (length y.slots - 1))
+Fits y call (Marked from) = IsReceiver (slice_get y.slots (handle_of call)) × IsMark y.version from
+Fits y call (Left kind mark) = (slice_get y.slots (handle_of call) ≡ Some Spent) × IsMarked y.version (Live kind mark)
+
+-- how many changes were told and handles made
+abbrev pub weight : {V : Type 0} → Shown V → ℕ
+weight x = x.version + length x.slots
+
+-- the reply says that nothing changed
+abbrev pub refuses : {V : Type 0} → WReply V → Bool
+refuses (NoReceivers v) = true
+refuses Closed = true
+refuses Waits = true
+refuses Unknown = true
+refuses Gone = true
+refuses WrongKind = true
+refuses TooManyHandles = true
+refuses _ = false
+
+-- the reply says that the call would wait
+abbrev pub waits : {V : Type 0} → WReply V → Bool
+waits Waits = true
+waits _ = false
+
+-- no reply of a watch channel says that there is no such channel
+abbrev pub strays : {V : Type 0} → WReply V → Bool
+strays _ = false

@@ -1,0 +1,166 @@
+//! The calls of a watch channel, their replies, and what a step leaves for its undoing.
+ghost use Rattle.std.specs.Prelude.{◌≡◌};
+ghost use Rattle.rw_watch.specs.Channel.{handle_of, makes, refused, wanted};
+
+use rw_handles::{HandleFault, Kind};
+
+/// A call. The number is that of the handle that it is made with.
+#[derive(Clone, Copy)]
+pub enum WCall<V> {
+    /// Writes a value and tells the receivers, if there are any.
+    Send(u32, V),
+    /// Writes a value and tells the receivers, and gets the value from before.
+    SendReplace(u32, V),
+    /// Writes a value, of which the receivers are told or not.
+    Modify(u32, V, bool),
+    /// Makes a receiver that has seen the value.
+    Subscribe(u32),
+    /// Makes another sender.
+    CloneSender(u32),
+    /// Makes a receiver that has seen what this one has.
+    CloneReceiver(u32),
+    /// Reads the value.
+    Borrow(u32),
+    /// Reads the value, which the receiver then has seen.
+    Update(u32),
+    /// Asks a receiver whether it has not seen the value.
+    HasChanged(u32),
+    /// Waits for a value that the receiver has not seen, which it then has.
+    Changed(u32),
+    /// Makes the value one that the receiver has not seen.
+    MarkChanged(u32),
+    /// Makes the value one that the receiver has seen.
+    MarkUnchanged(u32),
+    /// Drops a handle of either kind.
+    DropHandle(u32),
+    /// Asks a sender how many receivers are alive.
+    ReceiverCount(u32),
+    /// Asks a sender whether no receiver is alive.
+    IsClosed(u32),
+    /// Waits until no receiver is alive.
+    AwaitClosed(u32),
+}
+
+/// What a call answers.
+#[derive(Clone, Copy, Debug, PartialEq)]
+pub enum WReply<V> {
+    /// The value was sent.
+    Stored,
+    /// No receiver is alive, so the value comes back.
+    NoReceivers(V),
+    /// The value from before.
+    Old(V),
+    /// The receivers were told of the value or not.
+    Told(bool),
+    /// A handle of this number was made.
+    New(u32),
+    /// The value.
+    Value(V),
+    /// Yes or no.
+    Flag(bool),
+    /// There is no sender any more.
+    Closed,
+    /// The call would wait.
+    Waits,
+    /// It is done.
+    Done,
+    /// What was asked for.
+    Count(u64),
+    /// The handle was dropped.
+    Dropped,
+    /// No handle of this number was made.
+    Unknown,
+    /// The handle was dropped before.
+    Gone,
+    /// The handle is of the other kind.
+    WrongKind,
+    /// The channel has made all the handles that it may make.
+    TooManyHandles,
+}
+
+/// What undoing a step needs beside its call.
+#[derive(Clone, Copy)]
+pub enum WPatch<V> {
+    /// Nothing changed.
+    Same,
+    /// This was the value, and the receivers were told of the new one or not.
+    Wrote(V, bool),
+    /// A handle was made.
+    Made,
+    /// The receiver had this mark.
+    Marked(Option<u64>),
+    /// The dropped handle was of this kind, and had this mark.
+    Left(Kind, Option<u64>),
+}
+
+impl<V: Copy> WCall<V> {
+    /// The number of the handle that the call is made with.
+    pub(crate) fn handle(&self) -> u32
+        ensures { result ≡ handle_of self.now }
+    {
+        match self {
+            WCall::Send(handle, _) => *handle,
+            WCall::SendReplace(handle, _) => *handle,
+            WCall::Modify(handle, _, _) => *handle,
+            WCall::Subscribe(handle) => *handle,
+            WCall::CloneSender(handle) => *handle,
+            WCall::CloneReceiver(handle) => *handle,
+            WCall::Borrow(handle) => *handle,
+            WCall::Update(handle) => *handle,
+            WCall::HasChanged(handle) => *handle,
+            WCall::Changed(handle) => *handle,
+            WCall::MarkChanged(handle) => *handle,
+            WCall::MarkUnchanged(handle) => *handle,
+            WCall::DropHandle(handle) => *handle,
+            WCall::ReceiverCount(handle) => *handle,
+            WCall::IsClosed(handle) => *handle,
+            WCall::AwaitClosed(handle) => *handle,
+        }
+    }
+
+    /// The kind that this handle has to be of; `None` where either kind will do.
+    pub(crate) fn wanted(&self) -> Option<Kind>
+        ensures { result ≡ wanted self.now }
+    {
+        match self {
+            WCall::Send(_, _)
+            | WCall::SendReplace(_, _)
+            | WCall::Modify(_, _, _)
+            | WCall::Subscribe(_)
+            | WCall::CloneSender(_)
+            | WCall::ReceiverCount(_)
+            | WCall::IsClosed(_)
+            | WCall::AwaitClosed(_) => Some(Kind::Sender),
+            WCall::CloneReceiver(_)
+            | WCall::Update(_)
+            | WCall::HasChanged(_)
+            | WCall::Changed(_)
+            | WCall::MarkChanged(_)
+            | WCall::MarkUnchanged(_) => Some(Kind::Receiver),
+            WCall::Borrow(_) | WCall::DropHandle(_) => None,
+        }
+    }
+
+    /// Whether the call makes a handle, where it isn't refused.
+    pub(crate) fn makes(&self) -> bool
+        ensures { result ≡ makes self.now }
+    {
+        matches!(
+            self,
+            WCall::Subscribe(_) | WCall::CloneSender(_) | WCall::CloneReceiver(_)
+        )
+    }
+}
+
+impl<V: Copy> WReply<V> {
+    /// The reply for a handle that can't be used.
+    pub(crate) fn refused(fault: HandleFault) -> WReply<V>
+        ensures { result ≡ refused fault }
+    {
+        match fault {
+            HandleFault::Unknown => WReply::Unknown,
+            HandleFault::Gone => WReply::Gone,
+            HandleFault::WrongKind => WReply::WrongKind,
+        }
+    }
+}
