@@ -1,2 +1,3 @@
+pub mod Cloning
 pub mod Rows
 pub mod Showing

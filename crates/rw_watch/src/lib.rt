@@ -3,11 +3,13 @@
 //! The one contract: `Watch` is a machine whose steps can be undone (`rw_law::Reversible`), and its steps are those that
 //! tokio's documentation of `tokio::sync::watch` names, by the table of calls in `specs/Channel.antt`.
 //! Start reading there, go on with `specs/Record.antt`, the record of all that ever happened, and `specs/Shown.antt`, what a
-//! machine shows of it.
+//! machine shows of it, and then read `machine.rt`.
 #![tactic(auto)]
 
 mod calls;
 mod laws;
+mod machine;
 
 pub use calls::{WCall, WPatch, WReply};
 pub use laws::record_laws;
+pub use machine::Watch;

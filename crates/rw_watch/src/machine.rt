@@ -1,0 +1,60 @@
+//! The machine of a watch channel.
+ghost use Rattle.std.specs.Prelude.{◌≡◌, IfOk};
+ghost use Rattle.rw_watch.specs.Record.{first_slots, opened};
+ghost use Rattle.rw_watch.specs.Shown.{shown};
+
+mod readers;
+mod reversible;
+mod steps;
+
+use rw_handles::{Kind, Table};
+use rw_law::NoMemory;
+use std::alloc::Global;
+use std::marker::Model;
+
+/// A watch channel: its value, how many changes the receivers were told of, and its handles with the receivers' marks.
+#[derive(Drop)]
+pub struct Watch<V: Copy> {
+    value: V,
+    version: u64,
+    limit: u64,
+    handles: Table<Option<u64>>,
+}
+
+impl<V: Copy> Model for Watch<V> {
+    ghost use Rattle.rw_watch.specs.Machine.{Machine};
+
+    ghost Value = { Machine V };
+
+    ghost use Rattle.rw_watch.specs.Inside.{HasRoom, machine_of};
+
+    ghost view = { machine_of };
+
+    ghost invariant = { HasRoom };
+}
+
+impl<V: Copy> Watch<V> {
+    /// Opens a channel with this value, one sender, 0, and one receiver, 1, which has seen it.
+    pub fn open(alloc: Global, init: V) -> Result<Watch<V>, NoMemory>
+        ensures { IfOk result (λ machine. machine.shown ≡ shown (opened init)) }
+    {
+        let handles = first_handles(alloc)?;
+        Ok(Watch {
+            value: init,
+            version: 0,
+            limit: 2,
+            handles,
+        })
+    }
+}
+
+/// The handles of a channel at its opening.
+fn first_handles(alloc: Global) -> Result<Table<Option<u64>>, NoMemory>
+    ensures { IfOk result (λ handles. handles.slots ≡ first_slots) }
+{
+    let mut handles = Table::new(alloc)?;
+    handles.ready(2)?;
+    let _sender = handles.make(Kind::Sender, None);
+    let _receiver = handles.make(Kind::Receiver, Some(0));
+    Ok(handles)
+}

@@ -1,0 +1,63 @@
+//! What a watch channel shows.
+ghost use Rattle.std.specs.Prelude.{◌≡◌, length, slice_get};
+ghost use Rattle.rw_handles.specs.Slots.{kind_at};
+ghost use Rattle.rw_watch.specs.Channel.{is_closed};
+ghost use Rattle.rw_watch.specs.Machine.{mark_at, is_seen_at};
+
+use super::Watch;
+use rw_handles::{Found, Kind};
+
+impl<V: Copy> Watch<V> {
+    /// How many changes the receivers were told of.
+    pub fn version(&self) -> u64
+        ensures { result ≡ self.now.shown.version }
+    {
+        self.version
+    }
+
+    /// The most recent value.
+    pub fn value(&self) -> V
+        ensures { result ≡ self.now.shown.value }
+    {
+        self.value
+    }
+
+    /// The mark of a live receiver: a version that it has seen, or none.
+    pub fn mark(&self, id: u32) -> Option<Option<u64>>
+        ensures { result ≡ mark_at (slice_get self.now.shown.slots id) }
+    {
+        match self.handles.find(id, Some(Kind::Receiver)) {
+            Found::Fault(_) => None,
+            Found::Handle(_, mark) => Some(mark),
+        }
+    }
+
+    /// Whether a live receiver has seen the value.
+    pub fn is_seen(&self, id: u32) -> Option<bool>
+        ensures { result ≡ is_seen_at self.now.shown.version (slice_get self.now.shown.slots id) }
+    {
+        let mark = self.mark(id)?;
+        Some(!self.is_unseen(mark))
+    }
+
+    /// How many handles were made.
+    pub fn made(&self) -> u32
+        ensures { result ≡ length self.now.shown.slots }
+    {
+        self.handles.made()
+    }
+
+    /// The kind of a live handle.
+    pub fn kind(&self, id: u32) -> Option<Kind>
+        ensures { result ≡ kind_at (slice_get self.now.shown.slots id) }
+    {
+        self.handles.kind(id)
+    }
+
+    /// Whether no sender is alive.
+    pub fn closed(&self) -> bool
+        ensures { result ≡ is_closed self.now.shown }
+    {
+        self.handles.alive(Kind::Sender) == 0
+    }
+}
