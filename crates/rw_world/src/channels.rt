@@ -101,21 +101,16 @@ impl<B: Reversible, W: Reversible> Reversible for Channel<B, W> {
         ChannelReply<B::Reply, W::Reply>,
         ChannelPatch<B::Patch, W::Patch>,
     ) {
-        match self {
-            Channel::Broadcast(machine) => match call {
-                ChannelCall::B(call) => {
-                    let (reply, patch) = machine.apply(call);
-                    (ChannelReply::B(reply), ChannelPatch::B(patch))
-                }
-                ChannelCall::W(_) => (ChannelReply::NoChannel, ChannelPatch::NoChannel),
-            },
-            Channel::Watch(machine) => match call {
-                ChannelCall::B(_) => (ChannelReply::NoChannel, ChannelPatch::NoChannel),
-                ChannelCall::W(call) => {
-                    let (reply, patch) = machine.apply(call);
-                    (ChannelReply::W(reply), ChannelPatch::W(patch))
-                }
-            },
+        match (self, call) {
+            (Channel::Broadcast(machine), ChannelCall::B(call)) => {
+                let (reply, patch) = machine.apply(call);
+                (ChannelReply::B(reply), ChannelPatch::B(patch))
+            }
+            (Channel::Watch(machine), ChannelCall::W(call)) => {
+                let (reply, patch) = machine.apply(call);
+                (ChannelReply::W(reply), ChannelPatch::W(patch))
+            }
+            _ => (ChannelReply::NoChannel, ChannelPatch::NoChannel),
         }
     }
 
@@ -124,17 +119,14 @@ impl<B: Reversible, W: Reversible> Reversible for Channel<B, W> {
         call: &ChannelCall<B::Call, W::Call>,
         patch: &ChannelPatch<B::Patch, W::Patch>,
     ) {
-        match self {
-            Channel::Broadcast(machine) => {
-                if let (ChannelCall::B(call), ChannelPatch::B(patch)) = (call, patch) {
-                    machine.undo(call, patch);
-                }
+        match (self, call, patch) {
+            (Channel::Broadcast(machine), ChannelCall::B(call), ChannelPatch::B(patch)) => {
+                machine.undo(call, patch);
             }
-            Channel::Watch(machine) => {
-                if let (ChannelCall::W(call), ChannelPatch::W(patch)) = (call, patch) {
-                    machine.undo(call, patch);
-                }
+            (Channel::Watch(machine), ChannelCall::W(call), ChannelPatch::W(patch)) => {
+                machine.undo(call, patch);
             }
+            _ => {}
         }
     }
 

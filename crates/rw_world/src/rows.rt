@@ -1,7 +1,7 @@
 //! Machines in a row.
 
 ghost use Rattle.std.specs.Prelude.{◌≡◌, length, slice_get};
-ghost use Rattle.std.specs.Option.{option_map};
+ghost use Rattle.std.specs.Option.{option_copied};
 
 use crate::members::{apply_at, greatest_weight, least_limit, ready_all, undo_at};
 use rw_law::{NoMemory, Reversible};
@@ -48,7 +48,7 @@ impl<M: Reversible> Row<M> {
 
     /// The machine of a channel.
     pub fn channel(&self, i: usize) -> Option<&M>
-        ensures { option_map (λ r. r.now) result ≡ slice_get self.now i }
+        ensures { option_copied result ≡ slice_get self.now i }
     {
         self.members.get(i)
     }
