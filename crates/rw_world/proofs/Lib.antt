@@ -1,4 +1,4 @@
-pub mod Modified
+pub mod Modifying
 pub mod OneMember
 pub mod Parting
 pub mod Shaping

@@ -27,44 +27,44 @@ module _ {B C R P : Type 0} {W D S Q : Type 0} (b : Ghosts B C R P) (w : Ghosts 
 
   module _ (of_b : LawsOf b) (of_w : LawsOf w) where
     undone_at : (x : Shown b.View w.View) (c : ChannelCall C D) → IsAllowed b w x → back b w (next b w x c) c (patch_of b w x c) ≡ x
-    undone_at (broadcast_shown x) (call.B c) h = ap broadcast_shown (of_b.undone x c h)
-    undone_at (broadcast_shown x) (call.W d) h = refl
-    undone_at (watch_shown y) (call.B c) h = refl
-    undone_at (watch_shown y) (call.W d) h = ap watch_shown (of_w.undone y d h)
+    undone_at (broadcast_shown x) (call.B c) allowed = ap broadcast_shown (of_b.undone x c allowed)
+    undone_at (broadcast_shown x) (call.W d) allowed = refl
+    undone_at (watch_shown y) (call.B c) allowed = refl
+    undone_at (watch_shown y) (call.W d) allowed = ap watch_shown (of_w.undone y d allowed)
 
     allowed_at : (x : Shown b.View w.View) (c : ChannelCall C D) → IsAllowed b w x → IsAllowed b w (next b w x c)
-    allowed_at (broadcast_shown x) (call.B c) h = of_b.next_allowed x c h
-    allowed_at (broadcast_shown x) (call.W d) h = h
-    allowed_at (watch_shown y) (call.B c) h = h
-    allowed_at (watch_shown y) (call.W d) h = of_w.next_allowed y d h
+    allowed_at (broadcast_shown x) (call.B c) allowed = of_b.next_allowed x c allowed
+    allowed_at (broadcast_shown x) (call.W d) allowed = allowed
+    allowed_at (watch_shown y) (call.B c) allowed = allowed
+    allowed_at (watch_shown y) (call.W d) allowed = of_w.next_allowed y d allowed
 
     fits_at : (x : Shown b.View w.View) (c : ChannelCall C D) → IsAllowed b w x → Fits b w (next b w x c) c (patch_of b w x c)
-    fits_at (broadcast_shown x) (call.B c) h = of_b.patch_fits x c h
-    fits_at (broadcast_shown x) (call.W d) h = tt
-    fits_at (watch_shown y) (call.B c) h = tt
-    fits_at (watch_shown y) (call.W d) h = of_w.patch_fits y d h
+    fits_at (broadcast_shown x) (call.B c) allowed = of_b.patch_fits x c allowed
+    fits_at (broadcast_shown x) (call.W d) allowed = tt
+    fits_at (watch_shown y) (call.B c) allowed = tt
+    fits_at (watch_shown y) (call.W d) allowed = of_w.patch_fits y d allowed
 
     refused_at : (x : Shown b.View w.View) (c : ChannelCall C D) → IsAllowed b w x → refuses b w (reply_of b w x c) ≡ true → next b w x c ≡ x
-    refused_at (broadcast_shown x) (call.B c) h r = ap broadcast_shown (of_b.refused x c h r)
-    refused_at (broadcast_shown x) (call.W d) h r = refl
-    refused_at (watch_shown y) (call.B c) h r = refl
-    refused_at (watch_shown y) (call.W d) h r = ap watch_shown (of_w.refused y d h r)
+    refused_at (broadcast_shown x) (call.B c) allowed refuses = ap broadcast_shown (of_b.refused x c allowed refuses)
+    refused_at (broadcast_shown x) (call.W d) allowed refuses = refl
+    refused_at (watch_shown y) (call.B c) allowed refuses = refl
+    refused_at (watch_shown y) (call.W d) allowed refuses = ap watch_shown (of_w.refused y d allowed refuses)
 
     waiting_at : (r : ChannelReply R S) → waits b w r ≡ true → refuses b w r ≡ true
-    waiting_at (reply.B r) h = of_b.waiting_refuses r h
-    waiting_at (reply.W s) h = of_w.waiting_refuses s h
-    waiting_at reply.NoChannel h = refl
+    waiting_at (reply.B r) waits = of_b.waiting_refuses r waits
+    waiting_at (reply.W s) waits = of_w.waiting_refuses s waits
+    waiting_at reply.NoChannel waits = refl
 
     straying_at : (r : ChannelReply R S) → strays b w r ≡ true → refuses b w r ≡ true
-    straying_at (reply.B r) h = cc
-    straying_at (reply.W s) h = cc
-    straying_at reply.NoChannel h = refl
+    straying_at (reply.B r) strays = cc
+    straying_at (reply.W s) strays = cc
+    straying_at reply.NoChannel strays = refl
 
     rises_at : (x : Shown b.View w.View) (c : ChannelCall C D) → IsAllowed b w x → weigh b w (next b w x c) ≤ weigh b w x + 1
-    rises_at (broadcast_shown x) (call.B c) h = of_b.weight_rises x c h
-    rises_at (broadcast_shown x) (call.W d) h = omega arith
-    rises_at (watch_shown y) (call.B c) h = omega arith
-    rises_at (watch_shown y) (call.W d) h = of_w.weight_rises y d h
+    rises_at (broadcast_shown x) (call.B c) allowed = of_b.weight_rises x c allowed
+    rises_at (broadcast_shown x) (call.W d) allowed = omega arith
+    rises_at (watch_shown y) (call.B c) allowed = omega arith
+    rises_at (watch_shown y) (call.W d) allowed = of_w.weight_rises y d allowed
 
     pub channel_laws : Laws (IsAllowed b w) (weigh b w) (next b w) (reply_of b w) (patch_of b w) (back b w) (Fits b w) (refuses b w) (waits b w) (strays b w)
     channel_laws = record {

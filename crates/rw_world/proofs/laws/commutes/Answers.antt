@@ -1,4 +1,4 @@
-use Rattle.rw_world.proofs.Modified.{commutes}
+use Rattle.rw_world.proofs.Modifying.{commutes}
 use Rattle.rw_world.proofs.laws.commutes.Goals as goal
 
 pub returns : goal.returns
