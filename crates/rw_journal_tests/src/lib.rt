@@ -1,0 +1,7 @@
+//! Tests of `rw_journal`, at a small machine.
+#![tactic(auto)]
+
+pub mod cell;
+
+#[cfg(test)]
+mod tests;
