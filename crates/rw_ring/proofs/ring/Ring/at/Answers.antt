@@ -1,4 +1,4 @@
-use Rattle.std.proofs.Common.{◌≡◌, ◌∙◌, ap, sym, arith, ◌-◌, ◌%◌, ◌≤◌, ◌<◌}
+use Rattle.std.proofs.Common.{◌∙◌, ap, sym, arith, ◌-◌, ◌≤◌}
 use Rattle.std.specs.Prelude.{Some, slice_get}
 use Rattle.rw_ring.specs.Windows.{oldest}
 use Rattle.rw_ring.proofs.Cells.{cell_at}
