@@ -1,3 +1,4 @@
 pub mod LeastPosition
 pub mod Powers
+pub mod Rows
 pub mod Showing

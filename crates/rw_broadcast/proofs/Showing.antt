@@ -86,10 +86,10 @@ shows_its_steps V r call some =
     (ap (λ e. e.1) same, ap (λ e. of_shown.changed (shown r) e.0) same ∙ shows_its_change r some (effect (of_record.channel_of r) call).0)
 
 -- the same of any record that shows x
-pub documented : {V : Type 0} (x : Shown V) (call : BCall V) → IsDocumented x call (of_shown.reply_of x call) (next x call)
-documented {V} x call r some shows =
-    let here = shows_its_steps V r call some in
-    let P = λ (z : Shown V). (of_shown.reply_of z call ≡ (step r call).1) × (next z call ≡ shown (step r call).0) in
+pub documented : {V : Type 0} (x : Shown V) (call : BCall V) → 0 < x.capacity → IsDocumented x call (of_shown.reply_of x call) (next x call)
+documented {V} x call some r shows =
+    let here = shows_its_steps V r call (omega (arith, ap (λ (y : Shown V). y.capacity) shows)) in
+    let P = λ (y : Shown V). (of_shown.reply_of y call ≡ (step r call).1) × (next y call ≡ shown (step r call).0) in
     subst P shows here
 
 -- what an opening shows is allowed

@@ -29,4 +29,4 @@ RetainsNextPower = (asked : ℕ) → 0 < asked → asked ≤ HANDLES → IsNextP
 -- from x to y, the call was answered and made as documented: for each record that shows x, the reply is that of its step,
 -- and y is what the record after it shows
 abbrev pub IsDocumented : {V : Type 0} → Shown V → BCall V → BReply V → Shown V → Type 0
-IsDocumented {V} x call reply y = (r : Record V) → 0 < r.capacity → shown r ≡ x → (reply ≡ (step r call).1) × (y ≡ shown (step r call).0)
+IsDocumented {V} x call reply y = (r : Record V) → shown r ≡ x → (reply ≡ (step r call).1) × (y ≡ shown (step r call).0)

@@ -18,7 +18,7 @@ use Rattle.rw_law.specs.Outcomes.{IsSound, laws_of}
 use Rattle.rw_broadcast.specs.declared.calls.BCall.{BCall}
 use Rattle.rw_broadcast.specs.declared.calls.BCall.TheVariants.{Send, Subscribe, CloneSender, Resubscribe, TryRecv, Recv, DropHandle, SenderLen, ReceiverCount, ReceiverLen}
 use Rattle.rw_broadcast.specs.declared.calls.BReply.{BReply}
-use Rattle.rw_broadcast.specs.declared.calls.BReply.TheVariants.{Sent, NoReceivers, Value, Lagged, Empty, Closed, Waits, New, Dropped, Count, Unknown, Gone, WrongKind, TooManyHandles}
+use Rattle.rw_broadcast.specs.declared.calls.BReply.TheVariants.{Sent, Value, Lagged, Empty, Waits, New, Dropped}
 use Rattle.rw_broadcast.specs.Arithmetic.{lag}
 use Rattle.rw_broadcast.specs.Channel.{Change, Keep, Append, Make, Move, Leave, handle_of, wanted, makes, oldest, receivers, read, receive, effect_with, effect_found, effect}
 use Rattle.rw_broadcast.specs.Shown.{Shown, channel_of, put, evicted, unput, changed, patch_of_send, outcome_of, outcome, next, reply_of, patch_of, back, IsPlaced, IsReceiver, IsAllowed, CanUnsend, Fits, weight, refuses, waits, strays}
@@ -188,19 +188,7 @@ right x call = right_found x call _ refl
 
 waiting_refuses : {V : Type 0} (r : BReply V) → waits r ≡ true → refuses r ≡ true
 waiting_refuses Waits h = refl
-waiting_refuses (Sent n) h = cc
-waiting_refuses (NoReceivers v) h = refl
-waiting_refuses (Value v) h = cc
-waiting_refuses (Lagged n) h = cc
-waiting_refuses Empty h = refl
-waiting_refuses Closed h = refl
-waiting_refuses (New n) h = cc
-waiting_refuses Dropped h = cc
-waiting_refuses (Count n) h = cc
-waiting_refuses Unknown h = refl
-waiting_refuses Gone h = refl
-waiting_refuses WrongKind h = refl
-waiting_refuses TooManyHandles h = refl
+waiting_refuses _ h = cc
 
 pub broadcast_laws : {V : Type 0} → Laws (IsAllowed {V = V}) weight next reply_of patch_of back Fits refuses waits strays
 broadcast_laws = laws_of IsAllowed weight back Fits refuses outcome waits strays (λ x call. (right x call).sound) waiting_refuses (λ r h. cc)

@@ -82,7 +82,7 @@ pub enum BPatch<V> {
 
 impl<V: Copy> BCall<V> {
     /// The number of the handle that the call is made with.
-    pub fn handle(&self) -> u32
+    pub(crate) fn handle(&self) -> u32
         ensures { result ≡ handle_of self.now }
     {
         match self {
@@ -100,7 +100,7 @@ impl<V: Copy> BCall<V> {
     }
 
     /// The kind that this handle has to be of; `None` where either kind will do.
-    pub fn wanted(&self) -> Option<Kind>
+    pub(crate) fn wanted(&self) -> Option<Kind>
         ensures { result ≡ wanted self.now }
     {
         match self {
@@ -118,7 +118,7 @@ impl<V: Copy> BCall<V> {
     }
 
     /// Whether the call makes a handle, where it isn't refused.
-    pub fn makes(&self) -> bool
+    pub(crate) fn makes(&self) -> bool
         ensures { result ≡ makes self.now }
     {
         matches!(
@@ -130,7 +130,7 @@ impl<V: Copy> BCall<V> {
 
 impl<V: Copy> BReply<V> {
     /// The reply for a handle that can't be used.
-    pub fn refused(fault: HandleFault) -> BReply<V>
+    pub(crate) fn refused(fault: HandleFault) -> BReply<V>
         ensures { result ≡ refused fault }
     {
         match fault {
@@ -143,7 +143,7 @@ impl<V: Copy> BReply<V> {
 
 impl<V: Copy> BPatch<V> {
     /// The patch of a value that was sent, given the value that was evicted for it.
-    pub fn of_send(evicted: Option<V>) -> BPatch<V>
+    pub(crate) fn of_send(evicted: Option<V>) -> BPatch<V>
         ensures { result ≡ patch_of_send evicted }
     {
         match evicted {

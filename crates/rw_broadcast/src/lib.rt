@@ -15,3 +15,6 @@ mod window;
 pub use calls::{BCall, BPatch, BReply};
 pub use laws::channel_laws;
 pub use machine::{Broadcast, OpenFault};
+
+#[cfg(test)]
+mod tests;

@@ -7,6 +7,7 @@ ghost use Rattle.rw_broadcast.specs.Shown.{channel_of};
 ghost use Rattle.rw_broadcast.specs.Machine.{position_at};
 
 use super::Broadcast;
+use crate::least::least_position;
 use rw_handles::{Found, Kind};
 
 impl<V: Copy> Broadcast<V> {
@@ -22,6 +23,13 @@ impl<V: Copy> Broadcast<V> {
         ensures { result ≡ self.now.shown.sent }
     {
         self.sent
+    }
+
+    /// The position of the oldest retained value.
+    pub(super) fn oldest(&self) -> u64
+        ensures { result ≡ oldest (channel_of self.now.shown) }
+    {
+        self.sent.saturating_sub(self.capacity)
     }
 
     /// The retained value with this many older ones, if there is one.
@@ -61,7 +69,10 @@ impl<V: Copy> Broadcast<V> {
     pub fn queued(&self) -> u64
         ensures { result ≡ queued (channel_of self.now.shown) }
     {
-        self.count_queued()
+        match least_position(self.handles.slots()) {
+            None => 0,
+            Some(position) => self.sent.saturating_sub(position.max(self.oldest())),
+        }
     }
 
     /// How many handles were made.

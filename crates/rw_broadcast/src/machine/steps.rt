@@ -4,24 +4,16 @@ ghost use Rattle.rw_handles.specs.declared.kinds.Kind.TheVariants.{Receiver};
 ghost use Rattle.rw_handles.specs.declared.kinds.Slot.TheVariants.{Live};
 ghost use Rattle.rw_handles.specs.declared.kinds.Found.TheVariants.{Handle};
 ghost use Rattle.rw_handles.specs.Slots.{HANDLES, found};
-ghost use Rattle.rw_broadcast.specs.Channel.{Keep, Make, Move, Leave, send, read, receive, effect, effect_with, handle_of, wanted, makes, oldest, receivers, queued};
+ghost use Rattle.rw_broadcast.specs.Channel.{Keep, Make, Move, Leave, send, read, receive, effect, effect_with, handle_of, wanted, makes, oldest, receivers};
 ghost use Rattle.rw_broadcast.specs.Shown.{CanUnsend, IsPlaced, channel_of, unput, weight};
 ghost use Rattle.rw_broadcast.specs.Machine.{Takes};
 
 use super::Broadcast;
 use crate::calls::{BCall, BPatch, BReply};
-use crate::least::least_position;
 use crate::window::{put, unput};
 use rw_handles::{Found, Kind, MOST_HANDLES};
 
 impl<V: Copy> Broadcast<V> {
-    /// The position of the oldest retained value.
-    pub(super) fn oldest(&self) -> u64
-        ensures { result ≡ oldest (channel_of self.now.shown) }
-    {
-        self.sent.saturating_sub(self.capacity)
-    }
-
     /// How many receivers are alive.
     fn receivers(&self) -> u64
         ensures { result ≡ receivers (channel_of self.now.shown) }
@@ -118,16 +110,6 @@ impl<V: Copy> Broadcast<V> {
         }
     }
 
-    /// How many values are retained for some receiver. It looks at every handle.
-    pub(super) fn count_queued(&self) -> u64
-        ensures { result ≡ queued (channel_of self.now.shown) }
-    {
-        match least_position(self.handles.slots()) {
-            None => 0,
-            Some(position) => self.sent.saturating_sub(position.max(self.oldest())),
-        }
-    }
-
     /// Makes a call with the live handle that it found.
     fn perform(&mut self, call: &BCall<V>, kind: Kind, position: u64) -> (BReply<V>, BPatch<V>)
         requires room { weight self.old.shown < self.old.limit }
@@ -143,16 +125,17 @@ impl<V: Copy> Broadcast<V> {
             BCall::TryRecv(handle) => self.receive(handle, position, BReply::Empty),
             BCall::Recv(handle) => self.receive(handle, position, BReply::Waits),
             BCall::DropHandle(handle) => self.leave(handle, kind, position),
-            BCall::SenderLen(_) => self.keep(BReply::Count(self.count_queued())),
+            BCall::SenderLen(_) => self.keep(BReply::Count(self.queued())),
             BCall::ReceiverCount(_) => self.keep(BReply::Count(self.receivers())),
             BCall::ReceiverLen(_) => self.keep(BReply::Count(self.sent - position)),
         }
     }
 
-    /// Makes a call.
+    /// Makes a call: looks for its handle, and then for the number of a new one.
     pub(super) fn step(&mut self, call: &BCall<V>) -> (BReply<V>, BPatch<V>)
         requires { weight self.old.shown < self.old.limit }
-        ensures { Takes self.old self.new result (effect (channel_of self.old.shown) call.now) }
+        ensures taken { Takes self.old self.new result (effect (channel_of self.old.shown) call.now) }
+        ensures some_capacity { 0 < self.old.shown.capacity }
     {
         match self.handles.find(call.handle(), call.wanted()) {
             Found::Fault(fault) => self.keep(BReply::refused(fault)),

@@ -3,6 +3,6 @@ use Rattle.rw_broadcast.proofs.Showing.{documented}
 use Rattle.rw_broadcast.proofs.machine.reversible.BroadcastReversible.apply.Goals as goal
 
 pub returns-clause-documented : goal.returns-clause-documented
-returns-clause-documented g c r some shows =
-    let as_documented = documented c.args.self.now.shown c.args.call.now r some shows in
-    (c.step.ensures.reply ∙ as_documented.0, c.step.ensures.shown ∙ as_documented.1)
+returns-clause-documented g c r shows =
+    let as_documented = documented c.args.self.now.shown c.args.call.now c.step.ensures.some_capacity r shows in
+    (c.step.ensures.taken.reply ∙ as_documented.0, c.step.ensures.taken.shown ∙ as_documented.1)
