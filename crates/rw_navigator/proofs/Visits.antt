@@ -31,6 +31,17 @@ module _ {M C R P : Type 0} (m : Ghosts M C R P) where
         turns = omega arith;
       }
 
+  -- a move and one place more, towards the start and towards the end
+  pub back_one : (u v w : Visit M C R P) (p q n k : ℕ) → MovedTo m u v p n → MovedTo m v w (v.place - 1) 1 → q ≡ p - 1 → k ≡ n + 1 → MovedTo m u w q k
+  back_one u v w p q n k a b e f =
+      let whole : MovedTo m u w (p - 1) (n + 1) = moved_on u v w p (p - 1) n 1 a (subst (λ r. MovedTo m v w (r - 1) 1) a.place b) in
+      subst (λ r. MovedTo m u w r k) (sym e) (subst (λ j. MovedTo m u w (p - 1) j) (sym f) whole)
+
+  pub on_one : (u v w : Visit M C R P) (p q n k : ℕ) → MovedTo m u v p n → MovedTo m v w (v.place + 1) 1 → q ≡ p + 1 → k ≡ n + 1 → MovedTo m u w q k
+  on_one u v w p q n k a b e f =
+      let whole : MovedTo m u w (p + 1) (n + 1) = moved_on u v w p (p + 1) n 1 a (subst (λ r. MovedTo m v w (r + 1) 1) a.place b) in
+      subst (λ r. MovedTo m u w r k) (sym e) (subst (λ j. MovedTo m u w (p + 1) j) (sym f) whole)
+
   module _ (laws : LawsOf m) where
     -- the machine has room for every entry that is left
     pub room_at : (v : Visit M C R P) → IsVisit m v → v.place < length v.entries → m.weigh (m.shown v.machine.state) < m.reserved v.machine.state

@@ -1,3 +1,4 @@
 pub mod Counting
 pub mod Moves
+pub mod Search
 pub mod Visit

@@ -56,8 +56,12 @@ distance_all len p (move ∷ moves) = distance len p move + distance_all len (la
 module _ {M C R P : Type 0} (m : Ghosts M C R P) where
   -- the new visit is where the move leads from the old one, by one call of the machine per place
   abbrev pub MovedBy : (old new : Visit M C R P) → Move → Type 0
-  MovedBy old new move = MovedTo m old new (landing (length old.entries) old.place move) (distance (length old.entries) old.place move)
+  MovedBy old new move =
+      let len = length old.entries in
+      MovedTo m old new (landing len old.place move) (distance len old.place move)
 
   -- the same of a list of moves
   abbrev pub WalkedBy : (old new : Visit M C R P) → List Move → Type 0
-  WalkedBy old new moves = MovedTo m old new (landing_all (length old.entries) old.place moves) (distance_all (length old.entries) old.place moves)
+  WalkedBy old new moves =
+      let len = length old.entries in
+      MovedTo m old new (landing_all len old.place moves) (distance_all len old.place moves)

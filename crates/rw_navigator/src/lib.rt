@@ -4,14 +4,19 @@
 //! place to place by undoing or redoing one entry per place: it never starts again from the opening.
 //! The one contract is the record `MovedTo` of `specs/Visit.antt`, which every move ensures: the machine shows the state of
 //! its new place, and has made as many calls more as there are places in between.
-//! Start reading at `places.rt`, the Navigator and its single steps, and go on with `walks.rt`.
+//! Start reading at `places.rt`, the Navigator and its single steps, and go on with `walks.rt`. The searches, which stop where a
+//! condition is met, are in `search_back.rt` and `search_forward.rt`.
 #![tactic(auto)]
 
+mod conditions;
 mod counting;
 mod moves;
 mod places;
+mod search_back;
+mod search_forward;
 mod walks;
 
+pub use conditions::Probe;
 pub use counting::Counted;
 pub use moves::{Move, OutOfRange};
 pub use places::Navigator;

@@ -19,7 +19,9 @@ impl Adder {
         Adder { sum: 0, limit: 0 }
     }
 
-    pub fn sum(&self) -> u64 {
+    pub fn sum(&self) -> u64
+        ensures { result ≡ self.now.sum }
+    {
         self.sum
     }
 }

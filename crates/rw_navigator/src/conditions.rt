@@ -1,0 +1,40 @@
+//! Conditions to search for.
+
+ghost use Rattle.std.specs.Prelude.{◌≡◌, Bool, not, ◌&&◌};
+ghost use Rattle.rw_law.specs.declared.journal.Entry.{Entry as Step};
+
+use rw_law::{Entry, Reversible};
+
+/// A condition on the entries of a journal, or on its states.
+///
+/// A condition on states should be decided by what a machine shows. The searches promise nothing of one that reads the
+/// reserved room.
+pub trait Probe<R: Reversible> {
+    /// It is a condition on entries.
+    ghost asks_step: { Self → Bool };
+
+    /// The entry meets it.
+    ghost holds_of_step: { Self → Step R R.Call R.Reply R.Patch → Bool };
+
+    /// The machine meets it.
+    ghost holds_of_state: { Self → R → Bool };
+
+    /// Whether it is a condition on entries. If not, it is one on states.
+    fn on_step(&self) -> bool
+        ensures { result ≡ asks_step self.now };
+
+    /// Whether an entry meets it.
+    fn step(&self, entry: &Entry<R>) -> bool
+        ensures { result ≡ holds_of_step self.now entry.now };
+
+    /// Whether a state meets it.
+    fn state(&self, state: &R) -> bool
+        ensures { result ≡ holds_of_state self.now state.now };
+}
+
+/// A condition that failed before holds now.
+pub(crate) fn comes_true(before: bool, now: bool) -> bool
+    ensures { result ≡ now && not before }
+{
+    now && !before
+}

@@ -1,0 +1,83 @@
+//! The search towards the start.
+
+ghost use Rattle.std.specs.Prelude.{ℕ, Bool, IsTrue, unwrap_or, IfSome, not, ◌&&◌, ◌≡◌, ◌<◌, ◌≤◌, ◌-◌, ◌*◌};
+ghost use Rattle.rw_navigator.specs.Visit.{start_of, MovedTo};
+ghost use Rattle.rw_navigator.specs.Moves.{distance_between};
+ghost use Rattle.rw_navigator.specs.Search.{hit, step_hit, state_hit, last_below, TestsView, SearchedTo};
+
+use crate::conditions::{Probe, comes_true};
+use crate::places::Navigator;
+use rw_law::Reversible;
+
+impl<R: Reversible> Navigator<R> {
+    /// Goes to the nearest hit below the place, and answers it: a place whose entry meets the condition, or whose state
+    /// does where the state before it does not. With no hit there the place stays.
+    pub fn back_to<P: Probe<R>>(&mut self, probe: &P) -> Option<u64>
+        ensures found { (f : R.View → Bool) → TestsView R.Reversible f (P.holds_of_state probe.now) →
+            result ≡ last_below (hit R.Reversible (P.asks_step probe.now) (P.holds_of_step probe.now) f self.old) self.old.place }
+        ensures moved { SearchedTo R.Reversible self.old self.new result (2 * self.old.place) }
+
+        // A condition on entries needs no premise, and no call but those of the way.
+        ensures found_step { IsTrue (P.asks_step probe.now) →
+            result ≡ last_below (step_hit (P.holds_of_step probe.now) self.old.entries) self.old.place }
+        ensures moved_step { IsTrue (P.asks_step probe.now) →
+            MovedTo R.Reversible self.old self.new (unwrap_or result self.old.place)
+            (distance_between self.old.place (unwrap_or result self.old.place)) }
+    {
+        if probe.on_step() {
+            self.back_to_step(probe)
+        } else {
+            self.back_to_state(probe)
+        }
+    }
+
+    /// Goes back to the nearest entry that meets the condition.
+    fn back_to_step<P: Probe<R>>(&mut self, probe: &P) -> Option<u64>
+        ensures found { result ≡ last_below (step_hit (P.holds_of_step probe.now) self.old.entries) self.old.place }
+        ensures below { unwrap_or result self.old.place ≤ self.old.place }
+        ensures moved { MovedTo R.Reversible self.old self.new (unwrap_or result self.old.place)
+            (self.old.place - unwrap_or result self.old.place) }
+    {
+        let found = self.last_step_below(probe);
+        self.go_back(found.unwrap_or(self.place()));
+        found
+    }
+
+    /// The nearest place below whose entry meets the condition.
+    fn last_step_below<P: Probe<R>>(&self, probe: &P) -> Option<u64>
+        ensures found { result ≡ last_below (step_hit (P.holds_of_step probe.now) self.now.entries) self.now.place }
+        ensures below { IfSome result (λ place. place < self.now.place) }
+    {
+        for place in (1..self.place()).rev() {
+            if probe.step(self.entry_before(place)) {
+                return Some(place);
+            }
+        }
+        None
+    }
+
+    /// Goes back to the nearest place where the state comes to meet the condition.
+    fn back_to_state<P: Probe<R>>(&mut self, probe: &P) -> Option<u64>
+        ensures found { (f : R.View → Bool) → TestsView R.Reversible f (P.holds_of_state probe.now) →
+            result ≡ last_below (state_hit R.Reversible f (start_of R.Reversible self.old) self.old.entries) self.old.place }
+        ensures moved { SearchedTo R.Reversible self.old self.new result (2 * self.old.place) }
+    {
+        let from = self.place();
+        if from == 0 {
+            return None;
+        }
+        self.retreat();
+        let mut holds = probe.state(self.state());
+        for place in (1..from).rev() {
+            self.retreat();
+            let before = probe.state(self.state());
+            if comes_true(before, holds) {
+                self.advance();
+                return Some(place);
+            }
+            holds = before;
+        }
+        self.go_on(from);
+        None
+    }
+}
