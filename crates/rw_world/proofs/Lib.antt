@@ -2,3 +2,4 @@ pub mod Modifying
 pub mod OneMember
 pub mod Parting
 pub mod Shaping
+pub mod Specifying

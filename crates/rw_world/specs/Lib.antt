@@ -3,7 +3,10 @@ pub mod ChannelLaws
 pub mod Commuting
 pub mod Kinds
 pub mod Lists
+pub mod Machines
+pub mod Openings
 pub mod Parts
 pub mod Row
 pub mod RowLaws
 pub mod Shapes
+pub mod Specified

@@ -5,6 +5,7 @@ ghost use Rattle.rw_world.specs.Channel.{strays_at};
 ghost use Rattle.rw_world.specs.Commuting.{Commutes};
 ghost use Rattle.rw_world.specs.Shapes.{KeepsShape, KeepsShapeThroughout, StraysByShape};
 ghost use Rattle.rw_world.specs.Parts.{IsLegalExactlyByParts};
+ghost use Rattle.rw_world.specs.Specified.{IsLegalExactlyBySpecs, OpensAsSpecified, StraysBySpecs};
 
 use crate::channels::Channel;
 use rw_law::Reversible;
@@ -26,3 +27,12 @@ pub fn shape<B: Reversible, W: Reversible>()
     ensures throughout { KeepsShapeThroughout ⟦<Channel<B, W> as Reversible>⟧ kind_of strays_at }
     ensures strays { StraysByShape ⟦<Channel<B, W> as Reversible>⟧ kind_of strays_at }
 {}
+
+/// A world opens with the kinds of channels that its specs name. After any journal a call gets `NoChannel` exactly by the
+/// specs. A journal is legal from the opening exactly where each channel's part of it is legal from the channel's spec.
+pub fn specified<V: Copy>()
+    ensures opens { OpensAsSpecified V }
+    ensures strays { StraysBySpecs V }
+    ensures legal { IsLegalExactlyBySpecs V }
+{
+}

@@ -10,8 +10,10 @@
 mod channels;
 mod laws;
 mod members;
+mod opening;
 mod rows;
 
 pub use channels::{Channel, ChannelCall, ChannelPatch, ChannelReply};
-pub use laws::{commutes, legal_by_parts, shape};
+pub use laws::{commutes, legal_by_parts, shape, specified};
+pub use opening::{open, open_channel, Chan, ChanCall, ChanReply, OpenFault, Spec, World};
 pub use rows::{Row, RowCall};

@@ -1,0 +1,40 @@
+-- What a world shows at its opening, from what its channels are opened as.
+use Rattle.std.specs.Prelude.{Bool, false, ◌||◌, nat_eq, nat_lt, if◌then◌else◌, List, length, map, position, Option, Some}
+use Rattle.std.specs.Option.{option_map}
+use Rattle.rw_broadcast.specs.Record.{opened as opened_broadcast}
+use Rattle.rw_broadcast.specs.Shown.{shown as shown_broadcast}
+use Rattle.rw_watch.specs.Record.{opened as opened_watch}
+use Rattle.rw_watch.specs.Shown.{shown as shown_watch}
+use Rattle.rw_world.specs.declared.opening.Spec.{Spec}
+use Rattle.rw_world.specs.declared.opening.Spec.TheVariants.{Broadcast, Watch}
+use Rattle.rw_world.specs.declared.opening.OpenFault.{OpenFault}
+use Rattle.rw_world.specs.declared.opening.OpenFault.TheVariants.{NoChannels, TooManyChannels, BadCapacity}
+use Rattle.rw_world.specs.Kinds.{Kind, broadcast, watch, broadcast_shown, watch_shown}
+use Rattle.rw_world.specs.Machines.{ChanShown}
+
+module _ {V : Type 0} where
+  -- what a channel shows at its opening
+  abbrev pub opened_channel : Spec V → ChanShown V
+  opened_channel (Broadcast capacity) = broadcast_shown (shown_broadcast (opened_broadcast capacity))
+  opened_channel (Watch init) = watch_shown (shown_watch (opened_watch init))
+
+  -- what a world shows at its opening
+  abbrev pub opened : List (Spec V) → List (ChanShown V)
+  opened specs = map opened_channel specs
+
+  -- the kind of channel that is opened
+  abbrev pub kind_of_spec : Spec V → Kind
+  kind_of_spec (Broadcast capacity) = broadcast
+  kind_of_spec (Watch init) = watch
+
+  -- a capacity of 0 or above 65,536
+  abbrev pub has_bad_capacity : Spec V → Bool
+  has_bad_capacity (Broadcast capacity) = nat_eq capacity 0 || nat_lt 65536 capacity
+  has_bad_capacity (Watch init) = false
+
+  -- why no world is opened: no channel, more than 64, or the first bad capacity
+  abbrev pub refusal : List (Spec V) → Option OpenFault
+  refusal specs =
+      if nat_eq (length specs) 0 then Some NoChannels
+      else if nat_lt 64 (length specs) then Some TooManyChannels
+      else option_map (λ i. BadCapacity i) (position has_bad_capacity specs)

@@ -1,0 +1,134 @@
+//! Opening worlds.
+
+ghost use Rattle.std.specs.Prelude.{◌≡◌, ◌≤◌, ◌<◌, false, length, map, position, All, IfOk, IfSome, IfNone, IsNone, MatchResult};
+ghost use Rattle.rw_world.specs.Openings.{has_bad_capacity, opened, opened_channel, refusal};
+
+use crate::channels::{Channel, ChannelCall, ChannelReply};
+use crate::rows::Row;
+use rw_broadcast::{BCall, BReply, Broadcast};
+use rw_law::{NoMemory, Reversible};
+use rw_watch::{WCall, WReply, Watch};
+use std::alloc::Global;
+
+/// A channel of this library: a broadcast or a watch.
+pub type Chan<V> = Channel<Broadcast<V>, Watch<V>>;
+
+/// A call to a channel.
+pub type ChanCall<V> = ChannelCall<BCall<V>, WCall<V>>;
+
+/// The answer to a call to a channel.
+pub type ChanReply<V> = ChannelReply<BReply<V>, WReply<V>>;
+
+/// Channels of both kinds, up to 64, each under its number.
+pub type World<V> = Row<Chan<V>>;
+
+/// The most channels of a world.
+const MOST_CHANNELS: usize = 64;
+
+/// The greatest capacity of a broadcast.
+const MOST_CAPACITY: u32 = 65_536;
+
+/// What a channel is opened as.
+#[derive(Clone, Copy, Debug, PartialEq, Eq)]
+pub enum Spec<V> {
+    /// A broadcast of this capacity. It retains as many values as the least power of two that isn't below it.
+    Broadcast(u32),
+    /// A watch of this value.
+    Watch(V),
+}
+
+/// Why a world isn't opened: the first that holds, in this order.
+#[derive(Clone, Copy, Debug, PartialEq, Eq)]
+pub enum OpenFault {
+    /// There is no spec.
+    NoChannels,
+    /// There are more than 64 specs.
+    TooManyChannels,
+    /// The capacity of this channel is 0 or above 65,536. It is the first such channel.
+    BadCapacity(u32),
+    /// A growth was refused.
+    NoMemory,
+}
+
+impl From<NoMemory> for OpenFault {
+    ghost use Rattle.std.specs.Prelude.{◌≡◌};
+    ghost use Rattle.rw_world.specs.declared.opening.OpenFault.{OpenFault};
+
+    ghost from_gives = { λ _ fault. fault ≡ OpenFault.NoMemory };
+
+    fn from(_error: NoMemory) -> OpenFault {
+        OpenFault::NoMemory
+    }
+}
+
+impl<V: Copy> Spec<V> {
+    fn has_bad_capacity(&self) -> bool
+        ensures { result ≡ has_bad_capacity self.now }
+    {
+        match self {
+            Spec::Broadcast(capacity) => *capacity == 0 || *capacity > MOST_CAPACITY,
+            Spec::Watch(_) => false,
+        }
+    }
+}
+
+/// Opens a channel.
+pub fn open_channel<V: Copy>(alloc: Global, spec: &Spec<V>) -> Result<Chan<V>, NoMemory>
+    requires { has_bad_capacity spec.now ≡ false }
+    ensures { IfOk result (λ channel. ⟦<Chan<V> as Reversible>⟧.shown channel ≡ opened_channel spec.now) }
+{
+    match spec {
+        Spec::Broadcast(capacity) => {
+            let machine = Broadcast::open(alloc, *capacity).map_err(|_| NoMemory)?;
+            Ok(Channel::Broadcast(machine))
+        }
+        Spec::Watch(init) => Ok(Channel::Watch(Watch::open(alloc, *init)?)),
+    }
+}
+
+/// The first channel with a bad capacity.
+fn first_bad_capacity<V: Copy>(specs: &[Spec<V>]) -> Option<usize>
+    ensures first { result ≡ position has_bad_capacity specs.now }
+    ensures within { IfSome result (λ i. i < length specs.now) }
+    ensures none { IsNone result → All (λ spec. has_bad_capacity spec ≡ false) specs.now }
+{
+    specs.iter().position(|spec| spec.has_bad_capacity())
+}
+
+/// Why no world is opened from these specs, if there is such a cause.
+fn refusal_of<V: Copy>(specs: &[Spec<V>]) -> Option<OpenFault>
+    ensures refusal { result ≡ refusal specs.now }
+    ensures good { IsNone result → All (λ spec. has_bad_capacity spec ≡ false) specs.now }
+{
+    if specs.is_empty() {
+        return Some(OpenFault::NoChannels);
+    }
+    if specs.len() > MOST_CHANNELS {
+        return Some(OpenFault::TooManyChannels);
+    }
+    first_bad_capacity(specs).map(|i| OpenFault::BadCapacity(i as u32))
+}
+
+/// Opens the channels.
+fn open_all<V: Copy>(alloc: Global, specs: &[Spec<V>]) -> Result<World<V>, NoMemory>
+    requires { All (λ spec. has_bad_capacity spec ≡ false) specs.now }
+    ensures { IfOk result (λ world. ⟦<World<V> as Reversible>⟧.shown world ≡ opened specs.now) }
+{
+    let mut channels = Vec::with_capacity(alloc, specs.len())?;
+    for spec in specs {
+        channels.push_reserved(open_channel(alloc, spec)?);
+    }
+    Ok(Row::of(channels))
+}
+
+/// Opens a world with a channel for each spec, under the numbers 0, 1, 2, ..
+pub fn open<V: Copy>(alloc: Global, specs: &[Spec<V>]) -> Result<World<V>, OpenFault>
+    ensures refused { IfSome (refusal specs.now) (λ fault. result ≡ Err fault) }
+    ensures opened { IfNone (refusal specs.now) (MatchResult result (λ world. ⟦<World<V> as Reversible>⟧.shown world ≡ opened specs.now) (λ fault. fault ≡ OpenFault.NoMemory)) }
+    ensures light { IfOk result (λ world. ⟦<World<V> as Reversible>⟧.weigh (⟦<World<V> as Reversible>⟧.shown world) ≤ 2) }
+{
+    if let Some(fault) = refusal_of(specs) {
+        return Err(fault);
+    }
+    Ok(open_all(alloc, specs)?)
+}
