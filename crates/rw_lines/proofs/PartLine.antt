@@ -1,12 +1,12 @@
 -- A line of which a part was read.
-use Rattle.std.proofs.Common.{◌≡◌, ◌≢◌, ◌++◌, ◌∷◌, [], ◌≤◌, ◌+◌, ◌-◌, ◌<◌, ℕ, List, Option, refl, sym, ap, ◌∙◌, length, arith, inl, inr}
+use Rattle.std.proofs.Common.{◌≡◌, ◌≢◌, ◌++◌, ◌∷◌, [], ◌≤◌, ◌+◌, ◌-◌, ◌<◌, ℕ, List, Option, sym, ap, ◌∙◌, length, arith, inl, inr}
 use Rattle.std.specs.Io.KnownBytes.{Consumes}
 use Rattle.std.proofs.lemmas.Bool.{cases_lt}
 use Rattle.std.proofs.lemmas.List.{take_all, take-append-le, length_push, length-take}
 use Rattle.rw_lines.specs.Lines.{IsUnbroken}
 use Rattle.rw_lines.specs.Reading.{kept}
 use Rattle.rw_lines.proofs.CutLaws.{lacks-append, lacks_one}
-use Rattle.rw_lines.proofs.Known.{Consumes-none, Consumes-then}
+use Rattle.rw_lines.proofs.Known.{Consumes-then}
 
 -- from old to now the reader gave this text of a line, with no LF yet
 pub record PartLine (old now : Option (List ℕ)) (before allowed : ℕ) (line : List ℕ) : Type 0 where
@@ -15,9 +15,6 @@ pub record PartLine (old now : Option (List ℕ)) (before allowed : ℕ) (line :
   pub fits : line ≡ kept text
   pub read : Consumes old now text
   pub count : length text + allowed ≡ before
-
-pub no_part : (old : Option (List ℕ)) (before : ℕ) → PartLine old old before before []
-no_part old before = record { text = []; unbroken = refl; fits = refl; read = Consumes-none old; count = omega arith }
 
 short : (line text : List ℕ) → line ≡ kept text → length line ≤ 256 → line ≡ text
 short line text e le = e ∙ take_all 257 text (omega (arith, ap length e, length-take 257 text))
