@@ -94,13 +94,14 @@ back x call Made = record x { slots = take (length x.slots - 1) x.slots }
 back x call (Moved from) = record x { slots = slice_set x.slots (handle_of call) (Live Receiver from) }
 back x call (Left kind position) = record x { slots = slice_set x.slots (handle_of call) (Live kind position) }
 
--- what can stand under a number, of a channel with so many values sent: a sender with 0, a receiver at one of their ends
+-- what can stand under a number, where so many values were sent: a sender with 0, a receiver with a position up to the end,
+-- or nothing any more
 abbrev pub IsPlaced : ℕ → Slot ℕ → Type 0
 IsPlaced sent (Live Sender position) = position ≡ 0
 IsPlaced sent (Live Receiver position) = position ≤ sent
 IsPlaced sent Spent = ⊤
 
--- what channels show
+-- what channels can show
 pub record IsAllowed {V : Type 0} (x : Shown V) : Type 0 where
   pub some_capacity : 0 < x.capacity
   pub small_capacity : x.capacity ≤ HANDLES
@@ -108,17 +109,17 @@ pub record IsAllowed {V : Type 0} (x : Shown V) : Type 0 where
   pub few_slots : length x.slots ≤ HANDLES
   pub placed : All (IsPlaced x.sent) x.slots
 
--- a live receiver
+-- a live receiver stands there
 abbrev pub IsReceiver : Option (Slot ℕ) → Type 0
 IsReceiver (Some (Live Receiver position)) = ⊤
 IsReceiver _ = ⊥
 
--- a value was sent last, and everything was in its place before
+-- one of the values can have been sent last: no receiver has received them all
 pub record CanUnsend {V : Type 0} (y : Shown V) : Type 0 where
   pub some_sent : 0 < y.sent
   pub placed : All (IsPlaced (y.sent - 1)) y.slots
 
--- the patch has all that is needed to undo this call here: what `back` shows is allowed again
+-- the patch undoes this call here: it is one that the call can leave, and what `back` gives is allowed
 abbrev pub Fits : {V : Type 0} → Shown V → BCall V → BPatch V → Type 0
 Fits y call Same = ⊤
 Fits y call Pushed = CanUnsend y × (y.sent ≤ y.capacity)

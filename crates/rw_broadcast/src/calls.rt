@@ -86,16 +86,16 @@ impl<V: Copy> BCall<V> {
         ensures { result ≡ handle_of self.now }
     {
         match self {
-            BCall::Send(handle, _) => *handle,
-            BCall::Subscribe(handle) => *handle,
-            BCall::CloneSender(handle) => *handle,
-            BCall::Resubscribe(handle) => *handle,
-            BCall::TryRecv(handle) => *handle,
-            BCall::Recv(handle) => *handle,
-            BCall::DropHandle(handle) => *handle,
-            BCall::SenderLen(handle) => *handle,
-            BCall::ReceiverCount(handle) => *handle,
-            BCall::ReceiverLen(handle) => *handle,
+            BCall::Send(handle, _)
+            | BCall::Subscribe(handle)
+            | BCall::CloneSender(handle)
+            | BCall::Resubscribe(handle)
+            | BCall::TryRecv(handle)
+            | BCall::Recv(handle)
+            | BCall::DropHandle(handle)
+            | BCall::SenderLen(handle)
+            | BCall::ReceiverCount(handle)
+            | BCall::ReceiverLen(handle) => *handle,
         }
     }
 
@@ -104,16 +104,14 @@ impl<V: Copy> BCall<V> {
         ensures { result ≡ wanted self.now }
     {
         match self {
-            BCall::Send(_, _) => Some(Kind::Sender),
-            BCall::Subscribe(_) => Some(Kind::Sender),
-            BCall::CloneSender(_) => Some(Kind::Sender),
-            BCall::Resubscribe(_) => Some(Kind::Receiver),
-            BCall::TryRecv(_) => Some(Kind::Receiver),
-            BCall::Recv(_) => Some(Kind::Receiver),
+            BCall::Send(_, _)
+            | BCall::Subscribe(_)
+            | BCall::CloneSender(_)
+            | BCall::SenderLen(_)
+            | BCall::ReceiverCount(_) => Some(Kind::Sender),
+            BCall::Resubscribe(_) | BCall::TryRecv(_) | BCall::Recv(_) | BCall::ReceiverLen(_) =>
+                Some(Kind::Receiver),
             BCall::DropHandle(_) => None,
-            BCall::SenderLen(_) => Some(Kind::Sender),
-            BCall::ReceiverCount(_) => Some(Kind::Sender),
-            BCall::ReceiverLen(_) => Some(Kind::Receiver),
         }
     }
 
