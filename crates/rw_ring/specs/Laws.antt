@@ -1,11 +1,16 @@
 -- What a window is, among all the values that were put.
-use Rattle.std.specs.Prelude.{◌≡◌, ℕ, ◌-◌, ◌<◌, ◌≤◌, List, [], ◌∷◌, ◌++◌, length, slice_get}
+use Rattle.std.specs.Prelude.{◌≡◌, ℕ, ◌+◌, ◌-◌, ◌<◌, ◌≤◌, min, List, [], ◌∷◌, ◌++◌, length, slice_get, is_some, nat_lt}
 use Rattle.rw_ring.specs.Windows.{put, evicted, unput, last_values}
 
 -- taking a value back gives the window from before it
 abbrev pub UnputUndoesPut : Type 0 → Type 0
 UnputUndoesPut V = (capacity : ℕ) (window : List V) (v : V) → 0 < capacity
     → unput (evicted capacity window) (put capacity window v) ≡ window
+
+-- what a value evicts is what taking it back asks for: something where more were put than are kept
+abbrev pub PutFitsUnput : Type 0 → Type 0
+PutFitsUnput V = (capacity : ℕ) (window : List V) (count : ℕ) → 0 < capacity → length window ≡ min count capacity
+    → is_some (evicted capacity window) ≡ nat_lt capacity (count + 1)
 
 -- with one more value, the last values of all are still those in the window
 abbrev pub PutKeepsTheLast : Type 0 → Type 0

@@ -1,6 +1,6 @@
 -- The last values of all that were put, as many as the capacity: their window under one more value, and its undoing.
 use Rattle.std.proofs.Common.{◌≡◌, ℕ, ◌+◌, ◌-◌, ◌<◌, ◌≤◌, min, Bool, true, false, cond, List, [], ◌∷◌, ◌++◌, length, take, drop, refl, ap, sym, ◌∙◌, arith, length-drop}
-use Rattle.std.specs.Prelude.{Option, Some, None, slice_get, nat_lt, is_some}
+use Rattle.std.specs.Prelude.{Option, Some, None, if◌then◌else◌, slice_get, nat_lt, is_some}
 use Rattle.std.proofs.lemmas.Bool.{cond_both, ltb-true, ltb-false, le-ltb, lt-ltb}
 use Rattle.std.proofs.lemmas.List.{length_push, take_at, drop-drop, drop-append-le}
 
@@ -31,11 +31,11 @@ last_values capacity all = drop (length all - capacity) all
 
 -- the window after one more value
 abbrev pub put : {V : Type 0} → ℕ → List V → V → List V
-put capacity window v = cond (nat_lt (length window) capacity) (window ++ v ∷ []) (drop 1 window ++ v ∷ [])
+put capacity window v = if nat_lt (length window) capacity then window ++ v ∷ [] else drop 1 window ++ v ∷ []
 
 -- the value that is evicted for it
 abbrev pub evicted : {V : Type 0} → ℕ → List V → Option V
-evicted capacity window = cond (nat_lt (length window) capacity) None (slice_get window 0)
+evicted capacity window = if nat_lt (length window) capacity then None else slice_get window 0
 
 -- the window from before a value, given the value that was evicted for it
 abbrev pub unput : {V : Type 0} → Option V → List V → List V
@@ -65,9 +65,9 @@ length-put capacity w v n some is =
     (λ full. omega (arith, ltb-false (length w) capacity full, length_push (drop 1 w) v, length-drop 1 w))
 
 -- the last values of a list with one more value
-pub put-drop : {V : Type 0} (capacity : ℕ) (s : List V) (v : V) → 0 < capacity → drop (length (s ++ v ∷ []) - capacity) (s ++ v ∷ []) ≡ put capacity (drop (length s - capacity) s) v
+pub put-drop : {V : Type 0} (capacity : ℕ) (s : List V) (v : V) → 0 < capacity → put capacity (drop (length s - capacity) s) v ≡ drop (length (s ++ v ∷ []) - capacity) (s ++ v ∷ [])
 put-drop capacity s v some =
-    let P = λ (l : List _). drop (length (s ++ v ∷ []) - capacity) (s ++ v ∷ []) ≡ l in
+    let P = λ (l : List _). l ≡ drop (length (s ++ v ∷ []) - capacity) (s ++ v ∷ []) in
     let w = drop (length s - capacity) s in
     cond_both (nat_lt (length w) capacity) _ _ P
     (λ room. let short : length s < capacity = omega (arith, ltb-true (length w) capacity room, length-drop (length s - capacity) s) in

@@ -1,9 +1,10 @@
 //! What a ring's values are, among all that were put.
-ghost use Rattle.rw_ring.specs.Laws.{UnputUndoesPut, PutKeepsTheLast, ReadsByPosition};
+ghost use Rattle.rw_ring.specs.Laws.{UnputUndoesPut, PutFitsUnput, PutKeepsTheLast, ReadsByPosition};
 
 /// Holds of every window: it is no work, and its clauses are the laws.
 pub fn window_laws<V: Copy>()
     ensures undoes { UnputUndoesPut V }
+    ensures fits { PutFitsUnput V }
     ensures last { PutKeepsTheLast V }
     ensures position { ReadsByPosition V }
 {}

@@ -1,6 +1,6 @@
 //! The ring: a value stands in the cell whose number is its position's remainder by the capacity.
 ghost use Rattle.std.specs.Prelude.{◌≡◌, ◌+◌, ◌-◌, ◌<◌, ◌≤◌, ◌^◌, min, [], length, slice_get, None, IfOk, is_some, nat_lt};
-ghost use Rattle.rw_ring.specs.Windows.{put, evicted, unput, oldest, opened};
+ghost use Rattle.rw_ring.specs.Windows.{VALUES, put, evicted, unput, oldest, opened};
 
 use rw_law::NoMemory;
 use std::alloc::Global;
@@ -34,7 +34,7 @@ impl<V: Copy> Ring<V> {
     /// A ring to which nothing was put. All the memory it will need is taken here, and no cell is written.
     pub fn new(alloc: Global, capacity: u64) -> Result<Self, NoMemory>
         requires some { 0 < capacity }
-        requires most { capacity ≤ MOST_VALUES }
+        requires most { capacity ≤ VALUES }
         ensures { IfOk result (λ r. r ≡ opened capacity) }
     {
         Ok(Ring {
@@ -48,7 +48,7 @@ impl<V: Copy> Ring<V> {
     pub fn capacity(&self) -> u64
         ensures capacity { result ≡ self.now.capacity }
         ensures some { 0 < result }
-        ensures most { result ≤ MOST_VALUES }
+        ensures most { result ≤ VALUES }
     {
         self.capacity
     }
@@ -87,15 +87,14 @@ impl<V: Copy> Ring<V> {
         ensures count { self.new.count ≡ self.old.count + 1 }
         ensures capacity { self.new.capacity ≡ self.old.capacity }
     {
-        let cell = (self.count % self.capacity) as usize;
-        let full = self.count >= self.capacity;
+        let position = self.count;
         self.count += 1;
-        if full {
-            Some(mem::replace(&mut self.cells[cell], v))
-        } else {
+        if position < self.capacity {
             self.cells.push_reserved(v);
-            None
+            return None;
         }
+        let cell = (position % self.capacity) as usize;
+        Some(mem::replace(&mut self.cells[cell], v))
     }
 
     /// Takes the last value back, given the one that was evicted for it.

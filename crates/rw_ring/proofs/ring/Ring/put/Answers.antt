@@ -4,20 +4,20 @@ use Rattle.rw_ring.specs.Windows.{put}
 use Rattle.rw_ring.proofs.Cells.{push_puts, write_puts}
 use Rattle.rw_ring.proofs.ring.Ring.put.Goals as goal
 
-pub returns-then-full-clause-values : goal.returns-then-full-clause-values
-returns-then-full-clause-values g c =
+pub returns-clause-values : goal.returns-clause-values
+returns-clause-values g c =
     let k = c.self.inside.capacity in
     let n = c.self.inside.count in
     let cells = c.self.inside.cells.items in
     ap (λ x. in_order k (n + 1) (set cells (n % k) x)) {x = c.replace.new.dest} c.replace.ensures.after
-    ∙ (write_puts k n cells c.args.v c.self.invariant.0 c.if-full.true (omega (arith, c.self.invariant.2, c.if-full.true))
+    ∙ (write_puts k n cells c.args.v c.self.invariant.0 c.if-position-self.false (omega (arith, c.self.invariant.2, c.if-position-self.false))
     ∙ ap (λ w. put w.capacity w.values c.args.v) c.self.view_is)
 
-pub returns-else-full-clause-values : goal.returns-else-full-clause-values
-returns-else-full-clause-values g c =
+pub returns-then-position-self-clause-values : goal.returns-then-position-self-clause-values
+returns-then-position-self-clause-values g c =
     let k = c.self.inside.capacity in
     let n = c.self.inside.count in
     let cells = c.self.inside.cells.items in
     ap (in_order k (n + 1)) c.push_reserved.ensures.items
-    ∙ (push_puts k n cells c.args.v c.if-full.false (omega (arith, c.self.invariant.2, c.if-full.false))
+    ∙ (push_puts k n cells c.args.v c.if-position-self.true (omega (arith, c.self.invariant.2, c.if-position-self.true))
     ∙ ap (λ w. put w.capacity w.values c.args.v) c.self.view_is)
