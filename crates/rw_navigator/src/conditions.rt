@@ -7,8 +7,8 @@ use rw_law::{Entry, Reversible};
 
 /// A condition on the entries of a journal, or on its states.
 ///
-/// A condition on states should be decided by what a machine shows. The searches promise nothing of one that reads the
-/// reserved room.
+/// A condition on states should be decided by what a machine shows. Of one that reads the reserved room the searches do not
+/// promise which place they find.
 pub trait Probe<R: Reversible> {
     /// It is a condition on entries.
     ghost asks_step: { Self → Bool };

@@ -1,7 +1,5 @@
 //! Walks and searches over journals of a small machine.
 
-ghost use Rattle.std.specs.Prelude.{◌≡◌, ◌≤◌, IfOk, length};
-
 mod adding;
 mod metering;
 mod parity;

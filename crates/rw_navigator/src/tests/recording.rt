@@ -1,7 +1,7 @@
 //! Journals for tests.
 
-ghost use Rattle.std.specs.Prelude.{◌≡◌, ◌+◌, ◌≤◌, ◌^◌, ◌<◌, IfOk, IfSome, IfNone, length};
-ghost use Rattle.rw_law.specs.Journal.{IsLegal, IsStep, after_all};
+ghost use Rattle.std.specs.Prelude.{◌≡◌, ◌+◌, ◌≤◌, ◌^◌, ◌<◌, IfOk, IfSome, length};
+ghost use Rattle.rw_law.specs.Journal.{IsLegal, IsStep};
 
 use rw_law::{Entry, NoMemory, Reversible};
 use std::alloc::Global;
