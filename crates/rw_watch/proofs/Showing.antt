@@ -71,8 +71,9 @@ last_value-told_again : {V : Type 0} (v : V) (n : ℕ) → last_value v (told_ag
 last_value-told_again v zero = refl
 last_value-told_again v (suc n) = last_value-push v (told_again v n) v true
 
-pub shown_by_some : (V : Type 0) → IsShownBySome V
-shown_by_some V x = (
+pub is_shown_by_some : (V : Type 0) → IsShownBySome V
+is_shown_by_some V x = (
   record { initial = x.value; changes = told_again x.value x.version; slots = x.slots },
   ap (λ n. record x { version = n; value = last_value x.value (told_again x.value x.version) }) (told_count-told_again x.value x.version)
-  ∙ ap (λ v. record x { value = v }) (last_value-told_again x.value x.version))
+      ∙ ap (λ v. record x { value = v }) (last_value-told_again x.value x.version),
+)

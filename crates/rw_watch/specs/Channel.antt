@@ -48,11 +48,12 @@ receivers c = alive Receiver c.slots
 abbrev pub has_no_receiver : {V : Type 0} → Channel V → Bool
 has_no_receiver c = receivers c == 0
 
--- whether all senders "are dropped"
+-- whether "all Senders are dropped"
 abbrev pub is_closed : {V : Type 0} → Channel V → Bool
 is_closed c = alive Sender c.slots == 0
 
--- whether a receiver with this mark has not seen the value of this version. The values themselves aren't compared.
+-- whether a receiver with this mark has not seen the value of this version: `has_changed` "does not check messages for
+-- equality, so this call will return true even if the current message is equal to the previous message"
 abbrev pub is_unseen : (version : ℕ) → Option ℕ → Bool
 is_unseen version None = true
 is_unseen version (Some mark) = not (mark == version)
@@ -108,8 +109,8 @@ refused fault.Unknown = Unknown
 refused fault.Gone = Gone
 refused fault.WrongKind = WrongKind
 
--- "This method fails if the channel is closed, which is the case when every receiver has been dropped." "When `send` fails,
--- the value isn't made available for future receivers (but returned with the `SendError`)."
+-- "This method fails if the channel is closed, which is the case when every receiver has been dropped." The value then "isn't made
+-- available for future receivers (but returned with the `SendError`)".
 abbrev pub send : {V : Type 0} → Channel V → V → Change V × WReply V
 send c v = if has_no_receiver c then (Keep, NoReceivers v) else (Write v true, Stored)
 
@@ -150,6 +151,7 @@ effect_with c (Modify h v told) kind mark = (Write v told, Told told)
 -- "All messages sent before this call to `subscribe` are initially marked as seen by the new `Receiver`."
 effect_with c (Subscribe h) kind mark = make c Receiver (Some c.version)
 effect_with c (CloneSender h) kind mark = make c Sender None
+-- a cloned receiver has seen what its source has
 effect_with c (CloneReceiver h) kind mark = make c Receiver mark
 -- "This method does not mark the returned value as seen."
 effect_with c (Borrow h) kind mark = (Keep, Value c.value)

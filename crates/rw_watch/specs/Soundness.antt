@@ -38,25 +38,29 @@ unfolding Stands
 marked_at x call slot here ok = All-slice_get (IsMarked x.version) x.slots (handle_of call) slot here ok.marked
 
 right_keep : {V : Type 0} (x : Shown V) (call : WCall V) (reply : WReply V) → IsRight x call (Keep, reply)
-right_keep x call reply = record { sound = record {
-  undone = λ _. refl;
-  next_allowed = λ ok. ok;
-  patch_fits = λ _. tt;
-  refused = λ _. refl;
-  weight_rises = omega arith;
-} }
+right_keep x call reply = record {
+  sound = record {
+    undone = λ _. refl;
+    next_allowed = λ ok. ok;
+    patch_fits = λ _. tt;
+    refused = λ _. refl;
+    weight_rises = omega arith;
+  };
+}
 
 right_make : {V : Type 0} (x : Shown V) (call : WCall V) (kind : Kind) (mark : Option ℕ) → (IsAllowed x → IsMarked x.version (Live kind mark)) → length x.slots < HANDLES → IsRight x call (Make kind mark, New (length x.slots))
-right_make x call kind mark marked few = record { sound = record {
-  undone = λ _. ap (λ slots. record x { slots = slots }) (push_back x.slots (Live kind mark));
-  next_allowed = λ ok. record {
-    few_slots = omega (arith, length_push x.slots (Live kind mark));
-    marked = All-push (IsMarked x.version) x.slots (Live kind mark) ok.marked (marked ok);
+right_make x call kind mark marked few = record {
+  sound = record {
+    undone = λ _. ap (λ slots. record x { slots = slots }) (push_back x.slots (Live kind mark));
+    next_allowed = λ ok. record {
+      few_slots = omega (arith, length_push x.slots (Live kind mark));
+      marked = All-push (IsMarked x.version) x.slots (Live kind mark) ok.marked (marked ok);
+    };
+    patch_fits = λ _. is_live (slice_get-push x.slots (Live kind mark));
+    refused = λ h. cc;
+    weight_rises = omega (arith, length_push x.slots (Live kind mark));
   };
-  patch_fits = λ _. is_live (slice_get-push x.slots (Live kind mark));
-  refused = λ h. cc;
-  weight_rises = omega (arith, length_push x.slots (Live kind mark));
-} } where
+} where
   is_live : {o : Option (Slot (Option ℕ))} {kind : Kind} {mark : Option ℕ} → o ≡ Some (Live kind mark) → IsLive o
   is_live h = rw h refl
 
@@ -72,13 +76,15 @@ is_receiver h = rw h tt
 
 right_mark : {V : Type 0} (x : Shown V) (call : WCall V) (from to : Option ℕ) (reply : WReply V) → Stands x call (Live Receiver from) → IsMark x.version to → refuses reply ≡ false → IsRight x call (Mark (handle_of call) from to, reply)
 unfolding Stands
-right_mark x call from to reply here mark served = record { sound = record {
-  undone = λ _. ap (λ slots. record x { slots = slots }) (set_back x.slots (handle_of call) (Live Receiver to) (Live Receiver from) here);
-  next_allowed = set_allowed x call (Live Receiver to) mark;
-  patch_fits = λ ok. (is_receiver (slice_get-set x.slots (handle_of call) (Live Receiver to) (Live Receiver from) here), marked_at x call (Live Receiver from) here ok);
-  refused = λ h. cc;
-  weight_rises = omega (arith, length-set x.slots (handle_of call) (Live Receiver to));
-} }
+right_mark x call from to reply here mark served = record {
+  sound = record {
+    undone = λ _. ap (λ slots. record x { slots = slots }) (set_back x.slots (handle_of call) (Live Receiver to) (Live Receiver from) here);
+    next_allowed = set_allowed x call (Live Receiver to) mark;
+    patch_fits = λ ok. (is_receiver (slice_get-set x.slots (handle_of call) (Live Receiver to) (Live Receiver from) here), marked_at x call (Live Receiver from) here ok);
+    refused = λ h. cc;
+    weight_rises = omega (arith, length-set x.slots (handle_of call) (Live Receiver to));
+  };
+}
 
 -- the value is seen
 right_see : {V : Type 0} (x : Shown V) (call : WCall V) (from : Option ℕ) (reply : WReply V) → Stands x call (Live Receiver from) → refuses reply ≡ false → IsRight x call (Mark (handle_of call) from (Some x.version), reply)
@@ -86,13 +92,15 @@ right_see x call from reply here served = right_mark x call from (Some x.version
 
 right_leave : {V : Type 0} (x : Shown V) (call : WCall V) (kind : Kind) (mark : Option ℕ) → Stands x call (Live kind mark) → IsRight x call (Leave (handle_of call) kind mark, Dropped)
 unfolding Stands
-right_leave x call kind mark here = record { sound = record {
-  undone = λ _. ap (λ slots. record x { slots = slots }) (set_back x.slots (handle_of call) Spent (Live kind mark) here);
-  next_allowed = set_allowed x call Spent tt;
-  patch_fits = λ ok. (slice_get-set x.slots (handle_of call) Spent (Live kind mark) here, marked_at x call (Live kind mark) here ok);
-  refused = λ h. cc;
-  weight_rises = omega (arith, length-set x.slots (handle_of call) Spent);
-} }
+right_leave x call kind mark here = record {
+  sound = record {
+    undone = λ _. ap (λ slots. record x { slots = slots }) (set_back x.slots (handle_of call) Spent (Live kind mark) here);
+    next_allowed = set_allowed x call Spent tt;
+    patch_fits = λ ok. (slice_get-set x.slots (handle_of call) Spent (Live kind mark) here, marked_at x call (Live kind mark) here ok);
+    refused = λ h. cc;
+    weight_rises = omega (arith, length-set x.slots (handle_of call) Spent);
+  };
+}
 
 marked_more : (n : ℕ) (slot : Slot (Option ℕ)) → IsMarked n slot → IsMarked (n + 1) slot
 marked_more n (Live Sender mark) h = h
@@ -103,23 +111,27 @@ marked_more n Spent h = h
 right_write : {V : Type 0} (x : Shown V) (call : WCall V) (v : V) (told : Bool) (reply : WReply V) → refuses reply ≡ false → IsRight x call (Write v told, reply)
 right_write x call v true reply served =
     let one_less : x.version + 1 - 1 ≡ x.version = omega arith in
-    record { sound = record {
-      undone = λ _. ap (λ n. record x { version = n }) one_less;
-      next_allowed = λ ok. record {
-        few_slots = ok.few_slots;
-        marked = All-weaker (IsMarked x.version) (IsMarked (x.version + 1)) (marked_more x.version) x.slots ok.marked;
+    record {
+      sound = record {
+        undone = λ _. ap (λ n. record x { version = n }) one_less;
+        next_allowed = λ ok. record {
+          few_slots = ok.few_slots;
+          marked = All-weaker (IsMarked x.version) (IsMarked (x.version + 1)) (marked_more x.version) x.slots ok.marked;
+        };
+        patch_fits = λ ok. record { some_told = omega arith; marked = rw one_less ok.marked };
+        refused = λ h. cc;
+        weight_rises = omega arith;
       };
-      patch_fits = λ ok. record { some_told = omega arith; marked = rw one_less ok.marked };
-      refused = λ h. cc;
-      weight_rises = omega arith;
-    } }
-right_write x call v false reply served = record { sound = record {
-  undone = λ _. refl;
-  next_allowed = λ ok. record { few_slots = ok.few_slots; marked = ok.marked };
-  patch_fits = λ _. tt;
-  refused = λ h. cc;
-  weight_rises = omega arith;
-} }
+    }
+right_write x call v false reply served = record {
+  sound = record {
+    undone = λ _. refl;
+    next_allowed = λ ok. record { few_slots = ok.few_slots; marked = ok.marked };
+    patch_fits = λ _. tt;
+    refused = λ h. cc;
+    weight_rises = omega arith;
+  };
+}
 
 -- each call, with the handle that it found
 right_with : {V : Type 0} (x : Shown V) (call : WCall V) (kind : Kind) (mark : Option ℕ) → found (wanted call) x.slots (handle_of call) ≡ Handle kind mark → (makes call ≡ true → length x.slots < HANDLES) → IsRight x call (effect_with x call kind mark)

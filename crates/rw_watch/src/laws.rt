@@ -1,12 +1,11 @@
-//! The laws that tie what a watch channel shows to the record of all that happened to it, for every type of value.
-ghost use Rattle.rw_watch.specs.Laws.{ShowsItsSteps, ShowsAllowed, IsShownBySome};
+//! What holds of every watch channel.
+ghost use Rattle.rw_watch.specs.Laws.{IsShownBySome, ShowsAllowed, ShowsItsSteps};
 
-/// Holds of every channel: it is no work, and its clauses are the laws.
-pub fn record_laws<V: Copy>()
-    // A step on what is shown is the documented step of the record.
+/// The laws of the table of calls, over every type of values. It does nothing: its clauses are the laws.
+pub fn channel_laws<V: Copy>()
+    // A step on what is shown is the documented step of the record that shows it.
     ensures steps { ShowsItsSteps V }
-    // What a channel shows after any calls is allowed.
+    // Whatever calls a channel has had, it shows something allowed, and some record shows whatever there is to show.
     ensures allowed { ShowsAllowed V }
-    // Whatever is shown, some record shows it.
-    ensures some_record { IsShownBySome V }
+    ensures shown { IsShownBySome V }
 {}

@@ -11,5 +11,8 @@ mod laws;
 mod machine;
 
 pub use calls::{WCall, WPatch, WReply};
-pub use laws::record_laws;
+pub use laws::channel_laws;
 pub use machine::Watch;
+
+#[cfg(test)]
+mod tests;

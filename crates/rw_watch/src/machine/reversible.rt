@@ -55,6 +55,7 @@ impl<V: Copy> Reversible for Watch<V> {
         self.limit
     }
 
+    /// Makes room for n more changes and handles. The table grows by doubling, so it may well be called before each step.
     fn ready(&mut self, n: u64) -> Result<(), NoMemory> {
         let limit = self.weight() + n;
         if limit <= self.limit {
@@ -66,6 +67,8 @@ impl<V: Copy> Reversible for Watch<V> {
         Ok(())
     }
 
+    /// Makes a call, as documented: of every record that shows what this machine shows, the reply is that of the record's
+    /// step, and the machine then shows what the record after it shows.
     fn apply(&mut self, call: &WCall<V>) -> (WReply<V>, WPatch<V>)
         requires { weight self.old.shown < self.old.limit }
         ensures view { self.new.shown ≡ next self.old.shown call.now }

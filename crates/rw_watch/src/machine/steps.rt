@@ -85,12 +85,7 @@ impl<V: Copy> Watch<V> {
     }
 
     /// Gives a receiver the mark of the value that there is.
-    fn see(
-        &mut self,
-        handle: u32,
-        from: Option<u64>,
-        reply: WReply<V>,
-    ) -> (WReply<V>, WPatch<V>)
+    fn see(&mut self, handle: u32, from: Option<u64>, reply: WReply<V>) -> (WReply<V>, WPatch<V>)
         requires { slice_get self.old.shown.slots handle ≡ Some (Live Receiver from) }
         ensures { Takes self.old self.new result (see self.old.shown handle from, reply) }
     {
@@ -154,12 +149,7 @@ impl<V: Copy> Watch<V> {
     }
 
     /// Makes a call with the live handle that it found.
-    fn perform(
-        &mut self,
-        call: &WCall<V>,
-        kind: Kind,
-        mark: Option<u64>,
-    ) -> (WReply<V>, WPatch<V>)
+    fn perform(&mut self, call: &WCall<V>, kind: Kind, mark: Option<u64>) -> (WReply<V>, WPatch<V>)
         requires room { weight self.old.shown < self.old.limit }
         requires found { found (wanted call.now) self.old.shown.slots (handle_of call.now) ≡ Handle kind mark }
         requires few { IsTrue (makes call.now) → length self.old.shown.slots < HANDLES }

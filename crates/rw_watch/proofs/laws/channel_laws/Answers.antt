@@ -1,0 +1,11 @@
+use Rattle.rw_watch.proofs.Showing.{is_shown_by_some, shows_allowed, shows_its_steps}
+use Rattle.rw_watch.proofs.laws.channel_laws.Goals as goal
+
+pub returns-clause-steps : goal.returns-clause-steps
+returns-clause-steps g c = shows_its_steps _
+
+pub returns-clause-allowed : goal.returns-clause-allowed
+returns-clause-allowed g c = shows_allowed _
+
+pub returns-clause-shown : goal.returns-clause-shown
+returns-clause-shown g c = is_shown_by_some _
