@@ -34,5 +34,4 @@ pub fn specified<V: Copy>()
     ensures opens { OpensAsSpecified V }
     ensures strays { StraysBySpecs V }
     ensures legal { IsLegalExactlyBySpecs V }
-{
-}
+{}

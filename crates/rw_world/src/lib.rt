@@ -12,8 +12,10 @@ mod laws;
 mod members;
 mod opening;
 mod rows;
+#[cfg(test)]
+mod tests;
 
 pub use channels::{Channel, ChannelCall, ChannelPatch, ChannelReply};
 pub use laws::{commutes, legal_by_parts, shape, specified};
-pub use opening::{open, open_channel, Chan, ChanCall, ChanReply, OpenFault, Spec, World};
+pub use opening::{Chan, ChanCall, ChanReply, OpenFault, Spec, World, open, open_channel};
 pub use rows::{Row, RowCall};

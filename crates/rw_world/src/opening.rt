@@ -62,7 +62,8 @@ impl From<NoMemory> for OpenFault {
 }
 
 impl<V: Copy> Spec<V> {
-    fn has_bad_capacity(&self) -> bool
+    /// Whether it is a broadcast with a capacity of 0 or above 65,536.
+    pub fn has_bad_capacity(&self) -> bool
         ensures { result ≡ has_bad_capacity self.now }
     {
         match self {
@@ -72,7 +73,7 @@ impl<V: Copy> Spec<V> {
     }
 }
 
-/// Opens a channel.
+/// Opens one channel, with a sender, 0, and a receiver, 1.
 pub fn open_channel<V: Copy>(alloc: Global, spec: &Spec<V>) -> Result<Chan<V>, NoMemory>
     requires { has_bad_capacity spec.now ≡ false }
     ensures { IfOk result (λ channel. ⟦<Chan<V> as Reversible>⟧.shown channel ≡ opened_channel spec.now) }
@@ -121,7 +122,7 @@ fn open_all<V: Copy>(alloc: Global, specs: &[Spec<V>]) -> Result<World<V>, NoMem
     Ok(Row::of(channels))
 }
 
-/// Opens a world with a channel for each spec, under the numbers 0, 1, 2, ..
+/// Opens a world with a channel for each spec, under the numbers 0, 1, 2, .. . Each has a sender, 0, and a receiver, 1.
 pub fn open<V: Copy>(alloc: Global, specs: &[Spec<V>]) -> Result<World<V>, OpenFault>
     ensures refused { IfSome (refusal specs.now) (λ fault. result ≡ Err fault) }
     ensures opened { IfNone (refusal specs.now) (MatchResult result (λ world. ⟦<World<V> as Reversible>⟧.shown world ≡ opened specs.now) (λ fault. fault ≡ OpenFault.NoMemory)) }
