@@ -4,4 +4,6 @@
 pub mod cell;
 
 #[cfg(test)]
-mod tests;
+mod books;
+#[cfg(test)]
+mod worlds;

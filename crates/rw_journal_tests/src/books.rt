@@ -1,8 +1,8 @@
+//! Books of a small machine.
+
 use crate::cell::{Call, Cell, Reply};
 use rw_journal::{Book, TakeFault};
 use std::test::Fail;
-
-const MOST_ENTRIES: u64 = 1_048_576;
 
 #[test]
 fn runs_takes_and_rewinds(rt: HostRuntime) -> Result<(), Fail> {
@@ -59,21 +59,6 @@ fn stamps_end_at_two_to_the_62(rt: HostRuntime) -> Result<(), Fail> {
     assert_eq!(rt; book.len(), 1);
     assert!(rt; book.rewind().is_some());
     assert!(rt; book.is_empty() && book.rewind().is_none());
-    Ok(())
-}
-
-#[test]
-fn a_full_book_takes_no_entry(rt: HostRuntime) -> Result<(), Fail> {
-    let mut book = Book::open(rt.alloc(), Cell::new(2 * MOST_ENTRIES))?;
-    for i in 0..MOST_ENTRIES {
-        assert!(rt; book.take(0, 0, Call::Set(i)).is_ok());
-    }
-    let full = book.take(0, 0, Call::Set(0));
-    assert_eq!(rt; full.map(|r| r.stamp), Err(TakeFault::JournalFull));
-    assert_eq!(rt; book.len(), MOST_ENTRIES);
-    assert!(rt; book.rewind().is_some());
-    let again = book.take(0, 0, Call::Set(0));
-    assert_eq!(rt; again.map(|r| r.stamp), Ok(MOST_ENTRIES));
     Ok(())
 }
 
