@@ -21,10 +21,10 @@ use Rattle.rw_broadcast.specs.Arithmetic.{lag}
 use Rattle.rw_broadcast.specs.Channel.{Channel, Change, Keep, Append, Make, Move, Leave, oldest, read, receive, effect_with, effect_found, effect, handle_of, wanted, makes}
 use Rattle.rw_broadcast.specs.Record.{Record, opened, after, step}
 use Rattle.rw_broadcast.specs.Record as of_record
-use Rattle.rw_broadcast.specs.Shown.{Shown, shown, put, IsAllowed, IsPlaced, next}
+use Rattle.rw_broadcast.specs.Shown.{Shown, shown, IsAllowed, IsPlaced, next}
 use Rattle.rw_broadcast.specs.Shown as of_shown
 use Rattle.rw_broadcast.specs.Laws.{ShowsItsSteps, ShowsAllowed, IsShownBySome, IsDocumented}
-use Rattle.rw_broadcast.specs.Windows.{put-drop}
+use Rattle.rw_ring.specs.Windows.{put, put-drop}
 use Rattle.rw_broadcast.specs.Soundness.{broadcast_laws}
 use Rattle.rw_broadcast.proofs.Powers.{retained-bounds}
 

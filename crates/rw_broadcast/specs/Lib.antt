@@ -3,7 +3,6 @@ pub mod Channel
 pub mod Record
 pub mod Shown
 pub mod Laws
-pub mod Windows
 pub mod Soundness
 pub mod Machine
 pub mod Inside

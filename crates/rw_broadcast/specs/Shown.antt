@@ -1,10 +1,11 @@
 -- What a broadcast channel shows, which is the record without the values that were evicted: its steps, and their undoing.
-use Rattle.std.specs.Prelude.{◌≡◌, ℕ, ◌+◌, ◌-◌, ◌≤◌, ◌<◌, min, Bool, true, false, nat_lt, if◌then◌else◌, List, [], ◌∷◌, ◌++◌, Option, Some, None, All, slice_get, slice_set, length, take, drop, ⊤}
+use Rattle.std.specs.Prelude.{◌≡◌, ℕ, ◌+◌, ◌-◌, ◌≤◌, ◌<◌, min, Bool, true, false, List, [], ◌∷◌, ◌++◌, Option, Some, None, All, slice_get, slice_set, length, take, drop, ⊤}
 use Rattle.rw_handles.specs.declared.kinds.Kind.TheVariants.{Sender, Receiver}
 use Rattle.rw_handles.specs.declared.kinds.Slot.{Slot}
 use Rattle.rw_handles.specs.declared.kinds.Slot.TheVariants.{Live, Spent}
 use Rattle.rw_handles.specs.Slots.{HANDLES, IsLive}
 use Rattle.rw_law.specs.Outcomes.{Outcome}
+use Rattle.rw_ring.specs.Windows.{put, evicted, unput}
 use Rattle.rw_broadcast.specs.declared.calls.BCall.{BCall}
 use Rattle.rw_broadcast.specs.declared.calls.BReply.{BReply}
 use Rattle.rw_broadcast.specs.declared.calls.BReply.TheVariants.{NoReceivers, Empty, Closed, Waits, Unknown, Gone, WrongKind, TooManyHandles}
@@ -30,21 +31,8 @@ shown r = record { capacity = r.capacity; sent = length r.sent; window = drop (o
 abbrev pub channel_of : {V : Type 0} → Shown V → Channel V
 channel_of x = record { capacity = x.capacity; sent = x.sent; value = λ position. slice_get x.window (position - oldest x.sent x.capacity); slots = x.slots }
 
--- the retained values after one more is sent. "If a value is sent when the channel is at capacity, the oldest value
--- currently held by the channel is released."
-abbrev pub put : {V : Type 0} → ℕ → List V → V → List V
-put capacity window v = if nat_lt (length window) capacity then window ++ v ∷ [] else drop 1 window ++ v ∷ []
-
--- the value that is released
-abbrev pub evicted : {V : Type 0} → ℕ → List V → Option V
-evicted capacity window = if nat_lt (length window) capacity then None else slice_get window 0
-
--- the retained values from before the last one was sent, given the value that was released for it
-abbrev pub unput : {V : Type 0} → Option V → List V → List V
-unput None window = take (length window - 1) window
-unput (Some v) window = v ∷ take (length window - 1) window
-
--- what is shown after a change
+-- what is shown after a change. Of one value more: "If a value is sent when the channel is at capacity, the oldest value
+-- currently held by the channel is released." (`put`)
 abbrev pub changed : {V : Type 0} → Shown V → Change V → Shown V
 changed x Keep = x
 changed x (Append v) = record x { sent = x.sent + 1; window = put x.capacity x.window v }

@@ -21,8 +21,8 @@ use Rattle.rw_broadcast.specs.declared.calls.BReply.{BReply}
 use Rattle.rw_broadcast.specs.declared.calls.BReply.TheVariants.{Sent, Value, Lagged, Empty, Waits, New, Dropped}
 use Rattle.rw_broadcast.specs.Arithmetic.{lag}
 use Rattle.rw_broadcast.specs.Channel.{Change, Keep, Append, Make, Move, Leave, handle_of, wanted, makes, oldest, receivers, read, receive, effect_with, effect_found, effect}
-use Rattle.rw_broadcast.specs.Shown.{Shown, channel_of, put, evicted, unput, changed, patch_of_send, outcome_of, outcome, next, reply_of, patch_of, back, IsPlaced, IsReceiver, IsAllowed, CanUnsend, Fits, weight, refuses, waits, strays}
-use Rattle.rw_broadcast.specs.Windows.{unput-put, length-put}
+use Rattle.rw_broadcast.specs.Shown.{Shown, channel_of, changed, patch_of_send, outcome_of, outcome, next, reply_of, patch_of, back, IsPlaced, IsReceiver, IsAllowed, CanUnsend, Fits, weight, refuses, waits, strays}
+use Rattle.rw_ring.specs.Windows.{put, evicted, unput, unput-put, length-put}
 
 -- the laws, of one change and reply of a call
 record IsRight {V : Type 0} (x : Shown V) (call : BCall V) (e : Change V × BReply V) : Type 0 where

@@ -10,7 +10,6 @@ mod calls;
 mod laws;
 mod least;
 mod machine;
-mod window;
 
 pub use calls::{BCall, BPatch, BReply};
 pub use laws::channel_laws;

@@ -1,5 +1,5 @@
 //! The machine of a broadcast channel.
-ghost use Rattle.std.specs.Prelude.{◌≡◌, ◌<◌, ◌≤◌, ◌↔◌, ◌⊎◌, [], IfOk, vec_capacity};
+ghost use Rattle.std.specs.Prelude.{◌≡◌, ◌<◌, ◌≤◌, ◌↔◌, ◌⊎◌, IfOk};
 ghost use Rattle.rw_handles.specs.Slots.{HANDLES};
 ghost use Rattle.rw_broadcast.specs.Arithmetic.{retained_capacity};
 ghost use Rattle.rw_broadcast.specs.Record.{first_slots, opened};
@@ -11,6 +11,7 @@ mod steps;
 
 use rw_handles::{Kind, Table};
 use rw_law::NoMemory;
+use rw_ring::Ring;
 use std::alloc::Global;
 use std::marker::Model;
 
@@ -20,11 +21,9 @@ const MOST_CAPACITY: u32 = 65536;
 /// A broadcast channel: the last values that were sent, as many as it retains, and its handles.
 #[derive(Drop)]
 pub struct Broadcast<V: Copy> {
-    capacity: u64,
-    sent: u64,
-    limit: u64,
-    window: Vec<V>,
+    values: Ring<V>,
     handles: Table<u64>,
+    limit: u64,
 }
 
 impl<V: Copy> Model for Broadcast<V> {
@@ -70,13 +69,11 @@ impl<V: Copy> Broadcast<V> {
             return Err(OpenFault::BadCapacity);
         }
         let handles = first_handles(alloc)?;
-        let window = first_window(alloc)?;
+        let values = Ring::new(alloc, retained_capacity(capacity))?;
         Ok(Broadcast {
-            capacity: retained_capacity(capacity),
-            sent: 0,
-            limit: 2,
-            window,
+            values,
             handles,
+            limit: 2,
         })
     }
 }
@@ -96,15 +93,9 @@ fn first_handles(alloc: Global) -> Result<Table<u64>, NoMemory>
 fn retained_capacity(asked: u32) -> u64
     requires some { 0 < asked }
     requires small { asked ≤ HANDLES }
-    ensures { result ≡ retained_capacity asked }
+    ensures capacity { result ≡ retained_capacity asked }
+    ensures some_capacity { 0 < result }
+    ensures most { result ≤ HANDLES }
 {
     u64::from(asked).next_power_of_two()
-}
-
-/// A list with room for the first values.
-fn first_window<V: Copy>(alloc: Global) -> Result<Vec<V>, NoMemory>
-    ensures items { IfOk result (λ window. window.items ≡ []) }
-    ensures room { IfOk result (λ window. 2 ≤ vec_capacity window) }
-{
-    Ok(Vec::with_capacity(alloc, 2)?)
 }

@@ -359,3 +359,42 @@ fn calls_replies_and_patches_are_small(rt: HostRuntime) {
     assert_eq!(rt; size_of::<BReply<u64>>(), 16);
     assert_eq!(rt; size_of::<BPatch<u64>>(), 16);
 }
+
+/// Makes a call, and undoes it: the reply, and what was shown between the two.
+fn there_and_back<M: Reversible<Call = BCall<u64>, Reply = BReply<u64>> + Shows>(
+    machine: &mut M,
+    call: &BCall<u64>,
+) -> Result<(BReply<u64>, Place), NoMemory>
+    requires { M.weigh (M.shown machine.old) < 2 ^ 62 }
+{
+    let _known = machine.weight();
+    machine.ready(1)?;
+    let (reply, patch) = machine.apply(call);
+    let place = machine.place();
+    machine.undo(call, &patch);
+    Ok((reply, place))
+}
+
+/// The greatest channel, filled and overrun by one value: the first is evicted, and one call back it is there again.
+#[test]
+fn largest_channel_overrun_by_one(rt: HostRuntime) -> Result<(), Fail> {
+    let mut machine: Broadcast<u64> = Broadcast::open(rt.alloc(), 65_536)?;
+    for value in 0..65_536 {
+        assert!(rt; machine.weight() < 1 << 32);
+        assert_eq!(rt;
+            again(&mut machine, &BCall::Send(0, value))?,
+            BReply::Sent(1)
+        );
+    }
+    let full = machine.place();
+    assert_eq!(rt; full.window[0], Some(0));
+    assert_eq!(rt; full.receivers[1], Some((0, 65_536, 0)));
+    assert!(rt; machine.weight() < 1 << 32);
+    let (reply, over) = there_and_back(&mut machine, &BCall::Send(0, 65_536))?;
+    assert_eq!(rt; reply, BReply::Sent(1));
+    assert_eq!(rt; over.window[0], Some(1));
+    assert_eq!(rt; over.receivers[1], Some((0, 65_537, 1)));
+    assert_eq!(rt; over.queued, 65_536);
+    assert_eq!(rt; machine.place(), full);
+    Ok(())
+}

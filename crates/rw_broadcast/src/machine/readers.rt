@@ -15,28 +15,28 @@ impl<V: Copy> Broadcast<V> {
     pub fn capacity(&self) -> u64
         ensures { result ≡ self.now.shown.capacity }
     {
-        self.capacity
+        self.values.capacity()
     }
 
     /// How many values were ever sent.
     pub fn sent(&self) -> u64
         ensures { result ≡ self.now.shown.sent }
     {
-        self.sent
+        self.values.count()
     }
 
     /// The position of the oldest retained value.
     pub(super) fn oldest(&self) -> u64
         ensures { result ≡ oldest (channel_of self.now.shown) }
     {
-        self.sent.saturating_sub(self.capacity)
+        self.values.oldest()
     }
 
     /// The retained value with this many older ones, if there is one.
     pub fn window(&self, i: u64) -> Option<V>
         ensures { result ≡ slice_get self.now.shown.window i }
     {
-        self.window.get(i as usize).copied()
+        self.values.at(self.values.oldest().checked_add(i)?)
     }
 
     /// The position of a live receiver, which is how many values were sent before the one that it receives next.
@@ -54,7 +54,7 @@ impl<V: Copy> Broadcast<V> {
         ensures { result ≡ option_map (unread self.now.shown.sent) (position_at (slice_get self.now.shown.slots id)) }
     {
         let position = self.position(id)?;
-        Some(self.sent - position)
+        Some(self.values.count() - position)
     }
 
     /// How many of these are retained no longer.
@@ -71,7 +71,7 @@ impl<V: Copy> Broadcast<V> {
     {
         match least_position(self.handles.slots()) {
             None => 0,
-            Some(position) => self.sent.saturating_sub(position.max(self.oldest())),
+            Some(position) => self.sent().saturating_sub(position.max(self.oldest())),
         }
     }
 

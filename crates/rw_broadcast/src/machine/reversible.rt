@@ -5,7 +5,6 @@ ghost use Rattle.rw_broadcast.specs.Laws.{IsDocumented};
 
 use super::Broadcast;
 use crate::calls::{BCall, BPatch, BReply};
-use crate::window::unput;
 use rw_handles::MOST_HANDLES;
 use rw_law::{NoMemory, Reversible};
 
@@ -49,14 +48,15 @@ impl<V: Copy> Reversible for Broadcast<V> {
 
     /// How many values were sent and handles made.
     fn weight(&self) -> u64 {
-        self.sent + u64::from(self.handles.made())
+        self.values.count() + u64::from(self.handles.made())
     }
 
     fn limit(&self) -> u64 {
         self.limit
     }
 
-    /// Makes room for n more values and handles. Both lists grow by doubling, so it may well be called before each step.
+    /// Makes room for n more handles; that for the values is there from the opening on. The table grows by doubling, so it
+    /// may well be called before each step.
     fn ready(&mut self, n: u64) -> Result<(), NoMemory> {
         let limit = self.weight() + n;
         if limit <= self.limit {
@@ -64,8 +64,6 @@ impl<V: Copy> Reversible for Broadcast<V> {
         }
         let handles = limit.min(MOST_HANDLES as u64) - u64::from(self.handles.made());
         self.handles.ready(handles)?;
-        let values = limit.min(self.capacity) as usize - self.window.len();
-        self.window.reserve(values)?;
         self.limit = limit;
         Ok(())
     }

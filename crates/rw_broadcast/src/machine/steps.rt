@@ -5,12 +5,12 @@ ghost use Rattle.rw_handles.specs.declared.kinds.Slot.TheVariants.{Live};
 ghost use Rattle.rw_handles.specs.declared.kinds.Found.TheVariants.{Handle};
 ghost use Rattle.rw_handles.specs.Slots.{HANDLES, found};
 ghost use Rattle.rw_broadcast.specs.Channel.{Keep, Make, Move, Leave, send, read, receive, effect, effect_with, handle_of, wanted, makes, oldest, receivers};
-ghost use Rattle.rw_broadcast.specs.Shown.{CanUnsend, IsPlaced, channel_of, unput, weight};
+ghost use Rattle.rw_broadcast.specs.Shown.{CanUnsend, IsPlaced, channel_of, weight};
+ghost use Rattle.rw_ring.specs.Windows.{unput};
 ghost use Rattle.rw_broadcast.specs.Machine.{Takes};
 
 use super::Broadcast;
 use crate::calls::{BCall, BPatch, BReply};
-use crate::window::{put, unput};
 use rw_handles::{Found, Kind, MOST_HANDLES};
 
 impl<V: Copy> Broadcast<V> {
@@ -73,8 +73,7 @@ impl<V: Copy> Broadcast<V> {
         if receivers == 0 {
             return self.keep(BReply::NoReceivers(value));
         }
-        let evicted = put(&mut self.window, self.capacity, value);
-        self.sent += 1;
+        let evicted = self.values.put(value);
         (BReply::Sent(receivers), BPatch::of_send(evicted))
     }
 
@@ -84,8 +83,7 @@ impl<V: Copy> Broadcast<V> {
         requires retained { oldest (channel_of self.old.shown) ≤ position }
         ensures { Takes self.old self.new result (read (channel_of self.old.shown) handle position ((channel_of self.old.shown).value position) nothing) }
     {
-        let place = position - self.oldest();
-        match self.window.get(place as usize).copied() {
+        match self.values.at(position) {
             Some(value) => self.move_receiver(handle, position, position + 1, BReply::Value(value)),
             None => {
                 if self.closed() {
@@ -117,17 +115,18 @@ impl<V: Copy> Broadcast<V> {
         requires few { IsTrue (makes call.now) → length self.old.shown.slots < HANDLES }
         ensures { Takes self.old self.new result (effect_with (channel_of self.old.shown) call.now kind position) }
     {
+        let sent = self.values.count();
         match *call {
             BCall::Send(_, value) => self.send(value),
-            BCall::Subscribe(_) => self.make(Kind::Receiver, self.sent),
+            BCall::Subscribe(_) => self.make(Kind::Receiver, sent),
             BCall::CloneSender(_) => self.make(Kind::Sender, 0),
-            BCall::Resubscribe(_) => self.make(Kind::Receiver, self.sent),
+            BCall::Resubscribe(_) => self.make(Kind::Receiver, sent),
             BCall::TryRecv(handle) => self.receive(handle, position, BReply::Empty),
             BCall::Recv(handle) => self.receive(handle, position, BReply::Waits),
             BCall::DropHandle(handle) => self.leave(handle, kind, position),
             BCall::SenderLen(_) => self.keep(BReply::Count(self.queued())),
             BCall::ReceiverCount(_) => self.keep(BReply::Count(self.receivers())),
-            BCall::ReceiverLen(_) => self.keep(BReply::Count(self.sent - position)),
+            BCall::ReceiverLen(_) => self.keep(BReply::Count(sent - position)),
         }
     }
 
@@ -156,7 +155,6 @@ impl<V: Copy> Broadcast<V> {
         ensures shown { self.new.shown ≡ record self.old.shown { sent = self.old.shown.sent - 1; window = unput evicted self.old.shown.window } }
         ensures room { self.new.limit ≡ self.old.limit }
     {
-        unput(&mut self.window, evicted);
-        self.sent -= 1;
+        self.values.unput(evicted);
     }
 }
