@@ -78,28 +78,29 @@ abbrev pub IsMark : (version : ℕ) → Option ℕ → Type 0
 IsMark version None = ⊤
 IsMark version (Some mark) = mark ≤ version
 
--- what can stand under a number, in a channel of this version: a sender with None, a receiver that has seen no later one
+-- what can stand under a number, in a channel of this version: a sender with None, a receiver that has seen no later one, or
+-- nothing any more
 abbrev pub IsMarked : (version : ℕ) → Slot (Option ℕ) → Type 0
 IsMarked version (Live Sender mark) = mark ≡ None
 IsMarked version (Live Receiver mark) = IsMark version mark
 IsMarked version Spent = ⊤
 
--- what channels show
+-- what channels can show
 pub record IsAllowed {V : Type 0} (x : Shown V) : Type 0 where
   pub few_slots : length x.slots ≤ HANDLES
   pub marked : All (IsMarked x.version) x.slots
 
--- a live receiver
+-- a live receiver stands there
 abbrev pub IsReceiver : Option (Slot (Option ℕ)) → Type 0
 IsReceiver (Some (Live Receiver mark)) = ⊤
 IsReceiver _ = ⊥
 
--- the last change was told, and no receiver has seen it
+-- the last change can have been told: no receiver has seen it
 pub record CanUntell {V : Type 0} (y : Shown V) : Type 0 where
   pub some_told : 0 < y.version
   pub marked : All (IsMarked (y.version - 1)) y.slots
 
--- the patch has all that is needed to undo this call here: what `back` shows is allowed again
+-- the patch undoes this call here: it is one that the call can leave, and what `back` gives is allowed
 abbrev pub Fits : {V : Type 0} → Shown V → WCall V → WPatch V → Type 0
 Fits y call Same = ⊤
 Fits y call (Wrote old true) = CanUntell y

@@ -99,22 +99,22 @@ impl<V: Copy> WCall<V> {
         ensures { result ≡ handle_of self.now }
     {
         match self {
-            WCall::Send(handle, _) => *handle,
-            WCall::SendReplace(handle, _) => *handle,
-            WCall::Modify(handle, _, _) => *handle,
-            WCall::Subscribe(handle) => *handle,
-            WCall::CloneSender(handle) => *handle,
-            WCall::CloneReceiver(handle) => *handle,
-            WCall::Borrow(handle) => *handle,
-            WCall::Update(handle) => *handle,
-            WCall::HasChanged(handle) => *handle,
-            WCall::Changed(handle) => *handle,
-            WCall::MarkChanged(handle) => *handle,
-            WCall::MarkUnchanged(handle) => *handle,
-            WCall::DropHandle(handle) => *handle,
-            WCall::ReceiverCount(handle) => *handle,
-            WCall::IsClosed(handle) => *handle,
-            WCall::AwaitClosed(handle) => *handle,
+            WCall::Send(handle, _)
+            | WCall::SendReplace(handle, _)
+            | WCall::Modify(handle, _, _)
+            | WCall::Subscribe(handle)
+            | WCall::CloneSender(handle)
+            | WCall::CloneReceiver(handle)
+            | WCall::Borrow(handle)
+            | WCall::Update(handle)
+            | WCall::HasChanged(handle)
+            | WCall::Changed(handle)
+            | WCall::MarkChanged(handle)
+            | WCall::MarkUnchanged(handle)
+            | WCall::DropHandle(handle)
+            | WCall::ReceiverCount(handle)
+            | WCall::IsClosed(handle)
+            | WCall::AwaitClosed(handle) => *handle,
         }
     }
 
