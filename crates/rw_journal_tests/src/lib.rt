@@ -1,9 +1,10 @@
-//! Tests of `rw_journal`, at a small machine.
+//! Tests of `rw_journal`: books of a small machine, and books and runs of worlds.
 #![tactic(auto)]
-
-pub mod cell;
 
 #[cfg(test)]
 mod books;
+pub mod cell;
+#[cfg(test)]
+mod steps;
 #[cfg(test)]
 mod worlds;
