@@ -107,8 +107,8 @@ quits {r0 = r0} {r = r} {r' = r'} {w0 = w0} {w = w} {w' = w'} {start = start} {f
     let put' : Appends w w' out = rw (← a.same, ← c) put in
     let bytes : List ℕ = unlines a.ls ++ (l.text ++ 10 ∷ []) in
     let at : (more : List ℕ) → commands_report start first (bytes ++ more) ≡ a.text ++ out = λ more.
-        ap (outputs start first) (line_after a.ls l.text more a.each l.unbroken) ∙ a.follows (l.text ∷ lines more)
-        ∙ ap (λ (x : List ℕ). a.text ++ x) (outputs_quit start place l.text (lines more) (sym (ap is_quit c) ∙ quit)) in
+    ap (outputs start first) (line_after a.ls l.text more a.each l.unbroken) ∙ a.follows (l.text ∷ lines more)
+    ∙ ap (λ (x : List ℕ). a.text ++ x) (outputs_quit start place l.text (lines more) (sym (ap is_quit c) ∙ quit)) in
     let here : commands_report start first bytes ≡ a.text ++ out = ap (commands_report start first) (sym (append-nil bytes)) ∙ at [] in
     record {
       bytes = bytes;
@@ -124,8 +124,8 @@ ends_last {r0 = r0} {r = r} {r' = r'} {w0 = w0} {w = w} {w' = w'} {before = befo
     let c = of_text _ l.text l.fits in
     let put' : Appends w w' (output_of start place (command_in l.text)) = rw (← a.same, ← c) put in
     let here : commands_report start first (unlines a.ls ++ l.text) ≡ a.text ++ output_of start place (command_in l.text) =
-        ap (outputs start first) (lines_unlines a.ls l.text a.each ∙ ap (λ (x : List (List ℕ)). a.ls ++ x) (lines_last l.text l.unbroken l.some))
-        ∙ a.follows (l.text ∷ []) ∙ ap (λ (x : List ℕ). a.text ++ x) (outputs_last start place l.text) in
+    ap (outputs start first) (lines_unlines a.ls l.text a.each ∙ ap (λ (x : List (List ℕ)). a.ls ++ x) (lines_last l.text l.unbroken l.some))
+    ∙ a.follows (l.text ∷ []) ∙ ap (λ (x : List ℕ). a.text ++ x) (outputs_last start place l.text) in
     record {
       bytes = unlines a.ls ++ l.text;
       read = Consumes-then r0 r r' (unlines a.ls) l.text a.read l.read;
@@ -178,8 +178,8 @@ stops_at {r0 = r0} {r = r} {r' = r'} {w0 = w0} {w = w} {w' = w'} {before = befor
     let out : List ℕ = output_of start place (command_in text) in
     let put' : Appends w w' (take n out) = rw (← a.same, ← c) put in
     let here : commands_report start first (unlines a.ls ++ piece) ≡ a.text ++ out =
-        ap (outputs start first) (lines_unlines a.ls piece a.each ∙ ap (λ (x : List (List ℕ)). a.ls ++ x) one)
-        ∙ a.follows (text ∷ []) ∙ ap (λ (x : List ℕ). a.text ++ x) (outputs_last start place text) in
+    ap (outputs start first) (lines_unlines a.ls piece a.each ∙ ap (λ (x : List (List ℕ)). a.ls ++ x) one)
+    ∙ a.follows (text ∷ []) ∙ ap (λ (x : List ℕ). a.text ++ x) (outputs_last start place text) in
     record {
       bytes = unlines a.ls ++ piece;
       text = a.text ++ take n out;

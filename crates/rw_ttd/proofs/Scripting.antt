@@ -92,26 +92,30 @@ more_line {r0 = r0} {r = r} {r' = r'} {reading = reading} s l plain reading' tak
 pub ends_at_mark : {r0 r r' : Option (List ℕ)} {before allowed allowed' : ℕ} {reading : Reading} {line : List ℕ} → (s : Scripting r0 r before allowed reading) (l : GivesLine r r' allowed allowed' line)
     (mark : is_mark line ≡ true) → GivesScript r0 r' before allowed' (ended reading) × (reading.lines ≤ before)
 ends_at_mark {r0 = r0} {r = r} {r' = r'} {reading = reading} s l mark =
-    let m : is_mark l.text ≡ true = sym (mark_of _ l.text l.fits) ∙ mark in
-    (record {
-      ls = s.ls ++ l.text ∷ [];
-      each = All-push IsUnbroken s.ls l.text s.each l.unbroken;
-      read = rw (unlines_push s.ls l.text) (Consumes-then r0 r r' (unlines s.ls) (l.text ++ 10 ∷ []) s.read l.read);
-      count = omega (arith, ap length (unlines_push s.ls l.text), length-append (unlines s.ls) (l.text ++ 10 ∷ []), length-append l.text (10 ∷ []), l.count, s.count);
-      script = λ more. ap script_in (append_assoc s.ls (l.text ∷ []) more) ∙ s.script (l.text ∷ more) ∙ at_mark reading l.text more m;
-      rest = λ more. ap after_mark (append_assoc s.ls (l.text ∷ []) more) ∙ s.rest (l.text ∷ more) ∙ rest_at_mark l.text more m;
-    }, omega (arith, s.lines_fit))
+    let m : is_mark l.text ≡ true = sym (mark_of _ l.text l.fits) ∙ mark in (
+      record {
+        ls = s.ls ++ l.text ∷ [];
+        each = All-push IsUnbroken s.ls l.text s.each l.unbroken;
+        read = rw (unlines_push s.ls l.text) (Consumes-then r0 r r' (unlines s.ls) (l.text ++ 10 ∷ []) s.read l.read);
+        count = omega (arith, ap length (unlines_push s.ls l.text), length-append (unlines s.ls) (l.text ++ 10 ∷ []), length-append l.text (10 ∷ []), l.count, s.count);
+        script = λ more. ap script_in (append_assoc s.ls (l.text ∷ []) more) ∙ s.script (l.text ∷ more) ∙ at_mark reading l.text more m;
+        rest = λ more. ap after_mark (append_assoc s.ls (l.text ∷ []) more) ∙ s.rest (l.text ∷ more) ∙ rest_at_mark l.text more m;
+      },
+      omega (arith, s.lines_fit),
+    )
 
 -- at the reader's end
 pub ends : {r0 r r' : Option (List ℕ)} {before allowed allowed' : ℕ} {reading : Reading} → (s : Scripting r0 r before allowed reading) (l : GivesNone r r' allowed allowed') → GivesAll r0 r' (ended reading) × (reading.lines ≤ before)
-ends {r0 = r0} {r = r} {r' = r'} s l =
-    (record {
-      bytes = unlines s.ls ++ [];
-      read = Consumes-then r0 r r' (unlines s.ls) [] s.read l.read;
-      ended = l.ended;
-      script = ap script_in (lines_unlines s.ls [] s.each) ∙ s.script [];
-      rest = ap after_mark (lines_unlines s.ls [] s.each) ∙ s.rest [];
-    }, omega (arith, s.lines_fit))
+ends {r0 = r0} {r = r} {r' = r'} s l = (
+  record {
+    bytes = unlines s.ls ++ [];
+    read = Consumes-then r0 r r' (unlines s.ls) [] s.read l.read;
+    ended = l.ended;
+    script = ap script_in (lines_unlines s.ls [] s.each) ∙ s.script [];
+    rest = ap after_mark (lines_unlines s.ls [] s.each) ∙ s.rest [];
+  },
+  omega (arith, s.lines_fit),
+)
 
 last_lines : (ls : List (List ℕ)) (text : List ℕ) → All IsUnbroken ls → IsUnbroken text → 0 < length text → lines (unlines ls ++ text) ≡ ls ++ text ∷ []
 last_lines ls text each u some = lines_unlines ls text each ∙ ap (λ (x : List (List ℕ)). ls ++ x) (lines_last text u some)
@@ -121,14 +125,16 @@ pub ends_at_last_mark : {r0 r r' : Option (List ℕ)} {before allowed allowed' :
     (mark : is_mark line ≡ true) → GivesAll r0 r' (ended reading) × (reading.lines ≤ before)
 ends_at_last_mark {r0 = r0} {r = r} {r' = r'} {reading = reading} s l mark =
     let m : is_mark l.text ≡ true = sym (mark_of _ l.text l.fits) ∙ mark in
-    let here = last_lines s.ls l.text s.each l.unbroken l.some in
-    (record {
-      bytes = unlines s.ls ++ l.text;
-      read = Consumes-then r0 r r' (unlines s.ls) l.text s.read l.read;
-      ended = l.ended;
-      script = ap script_in here ∙ s.script (l.text ∷ []) ∙ at_mark reading l.text [] m;
-      rest = ap after_mark here ∙ s.rest (l.text ∷ []) ∙ rest_at_mark l.text [] m;
-    }, omega (arith, s.lines_fit))
+    let here = last_lines s.ls l.text s.each l.unbroken l.some in (
+      record {
+        bytes = unlines s.ls ++ l.text;
+        read = Consumes-then r0 r r' (unlines s.ls) l.text s.read l.read;
+        ended = l.ended;
+        script = ap script_in here ∙ s.script (l.text ∷ []) ∙ at_mark reading l.text [] m;
+        rest = ap after_mark here ∙ s.rest (l.text ∷ []) ∙ rest_at_mark l.text [] m;
+      },
+      omega (arith, s.lines_fit),
+    )
 
 -- behind the last line
 pub ends_at_last_line : {r0 r r' : Option (List ℕ)} {before allowed allowed' : ℕ} {reading : Reading} {line : List ℕ} → (s : Scripting r0 r before allowed reading) (l : GivesLast r r' allowed allowed' line)
@@ -136,14 +142,16 @@ pub ends_at_last_line : {r0 r r' : Option (List ℕ)} {before allowed allowed' :
 ends_at_last_line {r0 = r0} {r = r} {r' = r'} {reading = reading} s l plain reading' taken =
     let m : is_mark l.text ≡ false = sym (mark_of _ l.text l.fits) ∙ plain in
     let t : after_line reading l.text ≡ Ok reading' = reading_after reading _ l.text l.fits ∙ taken in
-    let here = last_lines s.ls l.text s.each l.unbroken l.some in
-    (record {
-      bytes = unlines s.ls ++ l.text;
-      read = Consumes-then r0 r r' (unlines s.ls) l.text s.read l.read;
-      ended = l.ended;
-      script = ap script_in here ∙ s.script (l.text ∷ []) ∙ at_line_said reading (Ok reading') l.text [] m t;
-      rest = ap after_mark here ∙ s.rest (l.text ∷ []) ∙ rest_at_line l.text [] m;
-    }, omega (arith, s.lines_fit, l.count, l.some, line_counts reading reading' _ taken))
+    let here = last_lines s.ls l.text s.each l.unbroken l.some in (
+      record {
+        bytes = unlines s.ls ++ l.text;
+        read = Consumes-then r0 r r' (unlines s.ls) l.text s.read l.read;
+        ended = l.ended;
+        script = ap script_in here ∙ s.script (l.text ∷ []) ∙ at_line_said reading (Ok reading') l.text [] m t;
+        rest = ap after_mark here ∙ s.rest (l.text ∷ []) ∙ rest_at_line l.text [] m;
+      },
+      omega (arith, s.lines_fit, l.count, l.some, line_counts reading reading' _ taken),
+    )
 
 -- at a line that is at fault
 pub fault_last : {r0 r r' : Option (List ℕ)} {before allowed allowed' : ℕ} {reading : Reading} {line : List ℕ} → (s : Scripting r0 r before allowed reading) (l : GivesLast r r' allowed allowed' line)
@@ -165,7 +173,7 @@ fault_line {r0 = r0} {r = r} {r' = r'} {reading = reading} s l plain f refused =
     let t : after_line reading l.text ≡ Err f = reading_after reading _ l.text l.fits ∙ refused in
     let bytes : List ℕ = unlines s.ls ++ (l.text ++ 10 ∷ []) in
     let at : (more : List ℕ) → script_in (lines (bytes ++ more)) ≡ Err f = λ more.
-        ap script_in (line_after s.ls l.text more s.each l.unbroken) ∙ s.script (l.text ∷ lines more) ∙ at_line_said reading (Err f) l.text (lines more) m t in
+    ap script_in (line_after s.ls l.text more s.each l.unbroken) ∙ s.script (l.text ∷ lines more) ∙ at_line_said reading (Err f) l.text (lines more) m t in
     record {
       bytes = bytes;
       read = Consumes-then r0 r r' (unlines s.ls) (l.text ++ 10 ∷ []) s.read l.read;

@@ -51,20 +51,26 @@ whole_at r2 h bs (inr m) = inr (λ more. ap report (append_assoc (unlines h.ls) 
 pub done : {r0 r1 r2 w0 w1 : Option (List ℕ)} {before after : ℕ} {s : Script} → (h : GivesScript r0 r1 before after (Ok s)) (start : Script) (same : start ≡ s) (place : ℕ) (p : place ≡ length s.calls)
     (d : Answers r1 r2 w0 w1 (commands_report start place)) → (done : Answers r0 r2 w0 w1 report) × (outcome done.bytes ≡ Done)
 done {r0 = r0} {r1 = r1} {r2 = r2} {w0 = w0} {w1 = w1} {s = s} h start same place p d' =
-    let d : Answers r1 r2 w0 w1 (commands_report s (length s.calls)) = subst (λ (q : ℕ). Answers r1 r2 w0 w1 (commands_report s q)) p (subst (λ (t : Script). Answers r1 r2 w0 w1 (commands_report t place)) same d') in
-    (record {
-      bytes = unlines h.ls ++ d.bytes;
-      read = Consumes-then r0 r1 r2 (unlines h.ls) d.bytes h.read d.read;
-      written = subst (λ (t : List ℕ). Appends w0 w1 t) (sym (report_at h d.bytes)) d.written;
-      whole = whole_at r2 h d.bytes d.whole;
-    }, ap outcome_of (script_at h d.bytes))
+    let d : Answers r1 r2 w0 w1 (commands_report s (length s.calls)) = subst (λ (q : ℕ). Answers r1 r2 w0 w1 (commands_report s q)) p (subst (λ (t : Script). Answers r1 r2 w0 w1 (commands_report t place)) same d') in (
+      record {
+        bytes = unlines h.ls ++ d.bytes;
+        read = Consumes-then r0 r1 r2 (unlines h.ls) d.bytes h.read d.read;
+        written = subst (λ (t : List ℕ). Appends w0 w1 t) (sym (report_at h d.bytes)) d.written;
+        whole = whole_at r2 h d.bytes d.whole;
+      },
+      ap outcome_of (script_at h d.bytes),
+    )
 
 explains : {r0 r1 : Option (List ℕ)} {before after : ℕ} {s : Script} → (h : GivesScript r0 r1 before after (Ok s)) (bytes text : List ℕ) (e : StreamFault)
     → Explains (commands_report s (length s.calls)) Always after bytes text e → Explains report HasMark before (unlines h.ls ++ bytes) text e
-explains h bytes text Read why =
-    (h.ls ++ why.0, why.1, All-append IsUnbroken h.ls why.0 h.each why.2, why.3,
-    ap (λ (x : List ℕ). unlines h.ls ++ x) why.4 ∙ sym (append_assoc (unlines h.ls) (unlines why.0) why.1) ∙ ap (λ (x : List ℕ). x ++ why.1) (sym (unlines-append h.ls why.0)),
-    λ _. why.5 tt ∙ sym (report_at h (unlines why.0)) ∙ ap report (sym (unlines-append h.ls why.0)))
+explains h bytes text Read why = (
+  h.ls ++ why.0,
+  why.1,
+  All-append IsUnbroken h.ls why.0 h.each why.2,
+  why.3,
+  ap (λ (x : List ℕ). unlines h.ls ++ x) why.4 ∙ sym (append_assoc (unlines h.ls) (unlines why.0) why.1) ∙ ap (λ (x : List ℕ). x ++ why.1) (sym (unlines-append h.ls why.0)),
+  λ _. why.5 tt ∙ sym (report_at h (unlines why.0)) ∙ ap report (sym (unlines-append h.ls why.0)),
+)
 explains h bytes text TooMuch why = omega (arith, h.count, length-append (unlines h.ls) bytes)
 explains h bytes text Write why = tt
 explains h bytes text NoMemory why = tt
@@ -73,7 +79,7 @@ pub stops : {r0 r1 r2 w0 w1 : Option (List ℕ)} {before after : ℕ} {s : Scrip
     (e : StreamFault) (d : Stops r1 r2 w0 w1 (commands_report start place) Always after e) → Stops r0 r2 w0 w1 report HasMark before e
 stops {r0 = r0} {r1 = r1} {r2 = r2} {w0 = w0} {w1 = w1} {after = after} {s = s} h start same place p e d' =
     let d : Stops r1 r2 w0 w1 (commands_report s (length s.calls)) Always after e =
-        subst (λ (q : ℕ). Stops r1 r2 w0 w1 (commands_report s q) Always after e) p (subst (λ (t : Script). Stops r1 r2 w0 w1 (commands_report t place) Always after e) same d') in
+    subst (λ (q : ℕ). Stops r1 r2 w0 w1 (commands_report s q) Always after e) p (subst (λ (t : Script). Stops r1 r2 w0 w1 (commands_report t place) Always after e) same d') in
     record {
       bytes = unlines h.ls ++ d.bytes;
       text = d.text;
@@ -117,13 +123,15 @@ stops_in_script {limit = limit} w e s = record {
 
 pub ended : {r0 r1 : Option (List ℕ)} → (w : Option (List ℕ)) (s : Script) (h : GivesAll r0 r1 (Ok s)) → (done : Answers r0 r1 w w report) × (outcome done.bytes ≡ Done)
 ended w s h =
-    let nothing : report h.bytes ≡ [] = ap (λ (r : Result Script ScriptFault). answer r (after_mark (lines h.bytes))) h.script ∙ ap (λ (x : List (List ℕ)). answer (Ok s) x) h.rest in
-    (record {
-      bytes = h.bytes;
-      read = h.read;
-      written = subst (λ (t : List ℕ). Appends w w t) (sym nothing) (Appends-none w);
-      whole = inl h.ended;
-    }, ap outcome_of h.script)
+    let nothing : report h.bytes ≡ [] = ap (λ (r : Result Script ScriptFault). answer r (after_mark (lines h.bytes))) h.script ∙ ap (λ (x : List (List ℕ)). answer (Ok s) x) h.rest in (
+      record {
+        bytes = h.bytes;
+        read = h.read;
+        written = subst (λ (t : List ℕ). Appends w w t) (sym nothing) (Appends-none w);
+        whole = inl h.ended;
+      },
+      ap outcome_of h.script,
+    )
 
 -- ---- a fault
 
@@ -136,13 +144,15 @@ whole_fault r1 f bytes here (inl e) = inl e
 whole_fault r1 f bytes here (inr m) = inr (λ more. fault_at f (bytes ++ more) (m more) ∙ sym (fault_at f bytes here))
 
 pub refused : {r0 r1 w0 w1 : Option (List ℕ)} → (f : ScriptFault) (h : GivesFault r0 r1 f) (put : Appends w0 w1 (fault_line f)) → (done : Answers r0 r1 w0 w1 report) × (outcome done.bytes ≡ Refused f)
-refused {r1 = r1} {w0 = w0} {w1 = w1} f h put =
-    (record {
-      bytes = h.bytes;
-      read = h.read;
-      written = subst (λ (t : List ℕ). Appends w0 w1 t) (sym (fault_at f h.bytes h.script)) put;
-      whole = whole_fault r1 f h.bytes h.script h.whole;
-    }, ap outcome_of h.script)
+refused {r1 = r1} {w0 = w0} {w1 = w1} f h put = (
+  record {
+    bytes = h.bytes;
+    read = h.read;
+    written = subst (λ (t : List ℕ). Appends w0 w1 t) (sym (fault_at f h.bytes h.script)) put;
+    whole = whole_fault r1 f h.bytes h.script h.whole;
+  },
+  ap outcome_of h.script,
+)
 
 explains_writing : (limit : ℕ) (bytes text : List ℕ) (e : StreamFault) → IsOfWriting e → Explains report HasMark limit bytes text e
 explains_writing limit bytes text Read why = absurd why

@@ -12,21 +12,21 @@ use Rattle.rw_ttd.specs.declared.command.Command.TheVariants.{Skip, Move, State,
 -- a word alone
 abbrev pub word_alone : List ℕ → Command
 word_alone word =
-  if bytes_eq word (codes "back") then Move (Back 1)
-  else if bytes_eq word (codes "forward") then Move (Forward 1)
-  else if bytes_eq word (codes "start") then Move Start
-  else if bytes_eq word (codes "end") then Move End
-  else if bytes_eq word (codes "state") then State
-  else if bytes_eq word (codes "quit") then Quit
-  else Bad
+    if bytes_eq word (codes "back") then Move (Back 1)
+    else if bytes_eq word (codes "forward") then Move (Forward 1)
+    else if bytes_eq word (codes "start") then Move Start
+    else if bytes_eq word (codes "end") then Move End
+    else if bytes_eq word (codes "state") then State
+    else if bytes_eq word (codes "quit") then Quit
+    else Bad
 
 -- a word and a number
 abbrev pub word_and_number : List ℕ → ℕ → Command
 word_and_number word n =
-  if bytes_eq word (codes "back") then Move (Back n)
-  else if bytes_eq word (codes "forward") then Move (Forward n)
-  else if bytes_eq word (codes "goto") then Move (Goto n)
-  else Bad
+    if bytes_eq word (codes "back") then Move (Back n)
+    else if bytes_eq word (codes "forward") then Move (Forward n)
+    else if bytes_eq word (codes "goto") then Move (Goto n)
+    else Bad
 
 abbrev pub numbered : List ℕ → Option ℕ → Command
 numbered word None = Bad
@@ -39,9 +39,9 @@ command_words line (Some p) = numbered p.0 (numeral_in p.1)
 -- what a line asks for
 unfoldable pub command_in : List ℕ → Command
 command_in line =
-  if nat_lt 256 (length line) then Bad
-  else if is_skipped line then Skip
-  else command_words line (cut 32 line)
+    if nat_lt 256 (length line) then Bad
+    else if is_skipped line then Skip
+    else command_words line (cut 32 line)
 
 abbrev pub is_quit : Command → Bool
 is_quit Quit = true

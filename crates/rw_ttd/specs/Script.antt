@@ -38,9 +38,9 @@ call_with p = do
 -- the same, of an actor and on a channel, where actor 0 is the only one and there are so many channels
 abbrev pub call_by : ℕ → ℕ → ℕ → List ℕ × Option (List ℕ) → Result (BCall ℕ) FaultKind
 call_by channels actor channel p =
-  if is_word p.0 then
+    if is_word p.0 then
     (if actor == 0 then (if nat_lt channel channels then call_with p else Err UnknownChannel) else Err UnknownActor)
-  else Err Syntax
+    else Err Syntax
 
 -- the call of a step line, where there are so many channels
 unfoldable pub call_of_step : ℕ → List ℕ → Result (BCall ℕ) FaultKind
@@ -88,9 +88,9 @@ with_words (Some s) line = with_step s line
 -- the script so far with any line more, or what is wrong with it
 unfoldable pub with_line : Option Script → List ℕ → Result (Option Script) FaultKind
 with_line script line =
-  if nat_lt 256 (length line) then Err TooLong
-  else if is_skipped line then Ok script
-  else (with_words script line >>= λ s. Ok (Some s))
+    if nat_lt 256 (length line) then Err TooLong
+    else if is_skipped line then Ok script
+    else (with_words script line >>= λ s. Ok (Some s))
 
 -- ---- all lines
 

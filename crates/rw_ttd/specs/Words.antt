@@ -32,11 +32,11 @@ first_token text = split_at text (cut 32 text)
 -- the word of a call
 abbrev pub word_in : List ℕ → Option Word
 word_in token =
-  if bytes_eq token (codes "send") then Some words.Send
-  else if bytes_eq token (codes "try-recv") then Some words.TryRecv
-  else if bytes_eq token (codes "subscribe") then Some words.Subscribe
-  else if bytes_eq token (codes "drop") then Some words.Drop
-  else None
+    if bytes_eq token (codes "send") then Some words.Send
+    else if bytes_eq token (codes "try-recv") then Some words.TryRecv
+    else if bytes_eq token (codes "subscribe") then Some words.Subscribe
+    else if bytes_eq token (codes "drop") then Some words.Drop
+    else None
 
 -- the handle of this number, if it is below 2^32
 abbrev pub handle_of : ℕ → Option ℕ

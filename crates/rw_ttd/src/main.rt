@@ -17,6 +17,8 @@ mod recording;
 mod script;
 mod session;
 mod status;
+#[cfg(test)]
+mod tests;
 mod text;
 mod walk;
 mod words;

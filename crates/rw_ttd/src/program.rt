@@ -32,7 +32,10 @@ fn asks_session(alloc: Global, words: &[String]) -> Result<(), clap::Error> {
         Some(_) => Ok(()),
         None => {
             let mut again = Command::new(alloc, "ttd");
-            Err(again.error(ErrorKind::MissingSubcommand, "the word `session` is missing")?)
+            Err(again.error(
+                ErrorKind::MissingSubcommand,
+                "the word `session` is missing",
+            )?)
         }
     }
 }

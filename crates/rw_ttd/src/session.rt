@@ -11,10 +11,9 @@ use crate::faults::ScriptFault;
 use crate::reading::{Head, read_script};
 use crate::text::push_fault;
 use crate::walk::Walk;
+pub use rw_lines::StreamFault as SessionFault;
 use std::alloc::Global;
 use std::io::{Read, Write};
-
-pub use rw_lines::StreamFault as SessionFault;
 
 /// How a session ended.
 #[derive(Clone, Copy, Debug, PartialEq, Eq)]

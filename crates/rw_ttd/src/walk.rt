@@ -38,8 +38,8 @@ impl Model for Walk {
     ghost Value = { Walking };
 
     ghost view = { λ a. record {
-        script = record { capacity = a.capacity; calls = calls_of ⟦<Broadcast<u64> as Reversible>⟧ a.visit.entries };
-        place = a.visit.place;
+      script = record { capacity = a.capacity; calls = calls_of ⟦<Broadcast<u64> as Reversible>⟧ a.visit.entries };
+      place = a.visit.place;
     } };
 
     // The machine shows what the record of all that was ever sent shows, at each place.
