@@ -1,0 +1,5 @@
+pub mod Arguments
+pub mod Words
+pub mod BroadcastWords
+pub mod WatchWords
+pub mod Texts
