@@ -1,13 +1,15 @@
 //! Laws of rows and of worlds, for the layers above. Each is the contract of a function that does nothing.
 
+ghost use Rattle.rw_law.specs.Journal.{IsLegal, after_all};
 ghost use Rattle.rw_world.specs.Kinds.{kind_of};
 ghost use Rattle.rw_world.specs.Channel.{strays_at};
 ghost use Rattle.rw_world.specs.Commuting.{Commutes};
 ghost use Rattle.rw_world.specs.Shapes.{KeepsShape, KeepsShapeThroughout, StraysByShape};
 ghost use Rattle.rw_world.specs.Parts.{IsLegalExactlyByParts};
-ghost use Rattle.rw_world.specs.Specified.{IsLegalExactlyBySpecs, OpensAsSpecified, StraysBySpecs};
+ghost use Rattle.rw_world.specs.Specified.{AreLegalOfChannels, AreLegalOfWorlds, IsAfterOfWorlds, IsLegalExactlyBySpecs, OpensAsSpecified, StraysBySpecs};
 
 use crate::channels::Channel;
+use crate::opening::{Chan, World};
 use rw_law::Reversible;
 
 /// Calls on two different channels lead to the same row in either order, and get the same replies and patches.
@@ -34,4 +36,12 @@ pub fn specified<V: Copy>()
     ensures opens { OpensAsSpecified V }
     ensures strays { StraysBySpecs V }
     ensures legal { IsLegalExactlyBySpecs V }
+{}
+
+/// The channels and worlds that definitions speak of are the machines of this crate: the same journals are legal, and lead to
+/// the same.
+pub fn machines<V: Copy>()
+    ensures channels { AreLegalOfChannels (IsLegal ⟦<Chan<V> as Reversible>⟧) }
+    ensures worlds { AreLegalOfWorlds (IsLegal ⟦<World<V> as Reversible>⟧) }
+    ensures after { IsAfterOfWorlds (after_all ⟦<World<V> as Reversible>⟧) }
 {}
