@@ -1,5 +1,5 @@
 -- A cell keeps the laws of a machine whose steps can be undone.
-use Rattle.std.proofs.Common.{◌≡◌, ℕ, ◌+◌, ◌-◌, ◌≤◌, true, refl, ap, arith}
+use Rattle.std.proofs.Common.{◌≡◌, ◌+◌, ◌-◌, ◌≤◌, true, refl, ap, arith}
 use Rattle.rw_law.specs.Laws.{Laws}
 use Rattle.rw_journal_tests.specs.Cell.{Shown, next, reply_of, patch_of, back, Fits, waits, strays, refuses}
 use Rattle.rw_journal_tests.specs.declared.cell.Call.{Call}

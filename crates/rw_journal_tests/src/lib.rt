@@ -5,6 +5,4 @@
 mod books;
 pub mod cell;
 #[cfg(test)]
-mod steps;
-#[cfg(test)]
 mod worlds;

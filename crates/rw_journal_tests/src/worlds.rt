@@ -1,6 +1,7 @@
 //! Books and runs of worlds.
 
-use crate::steps::{rewind, take};
+ghost use Rattle.std.specs.Prelude.{◌≡◌};
+
 use rw_broadcast::{BCall, BReply};
 use rw_journal::{Book, Run, TakeFault};
 use rw_law::NoMemory;
@@ -9,11 +10,12 @@ use rw_world::{Chan, ChanCall, ChanReply, OpenFault, RowCall, Spec, World, open}
 use std::alloc::Global;
 use std::test::Fail;
 
-fn call(channel: u32, call: BCall<u64>) -> RowCall<ChanCall<u64>> {
-    RowCall {
-        channel,
-        call: ChanCall::B(call),
-    }
+/// A call on a channel by actor 0.
+fn call(channel: u32, call: BCall<u64>) -> (u32, RowCall<ChanCall<u64>>)
+    ensures { result.0 ≡ 0 }
+{
+    let call = ChanCall::B(call);
+    (0, RowCall { channel, call })
 }
 
 /// A book of one broadcast of capacity 2.
@@ -22,39 +24,49 @@ fn new_book(alloc: Global) -> Result<Book<World<u64>>, OpenFault> {
     Ok(Book::open(alloc, world)?)
 }
 
+/// A call on channel 0 by actor 0: the stamp of its receipt, and the value or the count that its reply has.
+fn take(book: &mut Book<World<u64>>, clock: u64, on: BCall<u64>) -> Result<(u64, u64), TakeFault> {
+    let (actor, call) = call(0, on);
+    let receipt = book.take(actor, clock, call)?;
+    match receipt.reply {
+        Some(ChanReply::B(BReply::Value(n) | BReply::Count(n))) => Ok((receipt.stamp, n)),
+        _ => Ok((receipt.stamp, 0)),
+    }
+}
+
+/// The stamp of the entry that is taken back, and the number of those that are left.
+fn rewind(book: &mut Book<World<u64>>) -> Option<(u64, u64)> {
+    let entry = book.rewind()?;
+    Some((entry.stamp, book.len()))
+}
+
 #[test]
 fn takes_and_rewinds(rt: HostRuntime) -> Result<(), Fail> {
     let mut book = new_book(rt.alloc())?;
-    let sends = [
-        (0, call(0, BCall::Send(0, 1))),
-        (0, call(1, BCall::Send(0, 2))),
-    ];
-    assert_eq!(rt; book.run(&sends), Err((1, TakeFault::NoChannel)));
-    assert_eq!(rt; book.len(), 1);
+    let ran = book.run(&[call(0, BCall::Send(0, 1)), call(1, BCall::Send(0, 2))]);
+    assert_eq!(rt; (ran, book.len()), (Err((1, TakeFault::NoChannel)), 1));
     assert!(rt; book.ready(9).is_ok());
-    let receive = call(0, BCall::Recv(1));
-    let value = Some(ChanReply::B(BReply::Value(1)));
-    for (clock, answer) in [(9, Ok((10, value))), (9, Err(TakeFault::Waits))] {
-        assert_eq!(rt; take(&mut book, clock, receive), answer);
+    for answer in [Ok((10, 1)), Err(TakeFault::Waits)] {
+        assert_eq!(rt; take(&mut book, 9, BCall::Recv(1)), answer);
         assert_eq!(rt; book.len(), 2);
     }
-    assert_eq!(rt; rewind(&mut book), Some(10));
-    assert_eq!(rt; take(&mut book, 0, receive), Ok((2, value)));
+    assert_eq!(rt; rewind(&mut book), Some((10, 1)));
+    assert_eq!(rt; take(&mut book, 0, BCall::Recv(1)), Ok((2, 1)));
     Ok(())
 }
 
 #[test]
 fn a_full_book_takes_no_entry(rt: HostRuntime) -> Result<(), Fail> {
     let mut book = new_book(rt.alloc())?;
-    let count = call(0, BCall::ReceiverCount(0));
-    let one = Some(ChanReply::B(BReply::Count(1)));
-    for i in 0..1_048_576 {
-        assert_eq!(rt; take(&mut book, 0, count), Ok((i + 1, one)));
+    let count = BCall::ReceiverCount(0);
+    for i in 1..=1_048_576 {
+        assert_eq!(rt; take(&mut book, 0, count), Ok((i, 1)));
     }
-    assert_eq!(rt; take(&mut book, 0, count), Err(TakeFault::JournalFull));
-    assert_eq!(rt; book.len(), 1_048_576);
-    assert_eq!(rt; rewind(&mut book), Some(1_048_576));
-    assert_eq!(rt; take(&mut book, 0, count), Ok((1_048_576, one)));
+    for answer in [Err(TakeFault::JournalFull), Ok((1_048_576, 1))] {
+        assert_eq!(rt; take(&mut book, 0, count), answer);
+        assert_eq!(rt; book.len(), 1_048_576);
+        assert_eq!(rt; rewind(&mut book), Some((1_048_576, 1_048_575)));
+    }
     Ok(())
 }
 
@@ -62,14 +74,15 @@ fn a_full_book_takes_no_entry(rt: HostRuntime) -> Result<(), Fail> {
 fn overrun(alloc: Global) -> Result<Option<Run<u64>>, OpenFault> {
     let specs = vec![in alloc; Spec::Broadcast(2)].map_err(|_| OpenFault::NoMemory)?;
     let mut book = Book::open(alloc, open(alloc, &specs)?)?;
+    let receive = call(0, BCall::TryRecv(1));
     let calls = [
-        (0, call(0, BCall::Send(0, 1))),
-        (0, call(0, BCall::Send(0, 2))),
-        (0, call(0, BCall::Send(0, 3))),
-        (0, call(0, BCall::TryRecv(1))),
-        (0, call(0, BCall::TryRecv(1))),
-        (0, call(0, BCall::TryRecv(1))),
-        (0, call(0, BCall::TryRecv(1))),
+        call(0, BCall::Send(0, 1)),
+        call(0, BCall::Send(0, 2)),
+        call(0, BCall::Send(0, 3)),
+        receive,
+        receive,
+        receive,
+        receive,
     ];
     Ok(match book.run(&calls) {
         Ok(()) => Some(Run::of_book(specs, book)),
@@ -95,13 +108,22 @@ fn shown(world: &World<u64>) -> Option<(u64, Option<u64>, Option<u64>, Option<u6
 }
 
 #[test]
-fn a_run_is_walked(rt: HostRuntime) -> Result<(), Fail> {
-    let Some(run) = overrun(rt.alloc())? else {
-        panic!(rt; "a call wasn't taken")
-    };
+fn a_run_starts_as_its_place_0(rt: HostRuntime) -> Result<(), Fail> {
+    let run = overrun(rt.alloc())?.expect(&rt, "each call is taken");
     assert_eq!(rt; (run.specs().len(), run.len()), (1, 7));
     let start = run.start(rt.alloc())?;
-    assert_eq!(rt; shown(&start), Some((0, None, None, Some(0))));
+    let navigator = navigator_of(rt.alloc(), &run)?;
+    let nothing = Some((0, None, None, Some(0)));
+    assert_eq!(rt;
+        (shown(&start), shown(navigator.state())),
+        (nothing, nothing)
+    );
+    Ok(())
+}
+
+#[test]
+fn a_run_is_walked(rt: HostRuntime) -> Result<(), Fail> {
+    let run = overrun(rt.alloc())?.expect(&rt, "each call is taken");
     let mut navigator = navigator_of(rt.alloc(), &run)?;
     let moves = [
         Move::Back(5),
@@ -114,13 +136,13 @@ fn a_run_is_walked(rt: HostRuntime) -> Result<(), Fail> {
     let told = [Err(OutOfRange), Err(OutOfRange), Ok(()), Ok(()), Ok(())];
     assert_eq!(rt; answers.as_slice(), told.as_slice());
     assert_eq!(rt; (navigator.place(), navigator.turns()), (7, 15));
-    for (to, state) in [
+    for (place, state) in [
         (7, (3, Some(2), Some(3), Some(3))),
         (2, (2, Some(1), Some(2), Some(0))),
         (3, (3, Some(2), Some(3), Some(0))),
         (0, (0, None, None, Some(0))),
     ] {
-        assert!(rt; navigator.step(Move::Goto(to)).is_ok());
+        assert!(rt; navigator.step(Move::Goto(place)).is_ok());
         assert_eq!(rt; shown(navigator.state()), Some(state));
     }
     Ok(())
