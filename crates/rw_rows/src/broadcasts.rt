@@ -1,7 +1,7 @@
 //! Rows of a broadcast channel.
 ghost use Rattle.std.specs.Prelude.{◌<◌, length};
 
-use crate::playing::{Shows, Step, play};
+use crate::playing::{Shows, Step, play, record_and_walk};
 use rw_broadcast::{BCall, BReply, Broadcast};
 use rw_handles::Kind;
 use std::alloc::Global;
@@ -248,4 +248,49 @@ fn refused_handles(rt: HostRuntime) -> Result<(), Fail> {
         Step::new(BCall::Recv(1), BReply::Gone),
     ];
     play_at(&rt, rt.alloc(), 2, steps)
+}
+
+#[test]
+fn handle_limit(rt: HostRuntime) -> Result<(), Fail> {
+    let full = Place {
+        made: 65_536,
+        ..opening(1)
+    };
+    let mut steps: Vec<Row> = Vec::new(rt.alloc());
+    for number in 2..65_536 {
+        steps.push(Step::new(BCall::CloneSender(0), BReply::New(number)))?;
+    }
+    steps.push(Step::new(BCall::CloneSender(0), BReply::TooManyHandles))?;
+    steps.push(Step::to(BCall::DropHandle(2), BReply::Dropped, full))?;
+    steps.push(Step::to(BCall::CloneSender(0), BReply::TooManyHandles, full))?;
+    let recorded = Broadcast::open(rt.alloc(), 1)?;
+    let walked = Broadcast::open(rt.alloc(), 1)?;
+    record_and_walk(&rt, rt.alloc(), recorded, walked, &steps)
+}
+
+/// The greatest channel, filled and overrun by one value: the first is evicted, and one place back it is there again.
+#[test]
+fn greatest_capacity_overrun_by_one(rt: HostRuntime) -> Result<(), Fail> {
+    let full = Place {
+        sent: 65_536,
+        queued: 65_536,
+        window: [Some(0), Some(1), Some(2), Some(3), Some(4)],
+        receivers: [None, Some((0, 65_536, 0)), None],
+        ..opening(65_536)
+    };
+    let overrun = Place {
+        sent: 65_537,
+        window: [Some(1), Some(2), Some(3), Some(4), Some(5)],
+        receivers: [None, Some((0, 65_537, 1)), None],
+        ..full
+    };
+    let mut steps: Vec<Row> = Vec::new(rt.alloc());
+    for value in 0..65_535 {
+        steps.push(Step::new(BCall::Send(0, value), BReply::Sent(1)))?;
+    }
+    steps.push(Step::to(BCall::Send(0, 65_535), BReply::Sent(1), full))?;
+    steps.push(Step::to(BCall::Send(0, 65_536), BReply::Sent(1), overrun))?;
+    let recorded = Broadcast::open(rt.alloc(), 65_536)?;
+    let walked = Broadcast::open(rt.alloc(), 65_536)?;
+    record_and_walk(&rt, rt.alloc(), recorded, walked, &steps)
 }

@@ -92,6 +92,27 @@ where
 pub fn play<M: Reversible + Drop + Shows>(
     rt: &impl Abort,
     alloc: Global,
+    mut recorded: M,
+    walked: M,
+    steps: &[Step<M::Call, M::Reply, M::Place>],
+) -> Result<(), Fail>
+where
+    M::Reply: PartialEq + Debug,
+    requires weight { M.weigh (M.shown recorded) ≤ 2 ^ 32 }
+    requires same { M.shown walked ≡ M.shown recorded }
+    requires few { length steps.now < 100 }
+{
+    let opening = walked.place();
+    recorded.ready(steps.len() as u64)?;
+    make_and_undo(rt, &mut recorded, steps);
+    assert_eq!(rt; recorded.place(), opening);
+    record_and_walk(rt, alloc, recorded, walked, steps)
+}
+
+/// Records a row, of any length, on one machine, and walks it back and on again on another in the same state.
+pub fn record_and_walk<M: Reversible + Drop + Shows>(
+    rt: &impl Abort,
+    alloc: Global,
     recorded: M,
     walked: M,
     steps: &[Step<M::Call, M::Reply, M::Place>],
