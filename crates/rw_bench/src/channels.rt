@@ -1,0 +1,83 @@
+//! Lists of calls measured on each kind of machine.
+
+ghost use Rattle.std.specs.Prelude.{◌≡◌, ◌≤◌, ◌∷◌, [], ◌^◌, length, IfOk};
+ghost use Rattle.rw_world.specs.Openings.{opened};
+
+use crate::measure::{Measured, measure};
+use anyhow::{Result, bail};
+use rw_broadcast::{BCall, BReply, Broadcast};
+use rw_law::Reversible;
+use rw_watch::{WCall, WReply, Watch};
+use rw_world::{ChanCall, ChanReply, RowCall, Spec, World, open};
+use std::alloc::Global;
+use std::time::Clock;
+
+/// Measures calls to a broadcast channel of this capacity.
+pub fn on_broadcast(
+    clock: &impl Clock,
+    alloc: Global,
+    capacity: u32,
+    calls: &[BCall<u64>],
+) -> Result<Measured<BReply<u64>>>
+    requires { length calls.now ≤ 2 ^ 32 }
+    ensures { IfOk result (λ measured. measured.steps ≡ length calls.now) }
+{
+    let Ok(played) = Broadcast::open(alloc, capacity) else {
+        bail!("the channel is not opened");
+    };
+    let Ok(recorded) = Broadcast::open(alloc, capacity) else {
+        bail!("the channel is not opened");
+    };
+    let Ok(walked) = Broadcast::open(alloc, capacity) else {
+        bail!("the channel is not opened");
+    };
+    measure(clock, alloc, played, recorded, walked, calls)
+}
+
+/// Measures calls to a watch channel.
+pub fn on_watch(
+    clock: &impl Clock,
+    alloc: Global,
+    calls: &[WCall<u64>],
+) -> Result<Measured<WReply<u64>>>
+    requires { length calls.now ≤ 2 ^ 32 }
+    ensures { IfOk result (λ measured. measured.steps ≡ length calls.now) }
+{
+    let Ok(played) = Watch::open(alloc, 0) else {
+        bail!("the channel is not opened");
+    };
+    let Ok(recorded) = Watch::open(alloc, 0) else {
+        bail!("the channel is not opened");
+    };
+    let Ok(walked) = Watch::open(alloc, 0) else {
+        bail!("the channel is not opened");
+    };
+    measure(clock, alloc, played, recorded, walked, calls)
+}
+
+/// Measures calls to a world of one channel.
+pub fn on_world(
+    clock: &impl Clock,
+    alloc: Global,
+    spec: Spec<u64>,
+    calls: &[RowCall<ChanCall<u64>>],
+) -> Result<Measured<Option<ChanReply<u64>>>>
+    requires { length calls.now ≤ 2 ^ 32 }
+    ensures { IfOk result (λ measured. measured.steps ≡ length calls.now) }
+{
+    let played = world_of(alloc, spec)?;
+    let recorded = world_of(alloc, spec)?;
+    let walked = world_of(alloc, spec)?;
+    measure(clock, alloc, played, recorded, walked, calls)
+}
+
+/// A world of one channel.
+fn world_of(alloc: Global, spec: Spec<u64>) -> Result<World<u64>>
+    ensures shows { IfOk result (λ world. ⟦<World<u64> as Reversible>⟧.shown world ≡ opened (spec ∷ [])) }
+    ensures light { IfOk result (λ world. ⟦<World<u64> as Reversible>⟧.weigh (⟦<World<u64> as Reversible>⟧.shown world) ≤ 2) }
+{
+    match open(alloc, &[spec]) {
+        Ok(world) => Ok(world),
+        Err(_) => bail!("the world is not opened"),
+    }
+}

@@ -1,0 +1,106 @@
+//! How long the steps of a list of calls take.
+
+ghost use Rattle.std.specs.Prelude.{◌≡◌, ◌^◌, ◌≤◌, length, OnOk, IfOk};
+ghost use Rattle.rw_journal.specs.Book.{opening_of};
+ghost use Rattle.rw_navigator.specs.Moves.{MovedBy};
+
+use crate::steps::{play, record};
+use anyhow::{Result, bail};
+use rw_journal::Book;
+use rw_law::Reversible;
+use rw_navigator::{Move, Navigator};
+use std::alloc::Global;
+use std::time::{Clock, Duration, Instant};
+
+/// What was measured of a list of calls, with replies of this type.
+#[derive(Clone, Copy)]
+pub struct Measured<R> {
+    /// Of the calls made on the machine alone.
+    pub apply: Duration,
+    /// Of the same calls taken into a book.
+    pub take: Duration,
+    /// Of the walk from the start of the book's journal to its end.
+    pub redo: Duration,
+    /// Of the walk back.
+    pub undo: Duration,
+    /// How many calls there were.
+    pub steps: u64,
+    /// What the last call answered in the book.
+    pub last: Option<R>,
+    /// How many steps both walks made together.
+    pub turns: u64,
+}
+
+/// Makes the calls on one machine, takes them into the book of another, and walks the book's journal with a third.
+pub fn measure<M: Reversible + Drop>(
+    clock: &impl Clock,
+    alloc: Global,
+    played: M,
+    recorded: M,
+    walked: M,
+    calls: &[M::Call],
+) -> Result<Measured<M::Reply>>
+    requires same { M.shown walked ≡ M.shown recorded }
+    requires light { M.weigh (M.shown recorded) ≤ 2 ^ 32 }
+    requires light_played { M.weigh (M.shown played) ≤ 2 ^ 32 }
+    requires few { length calls.now ≤ 2 ^ 32 }
+    ensures { IfOk result (λ measured. measured.steps ≡ length calls.now) }
+{
+    let apply = time_playing(clock, played, calls)?;
+    let Ok(mut book) = Book::open(alloc, recorded) else {
+        bail!("no memory for a book");
+    };
+    let begin = Instant::now(clock)?;
+    if record(&mut book, calls).is_err() {
+        bail!("a call was not taken");
+    }
+    let take = begin.elapsed(clock)?;
+    let Ok(mut navigator) = Navigator::open(alloc, walked, book.entries()) else {
+        bail!("no memory for a walk");
+    };
+    let redo = time_move(clock, &mut navigator, Move::End)?;
+    let undo = time_move(clock, &mut navigator, Move::Start)?;
+    Ok(Measured {
+        apply,
+        take,
+        redo,
+        undo,
+        steps: calls.len() as u64,
+        last: book.entries().last().map(|entry| entry.reply),
+        turns: navigator.turns(),
+    })
+}
+
+/// How long the calls take on a machine alone, with room made before.
+fn time_playing<M: Reversible + Drop>(
+    clock: &impl Clock,
+    mut machine: M,
+    calls: &[M::Call],
+) -> Result<Duration>
+    requires light { M.weigh (M.shown machine) ≤ 2 ^ 32 }
+    requires few { length calls.now ≤ 2 ^ 32 }
+{
+    // The proof takes from here that the machine shows what machines may show.
+    let _weight = machine.weight();
+    if machine.ready(calls.len() as u64).is_err() {
+        bail!("no memory for a machine");
+    }
+    let begin = Instant::now(clock)?;
+    let _last = play(&mut machine, calls);
+    Ok(begin.elapsed(clock)?)
+}
+
+/// How long a move takes.
+fn time_move<M: Reversible>(
+    clock: &impl Clock,
+    navigator: &mut Navigator<M>,
+    to: Move,
+) -> Result<Duration>
+    ensures { OnOk result (MovedBy M.Reversible navigator.old navigator.new to) }
+{
+    let begin = Instant::now(clock)?;
+    if navigator.step(to).is_err() {
+        bail!("there is no such place");
+    }
+    Ok(begin.elapsed(clock)?)
+}
