@@ -71,6 +71,19 @@ handle_of (SenderLen h) = h
 handle_of (ReceiverCount h) = h
 handle_of (ReceiverLen h) = h
 
+-- the same call, made with another handle
+abbrev pub with_handle : {V : Type 0} → BCall V → ℕ → BCall V
+with_handle (Send h v) g = Send g v
+with_handle (Subscribe h) g = Subscribe g
+with_handle (CloneSender h) g = CloneSender g
+with_handle (Resubscribe h) g = Resubscribe g
+with_handle (TryRecv h) g = TryRecv g
+with_handle (Recv h) g = Recv g
+with_handle (DropHandle h) g = DropHandle g
+with_handle (SenderLen h) g = SenderLen g
+with_handle (ReceiverCount h) g = ReceiverCount g
+with_handle (ReceiverLen h) g = ReceiverLen g
+
 -- the kind that this handle has to be of; None: any
 abbrev pub wanted : {V : Type 0} → BCall V → Option Kind
 wanted (Send h v) = Some Sender

@@ -1,6 +1,6 @@
 //! The calls of a broadcast channel, their replies, and what a step leaves for its undoing.
 ghost use Rattle.std.specs.Prelude.{◌≡◌};
-ghost use Rattle.rw_broadcast.specs.Channel.{handle_of, makes, refused, wanted};
+ghost use Rattle.rw_broadcast.specs.Channel.{handle_of, makes, refused, wanted, with_handle};
 ghost use Rattle.rw_broadcast.specs.Shown.{patch_of_send};
 
 use rw_handles::{HandleFault, Kind};
@@ -99,6 +99,24 @@ impl<V: Copy> BCall<V> {
         }
     }
 
+    /// The same call, made with another handle.
+    pub fn with_handle(self, handle: u32) -> BCall<V>
+        ensures { result ≡ with_handle self handle }
+    {
+        match self {
+            BCall::Send(_, value) => BCall::Send(handle, value),
+            BCall::Subscribe(_) => BCall::Subscribe(handle),
+            BCall::CloneSender(_) => BCall::CloneSender(handle),
+            BCall::Resubscribe(_) => BCall::Resubscribe(handle),
+            BCall::TryRecv(_) => BCall::TryRecv(handle),
+            BCall::Recv(_) => BCall::Recv(handle),
+            BCall::DropHandle(_) => BCall::DropHandle(handle),
+            BCall::SenderLen(_) => BCall::SenderLen(handle),
+            BCall::ReceiverCount(_) => BCall::ReceiverCount(handle),
+            BCall::ReceiverLen(_) => BCall::ReceiverLen(handle),
+        }
+    }
+
     /// The kind that this handle has to be of; `None` where either kind will do.
     pub(crate) fn wanted(&self) -> Option<Kind>
         ensures { result ≡ wanted self.now }
@@ -116,7 +134,7 @@ impl<V: Copy> BCall<V> {
     }
 
     /// Whether the call makes a handle, where it isn't refused.
-    pub(crate) fn makes(&self) -> bool
+    pub fn makes(&self) -> bool
         ensures { result ≡ makes self.now }
     {
         matches!(

@@ -77,6 +77,25 @@ handle_of (ReceiverCount h) = h
 handle_of (IsClosed h) = h
 handle_of (AwaitClosed h) = h
 
+-- the same call, made with another handle
+abbrev pub with_handle : {V : Type 0} → WCall V → ℕ → WCall V
+with_handle (Send h v) g = Send g v
+with_handle (SendReplace h v) g = SendReplace g v
+with_handle (Modify h v told) g = Modify g v told
+with_handle (Subscribe h) g = Subscribe g
+with_handle (CloneSender h) g = CloneSender g
+with_handle (CloneReceiver h) g = CloneReceiver g
+with_handle (Borrow h) g = Borrow g
+with_handle (Update h) g = Update g
+with_handle (HasChanged h) g = HasChanged g
+with_handle (Changed h) g = Changed g
+with_handle (MarkChanged h) g = MarkChanged g
+with_handle (MarkUnchanged h) g = MarkUnchanged g
+with_handle (DropHandle h) g = DropHandle g
+with_handle (ReceiverCount h) g = ReceiverCount g
+with_handle (IsClosed h) g = IsClosed g
+with_handle (AwaitClosed h) g = AwaitClosed g
+
 -- the kind that this handle has to be of; None: any
 abbrev pub wanted : {V : Type 0} → WCall V → Option Kind
 wanted (Send h v) = Some Sender

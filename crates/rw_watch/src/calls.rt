@@ -1,6 +1,6 @@
 //! The calls of a watch channel, their replies, and what a step leaves for its undoing.
 ghost use Rattle.std.specs.Prelude.{◌≡◌};
-ghost use Rattle.rw_watch.specs.Channel.{handle_of, makes, refused, wanted};
+ghost use Rattle.rw_watch.specs.Channel.{handle_of, makes, refused, wanted, with_handle};
 
 use rw_handles::{HandleFault, Kind};
 
@@ -118,6 +118,30 @@ impl<V: Copy> WCall<V> {
         }
     }
 
+    /// The same call, made with another handle.
+    pub fn with_handle(self, handle: u32) -> WCall<V>
+        ensures { result ≡ with_handle self handle }
+    {
+        match self {
+            WCall::Send(_, value) => WCall::Send(handle, value),
+            WCall::SendReplace(_, value) => WCall::SendReplace(handle, value),
+            WCall::Modify(_, value, told) => WCall::Modify(handle, value, told),
+            WCall::Subscribe(_) => WCall::Subscribe(handle),
+            WCall::CloneSender(_) => WCall::CloneSender(handle),
+            WCall::CloneReceiver(_) => WCall::CloneReceiver(handle),
+            WCall::Borrow(_) => WCall::Borrow(handle),
+            WCall::Update(_) => WCall::Update(handle),
+            WCall::HasChanged(_) => WCall::HasChanged(handle),
+            WCall::Changed(_) => WCall::Changed(handle),
+            WCall::MarkChanged(_) => WCall::MarkChanged(handle),
+            WCall::MarkUnchanged(_) => WCall::MarkUnchanged(handle),
+            WCall::DropHandle(_) => WCall::DropHandle(handle),
+            WCall::ReceiverCount(_) => WCall::ReceiverCount(handle),
+            WCall::IsClosed(_) => WCall::IsClosed(handle),
+            WCall::AwaitClosed(_) => WCall::AwaitClosed(handle),
+        }
+    }
+
     /// The kind that this handle has to be of; `None` where either kind will do.
     pub(crate) fn wanted(&self) -> Option<Kind>
         ensures { result ≡ wanted self.now }
@@ -142,7 +166,7 @@ impl<V: Copy> WCall<V> {
     }
 
     /// Whether the call makes a handle, where it isn't refused.
-    pub(crate) fn makes(&self) -> bool
+    pub fn makes(&self) -> bool
         ensures { result ≡ makes self.now }
     {
         matches!(
