@@ -1,3 +1,4 @@
+pub mod Documenting
 pub mod Modifying
 pub mod OneMember
 pub mod Parting

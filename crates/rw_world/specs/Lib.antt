@@ -6,6 +6,7 @@ pub mod Lists
 pub mod Machines
 pub mod Openings
 pub mod Parts
+pub mod Records
 pub mod Row
 pub mod RowLaws
 pub mod Shapes

@@ -6,6 +6,7 @@ ghost use Rattle.rw_world.specs.Channel.{strays_at};
 ghost use Rattle.rw_world.specs.Commuting.{Commutes};
 ghost use Rattle.rw_world.specs.Shapes.{KeepsShape, KeepsShapeThroughout, StraysByShape};
 ghost use Rattle.rw_world.specs.Parts.{IsLegalExactlyByParts};
+ghost use Rattle.rw_world.specs.Records.{RepliesByRecords, ShowsItsRecords};
 ghost use Rattle.rw_world.specs.Specified.{AreLegalOfChannels, AreLegalOfWorlds, IsAfterOfWorlds, IsLegalExactlyBySpecs, OpensAsSpecified, StraysBySpecs};
 
 use crate::channels::Channel;
@@ -44,4 +45,11 @@ pub fn machines<V: Copy>()
     ensures channels { AreLegalOfChannels (IsLegal ⟦<Chan<V> as Reversible>⟧) }
     ensures worlds { AreLegalOfWorlds (IsLegal ⟦<World<V> as Reversible>⟧) }
     ensures after { IsAfterOfWorlds (after_all ⟦<World<V> as Reversible>⟧) }
+{}
+
+/// The documented world: a world is what the records of its channels say, of all that was ever sent. After any calls it shows
+/// what they show, and replies to a call as they do.
+pub fn documented<V: Copy>()
+    ensures shows { ShowsItsRecords V }
+    ensures replies { RepliesByRecords V }
 {}

@@ -16,6 +16,6 @@ mod rows;
 mod tests;
 
 pub use channels::{Channel, ChannelCall, ChannelPatch, ChannelReply};
-pub use laws::{commutes, legal_by_parts, machines, shape, specified};
+pub use laws::{commutes, documented, legal_by_parts, machines, shape, specified};
 pub use opening::{Chan, ChanCall, ChanReply, OpenFault, Spec, World, open, open_channel};
 pub use rows::{Row, RowCall};

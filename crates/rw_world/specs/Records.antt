@@ -1,0 +1,75 @@
+-- The documented world: each channel as all that ever happened to it, so with all that was ever sent.
+use Rattle.std.specs.Prelude.{◌≡◌, List, map, slice_get}
+use Rattle.std.specs.List.{fold}
+use Rattle.std.specs.Option.{option_map_or}
+use Rattle.rw_broadcast.specs.Record as broadcast
+use Rattle.rw_broadcast.specs.Shown.{shown as shown_broadcast}
+use Rattle.rw_watch.specs.Record as watch
+use Rattle.rw_watch.specs.Shown.{shown as shown_watch}
+use Rattle.rw_world.specs.declared.channels.ChannelCall.TheVariants as call
+use Rattle.rw_world.specs.declared.channels.ChannelReply.TheVariants as reply
+use Rattle.rw_world.specs.declared.opening.Spec.{Spec}
+use Rattle.rw_world.specs.declared.opening.Spec.TheVariants.{Broadcast, Watch}
+use Rattle.rw_world.specs.declared.rows.RowCall.{RowCall}
+use Rattle.rw_world.specs.Kinds.{broadcast_shown, watch_shown}
+use Rattle.rw_world.specs.Lists.{modified}
+use Rattle.rw_world.specs.Machines.{ChanCall, ChanReply, ChanShown, of_world}
+use Rattle.rw_world.specs.Openings.{opened}
+
+-- the record of a channel of either kind
+pub data ChannelRecord (V : Type 0) : Type 0 where
+  broadcast_record : broadcast.Record V → ChannelRecord V
+  watch_record : watch.Record V → ChannelRecord V
+
+module _ {V : Type 0} where
+  -- a channel at its opening
+  abbrev pub opened_record : Spec V → ChannelRecord V
+  opened_record (Broadcast capacity) = broadcast_record (broadcast.opened capacity)
+  opened_record (Watch init) = watch_record (watch.opened init)
+
+  -- a world at its opening
+  abbrev pub opened_records : List (Spec V) → List (ChannelRecord V)
+  opened_records specs = map opened_record specs
+
+  -- the documented step of a channel: the record after a call, and the reply. A call of the other kind gets NoChannel and
+  -- changes nothing
+  abbrev pub step_of : ChannelRecord V → ChanCall V → ChannelRecord V × ChanReply V
+  step_of (broadcast_record r) (call.B c) = (broadcast_record (broadcast.step r c).0, reply.B (broadcast.step r c).1)
+  step_of (broadcast_record r) (call.W d) = (broadcast_record r, reply.NoChannel)
+  step_of (watch_record r) (call.B c) = (watch_record r, reply.NoChannel)
+  step_of (watch_record r) (call.W d) = (watch_record (watch.step r d).0, reply.W (watch.step r d).1)
+
+  -- a world after a call: its channel makes the documented step, the others stay
+  abbrev pub next_records : List (ChannelRecord V) → RowCall (ChanCall V) → List (ChannelRecord V)
+  next_records rs c = modified (λ r. (step_of r c.call).0) rs c.channel
+
+  -- the reply to a call: that of its channel, or NoChannel where there is no such channel
+  abbrev pub reply_from : List (ChannelRecord V) → RowCall (ChanCall V) → ChanReply V
+  reply_from rs c = option_map_or (λ r. (step_of r c.call).1) (slice_get rs c.channel) reply.NoChannel
+
+  -- a world after these calls
+  abbrev pub records_after : List (ChannelRecord V) → List (RowCall (ChanCall V)) → List (ChannelRecord V)
+  records_after rs calls = fold next_records rs calls
+
+  -- what a channel's record shows
+  abbrev pub shown_record : ChannelRecord V → ChanShown V
+  shown_record (broadcast_record r) = broadcast_shown (shown_broadcast r)
+  shown_record (watch_record r) = watch_shown (shown_watch r)
+
+  -- what a world's records show
+  abbrev pub shown_records : List (ChannelRecord V) → List (ChanShown V)
+  shown_records rs = map shown_record rs
+
+  -- what a world's machines show after these calls
+  abbrev pub shown_after : List (ChanShown V) → List (RowCall (ChanCall V)) → List (ChanShown V)
+  shown_after xs calls = fold (of_world {V = V}).next xs calls
+
+-- after any calls a world shows what its documented records show
+abbrev pub ShowsItsRecords : Type 0 → Type 0
+ShowsItsRecords V = (specs : List (Spec V)) (calls : List (RowCall (ChanCall V)))
+    → shown_records (records_after (opened_records specs) calls) ≡ shown_after (opened specs) calls
+
+-- after any calls a world replies to a call as documented. (A row gives no reply where there is no such channel.)
+abbrev pub RepliesByRecords : Type 0 → Type 0
+RepliesByRecords V = (specs : List (Spec V)) (calls : List (RowCall (ChanCall V))) (c : RowCall (ChanCall V))
+    → option_map_or (λ r. r) ((of_world {V = V}).reply_of (shown_after (opened specs) calls) c) reply.NoChannel ≡ reply_from (records_after (opened_records specs) calls) c
