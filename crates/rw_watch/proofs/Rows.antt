@@ -27,10 +27,10 @@ without_receivers-replies : replies {V = ℕ} (opened 1) (DropHandle 1 ∷ IsClo
 without_receivers-replies = refl
 
 -- a silent modification is seen and not notified
-silent-replies : replies {V = ℕ} (opened 1) (Modify 0 5 false ∷ Borrow 1 ∷ HasChanged 1 ∷ []) ≡ Told false ∷ Value 5 ∷ Flag false ∷ []
+silent-replies : replies {V = ℕ} (opened 1) (Modify false 0 5 ∷ Borrow 1 ∷ HasChanged 1 ∷ []) ≡ Told false ∷ Value 5 ∷ Flag false ∷ []
 silent-replies = refl
 
-silent-shown : shown {V = ℕ} (after (opened 1) (Modify 0 5 false ∷ Borrow 1 ∷ HasChanged 1 ∷ [])) ≡ record { version = 0; value = 5; slots = Live Sender None ∷ Live Receiver (Some 0) ∷ [] }
+silent-shown : shown {V = ℕ} (after (opened 1) (Modify false 0 5 ∷ Borrow 1 ∷ HasChanged 1 ∷ [])) ≡ record { version = 0; value = 5; slots = Live Sender None ∷ Live Receiver (Some 0) ∷ [] }
 silent-shown = refl
 
 -- marks are cloned

@@ -62,7 +62,7 @@ is_unseen version (Some mark) = not (mark == version)
 abbrev pub handle_of : {V : Type 0} → WCall V → ℕ
 handle_of (Send h v) = h
 handle_of (SendReplace h v) = h
-handle_of (Modify h v told) = h
+handle_of (Modify told h v) = h
 handle_of (Subscribe h) = h
 handle_of (CloneSender h) = h
 handle_of (CloneReceiver h) = h
@@ -81,7 +81,7 @@ handle_of (AwaitClosed h) = h
 abbrev pub with_handle : {V : Type 0} → WCall V → ℕ → WCall V
 with_handle (Send h v) g = Send g v
 with_handle (SendReplace h v) g = SendReplace g v
-with_handle (Modify h v told) g = Modify g v told
+with_handle (Modify told h v) g = Modify told g v
 with_handle (Subscribe h) g = Subscribe g
 with_handle (CloneSender h) g = CloneSender g
 with_handle (CloneReceiver h) g = CloneReceiver g
@@ -100,7 +100,7 @@ with_handle (AwaitClosed h) g = AwaitClosed g
 abbrev pub wanted : {V : Type 0} → WCall V → Option Kind
 wanted (Send h v) = Some Sender
 wanted (SendReplace h v) = Some Sender
-wanted (Modify h v told) = Some Sender
+wanted (Modify told h v) = Some Sender
 wanted (Subscribe h) = Some Sender
 wanted (CloneSender h) = Some Sender
 wanted (CloneReceiver h) = Some Receiver
@@ -166,7 +166,7 @@ effect_with c (SendReplace h v) kind mark = (Write v true, Old c.value)
 -- "Receivers are only notified if the closure returned `true`. If the closure has modified the value but returned `false`
 -- this results in a silent modification, i.e. the modified value will be visible in subsequent calls to `borrow`, but
 -- receivers will not be notified."
-effect_with c (Modify h v told) kind mark = (Write v told, Told told)
+effect_with c (Modify told h v) kind mark = (Write v told, Told told)
 -- "All messages sent before this call to `subscribe` are initially marked as seen by the new `Receiver`."
 effect_with c (Subscribe h) kind mark = make c Receiver (Some c.version)
 effect_with c (CloneSender h) kind mark = make c Sender None

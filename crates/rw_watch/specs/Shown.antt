@@ -1,5 +1,6 @@
 -- What a watch channel shows, which is the record without the earlier values: its steps, and their undoing.
 use Rattle.std.specs.Prelude.{◌≡◌, ℕ, ◌+◌, ◌-◌, ◌≤◌, ◌<◌, Bool, true, false, if◌then◌else◌, [], ◌∷◌, ◌++◌, Option, Some, None, All, slice_get, slice_set, length, take, ⊤}
+use Rattle.rw_handles.specs.declared.kinds.Kind.{Kind}
 use Rattle.rw_handles.specs.declared.kinds.Kind.TheVariants.{Sender, Receiver}
 use Rattle.rw_handles.specs.declared.kinds.Slot.{Slot}
 use Rattle.rw_handles.specs.declared.kinds.Slot.TheVariants.{Live, Spent}
@@ -9,7 +10,7 @@ use Rattle.rw_watch.specs.declared.calls.WCall.{WCall}
 use Rattle.rw_watch.specs.declared.calls.WReply.{WReply}
 use Rattle.rw_watch.specs.declared.calls.WReply.TheVariants.{NoReceivers, Closed, Waits, Unknown, Gone, WrongKind, TooManyHandles}
 use Rattle.rw_watch.specs.declared.calls.WPatch.{WPatch}
-use Rattle.rw_watch.specs.declared.calls.WPatch.TheVariants.{Same, Wrote, Made, Marked, Left}
+use Rattle.rw_watch.specs.declared.calls.WPatch.TheVariants.{Same, Wrote, Made, Marked, Unmarked, Left, LeftUnmarked}
 use Rattle.rw_watch.specs.Channel.{Channel, Change, Keep, Write, Make, Mark, Leave, effect, handle_of}
 use Rattle.rw_watch.specs.Record.{Record, channel_of}
 
@@ -37,13 +38,23 @@ changed x (Make kind mark) = record x { slots = x.slots ++ Live kind mark ∷ []
 changed x (Mark h from to) = record x { slots = slice_set x.slots h (Live Receiver to) }
 changed x (Leave h kind mark) = record x { slots = slice_set x.slots h Spent }
 
+-- the patch of a receiver's mark, which was this one before
+abbrev pub patch_of_mark : {V : Type 0} → Option ℕ → WPatch V
+patch_of_mark None = Unmarked
+patch_of_mark (Some mark) = Marked mark
+
+-- the patch of a drop, of a handle of this kind and with this mark
+abbrev pub patch_of_drop : {V : Type 0} → Kind → Option ℕ → WPatch V
+patch_of_drop kind None = LeftUnmarked kind
+patch_of_drop kind (Some mark) = Left kind mark
+
 -- what undoes a change
 abbrev pub patch_for : {V : Type 0} → Shown V → Change V → WPatch V
 patch_for x Keep = Same
-patch_for x (Write v told) = Wrote x.value told
+patch_for x (Write v told) = Wrote told x.value
 patch_for x (Make kind mark) = Made
-patch_for x (Mark h from to) = Marked from
-patch_for x (Leave h kind mark) = Left kind mark
+patch_for x (Mark h from to) = patch_of_mark from
+patch_for x (Leave h kind mark) = patch_of_drop kind mark
 
 -- a change and a reply, as the outcome of a call
 abbrev pub outcome_of : {V : Type 0} → Shown V → Change V × WReply V → Outcome (Shown V) (WReply V) (WPatch V)
@@ -68,10 +79,12 @@ patch_of x call = (outcome x call).patch
 -- what was shown before this call, which left this patch
 abbrev pub back : {V : Type 0} → Shown V → WCall V → WPatch V → Shown V
 back x call Same = x
-back x call (Wrote old told) = record x { version = lowered x.version told; value = old }
+back x call (Wrote told before) = record x { version = lowered x.version told; value = before }
 back x call Made = record x { slots = take (length x.slots - 1) x.slots }
-back x call (Marked from) = record x { slots = slice_set x.slots (handle_of call) (Live Receiver from) }
-back x call (Left kind mark) = record x { slots = slice_set x.slots (handle_of call) (Live kind mark) }
+back x call (Marked mark) = record x { slots = slice_set x.slots (handle_of call) (Live Receiver (Some mark)) }
+back x call Unmarked = record x { slots = slice_set x.slots (handle_of call) (Live Receiver None) }
+back x call (Left kind mark) = record x { slots = slice_set x.slots (handle_of call) (Live kind (Some mark)) }
+back x call (LeftUnmarked kind) = record x { slots = slice_set x.slots (handle_of call) (Live kind None) }
 
 -- a receiver's mark, in a channel of this version
 abbrev pub IsMark : (version : ℕ) → Option ℕ → Type 0
@@ -103,11 +116,13 @@ pub record CanUntell {V : Type 0} (y : Shown V) : Type 0 where
 -- the patch undoes this call here: it is one that the call can leave, and what `back` gives is allowed
 abbrev pub Fits : {V : Type 0} → Shown V → WCall V → WPatch V → Type 0
 Fits y call Same = ⊤
-Fits y call (Wrote old true) = CanUntell y
-Fits y call (Wrote old false) = ⊤
+Fits y call (Wrote true before) = CanUntell y
+Fits y call (Wrote false before) = ⊤
 Fits y call Made = IsLive (slice_get y.slots (length y.slots - 1))
-Fits y call (Marked from) = IsReceiver (slice_get y.slots (handle_of call)) × IsMark y.version from
-Fits y call (Left kind mark) = (slice_get y.slots (handle_of call) ≡ Some Spent) × IsMarked y.version (Live kind mark)
+Fits y call (Marked mark) = IsReceiver (slice_get y.slots (handle_of call)) × IsMark y.version (Some mark)
+Fits y call Unmarked = IsReceiver (slice_get y.slots (handle_of call))
+Fits y call (Left kind mark) = (slice_get y.slots (handle_of call) ≡ Some Spent) × IsMarked y.version (Live kind (Some mark))
+Fits y call (LeftUnmarked kind) = (slice_get y.slots (handle_of call) ≡ Some Spent) × IsMarked y.version (Live kind None)
 
 -- how many changes were told and handles made
 abbrev pub weight : {V : Type 0} → Shown V → ℕ

@@ -1,5 +1,5 @@
 -- A watch channel keeps the laws of a machine whose steps can be undone.
-use Rattle.std.proofs.Common.{◌≡◌, ℕ, ◌+◌, ◌-◌, ◌<◌, Bool, true, false, cond, length, set, refl, ap, arith, length-set}
+use Rattle.std.proofs.Common.{◌≡◌, ℕ, ◌+◌, ◌-◌, ◌<◌, Bool, true, false, cond, length, set, refl, ap, ◌∙◌, arith, length-set}
 use Rattle.std.specs.Prelude.{Option, Some, None, slice_get, ◌&&◌, nat_le}
 use Rattle.std.proofs.lemmas.List.{length_push}
 use Rattle.std.proofs.lemmas.List.Elements.{All-push, All-set, All-weaker}
@@ -18,7 +18,7 @@ use Rattle.rw_watch.specs.declared.calls.WCall.TheVariants.{Send, SendReplace, M
 use Rattle.rw_watch.specs.declared.calls.WReply.{WReply}
 use Rattle.rw_watch.specs.declared.calls.WReply.TheVariants.{Stored, Old, Told, New, Value, Waits, Done, Dropped}
 use Rattle.rw_watch.specs.Channel.{Change, Keep, Write, Make, Mark, Leave, handle_of, wanted, makes, has_no_receiver, is_unseen, effect_with, effect_found, effect}
-use Rattle.rw_watch.specs.Shown.{Shown, outcome_of, outcome, next, reply_of, patch_of, back, IsMark, IsMarked, IsReceiver, IsAllowed, Fits, weight, refuses, waits, strays}
+use Rattle.rw_watch.specs.Shown.{Shown, changed, patch_of_mark, patch_of_drop, outcome_of, outcome, next, reply_of, patch_of, back, IsMark, IsMarked, IsReceiver, IsAllowed, Fits, weight, refuses, waits, strays}
 
 -- the laws, of one change and reply of a call
 record IsRight {V : Type 0} (x : Shown V) (call : WCall V) (e : Change V × WReply V) : Type 0 where
@@ -71,20 +71,39 @@ set_allowed x call slot marked ok = record {
   marked = All-set (IsMarked x.version) x.slots (handle_of call) slot marked ok.marked;
 }
 
+-- the patch of a mark and of a drop: undoing it writes what stood under the handle's number
+back_mark : {V : Type 0} (y : Shown V) (call : WCall V) (from : Option ℕ) → back y call (patch_of_mark from) ≡ record y { slots = set y.slots (handle_of call) (Live Receiver from) }
+back_mark y call None = refl
+back_mark y call (Some mark) = refl
+
+fits_mark : {V : Type 0} (y : Shown V) (call : WCall V) (from : Option ℕ) → IsReceiver (slice_get y.slots (handle_of call)) → IsMark y.version from → Fits y call (patch_of_mark from)
+fits_mark y call None here mark = here
+fits_mark y call (Some seen) here mark = (here, mark)
+
+back_drop : {V : Type 0} (y : Shown V) (call : WCall V) (kind : Kind) (mark : Option ℕ) → back y call (patch_of_drop kind mark) ≡ record y { slots = set y.slots (handle_of call) (Live kind mark) }
+back_drop y call kind None = refl
+back_drop y call kind (Some seen) = refl
+
+fits_drop : {V : Type 0} (y : Shown V) (call : WCall V) (kind : Kind) (mark : Option ℕ) → slice_get y.slots (handle_of call) ≡ Some Spent → IsMarked y.version (Live kind mark) → Fits y call (patch_of_drop kind mark)
+fits_drop y call kind None spent marked = (spent, marked)
+fits_drop y call kind (Some seen) spent marked = (spent, marked)
+
 is_receiver : {o : Option (Slot (Option ℕ))} {mark : Option ℕ} → o ≡ Some (Live Receiver mark) → IsReceiver o
 is_receiver h = rw h tt
 
 right_mark : {V : Type 0} (x : Shown V) (call : WCall V) (from to : Option ℕ) (reply : WReply V) → Stands x call (Live Receiver from) → IsMark x.version to → refuses reply ≡ false → IsRight x call (Mark (handle_of call) from to, reply)
 unfolding Stands
-right_mark x call from to reply here mark served = record {
-  sound = record {
-    undone = λ _. ap (λ slots. record x { slots = slots }) (set_back x.slots (handle_of call) (Live Receiver to) (Live Receiver from) here);
-    next_allowed = set_allowed x call (Live Receiver to) mark;
-    patch_fits = λ ok. (is_receiver (slice_get-set x.slots (handle_of call) (Live Receiver to) (Live Receiver from) here), marked_at x call (Live Receiver from) here ok);
-    refused = λ h. cc;
-    weight_rises = omega (arith, length-set x.slots (handle_of call) (Live Receiver to));
-  };
-}
+right_mark x call from to reply here mark served =
+    let y = changed x (Mark (handle_of call) from to) in
+    record {
+      sound = record {
+        undone = λ _. back_mark y call from ∙ ap (λ slots. record x { slots = slots }) (set_back x.slots (handle_of call) (Live Receiver to) (Live Receiver from) here);
+        next_allowed = set_allowed x call (Live Receiver to) mark;
+        patch_fits = λ ok. fits_mark y call from (is_receiver (slice_get-set x.slots (handle_of call) (Live Receiver to) (Live Receiver from) here)) (marked_at x call (Live Receiver from) here ok);
+        refused = λ h. cc;
+        weight_rises = omega (arith, length-set x.slots (handle_of call) (Live Receiver to));
+      };
+    }
 
 -- the value is seen
 right_see : {V : Type 0} (x : Shown V) (call : WCall V) (from : Option ℕ) (reply : WReply V) → Stands x call (Live Receiver from) → refuses reply ≡ false → IsRight x call (Mark (handle_of call) from (Some x.version), reply)
@@ -92,15 +111,17 @@ right_see x call from reply here served = right_mark x call from (Some x.version
 
 right_leave : {V : Type 0} (x : Shown V) (call : WCall V) (kind : Kind) (mark : Option ℕ) → Stands x call (Live kind mark) → IsRight x call (Leave (handle_of call) kind mark, Dropped)
 unfolding Stands
-right_leave x call kind mark here = record {
-  sound = record {
-    undone = λ _. ap (λ slots. record x { slots = slots }) (set_back x.slots (handle_of call) Spent (Live kind mark) here);
-    next_allowed = set_allowed x call Spent tt;
-    patch_fits = λ ok. (slice_get-set x.slots (handle_of call) Spent (Live kind mark) here, marked_at x call (Live kind mark) here ok);
-    refused = λ h. cc;
-    weight_rises = omega (arith, length-set x.slots (handle_of call) Spent);
-  };
-}
+right_leave x call kind mark here =
+    let y = changed x (Leave (handle_of call) kind mark) in
+    record {
+      sound = record {
+        undone = λ _. back_drop y call kind mark ∙ ap (λ slots. record x { slots = slots }) (set_back x.slots (handle_of call) Spent (Live kind mark) here);
+        next_allowed = set_allowed x call Spent tt;
+        patch_fits = λ ok. fits_drop y call kind mark (slice_get-set x.slots (handle_of call) Spent (Live kind mark) here) (marked_at x call (Live kind mark) here ok);
+        refused = λ h. cc;
+        weight_rises = omega (arith, length-set x.slots (handle_of call) Spent);
+      };
+    }
 
 marked_more : (n : ℕ) (slot : Slot (Option ℕ)) → IsMarked n slot → IsMarked (n + 1) slot
 marked_more n (Live Sender mark) h = h
@@ -138,7 +159,7 @@ right_with : {V : Type 0} (x : Shown V) (call : WCall V) (kind : Kind) (mark : O
 unfolding Stands
 right_with x (Send h v) kind mark is few = right_if (has_no_receiver x) (λ _. right_keep x _ _) (λ _. right_write x _ v true Stored refl)
 right_with x (SendReplace h v) kind mark is few = right_write x _ v true (Old x.value) refl
-right_with x (Modify h v told) kind mark is few = right_write x _ v told (Told told) refl
+right_with x (Modify told h v) kind mark is few = right_write x _ v told (Told told) refl
 right_with x (Subscribe h) kind mark is few = right_make x _ Receiver (Some x.version) (λ _. omega arith) (few refl)
 right_with x (CloneSender h) kind mark is few = right_make x _ Sender None (λ _. refl) (few refl)
 right_with x (CloneReceiver h) kind mark is few = right_make x _ Receiver mark (marked_at x (CloneReceiver h) (Live Receiver mark) (found_at_wanted Receiver _ kind mark is)) (few refl)

@@ -1,6 +1,7 @@
 //! The calls of a watch channel, their replies, and what a step leaves for its undoing.
 ghost use Rattle.std.specs.Prelude.{◌≡◌};
 ghost use Rattle.rw_watch.specs.Channel.{handle_of, makes, refused, wanted, with_handle};
+ghost use Rattle.rw_watch.specs.Shown.{patch_of_drop, patch_of_mark};
 
 use rw_handles::{HandleFault, Kind};
 
@@ -11,8 +12,9 @@ pub enum WCall<V> {
     Send(u32, V),
     /// Writes a value and tells the receivers, and gets the value from before.
     SendReplace(u32, V),
-    /// Writes a value, of which the receivers are told or not.
-    Modify(u32, V, bool),
+    /// Writes a value, of which the receivers are told or not. Fields lie in the order of the source, so with the flag first
+    /// a call has 16 bytes at `u64`; with the flag last it would have 24.
+    Modify { told: bool, handle: u32, value: V },
     /// Makes a receiver that has seen the value.
     Subscribe(u32),
     /// Makes another sender.
@@ -83,14 +85,18 @@ pub enum WReply<V> {
 pub enum WPatch<V> {
     /// Nothing changed.
     Same,
-    /// This was the value, and the receivers were told of the new one or not.
-    Wrote(V, bool),
+    /// The receivers were told of a new value or not, and this was the value before it.
+    Wrote { told: bool, before: V },
     /// A handle was made.
     Made,
     /// The receiver had this mark.
-    Marked(Option<u64>),
+    Marked(u64),
+    /// The receiver had no mark.
+    Unmarked,
     /// The dropped handle was of this kind, and had this mark.
-    Left(Kind, Option<u64>),
+    Left(Kind, u64),
+    /// The dropped handle was of this kind, and had no mark.
+    LeftUnmarked(Kind),
 }
 
 impl<V: Copy> WCall<V> {
@@ -101,7 +107,7 @@ impl<V: Copy> WCall<V> {
         match self {
             WCall::Send(handle, _)
             | WCall::SendReplace(handle, _)
-            | WCall::Modify(handle, _, _)
+            | WCall::Modify { handle, .. }
             | WCall::Subscribe(handle)
             | WCall::CloneSender(handle)
             | WCall::CloneReceiver(handle)
@@ -125,7 +131,7 @@ impl<V: Copy> WCall<V> {
         match self {
             WCall::Send(_, value) => WCall::Send(handle, value),
             WCall::SendReplace(_, value) => WCall::SendReplace(handle, value),
-            WCall::Modify(_, value, told) => WCall::Modify(handle, value, told),
+            WCall::Modify { told, value, .. } => WCall::Modify { told, handle, value },
             WCall::Subscribe(_) => WCall::Subscribe(handle),
             WCall::CloneSender(_) => WCall::CloneSender(handle),
             WCall::CloneReceiver(_) => WCall::CloneReceiver(handle),
@@ -149,7 +155,7 @@ impl<V: Copy> WCall<V> {
         match self {
             WCall::Send(_, _)
             | WCall::SendReplace(_, _)
-            | WCall::Modify(_, _, _)
+            | WCall::Modify { .. }
             | WCall::Subscribe(_)
             | WCall::CloneSender(_)
             | WCall::ReceiverCount(_)
@@ -185,6 +191,28 @@ impl<V: Copy> WReply<V> {
             HandleFault::Unknown => WReply::Unknown,
             HandleFault::Gone => WReply::Gone,
             HandleFault::WrongKind => WReply::WrongKind,
+        }
+    }
+}
+
+impl<V: Copy> WPatch<V> {
+    /// The patch of a receiver's mark, given the one from before.
+    pub(crate) fn of_mark(before: Option<u64>) -> WPatch<V>
+        ensures { result ≡ patch_of_mark before }
+    {
+        match before {
+            None => WPatch::Unmarked,
+            Some(mark) => WPatch::Marked(mark),
+        }
+    }
+
+    /// The patch of a drop, given the handle's kind and mark.
+    pub(crate) fn of_drop(kind: Kind, mark: Option<u64>) -> WPatch<V>
+        ensures { result ≡ patch_of_drop kind mark }
+    {
+        match mark {
+            None => WPatch::LeftUnmarked(kind),
+            Some(mark) => WPatch::Left(kind, mark),
         }
     }
 }

@@ -19,7 +19,7 @@ fn room_grows_call_by_call(rt: HostRuntime) -> Result<(), Fail> {
 
 #[test]
 fn calls_replies_and_patches_are_small(rt: HostRuntime) {
-    assert_eq!(rt; size_of::<WCall<u64>>(), 24);
+    assert_eq!(rt; size_of::<WCall<u64>>(), 16);
     assert_eq!(rt; size_of::<WReply<u64>>(), 16);
-    assert_eq!(rt; size_of::<WPatch<u64>>(), 24);
+    assert_eq!(rt; size_of::<WPatch<u64>>(), 16);
 }

@@ -83,10 +83,12 @@ impl<V: Copy> Reversible for Watch<V> {
     fn undo(&mut self, call: &WCall<V>, patch: &WPatch<V>) {
         match *patch {
             WPatch::Same => {}
-            WPatch::Wrote(old, told) => self.unwrite(old, told),
+            WPatch::Wrote { told, before } => self.unwrite(before, told),
             WPatch::Made => self.handles.unmake(),
-            WPatch::Marked(from) => self.handles.set(call.handle(), from),
-            WPatch::Left(kind, mark) => self.handles.undrop(call.handle(), kind, mark),
+            WPatch::Marked(mark) => self.handles.set(call.handle(), Some(mark)),
+            WPatch::Unmarked => self.handles.set(call.handle(), None),
+            WPatch::Left(kind, mark) => self.handles.undrop(call.handle(), kind, Some(mark)),
+            WPatch::LeftUnmarked(kind) => self.handles.undrop(call.handle(), kind, None),
         }
     }
 

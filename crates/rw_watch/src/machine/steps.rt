@@ -49,12 +49,12 @@ impl<V: Copy> Watch<V> {
         requires { weight self.old.shown < self.old.limit }
         ensures { Takes self.old self.new result (Write value told, reply) }
     {
-        let old = self.value;
+        let before = self.value;
         self.value = value;
         if told {
             self.version += 1;
         }
-        (reply, WPatch::Wrote(old, told))
+        (reply, WPatch::Wrote { told, before })
     }
 
     /// Makes the handle of the next number.
@@ -81,7 +81,7 @@ impl<V: Copy> Watch<V> {
         ensures { Takes self.old self.new result (Mark handle from to, reply) }
     {
         self.handles.set(handle, to);
-        (reply, WPatch::Marked(from))
+        (reply, WPatch::of_mark(from))
     }
 
     /// Gives a receiver the mark of the value that there is.
@@ -98,7 +98,7 @@ impl<V: Copy> Watch<V> {
         ensures { Takes self.old self.new result (Leave handle kind mark, WReply.Dropped) }
     {
         let _dropped = self.handles.drop_one(handle);
-        (WReply::Dropped, WPatch::Left(kind, mark))
+        (WReply::Dropped, WPatch::of_drop(kind, mark))
     }
 
     /// Sends a value, if there is a receiver.
@@ -158,7 +158,7 @@ impl<V: Copy> Watch<V> {
         match *call {
             WCall::Send(_, value) => self.send(value),
             WCall::SendReplace(_, value) => self.write(value, true, WReply::Old(self.value)),
-            WCall::Modify(_, value, told) => self.write(value, told, WReply::Told(told)),
+            WCall::Modify { told, value, .. } => self.write(value, told, WReply::Told(told)),
             WCall::Subscribe(_) => self.make(Kind::Receiver, Some(self.version)),
             WCall::CloneSender(_) => self.make(Kind::Sender, None),
             WCall::CloneReceiver(_) => self.make(Kind::Receiver, mark),
@@ -193,12 +193,12 @@ impl<V: Copy> Watch<V> {
     }
 
     /// Takes back the last write, given the value from before it.
-    pub(super) fn unwrite(&mut self, old: V, told: bool)
+    pub(super) fn unwrite(&mut self, before: V, told: bool)
         requires { IsTrue told → CanUntell self.old.shown }
-        ensures shown { self.new.shown ≡ record self.old.shown { version = lowered self.old.shown.version told; value = old } }
+        ensures shown { self.new.shown ≡ record self.old.shown { version = lowered self.old.shown.version told; value = before } }
         ensures room { self.new.limit ≡ self.old.limit }
     {
-        self.value = old;
+        self.value = before;
         if told {
             self.version -= 1;
         }
