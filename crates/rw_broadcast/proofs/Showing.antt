@@ -12,7 +12,7 @@ use Rattle.rw_handles.specs.declared.kinds.Slot.TheVariants.{Live}
 use Rattle.rw_handles.specs.declared.kinds.Found.{Found}
 use Rattle.rw_handles.specs.declared.kinds.Found.TheVariants.{Fault, Handle}
 use Rattle.rw_handles.specs.Slots.{HANDLES, found}
-use Rattle.rw_handles.proofs.SlotLaws.{slice_get-drop}
+use Rattle.rw_law.proofs.Lists.{slice_get-drop}
 use Rattle.rw_broadcast.specs.declared.calls.BCall.{BCall}
 use Rattle.rw_broadcast.specs.declared.calls.BCall.TheVariants.{Send, Subscribe, CloneSender, Resubscribe, TryRecv, Recv, DropHandle, SenderLen, ReceiverCount, ReceiverLen}
 use Rattle.rw_broadcast.specs.declared.calls.BReply.{BReply}

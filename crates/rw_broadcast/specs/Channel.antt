@@ -3,15 +3,15 @@
 -- A call reads four things of a channel: its capacity, how many values were ever sent, the value at a position, and the
 -- handles. So the one table of calls serves the record of all that was ever sent (`Record`), of which tokio's
 -- documentation speaks, and what a machine still shows that has let the evicted values go (`Shown`).
-use Rattle.std.specs.Prelude.{ℕ, ◌+◌, Bool, true, false, ◌&&◌, ◌==◌, nat_lt, nat_le, if◌then◌else◌, List, Option, Some, None, length}
+use Rattle.std.specs.Prelude.{ℕ, ◌+◌, Bool, true, false, ◌==◌, nat_lt, if◌then◌else◌, List, Option, Some, None, length}
 use Rattle.rw_handles.specs.declared.kinds.Kind.{Kind}
 use Rattle.rw_handles.specs.declared.kinds.Kind.TheVariants.{Sender, Receiver}
 use Rattle.rw_handles.specs.declared.kinds.Slot.{Slot}
 use Rattle.rw_handles.specs.declared.kinds.HandleFault.{HandleFault}
 use Rattle.rw_handles.specs.declared.kinds.HandleFault.TheVariants as fault
 use Rattle.rw_handles.specs.declared.kinds.Found.{Found}
-use Rattle.rw_handles.specs.declared.kinds.Found.TheVariants.{Fault, Handle}
-use Rattle.rw_handles.specs.Slots.{HANDLES, found, alive, values}
+use Rattle.rw_handles.specs.Channels.{checked}
+use Rattle.rw_handles.specs.Slots.{found, alive, values}
 use Rattle.rw_broadcast.specs.declared.calls.BCall.{BCall}
 use Rattle.rw_broadcast.specs.declared.calls.BCall.TheVariants.{Send, Subscribe, CloneSender, Resubscribe, TryRecv, Recv, DropHandle, SenderLen, ReceiverCount, ReceiverLen}
 use Rattle.rw_broadcast.specs.declared.calls.BReply.{BReply}
@@ -150,9 +150,7 @@ effect_with c (ReceiverLen h) kind position = (Keep, Count (number.unread c.sent
 -- the same, where the handle is looked for: a call is checked for an unknown number, a dropped handle, one of the wrong
 -- kind, and too many handles, in this order
 abbrev pub effect_found : {V : Type 0} → Channel V → BCall V → Found ℕ → Change V × BReply V
-effect_found c call (Fault f) = (Keep, refused f)
-effect_found c call (Handle kind position) =
-    if makes call && nat_le HANDLES (length c.slots) then (Keep, TooManyHandles) else effect_with c call kind position
+effect_found c call f = checked (λ fault. (Keep, refused fault)) (Keep, TooManyHandles) (makes call) (length c.slots) (effect_with c call) f
 
 -- what a call does, and its reply
 abbrev pub effect : {V : Type 0} → Channel V → BCall V → Change V × BReply V

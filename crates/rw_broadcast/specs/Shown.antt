@@ -3,7 +3,7 @@ use Rattle.std.specs.Prelude.{◌≡◌, ℕ, ◌+◌, ◌-◌, ◌≤◌, ◌<�
 use Rattle.rw_handles.specs.declared.kinds.Kind.TheVariants.{Sender, Receiver}
 use Rattle.rw_handles.specs.declared.kinds.Slot.{Slot}
 use Rattle.rw_handles.specs.declared.kinds.Slot.TheVariants.{Live, Spent}
-use Rattle.rw_handles.specs.Slots.{HANDLES, IsLive}
+use Rattle.rw_handles.specs.Slots.{HANDLES, IsLive, IsReceiver}
 use Rattle.rw_law.specs.Outcomes.{Outcome}
 use Rattle.rw_ring.specs.Windows.{put, evicted, unput}
 use Rattle.rw_broadcast.specs.declared.calls.BCall.{BCall}
@@ -96,11 +96,6 @@ pub record IsAllowed {V : Type 0} (x : Shown V) : Type 0 where
   pub retained : length x.window ≡ min x.sent x.capacity
   pub few_slots : length x.slots ≤ HANDLES
   pub placed : All (IsPlaced x.sent) x.slots
-
--- a live receiver stands there
-abbrev pub IsReceiver : Option (Slot ℕ) → Type 0
-IsReceiver (Some (Live Receiver position)) = ⊤
-IsReceiver _ = ⊥
 
 -- one of the values can have been sent last: no receiver has received them all
 pub record CanUnsend {V : Type 0} (y : Shown V) : Type 0 where

@@ -2,14 +2,14 @@
 ghost use Rattle.std.specs.Prelude.{◌≡◌, ◌<◌, ◌≤◌, ◌↔◌, ◌⊎◌, IfOk};
 ghost use Rattle.rw_handles.specs.Slots.{HANDLES};
 ghost use Rattle.rw_broadcast.specs.Arithmetic.{retained_capacity};
-ghost use Rattle.rw_broadcast.specs.Record.{first_slots, opened};
+ghost use Rattle.rw_broadcast.specs.Record.{opened};
 ghost use Rattle.rw_broadcast.specs.Shown.{shown};
 
 mod readers;
 mod reversible;
 mod steps;
 
-use rw_handles::{Kind, Table};
+use rw_handles::Table;
 use rw_law::NoMemory;
 use rw_ring::Ring;
 use std::alloc::Global;
@@ -68,7 +68,7 @@ impl<V: Copy> Broadcast<V> {
         if capacity == 0 || capacity > MOST_CAPACITY {
             return Err(OpenFault::BadCapacity);
         }
-        let handles = first_handles(alloc)?;
+        let handles = Table::of_two(alloc, 0, 0)?;
         let values = Ring::new(alloc, retained_capacity(capacity))?;
         Ok(Broadcast {
             values,
@@ -76,17 +76,6 @@ impl<V: Copy> Broadcast<V> {
             limit: 2,
         })
     }
-}
-
-/// The handles of a channel at its opening.
-fn first_handles(alloc: Global) -> Result<Table<u64>, NoMemory>
-    ensures { IfOk result (λ handles. handles.slots ≡ first_slots) }
-{
-    let mut handles = Table::new(alloc)?;
-    handles.ready(2)?;
-    let _sender = handles.make(Kind::Sender, 0);
-    let _receiver = handles.make(Kind::Receiver, 0);
-    Ok(handles)
 }
 
 /// How many values are retained where this many are asked for.

@@ -1,8 +1,7 @@
 -- Laws of handles in a list.
-use Rattle.std.proofs.Common.{◌≡◌, ℕ, zero, suc, ◌+◌, ◌-◌, ◌<◌, Bool, true, false, cond, List, [], ◌∷◌, ◌++◌, length, take, drop, set, refl, ap, sym, subst, zero-add, suc-add, arith, length-set}
-use Rattle.std.specs.Prelude.{Option, Some, None, All, slice_get, ◌&&◌, nat_le}
-use Rattle.std.proofs.lemmas.Bool.{leb-false}
-use Rattle.std.proofs.lemmas.List.{take_at, length_push}
+use Rattle.std.proofs.Common.{◌≡◌, ℕ, zero, suc, ◌+◌, ◌-◌, ◌<◌, Bool, true, false, cond, List, [], ◌∷◌, ◌++◌, length, set, refl, ap, sym, subst, arith, length-set}
+use Rattle.std.specs.Prelude.{Option, Some, None, All, slice_get}
+use Rattle.std.proofs.lemmas.List.{length_push}
 use Rattle.std.proofs.lemmas.List.Elements.{All-get_or}
 use Rattle.std.proofs.lemmas.Option.{slice_get_within, get_or_from_slice_get}
 use Rattle.rw_handles.specs.declared.kinds.HandleFault.TheVariants.{WrongKind}
@@ -11,7 +10,7 @@ use Rattle.rw_handles.specs.declared.kinds.Kind.TheVariants.{Sender, Receiver}
 use Rattle.rw_handles.specs.declared.kinds.Slot.{Slot}
 use Rattle.rw_handles.specs.declared.kinds.Slot.TheVariants.{Live, Spent}
 use Rattle.rw_handles.specs.declared.kinds.Found.TheVariants.{Fault, Handle}
-use Rattle.rw_handles.specs.Slots.{HANDLES, serves, same_kind, found_at, values}
+use Rattle.rw_handles.specs.Slots.{serves, same_kind, found_at, values, IsLive, IsReceiver}
 
 -- a handle that is found stands under its number
 pub found_at_is : {X : Type 0} (wanted : Option Kind) (o : Option (Slot X)) (kind : Kind) (x : X) → found_at wanted o ≡ Handle kind x → o ≡ Some (Live kind x)
@@ -27,16 +26,6 @@ pub set_back : {A : Type 0} (xs : List A) (i : ℕ) (a b : A) → slice_get xs i
 set_back [] i a b h = refl
 set_back (x ∷ xs) zero a b h = let e : x ≡ b = cc in ap (λ y. y ∷ xs) (sym e)
 set_back (x ∷ xs) (suc i) a b h = ap (λ ys. x ∷ ys) (set_back xs i a b h)
-
--- the list from before a push
-pub push_back : {A : Type 0} (xs : List A) (a : A) → take (length (xs ++ a ∷ []) - 1) (xs ++ a ∷ []) ≡ xs
-push_back xs a = take_at xs (a ∷ []) (length (xs ++ a ∷ []) - 1) (omega (arith, length_push xs a))
-
--- an element under its place, in a list from which the first ones are dropped
-pub slice_get-drop : {A : Type 0} (n : ℕ) (xs : List A) (i : ℕ) → slice_get (drop n xs) i ≡ slice_get xs (n + i)
-slice_get-drop zero xs i = rw zero-add refl
-slice_get-drop (suc n) [] i = refl
-slice_get-drop (suc n) (x ∷ xs) i = rw suc-add (slice_get-drop n xs i)
 
 same_kind_is : (a b : Kind) → same_kind a b ≡ true → a ≡ b
 same_kind_is Sender Sender h = refl
@@ -77,6 +66,18 @@ slice_get-push xs a =
       at_end [] a = refl
       at_end (x ∷ xs) a = at_end xs a
 
+-- the handle that was made last is alive
+pub live_push : {X : Type 0} (slots : List (Slot X)) (kind : Kind) (x : X) → IsLive (slice_get (slots ++ Live kind x ∷ []) (length (slots ++ Live kind x ∷ []) - 1))
+live_push slots kind x = is_live (slice_get-push slots (Live kind x)) where
+  is_live : {X : Type 0} {o : Option (Slot X)} {kind : Kind} {x : X} → o ≡ Some (Live kind x) → IsLive o
+  is_live h = rw h refl
+
+-- a receiver is one with another value, too
+pub receiver_set : {X : Type 0} (slots : List (Slot X)) (i : ℕ) (x was : X) → slice_get slots i ≡ Some (Live Receiver was) → IsReceiver (slice_get (set slots i (Live Receiver x)) i)
+receiver_set slots i x was at = is_receiver (slice_get-set slots i (Live Receiver x) (Live Receiver was) at) where
+  is_receiver : {X : Type 0} {o : Option (Slot X)} {x : X} → o ≡ Some (Live Receiver x) → IsReceiver o
+  is_receiver h = rw h tt
+
 -- what holds of all slots holds of the one under a number
 pub All-slice_get : {A : Type 0} (P : A → Type 0) (xs : List A) (i : ℕ) (a : A) → slice_get xs i ≡ Some a → All P xs → P a
 All-slice_get P xs i a is all = subst P (get_or_from_slice_get xs i a a is) (All-get_or P xs i a (slice_get_within xs i a is) all)
@@ -84,8 +85,3 @@ All-slice_get P xs i a is all = subst P (get_or_from_slice_get xs i a a is) (All
 -- a number under which something stands is within the list after a write, too
 pub within_set : {A : Type 0} (xs : List A) (i j : ℕ) (was a : A) → slice_get xs i ≡ Some was → i < length (set xs j a)
 within_set xs i j was a is = omega (arith, length-set xs j a, slice_get_within xs i was is)
-
--- what a call that makes a handle learns of the check on their number
-pub room_for_more : (b : Bool) (n : ℕ) → (b && nat_le HANDLES n) ≡ false → b ≡ true → n < HANDLES
-room_for_more true n h _ = leb-false HANDLES n h
-room_for_more false n h is = cc

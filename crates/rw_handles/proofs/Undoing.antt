@@ -4,7 +4,8 @@ use Rattle.std.specs.Prelude.{Some, slice_get, slice_set}
 use Rattle.rw_handles.specs.declared.kinds.Slot.TheVariants.{Live, Spent}
 use Rattle.rw_handles.specs.Slots.{with_value}
 use Rattle.rw_handles.specs.Laws.{UnmakeUndoesMake, UndropUndoesDrop, SetUndoesSet, written}
-use Rattle.rw_handles.proofs.SlotLaws.{push_back, set_back, slice_get-set}
+use Rattle.rw_law.proofs.Lists.{push_back}
+use Rattle.rw_handles.proofs.SlotLaws.{set_back, slice_get-set}
 
 pub unmake_undoes_make : {X : Type 0} → UnmakeUndoesMake X
 unmake_undoes_make slots kind x = push_back slots (Live kind x)

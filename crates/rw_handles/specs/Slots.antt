@@ -1,6 +1,6 @@
 -- The handles of a channel as the list of what stands under each number, in the order of making.
 -- So its length is the number of handles made, and a dropped handle keeps its number.
-use Rattle.std.specs.Prelude.{ℕ, Bool, true, false, cond, List, [], ◌∷◌, Option, Some, None, IsSome, Result, Ok, Err, slice_get, count_by}
+use Rattle.std.specs.Prelude.{ℕ, Bool, true, false, cond, List, [], ◌∷◌, Option, Some, None, IsSome, Result, Ok, Err, slice_get, count_by, ⊤}
 use Rattle.rw_handles.specs.declared.kinds.Kind.{Kind}
 use Rattle.rw_handles.specs.declared.kinds.Kind.TheVariants.{Sender, Receiver}
 use Rattle.rw_handles.specs.declared.kinds.Slot.{Slot}
@@ -54,6 +54,16 @@ value_at (Some (Live kind x)) = Some x
 -- a live handle stands under the number
 abbrev pub IsLive : {X : Type 0} → Option (Slot X) → Type 0
 IsLive o = IsSome (value_at o)
+
+-- the value of the live receiver that stands under a number, if one does
+abbrev pub receiver_at : {X : Type 0} → Option (Slot X) → Option X
+receiver_at (Some (Live Receiver x)) = Some x
+receiver_at _ = None
+
+-- a live receiver stands under the number
+abbrev pub IsReceiver : {X : Type 0} → Option (Slot X) → Type 0
+IsReceiver (Some (Live Receiver x)) = ⊤
+IsReceiver _ = ⊥
 
 -- the handle with another value and its own kind
 abbrev pub with_value : {X : Type 0} → X → Option (Slot X) → Slot X

@@ -1,7 +1,8 @@
 //! The table of a channel's handles.
 ghost use Rattle.std.specs.Prelude.{◌≡◌, ◌+◌, ◌-◌, ◌<◌, ◌≤◌, ◌++◌, ◌∷◌, [], length, take, slice_get, slice_set, Some, IfOk, OnOk, IsOk};
+ghost use Rattle.rw_handles.specs.declared.kinds.Kind.TheVariants.{Sender, Receiver};
 ghost use Rattle.rw_handles.specs.declared.kinds.Slot.TheVariants.{Live, Spent};
-ghost use Rattle.rw_handles.specs.Slots.{HANDLES, IsLive, found, looked, serves, alive, kind_at, value_at, with_value};
+ghost use Rattle.rw_handles.specs.Slots.{HANDLES, IsLive, found, looked, serves, alive, kind_at, receiver_at, value_at, with_value};
 
 use crate::kinds::{Found, HandleFault, Kind, Slot};
 use crate::tally::Tally;
@@ -56,6 +57,17 @@ impl<X: Copy> Table<X> {
                 receivers: 0,
             },
         })
+    }
+
+    /// A table with a sender, 0, and a receiver, 1, of these values: the handles of a channel at its opening.
+    pub fn of_two(alloc: Global, sender: X, receiver: X) -> Result<Self, NoMemory>
+        ensures { IfOk result (λ t. t.slots ≡ Live Sender sender ∷ Live Receiver receiver ∷ []) }
+    {
+        let mut table = Table::new(alloc)?;
+        table.ready(2)?;
+        let _sender = table.make(Kind::Sender, sender);
+        let _receiver = table.make(Kind::Receiver, receiver);
+        Ok(table)
     }
 
     /// How many handles were made.
@@ -146,6 +158,16 @@ impl<X: Copy> Table<X> {
     {
         match self.slot(id) {
             Some(Slot::Live(_, x)) => Some(x),
+            _ => None,
+        }
+    }
+
+    /// The value of a live receiver.
+    pub fn receiver(&self, id: u32) -> Option<X>
+        ensures { result ≡ receiver_at (slice_get self.now.slots id) }
+    {
+        match self.slot(id) {
+            Some(Slot::Live(Kind::Receiver, x)) => Some(x),
             _ => None,
         }
     }

@@ -19,11 +19,22 @@ fn a_short_life(rt: HostRuntime) -> Result<(), Fail> {
     assert_eq!(rt; table.get(1), Some(5));
     table.set(1, 7);
     assert_eq!(rt; table.get(1), Some(7));
+    assert_eq!(rt; table.receiver(0), None);
+    assert_eq!(rt; table.receiver(1), Some(7));
     assert_eq!(rt; table.kind(1), Some(Kind::Receiver));
     assert_eq!(rt; table.slots().len(), 2);
     table.unmake();
     assert_eq!(rt; table.made(), 1);
     assert_eq!(rt; table.alive(Kind::Receiver), 0);
     assert_eq!(rt; table.alive(Kind::Sender), 1);
+    Ok(())
+}
+
+#[test]
+fn the_first_two(rt: HostRuntime) -> Result<(), Fail> {
+    let table: Table<u64> = Table::of_two(rt.alloc(), 3, 4)?;
+    assert_eq!(rt; table.made(), 2);
+    assert_eq!(rt; table.find(0, None), Found::Handle(Kind::Sender, 3));
+    assert_eq!(rt; table.find(1, None), Found::Handle(Kind::Receiver, 4));
     Ok(())
 }

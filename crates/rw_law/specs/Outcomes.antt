@@ -8,6 +8,18 @@ pub record Outcome (V R P : Type 0) : Type 0 where
   pub reply : R
   pub patch : P
 
+-- a machine, as its callers see it: what it shows, and the weight for which it has room
+pub record Machine (V : Type 0) : Type 0 where
+  pub shown : V
+  pub limit : ℕ
+
+-- the machine went from the one to the other by this outcome, and gave its reply and patch
+pub record Follows {V R P : Type 0} (old new : Machine V) (given : R × P) (o : Outcome V R P) : Type 0 where
+  pub shown : new.shown ≡ o.next
+  pub limit : new.limit ≡ old.limit
+  pub reply : given.0 ≡ o.reply
+  pub patch : given.1 ≡ o.patch
+
 module _ {V C R P : Type 0} (allowed : V → Type 0) (weigh : V → ℕ) (back : V → C → P → V) (fits : V → C → P → Type 0) (refuses : R → Bool) where
   -- the laws of a machine, of one outcome of a call from x
   pub record IsSound (x : V) (c : C) (o : Outcome V R P) : Type 0 where
@@ -17,10 +29,10 @@ module _ {V C R P : Type 0} (allowed : V → Type 0) (weigh : V → ℕ) (back :
     pub refused : refuses o.reply ≡ true → o.next ≡ x
     pub weight_rises : weigh o.next ≤ weigh x + 1
 
-  -- an outcome that depends on a test is sound where both of its cases are
-  pub sound_if : {x : V} {c : C} (b : Bool) {o p : Outcome V R P} → (b ≡ true → IsSound x c o) → (b ≡ false → IsSound x c p) → IsSound x c (if b then o else p)
-  sound_if true h k = h refl
-  sound_if false h k = k refl
+  -- the outcome of what depends on a test is sound where that of both of its cases is
+  pub sound_if : {E : Type 0} (f : E → Outcome V R P) {x : V} {c : C} (b : Bool) {o p : E} → (b ≡ true → IsSound x c (f o)) → (b ≡ false → IsSound x c (f p)) → IsSound x c (f (if b then o else p))
+  sound_if f true h k = h refl
+  sound_if f false h k = k refl
 
   -- sound outcomes make the laws of a machine
   pub laws_of : (outcome : V → C → Outcome V R P) (is_waiting is_straying : R → Bool) → ((x : V) (c : C) → IsSound x c (outcome x c))

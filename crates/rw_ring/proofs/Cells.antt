@@ -7,7 +7,8 @@ use Rattle.std.proofs.lemmas.Bool.{le-ltb, lt-ltb, cases_lt}
 use Rattle.std.proofs.lemmas.List.{append_assoc, append-nil, length_push, length-append, take_at, drop_at, set_at, get_or_append_left, get_or-append_right, get_or-take, get_or-drop}
 use Rattle.std.proofs.lemmas.Option.{slice_get-get_or}
 use Rattle.rw_ring.specs.Cells.{rotated, in_order}
-use Rattle.rw_ring.specs.Windows.{put, unput, push_back}
+use Rattle.rw_law.proofs.Lists.{push_back}
+use Rattle.rw_ring.specs.Windows.{put, unput}
 
 -- a list with one element told apart from those before and behind it
 record Split {V : Type 0} (cells : List V) (i : ℕ) : Type 0 where

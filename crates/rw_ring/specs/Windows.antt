@@ -2,7 +2,8 @@
 use Rattle.std.proofs.Common.{◌≡◌, ℕ, ◌+◌, ◌-◌, ◌<◌, ◌≤◌, min, Bool, true, false, cond, List, [], ◌∷◌, ◌++◌, length, take, drop, refl, ap, sym, ◌∙◌, arith, length-drop}
 use Rattle.std.specs.Prelude.{Option, Some, None, if◌then◌else◌, slice_get, nat_lt, is_some}
 use Rattle.std.proofs.lemmas.Bool.{cond_both, ltb-true, ltb-false, le-ltb, lt-ltb}
-use Rattle.std.proofs.lemmas.List.{length_push, take_at, drop-drop, drop-append-le}
+use Rattle.std.proofs.lemmas.List.{length_push, drop-drop, drop-append-le}
+use Rattle.rw_law.proofs.Lists.{push_back}
 
 -- how many values a window has at most
 abbrev pub VALUES : ℕ
@@ -41,10 +42,6 @@ evicted capacity window = if nat_lt (length window) capacity then None else slic
 abbrev pub unput : {V : Type 0} → Option V → List V → List V
 unput None window = take (length window - 1) window
 unput (Some v) window = v ∷ take (length window - 1) window
-
--- a list from before a push
-pub push_back : {A : Type 0} (xs : List A) (a : A) → take (length (xs ++ a ∷ []) - 1) (xs ++ a ∷ []) ≡ xs
-push_back xs a = take_at xs (a ∷ []) (length (xs ++ a ∷ []) - 1) (omega (arith, length_push xs a))
 
 -- by whether there is room
 unput-put_by : {V : Type 0} (b : Bool) (w : List V) (v : V) → (b ≡ false → 0 < length w) → unput (cond b None (slice_get w 0)) (cond b (w ++ v ∷ []) (drop 1 w ++ v ∷ [])) ≡ w

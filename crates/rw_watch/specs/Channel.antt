@@ -3,15 +3,15 @@
 -- A call reads three things of a channel: its version, its value and the handles. So the one table of calls serves the record
 -- of all that happened (`Record`), of which tokio's documentation speaks, and what a machine still shows that has let the
 -- earlier values go (`Shown`).
-use Rattle.std.specs.Prelude.{ℕ, Bool, true, false, not, ◌&&◌, ◌==◌, nat_le, if◌then◌else◌, List, Option, Some, None, length}
+use Rattle.std.specs.Prelude.{ℕ, Bool, true, false, not, ◌==◌, if◌then◌else◌, List, Option, Some, None, length}
 use Rattle.rw_handles.specs.declared.kinds.Kind.{Kind}
 use Rattle.rw_handles.specs.declared.kinds.Kind.TheVariants.{Sender, Receiver}
 use Rattle.rw_handles.specs.declared.kinds.Slot.{Slot}
 use Rattle.rw_handles.specs.declared.kinds.HandleFault.{HandleFault}
 use Rattle.rw_handles.specs.declared.kinds.HandleFault.TheVariants as fault
 use Rattle.rw_handles.specs.declared.kinds.Found.{Found}
-use Rattle.rw_handles.specs.declared.kinds.Found.TheVariants.{Fault, Handle}
-use Rattle.rw_handles.specs.Slots.{HANDLES, found, alive}
+use Rattle.rw_handles.specs.Channels.{checked}
+use Rattle.rw_handles.specs.Slots.{found, alive}
 use Rattle.rw_watch.specs.declared.calls.WCall.{WCall}
 use Rattle.rw_watch.specs.declared.calls.WCall.TheVariants.{Send, SendReplace, Modify, Subscribe, CloneSender, CloneReceiver, Borrow, Update, HasChanged, Changed, MarkChanged, MarkUnchanged, DropHandle, ReceiverCount, IsClosed, AwaitClosed}
 use Rattle.rw_watch.specs.declared.calls.WReply.{WReply}
@@ -192,9 +192,7 @@ effect_with c (AwaitClosed h) kind mark = (Keep, await_closed c)
 -- the same, where the handle is looked for: a call is checked for an unknown number, a dropped handle, one of the wrong
 -- kind, and too many handles, in this order
 abbrev pub effect_found : {V : Type 0} → Channel V → WCall V → Found (Option ℕ) → Change V × WReply V
-effect_found c call (Fault f) = (Keep, refused f)
-effect_found c call (Handle kind mark) =
-    if makes call && nat_le HANDLES (length c.slots) then (Keep, TooManyHandles) else effect_with c call kind mark
+effect_found c call f = checked (λ fault. (Keep, refused fault)) (Keep, TooManyHandles) (makes call) (length c.slots) (effect_with c call) f
 
 -- what a call does, and its reply
 abbrev pub effect : {V : Type 0} → Channel V → WCall V → Change V × WReply V

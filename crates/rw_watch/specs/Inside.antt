@@ -1,6 +1,5 @@
 -- What the fields of a watch machine stand for.
-use Rattle.std.specs.Prelude.{◌+◌, ◌≤◌, ◌^◌, min, length}
-use Rattle.rw_handles.specs.Slots.{HANDLES}
+use Rattle.rw_handles.specs.Channels.{HasRoom as HasRoomFor}
 use Rattle.rw_watch.specs.declared.machine.Watch.TheInside.{Inside}
 use Rattle.rw_watch.specs.Shown.{IsAllowed, weight}
 use Rattle.rw_watch.specs.Machine.{Machine}
@@ -11,9 +10,6 @@ machine_of a = record {
   limit = a.limit;
 }
 
--- there is memory for all that the limit allows
-pub record HasRoom {V : Type 0} (a : Inside V) : Type 0 where
-  pub allowed : IsAllowed (machine_of a).shown
-  pub within : weight (machine_of a).shown ≤ a.limit
-  pub small_limit : a.limit ≤ 2 ^ 62
-  pub makings : min a.limit HANDLES ≤ length a.handles.slots + a.handles.room
+-- it is one that channels can be, and there is memory for all that its limit allows
+abbrev pub HasRoom : {V : Type 0} → Inside V → Type 0
+HasRoom a = HasRoomFor IsAllowed weight (machine_of a) a.handles

@@ -1,29 +1,24 @@
 -- A watch machine, as its callers see it.
-use Rattle.std.specs.Prelude.{◌≡◌, ℕ, Bool, not, Option, Some, None, option_map}
-use Rattle.rw_handles.specs.declared.kinds.Kind.TheVariants.{Receiver}
+use Rattle.std.specs.Prelude.{ℕ, Bool, not, Option, option_map}
 use Rattle.rw_handles.specs.declared.kinds.Slot.{Slot}
-use Rattle.rw_handles.specs.declared.kinds.Slot.TheVariants.{Live}
+use Rattle.rw_handles.specs.Slots.{receiver_at}
+use Rattle.rw_law.specs.Outcomes.{Machine as MachineOf, Follows}
 use Rattle.rw_watch.specs.declared.calls.WReply.{WReply}
 use Rattle.rw_watch.specs.declared.calls.WPatch.{WPatch}
 use Rattle.rw_watch.specs.Channel.{Change, is_unseen}
-use Rattle.rw_watch.specs.Shown.{Shown, changed, patch_for}
+use Rattle.rw_watch.specs.Shown.{Shown, outcome_of}
 
 -- what it shows, and the weight for which it has room
-pub record Machine (V : Type 0) : Type 0 where
-  pub shown : Shown V
-  pub limit : ℕ
+abbrev pub Machine : Type 0 → Type 0
+Machine V = MachineOf (Shown V)
 
 -- the machine made this change, gave this reply, and a patch that undoes the change
-pub record Takes {V : Type 0} (old new : Machine V) (given : WReply V × WPatch V) (e : Change V × WReply V) : Type 0 where
-  pub shown : new.shown ≡ changed old.shown e.0
-  pub limit : new.limit ≡ old.limit
-  pub reply : given.0 ≡ e.1
-  pub patch : given.1 ≡ patch_for old.shown e.0
+abbrev pub Takes : {V : Type 0} → (old new : Machine V) → WReply V × WPatch V → Change V × WReply V → Type 0
+Takes old new given e = Follows old new given (outcome_of old.shown e)
 
 -- the mark of the live receiver that stands under a number, if one does
 abbrev pub mark_at : Option (Slot (Option ℕ)) → Option (Option ℕ)
-mark_at (Some (Live Receiver mark)) = Some mark
-mark_at _ = None
+mark_at o = receiver_at o
 
 -- whether it has seen the value of this version
 abbrev pub is_seen_at : (version : ℕ) → Option (Slot (Option ℕ)) → Option Bool

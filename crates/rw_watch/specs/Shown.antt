@@ -4,7 +4,7 @@ use Rattle.rw_handles.specs.declared.kinds.Kind.{Kind}
 use Rattle.rw_handles.specs.declared.kinds.Kind.TheVariants.{Sender, Receiver}
 use Rattle.rw_handles.specs.declared.kinds.Slot.{Slot}
 use Rattle.rw_handles.specs.declared.kinds.Slot.TheVariants.{Live, Spent}
-use Rattle.rw_handles.specs.Slots.{HANDLES, IsLive}
+use Rattle.rw_handles.specs.Slots.{HANDLES, IsLive, IsReceiver}
 use Rattle.rw_law.specs.Outcomes.{Outcome}
 use Rattle.rw_watch.specs.declared.calls.WCall.{WCall}
 use Rattle.rw_watch.specs.declared.calls.WReply.{WReply}
@@ -102,11 +102,6 @@ IsMarked version Spent = ⊤
 pub record IsAllowed {V : Type 0} (x : Shown V) : Type 0 where
   pub few_slots : length x.slots ≤ HANDLES
   pub marked : All (IsMarked x.version) x.slots
-
--- a live receiver stands there
-abbrev pub IsReceiver : Option (Slot (Option ℕ)) → Type 0
-IsReceiver (Some (Live Receiver mark)) = ⊤
-IsReceiver _ = ⊥
 
 -- the last change can have been told: no receiver has seen it
 pub record CanUntell {V : Type 0} (y : Shown V) : Type 0 where

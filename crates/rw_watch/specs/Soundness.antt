@@ -1,32 +1,29 @@
 -- A watch channel keeps the laws of a machine whose steps can be undone.
-use Rattle.std.proofs.Common.{◌≡◌, ℕ, ◌+◌, ◌-◌, ◌<◌, Bool, true, false, cond, length, set, refl, ap, ◌∙◌, arith, length-set}
-use Rattle.std.specs.Prelude.{Option, Some, None, slice_get, ◌&&◌, nat_le}
+use Rattle.std.proofs.Common.{◌≡◌, ℕ, ◌+◌, ◌-◌, ◌<◌, Bool, true, false, length, set, refl, ap, ◌∙◌, arith, length-set}
+use Rattle.std.specs.Prelude.{Option, Some, None, slice_get}
 use Rattle.std.proofs.lemmas.List.{length_push}
 use Rattle.std.proofs.lemmas.List.Elements.{All-push, All-set, All-weaker}
 use Rattle.rw_handles.specs.declared.kinds.Kind.{Kind}
 use Rattle.rw_handles.specs.declared.kinds.Kind.TheVariants.{Sender, Receiver}
 use Rattle.rw_handles.specs.declared.kinds.Slot.{Slot}
 use Rattle.rw_handles.specs.declared.kinds.Slot.TheVariants.{Live, Spent}
-use Rattle.rw_handles.specs.declared.kinds.Found.{Found}
-use Rattle.rw_handles.specs.declared.kinds.Found.TheVariants.{Fault, Handle}
-use Rattle.rw_handles.specs.Slots.{HANDLES, found, IsLive}
-use Rattle.rw_handles.proofs.SlotLaws.{found_at_is, found_at_wanted, set_back, push_back, slice_get-set, slice_get-push, All-slice_get, room_for_more}
+use Rattle.rw_handles.specs.declared.kinds.Found.TheVariants.{Handle}
+use Rattle.rw_handles.specs.Slots.{HANDLES, found, IsReceiver}
+use Rattle.rw_handles.proofs.Checks.{of_checked}
+use Rattle.rw_handles.proofs.SlotLaws.{found_at_is, found_at_wanted, set_back, slice_get-set, live_push, receiver_set, All-slice_get}
 use Rattle.rw_law.specs.Laws.{Laws}
-use Rattle.rw_law.specs.Outcomes.{IsSound, laws_of}
+use Rattle.rw_law.specs.Outcomes.{IsSound, sound_if, laws_of}
+use Rattle.rw_law.proofs.Lists.{push_back}
 use Rattle.rw_watch.specs.declared.calls.WCall.{WCall}
 use Rattle.rw_watch.specs.declared.calls.WCall.TheVariants.{Send, SendReplace, Modify, Subscribe, CloneSender, CloneReceiver, Borrow, Update, HasChanged, Changed, MarkChanged, MarkUnchanged, DropHandle, ReceiverCount, IsClosed, AwaitClosed}
 use Rattle.rw_watch.specs.declared.calls.WReply.{WReply}
-use Rattle.rw_watch.specs.declared.calls.WReply.TheVariants.{Stored, Old, Told, New, Value, Waits, Done, Dropped}
-use Rattle.rw_watch.specs.Channel.{Change, Keep, Write, Make, Mark, Leave, handle_of, wanted, makes, has_no_receiver, is_unseen, effect_with, effect_found, effect}
-use Rattle.rw_watch.specs.Shown.{Shown, changed, patch_of_mark, patch_of_drop, outcome_of, outcome, next, reply_of, patch_of, back, IsMark, IsMarked, IsReceiver, IsAllowed, Fits, weight, refuses, waits, strays}
+use Rattle.rw_watch.specs.declared.calls.WReply.TheVariants.{Stored, Old, Told, New, Value, Waits, Done, Dropped, TooManyHandles}
+use Rattle.rw_watch.specs.Channel.{Change, Keep, Write, Make, Mark, Leave, handle_of, wanted, makes, refused, has_no_receiver, is_unseen, effect_with, effect}
+use Rattle.rw_watch.specs.Shown.{Shown, changed, patch_of_mark, patch_of_drop, outcome_of, outcome, next, reply_of, patch_of, back, IsMark, IsMarked, IsAllowed, Fits, weight, refuses, waits, strays}
 
 -- the laws, of one change and reply of a call
-record IsRight {V : Type 0} (x : Shown V) (call : WCall V) (e : Change V × WReply V) : Type 0 where
-  sound : IsSound IsAllowed weight back Fits refuses x call (outcome_of x e)
-
-right_if : {V : Type 0} {x : Shown V} {call : WCall V} (b : Bool) {e f : Change V × WReply V} → (b ≡ true → IsRight x call e) → (b ≡ false → IsRight x call f) → IsRight x call (cond b e f)
-right_if true h k = h refl
-right_if false h k = k refl
+abbrev IsRight : {V : Type 0} → Shown V → WCall V → Change V × WReply V → Type 0
+IsRight x call e = IsSound IsAllowed weight back Fits refuses x call (outcome_of x e)
 
 -- this stands under the number of the call's handle
 Stands : {V : Type 0} → Shown V → WCall V → Slot (Option ℕ) → Type 0
@@ -39,30 +36,24 @@ marked_at x call slot here ok = All-slice_get (IsMarked x.version) x.slots (hand
 
 right_keep : {V : Type 0} (x : Shown V) (call : WCall V) (reply : WReply V) → IsRight x call (Keep, reply)
 right_keep x call reply = record {
-  sound = record {
-    undone = λ _. refl;
-    next_allowed = λ ok. ok;
-    patch_fits = λ _. tt;
-    refused = λ _. refl;
-    weight_rises = omega arith;
-  };
+  undone = λ _. refl;
+  next_allowed = λ ok. ok;
+  patch_fits = λ _. tt;
+  refused = λ _. refl;
+  weight_rises = omega arith;
 }
 
 right_make : {V : Type 0} (x : Shown V) (call : WCall V) (kind : Kind) (mark : Option ℕ) → (IsAllowed x → IsMarked x.version (Live kind mark)) → length x.slots < HANDLES → IsRight x call (Make kind mark, New (length x.slots))
 right_make x call kind mark marked few = record {
-  sound = record {
-    undone = λ _. ap (λ slots. record x { slots = slots }) (push_back x.slots (Live kind mark));
-    next_allowed = λ ok. record {
-      few_slots = omega (arith, length_push x.slots (Live kind mark));
-      marked = All-push (IsMarked x.version) x.slots (Live kind mark) ok.marked (marked ok);
-    };
-    patch_fits = λ _. is_live (slice_get-push x.slots (Live kind mark));
-    refused = λ h. cc;
-    weight_rises = omega (arith, length_push x.slots (Live kind mark));
+  undone = λ _. ap (λ slots. record x { slots = slots }) (push_back x.slots (Live kind mark));
+  next_allowed = λ ok. record {
+    few_slots = omega (arith, length_push x.slots (Live kind mark));
+    marked = All-push (IsMarked x.version) x.slots (Live kind mark) ok.marked (marked ok);
   };
-} where
-  is_live : {o : Option (Slot (Option ℕ))} {kind : Kind} {mark : Option ℕ} → o ≡ Some (Live kind mark) → IsLive o
-  is_live h = rw h refl
+  patch_fits = λ _. live_push x.slots kind mark;
+  refused = λ h. cc;
+  weight_rises = omega (arith, length_push x.slots (Live kind mark));
+}
 
 -- a write to the call's handle
 set_allowed : {V : Type 0} (x : Shown V) (call : WCall V) (slot : Slot (Option ℕ)) → IsMarked x.version slot → IsAllowed x → IsAllowed (record x { slots = set x.slots (handle_of call) slot })
@@ -88,21 +79,16 @@ fits_drop : {V : Type 0} (y : Shown V) (call : WCall V) (kind : Kind) (mark : Op
 fits_drop y call kind None spent marked = (spent, marked)
 fits_drop y call kind (Some seen) spent marked = (spent, marked)
 
-is_receiver : {o : Option (Slot (Option ℕ))} {mark : Option ℕ} → o ≡ Some (Live Receiver mark) → IsReceiver o
-is_receiver h = rw h tt
-
 right_mark : {V : Type 0} (x : Shown V) (call : WCall V) (from to : Option ℕ) (reply : WReply V) → Stands x call (Live Receiver from) → IsMark x.version to → refuses reply ≡ false → IsRight x call (Mark (handle_of call) from to, reply)
 unfolding Stands
 right_mark x call from to reply here mark served =
     let y = changed x (Mark (handle_of call) from to) in
     record {
-      sound = record {
-        undone = λ _. back_mark y call from ∙ ap (λ slots. record x { slots = slots }) (set_back x.slots (handle_of call) (Live Receiver to) (Live Receiver from) here);
-        next_allowed = set_allowed x call (Live Receiver to) mark;
-        patch_fits = λ ok. fits_mark y call from (is_receiver (slice_get-set x.slots (handle_of call) (Live Receiver to) (Live Receiver from) here)) (marked_at x call (Live Receiver from) here ok);
-        refused = λ h. cc;
-        weight_rises = omega (arith, length-set x.slots (handle_of call) (Live Receiver to));
-      };
+      undone = λ _. back_mark y call from ∙ ap (λ slots. record x { slots = slots }) (set_back x.slots (handle_of call) (Live Receiver to) (Live Receiver from) here);
+      next_allowed = set_allowed x call (Live Receiver to) mark;
+      patch_fits = λ ok. fits_mark y call from (receiver_set x.slots (handle_of call) to from here) (marked_at x call (Live Receiver from) here ok);
+      refused = λ h. cc;
+      weight_rises = omega (arith, length-set x.slots (handle_of call) (Live Receiver to));
     }
 
 -- the value is seen
@@ -114,13 +100,11 @@ unfolding Stands
 right_leave x call kind mark here =
     let y = changed x (Leave (handle_of call) kind mark) in
     record {
-      sound = record {
-        undone = λ _. back_drop y call kind mark ∙ ap (λ slots. record x { slots = slots }) (set_back x.slots (handle_of call) Spent (Live kind mark) here);
-        next_allowed = set_allowed x call Spent tt;
-        patch_fits = λ ok. fits_drop y call kind mark (slice_get-set x.slots (handle_of call) Spent (Live kind mark) here) (marked_at x call (Live kind mark) here ok);
-        refused = λ h. cc;
-        weight_rises = omega (arith, length-set x.slots (handle_of call) Spent);
-      };
+      undone = λ _. back_drop y call kind mark ∙ ap (λ slots. record x { slots = slots }) (set_back x.slots (handle_of call) Spent (Live kind mark) here);
+      next_allowed = set_allowed x call Spent tt;
+      patch_fits = λ ok. fits_drop y call kind mark (slice_get-set x.slots (handle_of call) Spent (Live kind mark) here) (marked_at x call (Live kind mark) here ok);
+      refused = λ h. cc;
+      weight_rises = omega (arith, length-set x.slots (handle_of call) Spent);
     }
 
 marked_more : (n : ℕ) (slot : Slot (Option ℕ)) → IsMarked n slot → IsMarked (n + 1) slot
@@ -133,31 +117,27 @@ right_write : {V : Type 0} (x : Shown V) (call : WCall V) (v : V) (told : Bool) 
 right_write x call v true reply served =
     let one_less : x.version + 1 - 1 ≡ x.version = omega arith in
     record {
-      sound = record {
-        undone = λ _. ap (λ n. record x { version = n }) one_less;
-        next_allowed = λ ok. record {
-          few_slots = ok.few_slots;
-          marked = All-weaker (IsMarked x.version) (IsMarked (x.version + 1)) (marked_more x.version) x.slots ok.marked;
-        };
-        patch_fits = λ ok. record { some_told = omega arith; marked = rw one_less ok.marked };
-        refused = λ h. cc;
-        weight_rises = omega arith;
+      undone = λ _. ap (λ n. record x { version = n }) one_less;
+      next_allowed = λ ok. record {
+        few_slots = ok.few_slots;
+        marked = All-weaker (IsMarked x.version) (IsMarked (x.version + 1)) (marked_more x.version) x.slots ok.marked;
       };
+      patch_fits = λ ok. record { some_told = omega arith; marked = rw one_less ok.marked };
+      refused = λ h. cc;
+      weight_rises = omega arith;
     }
 right_write x call v false reply served = record {
-  sound = record {
-    undone = λ _. refl;
-    next_allowed = λ ok. record { few_slots = ok.few_slots; marked = ok.marked };
-    patch_fits = λ _. tt;
-    refused = λ h. cc;
-    weight_rises = omega arith;
-  };
+  undone = λ _. refl;
+  next_allowed = λ ok. record { few_slots = ok.few_slots; marked = ok.marked };
+  patch_fits = λ _. tt;
+  refused = λ h. cc;
+  weight_rises = omega arith;
 }
 
 -- each call, with the handle that it found
 right_with : {V : Type 0} (x : Shown V) (call : WCall V) (kind : Kind) (mark : Option ℕ) → found (wanted call) x.slots (handle_of call) ≡ Handle kind mark → (makes call ≡ true → length x.slots < HANDLES) → IsRight x call (effect_with x call kind mark)
 unfolding Stands
-right_with x (Send h v) kind mark is few = right_if (has_no_receiver x) (λ _. right_keep x _ _) (λ _. right_write x _ v true Stored refl)
+right_with x (Send h v) kind mark is few = sound_if IsAllowed weight back Fits refuses (outcome_of x) (has_no_receiver x) (λ _. right_keep x _ _) (λ _. right_write x _ v true Stored refl)
 right_with x (SendReplace h v) kind mark is few = right_write x _ v true (Old x.value) refl
 right_with x (Modify told h v) kind mark is few = right_write x _ v told (Told told) refl
 right_with x (Subscribe h) kind mark is few = right_make x _ Receiver (Some x.version) (λ _. omega arith) (few refl)
@@ -167,7 +147,7 @@ right_with x (Borrow h) kind mark is few = right_keep x _ _
 right_with x (Update h) kind mark is few = right_see x (Update h) mark (Value x.value) (found_at_wanted Receiver _ kind mark is) refl
 right_with x (HasChanged h) kind mark is few = right_keep x _ _
 right_with x (Changed h) kind mark is few =
-    right_if (is_unseen x.version mark)
+    sound_if IsAllowed weight back Fits refuses (outcome_of x) (is_unseen x.version mark)
     (λ _. right_see x (Changed h) mark Done (found_at_wanted Receiver _ kind mark is) refl)
     (λ _. right_keep x _ _)
 right_with x (MarkChanged h) kind mark is few = right_mark x (MarkChanged h) mark None Done (found_at_wanted Receiver _ kind mark is) tt refl
@@ -177,19 +157,17 @@ right_with x (ReceiverCount h) kind mark is few = right_keep x _ _
 right_with x (IsClosed h) kind mark is few = right_keep x _ _
 right_with x (AwaitClosed h) kind mark is few = right_keep x _ _
 
-right_found : {V : Type 0} (x : Shown V) (call : WCall V) (f : Found (Option ℕ)) → found (wanted call) x.slots (handle_of call) ≡ f → IsRight x call (effect_found x call f)
-right_found x call (Fault f) is = right_keep x call _
-right_found x call (Handle kind mark) is =
-    right_if (makes call && nat_le HANDLES (length x.slots))
-    (λ _. right_keep x call _)
-    (λ few. right_with x call kind mark is (room_for_more (makes call) (length x.slots) few))
-
 right : {V : Type 0} (x : Shown V) (call : WCall V) → IsRight x call (effect x call)
-right x call = right_found x call _ refl
+right x call =
+    of_checked (IsRight x call) (λ fault. (Keep, refused fault)) (Keep, TooManyHandles) (makes call) (length x.slots) (effect_with x call)
+    (found (wanted call) x.slots (handle_of call))
+    (λ fault. right_keep x call _)
+    (right_keep x call _)
+    (right_with x call)
 
 waiting_refuses : {V : Type 0} (r : WReply V) → waits r ≡ true → refuses r ≡ true
 waiting_refuses Waits h = refl
 waiting_refuses _ h = cc
 
 pub watch_laws : {V : Type 0} → Laws {V = Shown V} IsAllowed weight next reply_of patch_of back Fits refuses waits strays
-watch_laws = laws_of IsAllowed weight back Fits refuses outcome waits strays (λ x call. (right x call).sound) waiting_refuses (λ r h. cc)
+watch_laws = laws_of IsAllowed weight back Fits refuses outcome waits strays right waiting_refuses (λ r h. cc)

@@ -131,7 +131,11 @@ impl<V: Copy> WCall<V> {
         match self {
             WCall::Send(_, value) => WCall::Send(handle, value),
             WCall::SendReplace(_, value) => WCall::SendReplace(handle, value),
-            WCall::Modify { told, value, .. } => WCall::Modify { told, handle, value },
+            WCall::Modify { told, value, .. } => WCall::Modify {
+                told,
+                handle,
+                value,
+            },
             WCall::Subscribe(_) => WCall::Subscribe(handle),
             WCall::CloneSender(_) => WCall::CloneSender(handle),
             WCall::CloneReceiver(_) => WCall::CloneReceiver(handle),

@@ -1,13 +1,13 @@
 //! The machine of a watch channel.
 ghost use Rattle.std.specs.Prelude.{◌≡◌, IfOk};
-ghost use Rattle.rw_watch.specs.Record.{first_slots, opened};
+ghost use Rattle.rw_watch.specs.Record.{opened};
 ghost use Rattle.rw_watch.specs.Shown.{shown};
 
 mod readers;
 mod reversible;
 mod steps;
 
-use rw_handles::{Kind, Table};
+use rw_handles::Table;
 use rw_law::NoMemory;
 use std::alloc::Global;
 use std::marker::Model;
@@ -38,23 +38,11 @@ impl<V: Copy> Watch<V> {
     pub fn open(alloc: Global, init: V) -> Result<Watch<V>, NoMemory>
         ensures { IfOk result (λ machine. machine.shown ≡ shown (opened init)) }
     {
-        let handles = first_handles(alloc)?;
         Ok(Watch {
             value: init,
             version: 0,
             limit: 2,
-            handles,
+            handles: Table::of_two(alloc, None, Some(0))?,
         })
     }
-}
-
-/// The handles of a channel at its opening.
-fn first_handles(alloc: Global) -> Result<Table<Option<u64>>, NoMemory>
-    ensures { IfOk result (λ handles. handles.slots ≡ first_slots) }
-{
-    let mut handles = Table::new(alloc)?;
-    handles.ready(2)?;
-    let _sender = handles.make(Kind::Sender, None);
-    let _receiver = handles.make(Kind::Receiver, Some(0));
-    Ok(handles)
 }

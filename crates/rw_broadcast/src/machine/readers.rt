@@ -8,7 +8,7 @@ ghost use Rattle.rw_broadcast.specs.Machine.{position_at};
 
 use super::Broadcast;
 use crate::least::least_position;
-use rw_handles::{Found, Kind};
+use rw_handles::Kind;
 
 impl<V: Copy> Broadcast<V> {
     /// How many values the channel retains.
@@ -43,10 +43,7 @@ impl<V: Copy> Broadcast<V> {
     pub fn position(&self, id: u32) -> Option<u64>
         ensures { result ≡ position_at (slice_get self.now.shown.slots id) }
     {
-        match self.handles.find(id, Some(Kind::Receiver)) {
-            Found::Fault(_) => None,
-            Found::Handle(_, position) => Some(position),
-        }
+        self.handles.receiver(id)
     }
 
     /// How many values a live receiver has yet to receive.

@@ -5,7 +5,7 @@ ghost use Rattle.rw_watch.specs.Channel.{is_closed};
 ghost use Rattle.rw_watch.specs.Machine.{mark_at, is_seen_at};
 
 use super::Watch;
-use rw_handles::{Found, Kind};
+use rw_handles::Kind;
 
 impl<V: Copy> Watch<V> {
     /// How many changes the receivers were told of.
@@ -26,10 +26,7 @@ impl<V: Copy> Watch<V> {
     pub fn mark(&self, id: u32) -> Option<Option<u64>>
         ensures { result ≡ mark_at (slice_get self.now.shown.slots id) }
     {
-        match self.handles.find(id, Some(Kind::Receiver)) {
-            Found::Fault(_) => None,
-            Found::Handle(_, mark) => Some(mark),
-        }
+        self.handles.receiver(id)
     }
 
     /// Whether a live receiver has seen the value.
