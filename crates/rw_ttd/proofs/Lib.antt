@@ -4,5 +4,6 @@ pub mod Kept
 pub mod Recorded
 pub mod Scripting
 pub mod Sessions
+pub mod Telling
 pub mod Waiting
 pub mod Written

@@ -9,3 +9,4 @@ pub mod Report
 pub mod Session
 pub mod Heads
 pub mod Statuses
+pub mod Runs

@@ -1,5 +1,5 @@
--- The exit status of a session.
-use Rattle.std.specs.Prelude.{ℕ, Result, Ok, Err}
+-- What a session's end is told by: an exit status, and a line on the stream for errors.
+use Rattle.std.specs.Prelude.{ℕ, List, [], Result, Ok, Err, codes}
 use Rattle.rw_lines.specs.declared.streams.StreamFault.{StreamFault}
 use Rattle.rw_lines.specs.declared.streams.StreamFault.TheVariants.{Read, Write, TooMuch, NoMemory}
 use Rattle.rw_ttd.specs.declared.session.Outcome.{Outcome}
@@ -13,3 +13,11 @@ status_of (Err Read) = 4
 status_of (Err Write) = 4
 status_of (Err TooMuch) = 4
 status_of (Err NoMemory) = 5
+
+-- the line on the stream for errors; a session that came to its end, and a script that is refused, have none there
+abbrev pub said_of : Result Outcome StreamFault → List ℕ
+said_of (Ok outcome) = []
+said_of (Err Read) = codes "read fault\n"
+said_of (Err Write) = codes "write fault\n"
+said_of (Err TooMuch) = codes "read fault\n"
+said_of (Err NoMemory) = codes "no memory\n"

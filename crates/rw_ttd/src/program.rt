@@ -1,27 +1,40 @@
 //! The command line, and the streams of a session.
 
-use crate::session::session;
-use crate::status::{NO_MEMORY, REFUSED_WORDS, status};
+ghost use Rattle.std.specs.Prelude.{◌≡◌, ℕ, take};
+ghost use Rattle.std.specs.Io.KnownBytes.{Appends};
+ghost use Rattle.rw_ttd.specs.Runs.{Runs};
+ghost use Rattle.rw_ttd.specs.Statuses.{said_of, status_of};
+
+use crate::session::{Outcome, SessionFault, session};
+use crate::status::{REFUSED_WORDS, said, status};
 use clap::Command;
 use clap::error::ErrorKind;
-use rw_lines::StreamFault;
+use rw_lines::put;
 use std::alloc::Global;
 use std::io::{self, BufReader, Read, Write};
 use std::rt::Env;
 
-/// Runs a session on these streams, says on `err` why it stopped before its end, and answers the exit status. A failure of
-/// `err` itself changes no status.
+/// Says on `err` why a session stopped before its end, and answers the exit status. A failure of `err` itself changes no status.
+fn tell<E: Write>(err: &mut E, ended: Result<Outcome, SessionFault>) -> u8
+    ensures status { result ≡ status_of ended }
+    ensures told { (n : ℕ) × Appends (E.contents err.old) (E.contents err.new) (take n (said_of ended)) }
+{
+    let _ = put(err, said(ended).as_bytes());
+    status(ended)
+}
+
+/// Runs a session on these streams, tells its end, and answers the exit status.
 pub fn session_on<R: Read, W: Write, E: Write>(
     alloc: Global,
     input: &mut R,
     out: &mut W,
     err: &mut E,
-) -> u8 {
+) -> u8
+    ensures { Runs (R.remaining input.old) (R.remaining input.new) (W.contents out.old) (W.contents out.new)
+        (E.contents err.old) (E.contents err.new) result }
+{
     let ended = session(alloc, input, out);
-    if let Err(fault) = ended {
-        let _ = writeln!(err, "{fault}");
-    }
-    status(ended)
+    tell(err, ended)
 }
 
 /// Whether the words ask for a session.
@@ -48,22 +61,17 @@ pub fn run<R: Env + Input + Print + AllocGlobal, E: Write>(rt: &R, err: &mut E) 
     };
     let words: Vec<String> = match args.collect(alloc) {
         Ok(words) => words,
-        Err(_) => return no_memory(err),
+        Err(_) => return tell(err, Err(SessionFault::NoMemory)),
     };
     if let Err(error) = asks_session(alloc, words.as_slice()) {
         if error.kind() == ErrorKind::OutOfMemory {
-            return no_memory(err);
+            return tell(err, Err(SessionFault::NoMemory));
         }
         let _ = write!(err, "{error}");
         return REFUSED_WORDS;
     }
     let Ok(mut input) = BufReader::new(alloc, rt.reader()) else {
-        return no_memory(err);
+        return tell(err, Err(SessionFault::NoMemory));
     };
     session_on(alloc, &mut input, &mut io::writer(rt), err)
-}
-
-fn no_memory<E: Write>(err: &mut E) -> u8 {
-    let _ = writeln!(err, "{}", StreamFault::NoMemory);
-    NO_MEMORY
 }

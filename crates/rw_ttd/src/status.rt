@@ -1,15 +1,12 @@
-//! Exit statuses.
+//! What a session's end is told by: an exit status, and a line on the stream for errors.
 
 ghost use Rattle.std.specs.Prelude.{◌≡◌};
-ghost use Rattle.rw_ttd.specs.Statuses.{status_of};
+ghost use Rattle.rw_ttd.specs.Statuses.{said_of, status_of};
 
 use crate::session::{Outcome, SessionFault};
 
 /// The command line was refused.
 pub const REFUSED_WORDS: u8 = 2;
-
-/// A growth was refused.
-pub const NO_MEMORY: u8 = 5;
 
 /// The exit status of a session that ended so.
 pub fn status(ended: Result<Outcome, SessionFault>) -> u8
@@ -19,6 +16,18 @@ pub fn status(ended: Result<Outcome, SessionFault>) -> u8
         Ok(Outcome::Done) => 0,
         Ok(Outcome::Refused(_)) => 1,
         Err(SessionFault::Read | SessionFault::Write | SessionFault::TooMuch) => 4,
-        Err(SessionFault::NoMemory) => NO_MEMORY,
+        Err(SessionFault::NoMemory) => 5,
+    }
+}
+
+/// The line on the stream for errors. A session that came to its end, and a script that is refused, have none there.
+pub fn said(ended: Result<Outcome, SessionFault>) -> &'static str
+    ensures { result.now ≡ said_of ended }
+{
+    match ended {
+        Ok(_) => "",
+        Err(SessionFault::Read | SessionFault::TooMuch) => "read fault\n",
+        Err(SessionFault::Write) => "write fault\n",
+        Err(SessionFault::NoMemory) => "no memory\n",
     }
 }
