@@ -61,7 +61,7 @@ pub fn on_world(
     alloc: Global,
     spec: Spec<u64>,
     calls: &[RowCall<ChanCall<u64>>],
-) -> Result<Measured<Option<ChanReply<u64>>>>
+) -> Result<Measured<ChanReply<u64>>>
     requires { length calls.now ≤ 2 ^ 32 }
     ensures { IfOk result (λ measured. measured.steps ≡ length calls.now) }
 {

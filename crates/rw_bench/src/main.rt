@@ -6,6 +6,8 @@
 //! Start reading at `workloads.rt`, which says what is done, and go on with `measure.rt`, which says what is timed.
 #![tactic(auto)]
 
+ghost use Rattle.std.specs.Prelude.{◌≡◌};
+
 mod channels;
 mod measure;
 mod steps;
@@ -33,6 +35,13 @@ fn asked_steps(rt: &(impl Env + Alloc)) -> Result<u64> {
         Some(count) => count.parse::<u64>().context("COUNT must be a number"),
         None => Ok(DEFAULT_STEPS),
     }
+}
+
+/// How many bytes an entry of a world's journal takes. A journal has up to a million of them.
+fn entry_bytes() -> usize
+    ensures { result ≡ 96 }
+{
+    size_of::<Entry<World<u64>>>()
 }
 
 /// Nanoseconds of each step, where so many took this long.
@@ -97,7 +106,7 @@ fn watch(
 fn main(rt: HostRuntime) -> Result<()> {
     let alloc = rt.alloc();
     let asked = asked_steps(&rt)?;
-    eprintln!(rt; "bytes of an entry: {}", size_of::<Entry<World<u64>>>())?;
+    eprintln!(rt; "bytes of an entry: {}", entry_bytes())?;
     eprintln!(rt; "nanoseconds a step:")?;
     eprintln!(rt; "  apply    take    redo    undo")?;
     for (capacity, work) in [

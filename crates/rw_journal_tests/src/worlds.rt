@@ -29,7 +29,7 @@ fn take(book: &mut Book<World<u64>>, clock: u64, on: BCall<u64>) -> Result<(u64,
     let (actor, call) = call(0, on);
     let receipt = book.take(actor, clock, call)?;
     match receipt.reply {
-        Some(ChanReply::B(BReply::Value(n) | BReply::Count(n))) => Ok((receipt.stamp, n)),
+        ChanReply::B(BReply::Value(n) | BReply::Count(n)) => Ok((receipt.stamp, n)),
         _ => Ok((receipt.stamp, 0)),
     }
 }

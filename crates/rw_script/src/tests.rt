@@ -4,7 +4,7 @@ use crate::{WordFault, read_call, read_reply, write_entry};
 use rw_broadcast::{BCall, BReply};
 use rw_law::{Entry, Reversible};
 use rw_watch::{WCall, WReply};
-use rw_world::{ChanCall, ChanReply, ChannelCall, ChannelReply, RowCall, World};
+use rw_world::{ChanCall, ChanReply, ChannelCall, ChannelPatch, ChannelReply, RowCall, World};
 use std::alloc::Global;
 use std::process::Abort;
 use std::test::Fail;
@@ -28,8 +28,22 @@ const WATCH_CALLS: [(&[u8], WCall<u64>); 17] = [
         b"send-replace 0 18446744073709551615",
         WCall::SendReplace(0, u64::MAX),
     ),
-    (b"modify 0 5 yes", WCall::Modify { told: true, handle: 0, value: 5 }),
-    (b"modify 0 5 no", WCall::Modify { told: false, handle: 0, value: 5 }),
+    (
+        b"modify 0 5 yes",
+        WCall::Modify {
+            told: true,
+            handle: 0,
+            value: 5,
+        },
+    ),
+    (
+        b"modify 0 5 no",
+        WCall::Modify {
+            told: false,
+            handle: 0,
+            value: 5,
+        },
+    ),
     (b"subscribe 0", WCall::Subscribe(0)),
     (b"clone-sender 0", WCall::CloneSender(0)),
     (b"clone-receiver 1", WCall::CloneReceiver(1)),
@@ -87,8 +101,8 @@ fn entry_of(call: ChanCall<u64>, reply: ChanReply<u64>) -> Entry<World<u64>> {
         actor: 2,
         stamp: 1,
         call: RowCall { channel: 3, call },
-        reply: Some(reply),
-        patch: None,
+        reply,
+        patch: ChannelPatch::NoChannel,
     }
 }
 
@@ -171,8 +185,8 @@ fn longest_line_has_123_bytes(rt: HostRuntime) {
             channel: u32::MAX,
             call: ChannelCall::W(WCall::SendReplace(u32::MAX, u64::MAX)),
         },
-        reply: Some(ChannelReply::W(WReply::NoReceivers(u64::MAX))),
-        patch: None,
+        reply: ChannelReply::W(WReply::NoReceivers(u64::MAX)),
+        patch: ChannelPatch::NoChannel,
     };
     let want =
         b"18446744073709551615 4294967295 4294967295 send-replace 4294967295 18446744073709551615 = no-receivers 18446744073709551615";

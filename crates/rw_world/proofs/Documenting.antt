@@ -1,7 +1,7 @@
 -- A world shows what its documented records show, and replies as they do.
 use Rattle.std.proofs.Common.{◌≡◌, ℕ, zero, suc, List, [], ◌∷◌, refl, sym, ap, ◌∙◌, subst}
 use Rattle.std.specs.Prelude.{slice_get}
-use Rattle.std.specs.Option.{option_map, option_map_or}
+use Rattle.std.specs.Option.{option_map_or}
 use Rattle.rw_law.specs.Journal.{LawsOf}
 use Rattle.rw_broadcast.specs.Soundness.{broadcast_laws}
 use Rattle.rw_broadcast.proofs.Showing as broadcast
@@ -12,6 +12,7 @@ use Rattle.rw_world.specs.declared.channels.ChannelReply.TheVariants as reply
 use Rattle.rw_world.specs.declared.opening.Spec.{Spec}
 use Rattle.rw_world.specs.declared.opening.Spec.TheVariants.{Broadcast, Watch}
 use Rattle.rw_world.specs.declared.rows.RowCall.{RowCall}
+use Rattle.rw_world.specs.Channel.{no_channel}
 use Rattle.rw_world.specs.ChannelLaws.{channel_laws}
 use Rattle.rw_world.specs.Kinds.{broadcast_shown, watch_shown}
 use Rattle.rw_world.specs.Lists.{modified, Each}
@@ -48,7 +49,7 @@ module _ {V : Type 0} where
   shows_step_at (r ∷ rs) (suc i) c allowed = ap (λ xs. shown_record r ∷ xs) (shows_step_at rs i c allowed.1)
 
   replies_at : (rs : List (ChannelRecord V)) (i : ℕ) (c : ChanCall V) → AreAllowed (shown_records rs)
-      → option_map_or (λ r. r) (option_map (λ x. (of_chan {V = V}).reply_of x c) (slice_get (shown_records rs) i)) reply.NoChannel
+      → option_map_or (λ x. (of_chan {V = V}).reply_of x c) (slice_get (shown_records rs) i) reply.NoChannel
       ≡ option_map_or (λ r. (step_of r c).1) (slice_get rs i) reply.NoChannel
   replies_at [] i c allowed = refl
   replies_at (r ∷ rs) zero c allowed = replies_step r c allowed.0
@@ -56,7 +57,7 @@ module _ {V : Type 0} where
 
   allowed_next : (rs : List (ChannelRecord V)) (c : RowCall (ChanCall V)) → AreAllowed (shown_records rs) → AreAllowed (shown_records (next_records rs c))
   allowed_next rs c allowed =
-      subst AreAllowed (sym (shows_step_at rs c.channel c.call allowed)) ((row_laws of_chan chan_laws).next_allowed (shown_records rs) c allowed)
+      subst AreAllowed (sym (shows_step_at rs c.channel c.call allowed)) ((row_laws of_chan no_channel chan_laws).next_allowed (shown_records rs) c allowed)
 
   allowed_after : (rs : List (ChannelRecord V)) (calls : List (RowCall (ChanCall V))) → AreAllowed (shown_records rs) → AreAllowed (shown_records (records_after rs calls))
   allowed_after rs [] allowed = allowed
@@ -86,5 +87,5 @@ shows_its_records V specs calls =
 pub replies_by_records : (V : Type 0) → RepliesByRecords V
 replies_by_records V specs calls c =
     let rs = records_after (opened_records specs) calls in
-    let reply_at = λ (xs : List (ChanShown V)). option_map_or (λ r. r) ((of_world {V = V}).reply_of xs c) reply.NoChannel in
-    ap reply_at (sym (shows_its_records V specs calls)) ∙ replies_at rs c.channel c.call (allowed_after (opened_records specs) calls (allowed_opened specs))
+    let reply_to = λ (xs : List (ChanShown V)). (of_world {V = V}).reply_of xs c in
+    ap reply_to (sym (shows_its_records V specs calls)) ∙ replies_at rs c.channel c.call (allowed_after (opened_records specs) calls (allowed_opened specs))

@@ -1,10 +1,11 @@
 -- A list with one element changed, and what is found in it.
 use Rattle.std.proofs.Common.{◌≡◌, ◌≢◌, ℕ, zero, suc, List, [], ◌∷◌, length, Some, refl, sym, ap}
 use Rattle.std.specs.Prelude.{slice_get}
-use Rattle.std.specs.Option.{option_map}
+use Rattle.std.specs.Option.{option_map_or}
 use Rattle.rw_law.specs.declared.machine.Reversible.{Ghosts}
 use Rattle.rw_world.specs.Lists.{modified}
 use Rattle.rw_world.specs.Commuting.{Commutes}
+use Rattle.rw_world.specs.Row.{Missing}
 
 module _ {X : Type 0} where
   pub length-modified : (f : X → X) (xs : List X) (i : ℕ) → length (modified f xs i) ≡ length xs
@@ -34,15 +35,15 @@ module _ {X : Type 0} where
   get-modified_other f (x ∷ xs) (suc i) (suc j) apart = get-modified_other f xs i j (λ same. apart (ap suc same))
 
 -- calls on two different channels commute
-pub commutes : {M C R P : Type 0} (m : Ghosts M C R P) → Commutes m
-commutes m xs c d apart =
+pub commutes : {M C R P : Type 0} (m : Ghosts M C R P) (missing : Missing R P) → Commutes m missing
+commutes m missing xs c d apart =
     let back_apart : d.channel ≢ c.channel = λ same. apart (sym same) in
     let after_c = get-modified_other (λ x. m.next x c.call) xs c.channel d.channel apart in
     let after_d = get-modified_other (λ x. m.next x d.call) xs d.channel c.channel back_apart in
     record {
       members = modified_comm (λ x. m.next x c.call) (λ x. m.next x d.call) xs c.channel d.channel apart;
-      reply = ap (option_map (λ x. m.reply_of x d.call)) after_c;
-      reply_of_other = ap (option_map (λ x. m.reply_of x c.call)) after_d;
-      patch = ap (option_map (λ x. m.patch_of x d.call)) after_c;
-      patch_of_other = ap (option_map (λ x. m.patch_of x c.call)) after_d;
+      reply = ap (λ o. option_map_or (λ x. m.reply_of x d.call) o missing.reply) after_c;
+      reply_of_other = ap (λ o. option_map_or (λ x. m.reply_of x c.call) o missing.reply) after_d;
+      patch = ap (λ o. option_map_or (λ x. m.patch_of x d.call) o missing.patch) after_c;
+      patch_of_other = ap (λ o. option_map_or (λ x. m.patch_of x c.call) o missing.patch) after_d;
     }

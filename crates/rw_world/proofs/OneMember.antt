@@ -19,7 +19,7 @@ module _ {M V : Type 0} (shown : M → V) where
   slice_get_at (x ∷ xs) (suc i) d within = slice_get_at xs i d (omega arith)
 
   -- what holds of the view at i holds of what the member there shows
-  pub fits_at : (P : V → Type 0) (xs : List M) (i : ℕ) (d : M) → i < length xs → MatchOption (slice_get (map shown xs) i) ⊥ P → P (shown (get_or xs i d))
+  pub fits_at : (P : V → Type 0) (xs : List M) (i : ℕ) (d : M) → i < length xs → MatchOption (slice_get (map shown xs) i) (Unit {0}) P → P (shown (get_or xs i d))
   fits_at P [] i d within fits = absurd (omega arith)
   fits_at P (x ∷ xs) zero d within fits = fits
   fits_at P (x ∷ xs) (suc i) d within fits = fits_at P xs i d (omega arith) fits

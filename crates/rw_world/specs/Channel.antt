@@ -10,6 +10,11 @@ use Rattle.rw_world.specs.declared.channels.ChannelReply.{ChannelReply}
 use Rattle.rw_world.specs.declared.channels.ChannelReply.TheVariants as reply
 use Rattle.rw_world.specs.declared.channels.ChannelPatch.{ChannelPatch}
 use Rattle.rw_world.specs.declared.channels.ChannelPatch.TheVariants as patch
+use Rattle.rw_world.specs.Row.{Missing}
+
+-- what a call gets whose channel isn't there
+abbrev pub no_channel : {R P S Q : Type 0} → Missing (ChannelReply R S) (ChannelPatch P Q)
+no_channel = record { reply = reply.NoChannel; patch = patch.NoChannel }
 
 -- whether a call is of the other kind
 abbrev pub strays_at : {C D : Type 0} → Kind → ChannelCall C D → Bool

@@ -10,13 +10,13 @@ use Rattle.rw_watch.specs.declared.calls.WReply.{WReply}
 use Rattle.rw_watch.specs.declared.calls.WPatch.{WPatch}
 use Rattle.rw_watch.specs.Machine.{Machine as WatchMachine}
 use Rattle.rw_watch.specs.Shown as w
-use Rattle.std.specs.Prelude.{List, Option}
+use Rattle.std.specs.Prelude.{List}
 use Rattle.rw_world.specs.declared.channels.Channel.{Channel}
 use Rattle.rw_world.specs.declared.channels.ChannelCall.{ChannelCall}
 use Rattle.rw_world.specs.declared.channels.ChannelReply.{ChannelReply}
 use Rattle.rw_world.specs.declared.channels.ChannelPatch.{ChannelPatch}
 use Rattle.rw_world.specs.declared.rows.RowCall.{RowCall}
-use Rattle.rw_world.specs.Channel.{of_channel}
+use Rattle.rw_world.specs.Channel.{no_channel, of_channel}
 use Rattle.rw_world.specs.Row.{of_row}
 use Rattle.rw_world.specs.Kinds.{Shown}
 
@@ -74,5 +74,5 @@ module _ {V : Type 0} where
   abbrev pub of_chan : Ghosts (Chan V) (ChanCall V) (ChanReply V) (ChanPatch V)
   of_chan = of_channel of_broadcast of_watch
 
-  abbrev pub of_world : Ghosts (List (Chan V)) (RowCall (ChanCall V)) (Option (ChanReply V)) (Option (ChanPatch V))
-  of_world = of_row of_chan
+  abbrev pub of_world : Ghosts (List (Chan V)) (RowCall (ChanCall V)) (ChanReply V) (ChanPatch V)
+  of_world = of_row of_chan no_channel

@@ -69,7 +69,7 @@ abbrev pub ShowsItsRecords : Type 0 → Type 0
 ShowsItsRecords V = (specs : List (Spec V)) (calls : List (RowCall (ChanCall V)))
     → shown_records (records_after (opened_records specs) calls) ≡ shown_after (opened specs) calls
 
--- after any calls a world replies to a call as documented. (A row gives no reply where there is no such channel.)
+-- after any calls a world replies to a call as documented
 abbrev pub RepliesByRecords : Type 0 → Type 0
 RepliesByRecords V = (specs : List (Spec V)) (calls : List (RowCall (ChanCall V))) (c : RowCall (ChanCall V))
-    → option_map_or (λ r. r) ((of_world {V = V}).reply_of (shown_after (opened specs) calls) c) reply.NoChannel ≡ reply_from (records_after (opened_records specs) calls) c
+    → (of_world {V = V}).reply_of (shown_after (opened specs) calls) c ≡ reply_from (records_after (opened_records specs) calls) c

@@ -1,49 +1,33 @@
 -- A row keeps the laws that its members keep.
-use Rattle.std.proofs.Common.{◌∙◌, ◌≡◌, ℕ, zero, suc, ◌+◌, ◌≤◌, true, List, [], ◌∷◌, Option, Some, None, refl, ap, arith}
+use Rattle.std.proofs.Common.{◌≡◌, ℕ, zero, suc, ◌+◌, ◌≤◌, true, List, [], ◌∷◌, refl, ap, arith}
 use Rattle.rw_law.specs.declared.machine.Reversible.{Ghosts}
 use Rattle.rw_law.specs.Journal.{LawsOf}
 use Rattle.rw_law.specs.Laws.{Laws}
 use Rattle.rw_world.specs.declared.rows.RowCall.{RowCall}
 use Rattle.rw_world.specs.Lists.{Each, greatest}
-use Rattle.rw_world.specs.Row.{next, reply_of, patch_of, back, Fits, IsAllowed, weigh, refuses, waits, strays}
+use Rattle.rw_world.specs.Row.{Missing, next, reply_of, patch_of, back, Fits, IsAllowed, weigh}
 
-module _ {M C R P : Type 0} (m : Ghosts M C R P) where
+module _ {M C R P : Type 0} (m : Ghosts M C R P) (missing : Missing R P) where
   abbrev to : ℕ → C → RowCall C
   to i c = record { channel = i; call = c }
 
-  back_behind : (x : m.View) (xs : List m.View) (i : ℕ) (c : C) (o : Option P) → back m (x ∷ xs) (to (suc i) c) o ≡ x ∷ back m xs (to i c) o
-  back_behind x xs i c None = refl
-  back_behind x xs i c (Some p) = refl
-
-  fits_behind : (x : m.View) (xs : List m.View) (i : ℕ) (c : C) (o : Option P) → Fits m xs (to i c) o → Fits m (x ∷ xs) (to (suc i) c) o
-  fits_behind x xs i c None fits = tt
-  fits_behind x xs i c (Some p) fits = fits
-
-  waiting_at : (laws : LawsOf m) (o : Option R) → waits m o ≡ true → refuses m o ≡ true
-  waiting_at laws None waits = refl
-  waiting_at laws (Some r) waits = laws.waiting_refuses r waits
-
-  straying_at : (laws : LawsOf m) (o : Option R) → strays m o ≡ true → refuses m o ≡ true
-  straying_at laws None strays = refl
-  straying_at laws (Some r) strays = laws.straying_refuses r strays
-
   module _ (laws : LawsOf m) where
-    undone_at : (xs : List m.View) (i : ℕ) (c : C) → Each m.allowed xs → back m (next m xs (to i c)) (to i c) (patch_of m xs (to i c)) ≡ xs
+    undone_at : (xs : List m.View) (i : ℕ) (c : C) → Each m.allowed xs → back m (next m xs (to i c)) (to i c) (patch_of m missing xs (to i c)) ≡ xs
     undone_at [] i c allowed = refl
     undone_at (x ∷ xs) zero c allowed = ap (λ y. y ∷ xs) (laws.undone x c allowed.0)
-    undone_at (x ∷ xs) (suc i) c allowed = back_behind x (next m xs (to i c)) i c (patch_of m xs (to i c)) ∙ ap (λ ys. x ∷ ys) (undone_at xs i c allowed.1)
+    undone_at (x ∷ xs) (suc i) c allowed = ap (λ ys. x ∷ ys) (undone_at xs i c allowed.1)
 
     allowed_at : (xs : List m.View) (i : ℕ) (c : C) → Each m.allowed xs → Each m.allowed (next m xs (to i c))
     allowed_at [] i c allowed = tt
     allowed_at (x ∷ xs) zero c allowed = (laws.next_allowed x c allowed.0, allowed.1)
     allowed_at (x ∷ xs) (suc i) c allowed = (allowed.0, allowed_at xs i c allowed.1)
 
-    fits_at : (xs : List m.View) (i : ℕ) (c : C) → Each m.allowed xs → Fits m (next m xs (to i c)) (to i c) (patch_of m xs (to i c))
+    fits_at : (xs : List m.View) (i : ℕ) (c : C) → Each m.allowed xs → Fits m (next m xs (to i c)) (to i c) (patch_of m missing xs (to i c))
     fits_at [] i c allowed = tt
     fits_at (x ∷ xs) zero c allowed = laws.patch_fits x c allowed.0
-    fits_at (x ∷ xs) (suc i) c allowed = fits_behind x (next m xs (to i c)) i c (patch_of m xs (to i c)) (fits_at xs i c allowed.1)
+    fits_at (x ∷ xs) (suc i) c allowed = fits_at xs i c allowed.1
 
-    refused_at : (xs : List m.View) (i : ℕ) (c : C) → Each m.allowed xs → refuses m (reply_of m xs (to i c)) ≡ true → next m xs (to i c) ≡ xs
+    refused_at : (xs : List m.View) (i : ℕ) (c : C) → Each m.allowed xs → m.refuses (reply_of m missing xs (to i c)) ≡ true → next m xs (to i c) ≡ xs
     refused_at [] i c allowed refuses = refl
     refused_at (x ∷ xs) zero c allowed refuses = ap (λ y. y ∷ xs) (laws.refused x c allowed.0 refuses)
     refused_at (x ∷ xs) (suc i) c allowed refuses = ap (λ ys. x ∷ ys) (refused_at xs i c allowed.1 refuses)
@@ -53,13 +37,13 @@ module _ {M C R P : Type 0} (m : Ghosts M C R P) where
     rises_at (x ∷ xs) zero c allowed = omega (arith, laws.weight_rises x c allowed.0)
     rises_at (x ∷ xs) (suc i) c allowed = omega (arith, rises_at xs i c allowed.1)
 
-    pub row_laws : Laws (IsAllowed m) (weigh m) (next m) (reply_of m) (patch_of m) (back m) (Fits m) (refuses m) (waits m) (strays m)
+    pub row_laws : Laws (IsAllowed m) (weigh m) (next m) (reply_of m missing) (patch_of m missing) (back m) (Fits m) m.refuses m.is_waiting m.is_straying
     row_laws = record {
       undone = λ x c allowed. undone_at x c.channel c.call allowed;
       next_allowed = λ x c allowed. allowed_at x c.channel c.call allowed;
       patch_fits = λ x c allowed. fits_at x c.channel c.call allowed;
       refused = λ x c allowed refuses. refused_at x c.channel c.call allowed refuses;
-      waiting_refuses = waiting_at laws;
-      straying_refuses = straying_at laws;
+      waiting_refuses = laws.waiting_refuses;
+      straying_refuses = laws.straying_refuses;
       weight_rises = λ x c allowed. rises_at x c.channel c.call allowed;
     }

@@ -4,7 +4,7 @@ use Rattle.std.specs.Option.{option_map_or}
 use Rattle.rw_law.specs.declared.machine.Reversible.{Ghosts}
 use Rattle.rw_law.specs.Journal.{after_all}
 use Rattle.rw_world.specs.declared.rows.RowCall.{RowCall}
-use Rattle.rw_world.specs.Row.{next, reply_of, strays, of_row}
+use Rattle.rw_world.specs.Row.{Missing, next, reply_of, of_row}
 use Rattle.rw_world.specs.Parts.{RowEntry}
 
 -- a call strays in a row of these kinds: there is no such channel, or its kind doesn't know the call
@@ -25,9 +25,9 @@ module _ {M C R P : Type 0} (m : Ghosts M C R P) {K : Type 0} (kind : m.View →
   KeepsShape = (xs : List m.View) (c : RowCall C) → map kind (next m xs c) ≡ map kind xs
 
   -- no journal changes the shape of the row
-  abbrev pub KeepsShapeThroughout : Type 0
-  KeepsShapeThroughout = (xs : List m.View) (es : List (RowEntry M C R P)) → map kind (after_all (of_row m) xs es) ≡ map kind xs
+  abbrev pub KeepsShapeThroughout : Missing R P → Type 0
+  KeepsShapeThroughout missing = (xs : List m.View) (es : List (RowEntry M C R P)) → map kind (after_all (of_row m missing) xs es) ≡ map kind xs
 
   -- a call strays exactly by the shape of the row
-  abbrev pub StraysByShape : Type 0
-  StraysByShape = (xs : List m.View) (c : RowCall C) → strays m (reply_of m xs c) ≡ stray_of strays_at (map kind xs) c
+  abbrev pub StraysByShape : Missing R P → Type 0
+  StraysByShape missing = (xs : List m.View) (c : RowCall C) → m.is_straying (reply_of m missing xs c) ≡ stray_of strays_at (map kind xs) c

@@ -1,5 +1,6 @@
 //! Channels of either kind.
 
+use crate::members::Member;
 use rw_law::{NoMemory, Reversible};
 
 /// A channel: a machine of one of two kinds.
@@ -18,7 +19,7 @@ pub enum ChannelCall<B, W> {
     W(W),
 }
 
-/// The answer of a channel's machine, or that the call was of the other kind.
+/// The answer of a channel's machine, or that the call was of the other kind, or on a channel that isn't there.
 #[derive(Clone, Copy, Debug, PartialEq, Eq)]
 pub enum ChannelReply<B, W> {
     B(B),
@@ -140,5 +141,23 @@ impl<B: Reversible, W: Reversible> Reversible for Channel<B, W> {
 
     fn strays(reply: &ChannelReply<B::Reply, W::Reply>) -> bool {
         matches!(reply, ChannelReply::NoChannel)
+    }
+}
+
+impl<B: Reversible, W: Reversible> Member for Channel<B, W> {
+    ghost use Rattle.std.specs.Prelude.{refl};
+    ghost use Rattle.rw_world.specs.Channel.{no_channel};
+
+    ghost missing = { no_channel };
+
+    ghost missing_strays = { refl };
+
+    ghost missing_goes_on = { refl };
+
+    fn missing() -> (
+        ChannelReply<B::Reply, W::Reply>,
+        ChannelPatch<B::Patch, W::Patch>,
+    ) {
+        (ChannelReply::NoChannel, ChannelPatch::NoChannel)
     }
 }

@@ -2,7 +2,7 @@
 
 ghost use Rattle.rw_law.specs.Journal.{IsLegal, after_all};
 ghost use Rattle.rw_world.specs.Kinds.{kind_of};
-ghost use Rattle.rw_world.specs.Channel.{strays_at};
+ghost use Rattle.rw_world.specs.Channel.{no_channel, strays_at};
 ghost use Rattle.rw_world.specs.Commuting.{Commutes};
 ghost use Rattle.rw_world.specs.Shapes.{KeepsShape, KeepsShapeThroughout, StraysByShape};
 ghost use Rattle.rw_world.specs.Parts.{IsLegalExactlyByParts};
@@ -10,25 +10,26 @@ ghost use Rattle.rw_world.specs.Records.{RepliesByRecords, ShowsItsRecords};
 ghost use Rattle.rw_world.specs.Specified.{AreLegalOfChannels, AreLegalOfWorlds, IsAfterOfWorlds, IsLegalExactlyBySpecs, OpensAsSpecified, StraysBySpecs};
 
 use crate::channels::Channel;
+use crate::members::Member;
 use crate::opening::{Chan, World};
 use rw_law::Reversible;
 
 /// Calls on two different channels lead to the same row in either order, and get the same replies and patches.
-pub fn commutes<M: Reversible>()
-    ensures { Commutes M.Reversible }
+pub fn commutes<M: Member>()
+    ensures { Commutes M.Reversible M.missing }
 {}
 
 /// A journal of a row is legal exactly where each channel's part of it is legal from the channel's machine, and each
 /// entry's channel is there.
-pub fn legal_by_parts<M: Reversible>()
-    ensures { IsLegalExactlyByParts M.Reversible }
+pub fn legal_by_parts<M: Member>()
+    ensures { IsLegalExactlyByParts M.Reversible M.missing }
 {}
 
 /// No step changes which kind of channel stands at which number, and a call gets `NoChannel` exactly by that.
 pub fn shape<B: Reversible, W: Reversible>()
     ensures keeps { KeepsShape ⟦<Channel<B, W> as Reversible>⟧ kind_of strays_at }
-    ensures throughout { KeepsShapeThroughout ⟦<Channel<B, W> as Reversible>⟧ kind_of strays_at }
-    ensures strays { StraysByShape ⟦<Channel<B, W> as Reversible>⟧ kind_of strays_at }
+    ensures throughout { KeepsShapeThroughout ⟦<Channel<B, W> as Reversible>⟧ kind_of strays_at no_channel }
+    ensures strays { StraysByShape ⟦<Channel<B, W> as Reversible>⟧ kind_of strays_at no_channel }
 {}
 
 /// A world opens with the kinds of channels that its specs name. After any journal a call gets `NoChannel` exactly by the

@@ -1,7 +1,8 @@
 //! Worlds: channels of both kinds in a row, which are one machine whose steps can be undone.
 //!
 //! The one contract: whatever machines are put in a row, the row keeps the laws of `rw_law` that they keep (`Row` in
-//! `rows.rt`); so does a channel that is a machine of one kind or of another (`Channel` in `channels.rt`).
+//! `rows.rt`, `Member` in `members.rt`); so does a channel that is a machine of one kind or of another (`Channel` in
+//! `channels.rt`).
 //! Start reading at `specs/Row.antt`, which says what a call to a row does, and go on with `opening.rt`, which opens the worlds
 //! of this library, rows of broadcasts and watches. `laws.rt` has what the layers above build on: calls on two channels
 //! commute, a journal is legal exactly where each channel's part of it is, and no step changes which channels there are.
@@ -17,5 +18,6 @@ mod tests;
 
 pub use channels::{Channel, ChannelCall, ChannelPatch, ChannelReply};
 pub use laws::{commutes, documented, legal_by_parts, machines, shape, specified};
+pub use members::Member;
 pub use opening::{Chan, ChanCall, ChanReply, OpenFault, Spec, World, open, open_channel};
 pub use rows::{Row, RowCall};

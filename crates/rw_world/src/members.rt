@@ -1,10 +1,28 @@
-//! Steps and room of the machines in a row.
+//! The machines in a row: what makes them one, their steps and their room.
 
-ghost use Rattle.std.specs.Prelude.{◌≡◌, ◌≤◌, ◌<◌, ◌^◌, length, map, slice_get, Some, MatchOption, OnOk, IsOk};
+ghost use Rattle.std.specs.Prelude.{◌≡◌, ◌≤◌, ◌<◌, ◌^◌, false, true, length, map, slice_get, Some, MatchOption, OnOk, IsOk};
 ghost use Rattle.std.specs.Option.{option_map};
 ghost use Rattle.rw_world.specs.Lists.{modified, Each, greatest, least};
+ghost use Rattle.rw_world.specs.Row.{Missing};
 
 use rw_law::{NoMemory, Reversible};
+
+/// A machine that can stand in a row. It names what a call gets whose channel isn't in the row, so that a row's replies and
+/// patches need no form of their own, and no memory for it.
+pub trait Member: Reversible {
+    ghost missing: { Missing Self.Reply Self.Patch };
+
+    /// The reply and the patch of a call whose channel isn't there.
+    fn missing() -> (Self::Reply, Self::Patch)
+        ensures reply { result.0 ≡ missing.reply }
+        ensures patch { result.1 ≡ missing.patch };
+
+    /// The reply says that there is no such channel.
+    ghost missing_strays: { Self.is_straying missing.reply ≡ true };
+
+    /// It doesn't say that the call would wait.
+    ghost missing_goes_on: { Self.is_waiting missing.reply ≡ false };
+}
 
 /// Makes a call of one member.
 pub fn apply_at<M: Reversible>(members: &mut [M], i: usize, call: &M::Call) -> (M::Reply, M::Patch)
@@ -21,7 +39,7 @@ pub fn apply_at<M: Reversible>(members: &mut [M], i: usize, call: &M::Call) -> (
 /// Undoes a call of one member.
 pub fn undo_at<M: Reversible>(members: &mut [M], i: usize, call: &M::Call, patch: &M::Patch)
     requires within { i < length members.old }
-    requires fits { MatchOption (slice_get (map M.shown members.old) i) ⊥ (λ x. M.fits x call.now patch.now) }
+    requires fits { MatchOption (slice_get (map M.shown members.old) i) (Unit {0}) (λ x. M.fits x call.now patch.now) }
     ensures view { map M.shown members.new ≡ modified (λ x. M.back x call.now patch.now) (map M.shown members.old) i }
     ensures room { least M.reserved members.new ≡ least M.reserved members.old }
 {

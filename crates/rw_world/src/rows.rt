@@ -3,7 +3,7 @@
 ghost use Rattle.std.specs.Prelude.{◌≡◌, length, slice_get};
 ghost use Rattle.std.specs.Option.{option_copied};
 
-use crate::members::{apply_at, greatest_weight, least_limit, ready_all, undo_at};
+use crate::members::{Member, apply_at, greatest_weight, least_limit, ready_all, undo_at};
 use rw_law::{NoMemory, Reversible};
 use std::marker::Model;
 
@@ -54,7 +54,7 @@ impl<M: Reversible> Row<M> {
     }
 }
 
-impl<M: Reversible> Reversible for Row<M> {
+impl<M: Member> Reversible for Row<M> {
     ghost use Rattle.std.specs.Prelude.{List, map};
     ghost use Rattle.rw_world.specs.Row as row;
     ghost use Rattle.rw_world.specs.Lists.{least};
@@ -62,10 +62,9 @@ impl<M: Reversible> Reversible for Row<M> {
 
     type Call = RowCall<M::Call>;
 
-    /// `None` where there is no such channel.
-    type Reply = Option<M::Reply>;
+    type Reply = M::Reply;
 
-    type Patch = Option<M::Patch>;
+    type Patch = M::Patch;
 
     ghost View = { List M.View };
 
@@ -79,21 +78,21 @@ impl<M: Reversible> Reversible for Row<M> {
 
     ghost next = { row.next M.Reversible };
 
-    ghost reply_of = { row.reply_of M.Reversible };
+    ghost reply_of = { row.reply_of M.Reversible M.missing };
 
-    ghost patch_of = { row.patch_of M.Reversible };
+    ghost patch_of = { row.patch_of M.Reversible M.missing };
 
     ghost back = { row.back M.Reversible };
 
     ghost fits = { row.Fits M.Reversible };
 
-    ghost refuses = { row.refuses M.Reversible };
+    ghost refuses = { M.refuses };
 
-    ghost is_waiting = { row.waits M.Reversible };
+    ghost is_waiting = { M.is_waiting };
 
-    ghost is_straying = { row.strays M.Reversible };
+    ghost is_straying = { M.is_straying };
 
-    ghost laws = { row_laws ⟦<M as Reversible>⟧ M.laws };
+    ghost laws = { row_laws ⟦<M as Reversible>⟧ M.missing M.laws };
 
     fn weight(&self) -> u64 {
         greatest_weight(&self.members)
@@ -108,36 +107,27 @@ impl<M: Reversible> Reversible for Row<M> {
         ready_all(&mut self.members, wanted)
     }
 
-    fn apply(&mut self, call: &RowCall<M::Call>) -> (Option<M::Reply>, Option<M::Patch>) {
+    fn apply(&mut self, call: &RowCall<M::Call>) -> (M::Reply, M::Patch) {
         let channel = call.channel as usize;
         if channel < self.members.len() {
-            let (reply, patch) = apply_at(&mut self.members, channel, &call.call);
-            (Some(reply), Some(patch))
+            apply_at(&mut self.members, channel, &call.call)
         } else {
-            (None, None)
+            M::missing()
         }
     }
 
-    fn undo(&mut self, call: &RowCall<M::Call>, patch: &Option<M::Patch>) {
+    fn undo(&mut self, call: &RowCall<M::Call>, patch: &M::Patch) {
         let channel = call.channel as usize;
-        if let Some(patch) = patch {
-            if channel < self.members.len() {
-                undo_at(&mut self.members, channel, &call.call, patch);
-            }
+        if channel < self.members.len() {
+            undo_at(&mut self.members, channel, &call.call, patch);
         }
     }
 
-    fn waits(reply: &Option<M::Reply>) -> bool {
-        match reply {
-            Some(reply) => M::waits(reply),
-            None => false,
-        }
+    fn waits(reply: &M::Reply) -> bool {
+        M::waits(reply)
     }
 
-    fn strays(reply: &Option<M::Reply>) -> bool {
-        match reply {
-            Some(reply) => M::strays(reply),
-            None => true,
-        }
+    fn strays(reply: &M::Reply) -> bool {
+        M::strays(reply)
     }
 }

@@ -50,25 +50,25 @@ fn calls_both_kinds(rt: HostRuntime) -> Result<(), Fail> {
         (
             0,
             ChanCall::B(BCall::Send(0, 1)),
-            Some(ChanReply::B(BReply::Sent(1))),
+            ChanReply::B(BReply::Sent(1)),
         ),
         (
             1,
             ChanCall::W(WCall::Send(0, 6)),
-            Some(ChanReply::W(WReply::Stored)),
+            ChanReply::W(WReply::Stored),
         ),
         (
             0,
             ChanCall::B(BCall::TryRecv(1)),
-            Some(ChanReply::B(BReply::Value(1))),
+            ChanReply::B(BReply::Value(1)),
         ),
         (
             1,
             ChanCall::W(WCall::Update(1)),
-            Some(ChanReply::W(WReply::Value(6))),
+            ChanReply::W(WReply::Value(6)),
         ),
-        (0, ChanCall::W(WCall::Update(1)), Some(ChanReply::NoChannel)),
-        (2, ChanCall::W(WCall::Update(1)), None),
+        (0, ChanCall::W(WCall::Update(1)), ChanReply::NoChannel),
+        (2, ChanCall::W(WCall::Update(1)), ChanReply::NoChannel),
     ];
     for (channel, call, reply) in table {
         assert!(rt; world.weight() < 100);
