@@ -107,6 +107,7 @@ impl<M: Member> Reversible for Row<M> {
         ready_all(&mut self.members, wanted)
     }
 
+    #[tactic(auto, using(crate::proofs::OneMember::modified_past, crate::proofs::OneMember::none_past))]
     fn apply(&mut self, call: &RowCall<M::Call>) -> (M::Reply, M::Patch) {
         let channel = call.channel as usize;
         if channel < self.members.len() {
@@ -116,6 +117,7 @@ impl<M: Member> Reversible for Row<M> {
         }
     }
 
+    #[tactic(auto, using(crate::proofs::OneMember::modified_past))]
     fn undo(&mut self, call: &RowCall<M::Call>, patch: &M::Patch) {
         let channel = call.channel as usize;
         if channel < self.members.len() {
