@@ -5,4 +5,6 @@
 mod books;
 pub mod cell;
 #[cfg(test)]
+mod drafts;
+#[cfg(test)]
 mod worlds;
