@@ -3,3 +3,10 @@ pub mod Words
 pub mod BroadcastWords
 pub mod WatchWords
 pub mod Texts
+pub mod ReplyWords
+pub mod Faults
+pub mod Fields
+pub mod StepLines
+pub mod Script
+pub mod Kept
+pub mod Running

@@ -1,0 +1,31 @@
+use Rattle.std.proofs.Common.{sym, ap, ◌∙◌, arith}
+use Rattle.rw_journal.specs.Interleaving.{interleaving_of}
+use Rattle.rw_script.proofs.PlayLaws.{actor_at, goes_on_at, stops_at, never_strays, last_counted}
+use Rattle.rw_script.proofs.running.run_steps.Goals as goal
+
+pub run_step-requires-clause-stamps : goal.run_step-requires-clause-stamps
+run_step-requires-clause-stamps c = omega (arith, last_counted _ c.each_step.invariant.counts, c.each_step.invariant.count, c.each_step-test.true, c.steps-step-items.ensures.few)
+
+pub run_step-requires-clause-actor : goal.run_step-requires-clause-actor
+run_step-requires-clause-actor c = actor_at _ _ _ _ _ c.steps-step-items.ensures.each c.each_step-test.true c.kept.ensures.few_actors
+
+pub run_step-requires-clause-no_stray : goal.run_step-requires-clause-no_stray
+run_step-requires-clause-no_stray c =
+    rw c.deref.ensures.value (never_strays c.args.script.now c.each_step.book _ c.each_step.step-index c.specified.ensures.strays c.each_step.invariant _ (c.steps-step-items.ensures.each c.each_step.step-index _ c.each_step-test.true))
+
+pub returns-in_default-clause-calls : goal.returns-in_default-clause-calls
+returns-in_default-clause-calls c =
+    let h = rw c.deref.ensures.value at (rw c.in_default.is at c.in_ok-handle.ensures) in
+    ap interleaving_of h.1 ∙ sym (ap (λ ran. ran.calls)
+    (stops_at c.args.script.now c.steps-step-items.result.now c.steps-step-items.ensures.steps c.each_step.step-index _ c.each_step-test.true c.each_step.book c.each_step.made.items c.documented.ensures.replies c.each_step.invariant h.0))
+
+pub returns-in_default-clause-waits : goal.returns-in_default-clause-waits
+returns-in_default-clause-waits c =
+    let h = rw c.deref.ensures.value at (rw c.in_default.is at c.in_ok-handle.ensures) in
+    sym (ap (λ ran. ran.waits)
+    (stops_at c.args.script.now c.steps-step-items.result.now c.steps-step-items.ensures.steps c.each_step.step-index _ c.each_step-test.true c.each_step.book c.each_step.made.items c.documented.ensures.replies c.each_step.invariant h.0))
+
+pub each_step-preserved : goal.each_step-preserved
+each_step-preserved c =
+    goes_on_at c.args.script.now c.steps-step-items.result.now c.steps-step-items.ensures.steps c.each_step.step-index _ c.each_step-test.true c.each_step.book c.run_step.new.book c.each_step.made.items c.keep_handle.new.made.items c.in-Some.handle
+    c.documented.ensures.replies c.each_step.invariant (rw c.deref.ensures.value at (rw c.in-Some.is at c.in_ok-handle.ensures)) c.in_ok-keep_handle.ensures

@@ -1,0 +1,55 @@
+-- The words of faults, and how a fault of words is one of scripts.
+use Rattle.std.specs.Prelude.{◌≡◌, ◌⊎◌, ℕ, List, Result, Ok, Err, codes}
+use Rattle.rw_script.specs.declared.arguments.WordFault.{WordFault}
+use Rattle.rw_script.specs.declared.arguments.WordFault.TheVariants as words
+use Rattle.rw_script.specs.declared.faults.ScriptFaultKind.{ScriptFaultKind}
+use Rattle.rw_script.specs.declared.faults.ScriptFaultKind.TheVariants.{TooLong, Syntax, BadCapacity, TooManyChannels, BadActors, UnknownActor, UnknownChannel, WrongWord, BadArguments, UnknownName, NameTaken, TooManySteps, NoChannels, NoMemory}
+use Rattle.rw_script.specs.declared.faults.ScriptFault.{ScriptFault}
+
+-- the word that a fault line has for a fault
+abbrev pub fault_word : ScriptFaultKind → List ℕ
+fault_word TooLong = codes "too-long"
+fault_word Syntax = codes "syntax"
+fault_word BadCapacity = codes "bad-capacity"
+fault_word TooManyChannels = codes "too-many-channels"
+fault_word BadActors = codes "bad-actors"
+fault_word UnknownActor = codes "unknown-actor"
+fault_word UnknownChannel = codes "unknown-channel"
+fault_word WrongWord = codes "wrong-word"
+fault_word BadArguments = codes "bad-arguments"
+fault_word UnknownName = codes "unknown-name"
+fault_word NameTaken = codes "name-taken"
+fault_word TooManySteps = codes "too-many-steps"
+fault_word NoChannels = codes "no-channels"
+fault_word NoMemory = codes "no-memory"
+
+-- in a script, a handle that is too large is a bad argument like any other
+abbrev pub kind_of_words : WordFault → ScriptFaultKind
+kind_of_words words.WrongWord = WrongWord
+kind_of_words words.BadArguments = BadArguments
+kind_of_words words.HandleTooLarge = BadArguments
+
+-- ---- what may also be refused for want of memory
+
+-- the refusal is the one that is said, but for want of memory, of which nothing says when it comes
+abbrev pub RefusesKind : {S : Type 0} → ScriptFaultKind → Result S ScriptFaultKind → Type 0
+RefusesKind kind said = (said ≡ Err kind) ⊎ (kind ≡ NoMemory)
+
+-- the same, of a line
+abbrev pub Refuses : {S : Type 0} → ScriptFault → Result S ScriptFault → Type 0
+Refuses fault said = (said ≡ Err fault) ⊎ (fault.kind ≡ NoMemory)
+
+-- what is given is what is said
+abbrev pub Gives : {S : Type 0} → Result S ScriptFault → Result S ScriptFault → Type 0
+Gives (Ok s) said = said ≡ Ok s
+Gives (Err fault) said = Refuses fault said
+
+-- what was taken led to this
+abbrev pub TakesLine : {S X : Type 0} → Result X ScriptFaultKind → S → Result S ScriptFaultKind → Type 0
+TakesLine (Ok x) s said = said ≡ Ok s
+TakesLine (Err kind) s said = RefusesKind kind said
+
+-- the same, of a line
+abbrev pub Takes : {S X : Type 0} → Result X ScriptFault → S → Result S ScriptFault → Type 0
+Takes (Ok x) s said = said ≡ Ok s
+Takes (Err fault) s said = Refuses fault said

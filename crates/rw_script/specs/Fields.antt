@@ -1,0 +1,75 @@
+-- The fields of a step line, and the names in the text of its call.
+use Rattle.std.specs.Prelude.{ℕ, Bool, is_some, if◌then◌else◌, List, ◌∷◌, ◌++◌, Option, None, Some, codes}
+use Rattle.std.specs.Str.{bytes_eq}
+use Rattle.rw_lines.specs.Cut.{cut}
+use Rattle.rw_lines.specs.Numerals.{numeral_in}
+use Rattle.rw_lines.specs.Tokens.{is_word, is_name}
+use Rattle.rw_script.specs.Arguments.{◌>>=◌, rest_text}
+use Rattle.rw_script.specs.Words.{head_of, rest_of}
+
+-- ---- the fields
+
+-- a numeral with the space behind it, and the rest
+unfoldable pub number_field : List ℕ → Option (ℕ × List ℕ)
+number_field text = do
+  p ← cut 32 text
+  n ← numeral_in p.0
+  Some (n, p.1)
+
+abbrev pub begins_with_word : List ℕ → Bool
+begins_with_word text = is_word (head_of text (cut 32 text))
+
+-- a step line: an actor's numeral, a channel's numeral, and the text of a call, which begins with a word
+unfoldable pub fields_in : List ℕ → Option (ℕ × ℕ × List ℕ)
+fields_in line = do
+  actor ← number_field line
+  channel ← number_field actor.1
+  if begins_with_word channel.1 then Some (actor.0, channel.0, channel.1) else None
+
+-- ---- the names
+
+-- the name that a token is
+abbrev pub name_in : List ℕ → Option (List ℕ)
+name_in token = if is_name token then Some token else None
+
+abbrev pub name_behind_as : Option (List ℕ × List ℕ) → Option (List ℕ)
+name_behind_as None = None
+name_behind_as (Some p) = if bytes_eq p.0 (codes "as") then name_in p.1 else None
+
+-- the name that is bound, where `as NAME` and nothing else follows the handle
+abbrev pub bound_in : Option (List ℕ) → Option (List ℕ)
+bound_in None = None
+bound_in (Some more) = name_behind_as (cut 32 more)
+
+-- the text of a call with its names taken out
+pub record Named : Type 0 where
+  -- `0` stands in a name's place, and ` as NAME` is gone
+  pub text : List ℕ
+  -- the name in the handle's place
+  pub target : Option (List ℕ)
+  -- the name that is bound
+  pub bound : Option (List ℕ)
+
+-- the handle, or `0` in a name's place
+abbrev pub handle_text : List ℕ → List ℕ
+handle_text handle = if is_name handle then codes "0" else handle
+
+-- what follows the handle, without `as NAME`
+abbrev pub unbound : Option (List ℕ) → Option (List ℕ)
+unbound more = if is_some (bound_in more) then None else more
+
+-- of a word, a handle and what follows
+abbrev pub named : List ℕ → List ℕ → Option (List ℕ) → Named
+named word handle more = record {
+  text = word ++ 32 ∷ (handle_text handle ++ rest_text (unbound more));
+  target = name_in handle;
+  bound = bound_in more;
+}
+
+abbrev pub named_parts : List ℕ → Option (List ℕ × List ℕ) → Named
+named_parts text None = record { text = text; target = None; bound = None }
+named_parts text (Some p) = named p.0 (head_of p.1 (cut 32 p.1)) (rest_of (cut 32 p.1))
+
+-- what stands before the first space is the word, what stands before the next one the handle
+unfoldable pub named_in : List ℕ → Named
+named_in text = named_parts text (cut 32 text)

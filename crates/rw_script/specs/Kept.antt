@@ -1,0 +1,32 @@
+-- What scripts keep, and what their readers keep on the way.
+use Rattle.std.specs.Prelude.{◌≡◌, ◌≤◌, ◌<◌, ℕ, List, All, length, map, false, None}
+use Rattle.rw_world.specs.declared.opening.Spec.{Spec}
+use Rattle.rw_world.specs.Channel.{strays_at}
+use Rattle.rw_world.specs.Openings.{has_bad_capacity, kind_of_spec, refusal}
+use Rattle.rw_world.specs.Shapes.{stray_of}
+use Rattle.rw_script.specs.declared.steps.Step.{Step}
+use Rattle.rw_script.specs.Script.{Script, Reading, actors_of}
+
+-- the actor is there, and the channel is there and of the call's kind
+pub record IsStep (specs : List (Spec ℕ)) (actors : ℕ) (step : Step) : Type 0 where
+  pub actor : step.actor < actors
+  pub channel : step.channel < length specs
+  pub kind : stray_of strays_at (map kind_of_spec specs) (record { channel = step.channel; call = step.call }) ≡ false
+
+-- the channels open, there are 1 to 64 actors and at most 1,048,576 steps, each of them of an actor and on a channel
+pub record IsScript (s : Script) : Type 0 where
+  pub opens : refusal s.specs ≡ None
+  pub some_actor : 1 ≤ s.actors
+  pub few_actors : s.actors ≤ 64
+  pub few_steps : length s.steps ≤ 1048576
+  pub steps : All (IsStep s.specs s.actors) s.steps
+
+-- the same on the way, where there may be no channel yet; no step binds two names
+pub record IsReading (r : Reading) : Type 0 where
+  pub good_channels : All (λ s. has_bad_capacity s ≡ false) r.specs
+  pub few_channels : length r.specs ≤ 64
+  pub some_actor : 1 ≤ actors_of r
+  pub few_actors : actors_of r ≤ 64
+  pub few_steps : length r.steps ≤ 1048576
+  pub few_names : length r.names ≤ length r.steps
+  pub steps : All (IsStep r.specs (actors_of r)) r.steps

@@ -1,0 +1,87 @@
+-- The run of a script: its calls in the order of its lines, up to the first that would wait.
+use Rattle.std.specs.Prelude.{◌≡◌, ℕ, Bool, true, false, List, [], ◌∷◌, ◌++◌, get_or, Option, None, Some, if◌then◌else◌}
+use Rattle.rw_law.specs.declared.machine.Reversible.{Ghosts}
+use Rattle.rw_journal.specs.Book.{History, IsTaken, reply_to}
+use Rattle.rw_broadcast.specs.declared.calls.BReply.{BReply}
+use Rattle.rw_broadcast.specs.declared.calls.BReply.TheVariants as b
+use Rattle.rw_broadcast.specs.Channel as broadcast
+use Rattle.rw_watch.specs.declared.calls.WReply.{WReply}
+use Rattle.rw_watch.specs.declared.calls.WReply.TheVariants as w
+use Rattle.rw_watch.specs.Channel as watch
+use Rattle.rw_world.specs.declared.channels.ChannelCall.TheVariants as call
+use Rattle.rw_world.specs.declared.channels.ChannelReply.TheVariants as reply
+use Rattle.rw_world.specs.declared.rows.RowCall.{RowCall}
+use Rattle.rw_world.specs.Machines.{ChanCall, ChanReply, of_chan}
+use Rattle.rw_world.specs.Records.{ChannelRecord, opened_records, next_records, reply_from}
+use Rattle.rw_script.specs.declared.steps.Step.{Step}
+use Rattle.rw_script.specs.Script.{Script}
+
+-- the actors and calls that are made, and the line of the first call that would wait, if one would
+pub record Ran : Type 0 where
+  pub calls : List (ℕ × RowCall (ChanCall ℕ))
+  pub waits : Option ℕ
+
+-- ---- names
+
+-- a number that no handle ever has
+abbrev pub NEVER_MADE : ℕ
+NEVER_MADE = 4294967295
+
+-- the same call, made with another handle
+abbrev pub with_handle : {V : Type 0} → ChanCall V → ℕ → ChanCall V
+with_handle (call.B c) h = call.B (broadcast.with_handle c h)
+with_handle (call.W c) h = call.W (watch.with_handle c h)
+
+-- the step's call, with the handle that its name stands for; made: the handles that the names so far stand for
+abbrev pub filled : ChanCall ℕ → Option ℕ → List ℕ → ChanCall ℕ
+filled c None made = c
+filled c (Some name) made = with_handle c (get_or made name NEVER_MADE)
+
+-- the actor and the call of a step
+abbrev pub call_of : Step → List ℕ → ℕ × RowCall (ChanCall ℕ)
+call_of step made = (step.actor, record { channel = step.channel; call = filled step.call step.target made })
+
+-- the handle that a call made, by its reply
+abbrev pub made_on_broadcast : {V : Type 0} → BReply V → ℕ
+made_on_broadcast (b.New h) = h
+made_on_broadcast _ = NEVER_MADE
+
+abbrev pub made_on_watch : {V : Type 0} → WReply V → ℕ
+made_on_watch (w.New h) = h
+made_on_watch _ = NEVER_MADE
+
+abbrev pub made_by : {V : Type 0} → ChanReply V → ℕ
+made_by (reply.B r) = made_on_broadcast r
+made_by (reply.W r) = made_on_watch r
+made_by reply.NoChannel = NEVER_MADE
+
+-- a step that binds a name makes it stand for the handle that its call made
+abbrev pub made_after : Bool → ChanReply ℕ → List ℕ → List ℕ
+made_after false r made = made
+made_after true r made = made ++ made_by r ∷ []
+
+-- ---- the run
+
+abbrev pub onto : ℕ × RowCall (ChanCall ℕ) → Ran → Ran
+onto c ran = record { calls = c ∷ ran.calls; waits = ran.waits }
+
+-- the steps from here, in a world with these records
+abbrev pub run_from : List (ChannelRecord ℕ) → List ℕ → List Step → Ran
+run_from world made [] = record { calls = []; waits = None }
+run_from world made (step ∷ steps) =
+    let c = call_of step made in
+    let r = reply_from world c.1 in
+    if of_chan.is_waiting r then record { calls = []; waits = Some step.line }
+    else onto c (run_from (next_records world c.1) (made_after step.binds r made) steps)
+
+-- the run of a script on the world that it opens
+abbrev pub run_of : Script → Ran
+run_of s = run_from (opened_records s.specs) [] s.steps
+
+-- ---- a step of the run on a book
+
+-- the call was taken with the reply that it has, and this is the handle that it made
+pub record IsMade {M P : Type 0} (m : Ghosts M (RowCall (ChanCall ℕ)) (ChanReply ℕ) P) (old new : History M (RowCall (ChanCall ℕ)) (ChanReply ℕ) P) (c : ℕ × RowCall (ChanCall ℕ)) (handle : ℕ) : Type 0 where
+  pub stamp : ℕ
+  pub taken : IsTaken m old new c.0 0 c.1 stamp (reply_to m old c.1)
+  pub handle_is : handle ≡ made_by (reply_to m old c.1)

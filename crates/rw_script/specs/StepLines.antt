@@ -1,0 +1,93 @@
+-- Step lines: `ACTOR CHANNEL WORD HANDLE ARGS`, where a name may stand for the handle, and ` as NAME` may follow a call
+-- that makes a handle.
+use Rattle.std.specs.Prelude.{◌^◌, ◌<◌, ℕ, Bool, true, false, not, ◌&&◌, ◌==◌, is_some, if◌then◌else◌, List, [], ◌∷◌, ◌++◌, Option, None, Some, Result, Ok, Err, position}
+use Rattle.std.specs.Option.{option_map}
+use Rattle.std.specs.List.{list_any}
+use Rattle.std.specs.Str.{bytes_eq}
+use Rattle.rw_law.specs.declared.value.Payload.{Ghosts}
+use Rattle.rw_broadcast.specs.Channel as broadcast
+use Rattle.rw_watch.specs.Channel as watch
+use Rattle.rw_world.specs.declared.channels.ChannelCall.TheVariants as call
+use Rattle.rw_world.specs.Kinds.{Kind}
+use Rattle.rw_world.specs.Kinds as kinds
+use Rattle.rw_world.specs.Machines.{ChanCall}
+use Rattle.rw_script.specs.declared.arguments.WordFault.{WordFault}
+use Rattle.rw_script.specs.declared.faults.ScriptFaultKind.{ScriptFaultKind}
+use Rattle.rw_script.specs.declared.faults.ScriptFaultKind.TheVariants.{BadArguments, UnknownName}
+use Rattle.rw_script.specs.declared.said.SaidCall.{SaidCall}
+use Rattle.rw_script.specs.Faults.{kind_of_words}
+use Rattle.rw_script.specs.Fields.{named_in}
+use Rattle.rw_script.specs.Texts.{call_in}
+use Rattle.rw_script.specs.Words.{◌>>=◌, or_fault, map_ok}
+
+-- the values of a script are numbers, and a number is its own word
+abbrev pub numbers : Ghosts ℕ
+numbers = record { is_value = λ v. v < 2 ^ 64; word_of = λ v. v; value_of = λ w. Some w }
+
+-- ---- the call that a line makes
+
+-- a call that may name its handle, and may bind a name
+pub record Said : Type 0 where
+  -- with handle 0 where a name stands for it
+  pub call : ChanCall ℕ
+  -- the name in the handle's place
+  pub target : Option (List ℕ)
+  -- the name that the line binds
+  pub bound : Option (List ℕ)
+
+-- whether the call makes a handle, where it isn't refused
+abbrev pub makes : {V : Type 0} → ChanCall V → Bool
+makes (call.B c) = broadcast.makes c
+makes (call.W c) = watch.makes c
+
+-- what such a call is in the program
+abbrev pub said_of : SaidCall → Said
+said_of s = record { call = s.call; target = option_map (λ n. n.now) s.target; bound = option_map (λ n. n.now) s.bound }
+
+abbrev pub in_script : {A : Type 0} → Result A WordFault → Result A ScriptFaultKind
+in_script (Ok x) = Ok x
+in_script (Err fault) = Err (kind_of_words fault)
+
+-- a name is bound by a call that makes a handle
+abbrev pub said_by : Option (List ℕ) → Option (List ℕ) → ChanCall ℕ → Result Said ScriptFaultKind
+said_by target bound c = if is_some bound && not (makes c) then Err BadArguments else Ok (record { call = c; target = target; bound = bound })
+
+-- what the text of a call says, in the words of a broadcast or else of a watch
+unfoldable pub said_in : Bool → List ℕ → Result Said ScriptFaultKind
+said_in broadcast text = in_script (call_in numbers broadcast (named_in text).text) >>= said_by (named_in text).target (named_in text).bound
+
+-- the kind of channel that is a broadcast or else a watch
+abbrev pub kind_if : Bool → Kind
+kind_if true = kinds.broadcast
+kind_if false = kinds.watch
+
+-- ---- names
+
+-- a name, and by whom and where it was bound
+pub record Bound : Type 0 where
+  pub name : List ℕ
+  pub actor : ℕ
+  pub channel : ℕ
+
+-- the number of a name that this actor bound on this channel, in order of binding
+abbrev pub number_of : List Bound → List ℕ → ℕ → ℕ → Option ℕ
+number_of names name actor channel = position (λ b. bytes_eq name b.name && (b.actor == actor && b.channel == channel)) names
+
+-- whether any actor bound the name on any channel
+abbrev pub is_taken : List Bound → List ℕ → Bool
+is_taken names name = list_any (λ b. bytes_eq name b.name) names
+
+-- the number of the name that stands for a handle, if there is one
+abbrev pub target_in : List Bound → ℕ → ℕ → Option (List ℕ) → Result (Option ℕ) ScriptFaultKind
+target_in names actor channel None = Ok None
+target_in names actor channel (Some name) = map_ok (λ i. Some i) (or_fault UnknownName (number_of names name actor channel))
+
+-- whether the name that a line binds is taken
+abbrev pub is_bound_again : List Bound → Option (List ℕ) → Bool
+is_bound_again names None = false
+is_bound_again names (Some name) = is_taken names name
+
+-- the names with that of a line behind them
+abbrev pub with_bound : List Bound → ℕ → ℕ → Option (List ℕ) → List Bound
+with_bound names actor channel None = names
+with_bound names actor channel (Some name) = names ++ record { name = name; actor = actor; channel = channel } ∷ []

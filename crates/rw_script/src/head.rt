@@ -1,0 +1,42 @@
+//! The lines at the head of a script.
+
+ghost use Rattle.std.specs.Prelude.{◌≡◌};
+ghost use Rattle.rw_script.specs.Script.{head_in, head_with};
+
+use rw_lines::{cut, numeral};
+
+/// A line at the head of a script: a word and a numeral.
+#[derive(Clone, Copy)]
+pub(crate) enum Head {
+    /// A channel line: a broadcast of this capacity.
+    Broadcast(u64),
+    /// A channel line: a watch of this value.
+    Watch(u64),
+    /// The line that says how many actors there are.
+    Actors(u64),
+}
+
+impl Head {
+    fn with(word: &[u8], number: u64) -> Option<Head>
+        ensures { result ≡ head_with word.now number }
+    {
+        if word == b"broadcast".as_slice() {
+            Some(Head::Broadcast(number))
+        } else if word == b"watch".as_slice() {
+            Some(Head::Watch(number))
+        } else if word == b"actors".as_slice() {
+            Some(Head::Actors(number))
+        } else {
+            None
+        }
+    }
+
+    /// What a line at the head says.
+    #[tactic(auto, unfolding(crate::specs::Script::head_in))]
+    pub(crate) fn of(line: &[u8]) -> Option<Head>
+        ensures { result ≡ head_in line.now }
+    {
+        let (word, number) = cut(line, b' ')?;
+        Head::with(word, numeral(number)?)
+    }
+}

@@ -1,0 +1,289 @@
+//! A script, read line by line: channel lines, an actors line, then step lines.
+
+ghost use Rattle.std.specs.Prelude.{◌≡◌, ◌+◌, ◌-◌, ◌^◌, ◌<◌, ◌≤◌, true, false, Some, length, map, option_map, slice_get, IfErr, OnErr, IfOk, OnOk};
+ghost use Rattle.rw_script.specs.Faults.{Takes, TakesLine};
+ghost use Rattle.rw_world.specs.Openings.{has_bad_capacity, kind_of_spec};
+ghost use Rattle.rw_script.specs.Kept.{IsStep};
+ghost use Rattle.rw_script.specs.Script.{actors_of, after_line, ended, is_broadcast, is_in_head, is_mark, opening, spec_for, with_head, with_line, with_said, with_spec, with_step};
+ghost use Rattle.rw_script.specs.StepLines.{kind_if, said_of, target_in};
+ghost use Rattle.rw_script.specs.Words.{map_ok};
+
+use crate::faults::{ScriptFault, ScriptFaultKind};
+use crate::fields::fields_of;
+use crate::head::Head;
+use crate::names::Names;
+use crate::said::{SaidCall, read_said};
+use crate::script::Script;
+use crate::steps::Step;
+use rw_lines::{LONGEST_LINE, is_skipped};
+use rw_world::Spec;
+use std::alloc::Global;
+use std::marker::Model;
+
+/// The most channels of a script.
+const MOST_CHANNELS: usize = 64;
+
+/// The most actors of a script.
+const MOST_ACTORS: u64 = 64;
+
+/// The greatest capacity that a channel line may give.
+const MOST_CAPACITY: u64 = 65_536;
+
+/// The most step lines of a script.
+const MOST_STEPS: usize = 1_048_576;
+
+/// What the lines of a script so far say.
+#[derive(Drop)]
+pub struct ScriptReader {
+    alloc: Global,
+    /// How many lines were read, skipped ones counted.
+    lines: u64,
+    specs: Vec<Spec<u64>>,
+    /// `None` before the actors line.
+    actors: Option<u32>,
+    steps: Vec<Step>,
+    names: Names,
+}
+
+impl Model for ScriptReader {
+    ghost use Rattle.rw_script.specs.Script.{Reading};
+    ghost use Rattle.rw_script.specs.Kept.{IsReading};
+
+    ghost Value = { Reading };
+
+    ghost view = { λ r. record { lines = r.lines; specs = r.specs.items; actors = r.actors; steps = r.steps.items; names = r.names } };
+
+    ghost invariant = { λ r. IsReading (record { lines = r.lines; specs = r.specs.items; actors = r.actors; steps = r.steps.items; names = r.names }) };
+}
+
+impl ScriptReader {
+    /// A reader that has read no line.
+    pub fn new(alloc: Global) -> ScriptReader
+        ensures { result ≡ opening }
+    {
+        ScriptReader {
+            alloc,
+            lines: 0,
+            specs: Vec::new(alloc),
+            actors: None,
+            steps: Vec::new(alloc),
+            names: Names::new(alloc),
+        }
+    }
+
+    /// How many lines were read, skipped ones counted.
+    pub fn lines(&self) -> u64
+        ensures { result ≡ self.now.lines }
+    {
+        self.lines
+    }
+
+    /// Takes one line more, without its LF. At an `Err` nothing has changed, and the fault is that of this line.
+    pub fn take(&mut self, line: &[u8]) -> Result<(), ScriptFault>
+        requires { self.old.lines < 2 ^ 64 - 1 }
+        ensures taken { Takes result self.new (after_line self.old line.now) }
+        ensures lines { OnOk result (self.new.lines ≡ self.old.lines + 1) }
+        ensures unchanged { OnErr result (self.new ≡ self.old) }
+        ensures at { IfErr result (λ fault. fault.line ≡ self.old.lines + 1) }
+    {
+        self.lines += 1;
+        match self.take_line(line) {
+            Ok(()) => Ok(()),
+            Err(kind) => {
+                let line = self.lines;
+                self.lines -= 1;
+                Err(ScriptFault { line, kind })
+            }
+        }
+    }
+
+    /// The script that ends here. It takes no memory.
+    pub fn finish(self) -> Result<Script, ScriptFault>
+        requires { self.lines < 2 ^ 64 - 1 }
+        ensures { result ≡ ended self }
+    {
+        let ScriptReader {
+            alloc: _,
+            lines,
+            specs,
+            actors,
+            steps,
+            names: _,
+        } = self;
+        if specs.is_empty() {
+            return Err(ScriptFault {
+                line: lines + 1,
+                kind: ScriptFaultKind::NoChannels,
+            });
+        }
+        Ok(Script::of(specs, actors.unwrap_or(1), steps))
+    }
+
+    /// Takes the words of a line that was counted.
+    #[tactic(auto, unfolding(crate::specs::Script::with_line))]
+    fn take_line(&mut self, line: &[u8]) -> Result<(), ScriptFaultKind>
+        ensures taken { TakesLine result self.new (with_line self.old line.now) }
+        ensures unchanged { OnErr result (self.new ≡ self.old) }
+        ensures lines { self.new.lines ≡ self.old.lines }
+    {
+        if line.len() > LONGEST_LINE {
+            return Err(ScriptFaultKind::TooLong);
+        }
+        if is_skipped(line) {
+            return Ok(());
+        }
+        if self.is_in_head() {
+            match Head::of(line) {
+                Some(head) => self.take_head(head),
+                None => self.take_step(line),
+            }
+        } else {
+            self.take_step(line)
+        }
+    }
+
+    /// Whether a channel line or an actors line may follow.
+    fn is_in_head(&self) -> bool
+        ensures { result ≡ is_in_head self.now }
+    {
+        self.actors.is_none() && self.steps.is_empty()
+    }
+
+    /// Takes a channel line or the actors line.
+    fn take_head(&mut self, head: Head) -> Result<(), ScriptFaultKind>
+        requires { is_in_head self.old ≡ true }
+        ensures taken { TakesLine result self.new (with_head self.old head) }
+        ensures unchanged { OnErr result (self.new ≡ self.old) }
+        ensures lines { self.new.lines ≡ self.old.lines }
+    {
+        match head {
+            Head::Broadcast(capacity) => {
+                if capacity < 1 || capacity > MOST_CAPACITY {
+                    return Err(ScriptFaultKind::BadCapacity);
+                }
+                self.take_spec(Spec::Broadcast(capacity as u32))
+            }
+            Head::Watch(value) => self.take_spec(Spec::Watch(value)),
+            Head::Actors(actors) => {
+                if actors < 1 || actors > MOST_ACTORS {
+                    return Err(ScriptFaultKind::BadActors);
+                }
+                self.actors = Some(actors as u32);
+                Ok(())
+            }
+        }
+    }
+
+    /// Takes one channel more.
+    fn take_spec(&mut self, spec: Spec<u64>) -> Result<(), ScriptFaultKind>
+        requires head { is_in_head self.old ≡ true }
+        requires good { has_bad_capacity spec ≡ false }
+        ensures taken { TakesLine result self.new (with_spec self.old spec) }
+        ensures unchanged { OnErr result (self.new ≡ self.old) }
+        ensures lines { self.new.lines ≡ self.old.lines }
+    {
+        if self.specs.len() >= MOST_CHANNELS {
+            return Err(ScriptFaultKind::TooManyChannels);
+        }
+        if self.specs.push(spec).is_err() {
+            return Err(ScriptFaultKind::NoMemory);
+        }
+        Ok(())
+    }
+
+    /// Takes a step line.
+    #[tactic(auto, unfolding(crate::specs::Script::with_step))]
+    fn take_step(&mut self, line: &[u8]) -> Result<(), ScriptFaultKind>
+        requires { length line.now ≤ 256 }
+        ensures taken { TakesLine result self.new (with_step self.old line.now) }
+        ensures unchanged { OnErr result (self.new ≡ self.old) }
+        ensures lines { self.new.lines ≡ self.old.lines }
+    {
+        let Some((actor, channel, text)) = fields_of(line) else {
+            return Err(ScriptFaultKind::Syntax);
+        };
+        let broadcast = self.is_broadcast(actor, channel)?;
+        let said = read_said(broadcast, text)?;
+        let target = self.target_of(actor as u32, channel as u32, said.target)?;
+        self.take_said(actor as u32, channel as u32, &said, target)
+    }
+
+    /// Whether the channel that an actor calls is a broadcast.
+    fn is_broadcast(&self, actor: u64, channel: u64) -> Result<bool, ScriptFaultKind>
+        ensures kind { result ≡ map_ok is_broadcast (spec_for self.now actor channel) }
+        ensures actor { OnOk result (actor < actors_of self.now) }
+        ensures channel { IfOk result (λ b. slice_get (map kind_of_spec self.now.specs) channel ≡ Some (kind_if b)) }
+        ensures small { OnOk result ((actor < 64) × (channel < 64)) }
+    {
+        if actor >= u64::from(self.actors.unwrap_or(1)) {
+            return Err(ScriptFaultKind::UnknownActor);
+        }
+        match self.specs.get(channel as usize) {
+            Some(Spec::Broadcast(_)) => Ok(true),
+            Some(Spec::Watch(_)) => Ok(false),
+            None => Err(ScriptFaultKind::UnknownChannel),
+        }
+    }
+
+    /// The number of the name that stands for a handle, if there is one.
+    fn target_of(
+        &self,
+        actor: u32,
+        channel: u32,
+        target: Option<&[u8]>,
+    ) -> Result<Option<u32>, ScriptFaultKind>
+        ensures { result ≡ target_in self.now.names actor channel (option_map (λ n. n.now) target.entry) }
+    {
+        let Some(name) = target else {
+            return Ok(None);
+        };
+        match self.names.number(name, actor, channel) {
+            Some(number) => Ok(Some(number as u32)),
+            None => Err(ScriptFaultKind::UnknownName),
+        }
+    }
+
+    /// Takes one step more, with the name that it binds.
+    fn take_said(
+        &mut self,
+        actor: u32,
+        channel: u32,
+        said: &SaidCall<'_>,
+        target: Option<u32>,
+    ) -> Result<(), ScriptFaultKind>
+        requires step { IsStep self.old.specs (actors_of self.old) (record { line = self.old.lines; actor = actor; channel = channel; call = said.now.call; target = target; binds = false }) }
+        ensures taken { TakesLine result self.new (with_said self.old actor channel (said_of said.now) target) }
+        ensures unchanged { OnErr result (self.new ≡ self.old) }
+        ensures lines { self.new.lines ≡ self.old.lines }
+    {
+        if self.names.is_bound_again(said.bound) {
+            return Err(ScriptFaultKind::NameTaken);
+        }
+        if self.steps.len() >= MOST_STEPS {
+            return Err(ScriptFaultKind::TooManySteps);
+        }
+        if self.steps.reserve(1).is_err() {
+            return Err(ScriptFaultKind::NoMemory);
+        }
+        let alloc = self.alloc;
+        if self.names.bind(alloc, said.bound, actor, channel).is_err() {
+            return Err(ScriptFaultKind::NoMemory);
+        }
+        self.steps.push_reserved(Step {
+            line: self.lines,
+            actor,
+            channel,
+            call: said.call,
+            target,
+            binds: said.bound.is_some(),
+        });
+        Ok(())
+    }
+}
+
+/// Whether this is the line between script and console.
+pub fn is_mark(line: &[u8]) -> bool
+    ensures { result ≡ is_mark line.now }
+{
+    line == b"---".as_slice()
+}

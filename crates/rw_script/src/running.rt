@@ -1,0 +1,146 @@
+//! The run of a script, on one book.
+
+ghost use Rattle.std.specs.Prelude.{◌≡◌, ◌<◌, ◌^◌, ◌++◌, ◌∷◌, [], false, if◌then◌else◌, length, IfOk, OnOk, IsTrue, MatchOption};
+ghost use Rattle.rw_journal.specs.Book.{last_stamp, opening_of, reply_to};
+ghost use Rattle.rw_journal.specs.Interleaving.{CountsFrom, interleaving_of, journal_of};
+ghost use Rattle.rw_world.specs.Machines.{of_world};
+ghost use Rattle.rw_world.specs.Openings.{opened};
+ghost use Rattle.rw_script.specs.Running.{IsMade, call_of, filled, made_by, run_of, with_handle};
+
+use crate::script::Script;
+use crate::steps::Step;
+use rw_broadcast::BReply;
+use rw_journal::laws::journal_of_an_interleaving;
+use rw_journal::{Book, Run, TakeFault};
+use rw_watch::WReply;
+use rw_world::{
+    ChanCall, ChanReply, ChannelCall, ChannelReply, OpenFault, RowCall, World, documented, open,
+    specified,
+};
+use std::alloc::Global;
+use thiserror::Error;
+
+/// A number that no handle ever has. A name stands for it where its line made no handle.
+const NEVER_MADE: u32 = u32::MAX;
+
+/// Why a script isn't run.
+#[derive(Clone, Copy, Debug, PartialEq, Eq, Error)]
+pub enum RunFault {
+    /// A growth was refused.
+    #[error("no memory")]
+    NoMemory,
+}
+
+/// The same call, made with another handle.
+fn with_handle(call: ChanCall<u64>, handle: u32) -> ChanCall<u64>
+    ensures { result ≡ with_handle call handle }
+{
+    match call {
+        ChannelCall::B(call) => ChannelCall::B(call.with_handle(handle)),
+        ChannelCall::W(call) => ChannelCall::W(call.with_handle(handle)),
+    }
+}
+
+/// The step's call, with the handle that its name stands for.
+fn filled(step: &Step, made: &[u32]) -> ChanCall<u64>
+    ensures { result ≡ filled step.now.call step.now.target made.now }
+{
+    match step.target {
+        None => step.call,
+        Some(name) => match made.get(name as usize) {
+            Some(handle) => with_handle(step.call, *handle),
+            None => with_handle(step.call, NEVER_MADE),
+        },
+    }
+}
+
+/// The handle that a call made, by its reply.
+fn made_by(reply: &ChanReply<u64>) -> u32
+    ensures { result ≡ made_by reply.now }
+{
+    match reply {
+        ChannelReply::B(BReply::New(handle)) => *handle,
+        ChannelReply::W(WReply::New(handle)) => *handle,
+        _ => NEVER_MADE,
+    }
+}
+
+/// Makes the call of a step, and gives the handle that it made. A call that would wait isn't made, and gives none.
+fn run_step(book: &mut Book<World<u64>>, step: &Step, made: &[u32]) -> Result<Option<u32>, RunFault>
+    requires few { length book.old.entries < 1_048_576 }
+    requires stamps { last_stamp book.old.entries < 2 ^ 62 }
+    requires actor { step.now.actor < 64 }
+    requires no_stray { of_world.is_straying (reply_to of_world book.old (call_of step.now made.now).1) ≡ false }
+    ensures { let c = call_of step.now made.now in IfOk result (λ o. MatchOption o (IsTrue (of_world.is_waiting (reply_to of_world book.old c.1)) × (book.new.entries ≡ book.old.entries) × (book.new.opening ≡ book.old.opening)) (IsMade of_world book.old book.new c)) }
+{
+    let call = RowCall {
+        channel: step.channel,
+        call: filled(step, made),
+    };
+    match book.take(step.actor, 0, call) {
+        Ok(receipt) => Ok(Some(made_by(&receipt.reply))),
+        Err(TakeFault::Waits) => Ok(None),
+        Err(TakeFault::NoMemory) => Err(RunFault::NoMemory),
+        Err(TakeFault::JournalFull | TakeFault::NoChannel) => unreachable!(),
+    }
+}
+
+/// Keeps the handle that a name stands for, where the step binds one.
+fn keep_handle(made: &mut Vec<u32>, binds: bool, handle: u32) -> Result<(), RunFault>
+    ensures { OnOk result (made.new.items ≡ (if binds then made.old.items ++ handle ∷ [] else made.old.items)) }
+{
+    if binds && made.push(handle).is_err() {
+        return Err(RunFault::NoMemory);
+    }
+    Ok(())
+}
+
+/// Makes the calls of a script in order, up to the first that would wait, and gives the number of that line.
+fn run_steps(
+    alloc: Global,
+    book: &mut Book<World<u64>>,
+    script: &Script,
+) -> Result<Option<u64>, RunFault>
+    requires opened { opening_of of_world book.old ≡ opened script.now.specs }
+    requires fresh { book.old.entries ≡ [] }
+    ensures opened { OnOk result (opening_of of_world book.new ≡ opened script.now.specs) }
+    ensures calls { OnOk result (interleaving_of book.new.entries ≡ (run_of script.now).calls) }
+    ensures stamps { OnOk result (CountsFrom 0 book.new.entries) }
+    ensures waits { IfOk result (λ waits. waits ≡ (run_of script.now).waits) }
+{
+    specified::<u64>();
+    documented::<u64>();
+    script.kept();
+    let mut made = Vec::new(alloc);
+    'each_step: for step in script.steps() {
+        let Some(handle) = run_step(book, step, &made)? else {
+            return Ok(Some(step.line));
+        };
+        keep_handle(&mut made, step.binds, handle)?;
+    }
+    Ok(None)
+}
+
+/// Runs a script: its calls in the order of its lines, with the stamps 1, 2, 3, .. . It stops at the first call that would
+/// wait, and gives the number of that line.
+pub fn run_one(alloc: Global, script: &Script) -> Result<(Run<u64>, Option<u64>), RunFault>
+    ensures specs { IfOk result (λ ran. ran.0.specs ≡ script.now.specs) }
+    ensures entries { IfOk result (λ ran. ran.0.entries ≡ journal_of of_world (opened script.now.specs) 0 (run_of script.now).calls) }
+    ensures waits { IfOk result (λ ran. ran.1 ≡ (run_of script.now).waits) }
+{
+    let world = match open(alloc, script.specs()) {
+        Ok(world) => world,
+        Err(OpenFault::NoMemory) => return Err(RunFault::NoMemory),
+        Err(_) => unreachable!(),
+    };
+    let Ok(specs) = script.specs().to_vec(alloc) else {
+        return Err(RunFault::NoMemory);
+    };
+    let Ok(mut book) = Book::open(alloc, world) else {
+        return Err(RunFault::NoMemory);
+    };
+    let waits = run_steps(alloc, &mut book, script)?;
+    book.kept();
+    journal_of_an_interleaving::<World<u64>>();
+    Ok((Run::of_book(specs, book), waits))
+}

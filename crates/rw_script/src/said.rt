@@ -1,0 +1,138 @@
+//! What the text of a call says in a script, where names may stand for handles.
+
+ghost use Rattle.std.specs.Prelude.{◌≡◌, ◌≤◌, ◌+◌, ◌++◌, ◌∷◌, length, option_map, take, false, IfOk};
+ghost use Rattle.rw_world.specs.Channel.{strays_at};
+ghost use Rattle.rw_script.specs.Arguments.{rest_text};
+ghost use Rattle.rw_script.specs.Fields.{bound_in, handle_text, name_in, named};
+ghost use Rattle.rw_script.specs.StepLines.{kind_if, makes, numbers, said_by, said_in, said_of};
+ghost use Rattle.rw_script.specs.Texts.{call_in};
+ghost use Rattle.rw_script.specs.Words.{map_ok};
+
+use crate::arguments::{WordFault, first_word};
+use crate::bytes::put_bytes;
+use crate::faults::ScriptFaultKind;
+use crate::reading::read_call;
+use rw_lines::{cut, is_name};
+use rw_world::{ChanCall, ChannelCall};
+
+/// A call that may name its handle, and may bind a name.
+#[derive(Clone, Copy)]
+pub(crate) struct SaidCall<'a> {
+    /// The call; its handle is 0 where a name stands for it.
+    pub(crate) call: ChanCall<u64>,
+    /// The name in the handle's place.
+    pub(crate) target: Option<&'a [u8]>,
+    /// The name that the line binds.
+    pub(crate) bound: Option<&'a [u8]>,
+}
+
+/// Whether a call makes a handle, where it isn't refused.
+fn makes(call: &ChanCall<u64>) -> bool
+    ensures { result ≡ makes call.now }
+{
+    match call {
+        ChannelCall::B(call) => call.makes(),
+        ChannelCall::W(call) => call.makes(),
+    }
+}
+
+/// The name that a token is.
+fn name_of(token: &[u8]) -> Option<&[u8]>
+    ensures { option_map (λ n. n.now) result ≡ name_in token.now }
+{
+    if is_name(token) { Some(token) } else { None }
+}
+
+/// The name that is bound, where `as NAME` and nothing else follows the handle.
+fn bound_of(more: Option<&[u8]>) -> Option<&[u8]>
+    ensures { option_map (λ n. n.now) result ≡ bound_in (option_map (λ m. m.now) more.entry) }
+{
+    let (word, name) = cut(more?, b' ')?;
+    if word == b"as".as_slice() {
+        name_of(name)
+    } else {
+        None
+    }
+}
+
+/// The handle's token, or `0` in a name's place.
+fn handle_text(handle: &[u8]) -> &[u8]
+    ensures text { result.now ≡ handle_text handle.now }
+    ensures short { length result.now ≤ length handle.now }
+{
+    if is_name(handle) { b"0" } else { handle }
+}
+
+/// What follows the handle, with one space in front of it, put at a place. It answers where that ends.
+fn put_rest(out: &mut [u8; 256], at: usize, more: Option<&[u8]>) -> usize
+    requires { at + length (rest_text (option_map (λ m. m.now) more)) ≤ 256 }
+    ensures end { result ≡ at + length (rest_text (option_map (λ m. m.now) more.entry)) }
+    ensures text { take result out.new ≡ take at out.old ++ rest_text (option_map (λ m. m.now) more.entry) }
+{
+    match more {
+        None => at,
+        Some(more) => {
+            let at = put_bytes(out, at, b" ");
+            put_bytes(out, at, more)
+        }
+    }
+}
+
+/// The call of a text in parts, with its names taken out.
+fn call_of_parts(
+    broadcast: bool,
+    text: &[u8],
+    word: &[u8],
+    handle: &[u8],
+    more: Option<&[u8]>,
+) -> Result<ChanCall<u64>, WordFault>
+    requires short { length text.now ≤ 256 }
+    requires whole { text.now ≡ word.now ++ 32 ∷ (handle.now ++ rest_text (option_map (λ m. m.now) more)) }
+    ensures kind { IfOk result (λ call. strays_at (kind_if broadcast) call ≡ false) }
+    ensures call { result ≡ call_in numbers broadcast (named word.now handle.now (option_map (λ m. m.now) more.entry)).text }
+{
+    let binds = bound_of(more).is_some();
+    if !binds && !is_name(handle) {
+        return read_call(broadcast, text);
+    }
+    let mut out = [0u8; 256];
+    let at = put_bytes(&mut out, 0, word);
+    let at = put_bytes(&mut out, at, b" ");
+    let at = put_bytes(&mut out, at, handle_text(handle));
+    let at = put_rest(&mut out, at, if binds { None } else { more });
+    read_call(broadcast, &out[..at])
+}
+
+/// A name is bound by a call that makes a handle.
+fn said_by<'a>(
+    target: Option<&'a [u8]>,
+    bound: Option<&'a [u8]>,
+    call: ChanCall<u64>,
+) -> Result<SaidCall<'a>, ScriptFaultKind>
+    ensures call { IfOk result (λ said. said.call ≡ call) }
+    ensures said { map_ok said_of result ≡ said_by (option_map (λ n. n.now) target.entry) (option_map (λ n. n.now) bound.entry) call }
+{
+    if bound.is_some() && !makes(&call) {
+        return Err(ScriptFaultKind::BadArguments);
+    }
+    Ok(SaidCall {
+        call,
+        target,
+        bound,
+    })
+}
+
+/// What the text of a call says, in the words of a broadcast or else of a watch.
+#[tactic(auto, unfolding(crate::specs::StepLines::said_in, crate::specs::Fields::named_in))]
+pub(crate) fn read_said(broadcast: bool, text: &[u8]) -> Result<SaidCall<'_>, ScriptFaultKind>
+    requires { length text.now ≤ 256 }
+    ensures said { map_ok said_of result ≡ said_in broadcast text.now }
+    ensures kind { IfOk result (λ said. strays_at (kind_if broadcast) said.call ≡ false) }
+{
+    let Some((word, rest)) = cut(text, b' ') else {
+        return said_by(None, None, read_call(broadcast, text)?);
+    };
+    let (handle, more) = first_word(rest);
+    let call = call_of_parts(broadcast, text, word, handle, more)?;
+    said_by(name_of(handle), bound_of(more), call)
+}

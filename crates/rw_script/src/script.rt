@@ -1,0 +1,110 @@
+//! Scripts.
+
+ghost use Rattle.std.specs.Prelude.{◌≡◌, ◌≤◌, ◌<◌, ◌∷◌, None, All, length};
+ghost use Rattle.rw_lines.specs.Lines.{lines};
+ghost use Rattle.rw_world.specs.Openings.{refusal};
+ghost use Rattle.rw_script.specs.Faults.{Gives};
+ghost use Rattle.rw_script.specs.Kept.{IsScript, IsStep};
+ghost use Rattle.rw_script.specs.Script.{script_in};
+
+use crate::faults::ScriptFault;
+use crate::reader::{ScriptReader, is_mark};
+use crate::steps::Step;
+use rw_lines::cut;
+use rw_world::Spec;
+use std::alloc::Global;
+use std::marker::Model;
+
+/// Channels, actors, and the calls that the actors make on the channels, in order.
+#[derive(Drop)]
+pub struct Script {
+    specs: Vec<Spec<u64>>,
+    actors: u32,
+    steps: Vec<Step>,
+}
+
+impl Model for Script {
+    ghost use Rattle.rw_script.specs.Script.{Script as Said};
+    ghost use Rattle.rw_script.specs.Kept.{IsScript};
+
+    ghost Value = { Said };
+
+    ghost view = { λ s. record { specs = s.specs.items; actors = s.actors; steps = s.steps.items } };
+
+    ghost invariant = { λ s. IsScript (record { specs = s.specs.items; actors = s.actors; steps = s.steps.items }) };
+}
+
+impl Script {
+    /// The script of these bytes, up to the line `---` or their end, or its first fault.
+    pub fn read(alloc: Global, bytes: &[u8]) -> Result<Script, ScriptFault>
+        ensures { Gives result (script_in (lines bytes.now)) }
+    {
+        let mut reader = ScriptReader::new(alloc);
+        let mut rest = bytes;
+        'each_line: while !rest.is_empty() {
+            let (line, more) = first_line(rest);
+            if is_mark(line) {
+                return reader.finish();
+            }
+            reader.take(line)?;
+            rest = more;
+        }
+        reader.finish()
+    }
+
+    pub(crate) fn of(specs: Vec<Spec<u64>>, actors: u32, steps: Vec<Step>) -> Script
+        requires { IsScript (record { specs = specs.items; actors = actors; steps = steps.items }) }
+        ensures { result ≡ record { specs = specs.items; actors = actors; steps = steps.items } }
+    {
+        Script {
+            specs,
+            actors,
+            steps,
+        }
+    }
+
+    /// Says to a caller what every script keeps.
+    pub fn kept(&self)
+        ensures { IsScript self.now }
+    {
+        let _ = &self.steps;
+    }
+
+    /// What the channels are opened as.
+    pub fn specs(&self) -> &[Spec<u64>]
+        ensures specs { result.now ≡ self.now.specs }
+        ensures opens { refusal result.now ≡ None }
+    {
+        self.specs.as_slice()
+    }
+
+    /// How many actors there are.
+    pub fn actors(&self) -> u32
+        ensures actors { result ≡ self.now.actors }
+        ensures some { 1 ≤ result }
+        ensures few { result ≤ 64 }
+    {
+        self.actors
+    }
+
+    /// The calls, in the order of their lines.
+    pub fn steps(&self) -> &[Step]
+        ensures steps { result.now ≡ self.now.steps }
+        ensures few { length result.now ≤ 1_048_576 }
+        ensures each { All (IsStep self.now.specs self.now.actors) result.now }
+    {
+        self.steps.as_slice()
+    }
+}
+
+/// The first line, without its LF, and what stands behind it.
+fn first_line(bytes: &[u8]) -> (&[u8], &[u8])
+    requires { 0 < length bytes.now }
+    ensures lines { lines bytes.now ≡ result.0.now ∷ lines result.1.now }
+    ensures shorter { length result.1.now < length bytes.now }
+{
+    match cut(bytes, b'\n') {
+        Some((line, rest)) => (line, rest),
+        None => (bytes, b"".as_slice()),
+    }
+}

@@ -1,0 +1,18 @@
+//! Steps of a script.
+
+use rw_world::ChanCall;
+
+/// A call that a line of a script makes.
+#[derive(Clone, Copy)]
+pub struct Step {
+    /// The number of the line, counted from 1.
+    pub line: u64,
+    pub actor: u32,
+    pub channel: u32,
+    /// The call; its handle is 0 where a name stands for it.
+    pub call: ChanCall<u64>,
+    /// The number of the name that stands for the handle, in order of binding.
+    pub target: Option<u32>,
+    /// Whether the line binds a name to the handle that its call makes.
+    pub binds: bool,
+}
