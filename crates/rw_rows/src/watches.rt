@@ -129,7 +129,14 @@ fn silent_modification(rt: HostRuntime) -> Result<(), Fail> {
         ..opening(1)
     };
     let steps: &[Row] = &[
-        Step::new(WCall::Modify { told: false, handle: 0, value: 5 }, WReply::Told(false)),
+        Step::new(
+            WCall::Modify {
+                told: false,
+                handle: 0,
+                value: 5,
+            },
+            WReply::Told(false),
+        ),
         Step::new(WCall::Borrow(1), WReply::Value(5)),
         Step::to(WCall::HasChanged(1), WReply::Flag(false), silent),
     ];
@@ -181,7 +188,14 @@ fn four_steps_back(rt: HostRuntime) -> Result<(), Fail> {
     };
     let steps: &[Row] = &[
         Step::to(WCall::DropHandle(1), WReply::Dropped, alone),
-        Step::new(WCall::Modify { told: true, handle: 0, value: 9 }, WReply::Told(true)),
+        Step::new(
+            WCall::Modify {
+                told: true,
+                handle: 0,
+                value: 9,
+            },
+            WReply::Told(true),
+        ),
         Step::new(WCall::Subscribe(0), WReply::New(2)),
         Step::new(WCall::HasChanged(2), WReply::Flag(false)),
         Step::to(WCall::Borrow(2), WReply::Value(9), modified),

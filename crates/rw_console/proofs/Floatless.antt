@@ -1,0 +1,74 @@
+-- The JSON of a world has no number with a fraction, so serde_json says exactly what its text is.
+use Rattle.std.proofs.Common.{◌≡◌, ℕ, false, List, [], ◌∷◌, Option, Some, None, refl, map}
+use Rattle.std.specs.Prelude.{option_map, slice_get}
+use Rattle.std.specs.List.{cons_option, filter_map}
+use Rattle.serde_json.specs.Data.{Data}
+use Rattle.serde_json.specs.View.{items_of}
+use Rattle.serde_json.specs.Written.{has_float, items_have_float}
+use Rattle.rw_handles.specs.declared.kinds.Kind.{Kind}
+use Rattle.rw_handles.specs.declared.kinds.Kind.TheVariants.{Sender, Receiver}
+use Rattle.rw_handles.specs.declared.kinds.Slot.{Slot}
+use Rattle.rw_handles.specs.Slots.{kind_at}
+use Rattle.rw_broadcast.specs.Machine.{position_at}
+use Rattle.rw_broadcast.specs.Shown.{Shown as Broadcast}
+use Rattle.rw_watch.specs.Machine.{mark_at}
+use Rattle.rw_watch.specs.Shown.{Shown as Watch}
+use Rattle.rw_world.specs.Kinds.{broadcast_shown, watch_shown}
+use Rattle.rw_world.specs.Machines.{ChanShown}
+use Rattle.rw_console.specs.Json.{natural, sender_json, senders_json, reader_json, readers_json, watcher_json, watchers_json, channel_json, world_json}
+
+abbrev is_floatless : List Data → Type 0
+is_floatless ds = items_have_float (items_of ds) ≡ false
+
+onto : (d : Data) (ds : List Data) → has_float d ≡ false → is_floatless ds → is_floatless (d ∷ ds)
+onto d ds first rest = rw (first, rest) refl
+
+of_map : {X : Type 0} (f : X → Data) → ((x : X) → has_float (f x) ≡ false) → (xs : List X) → is_floatless (map f xs)
+of_map f each [] = refl
+of_map f each (x ∷ xs) = onto (f x) (map f xs) (each x) (of_map f each xs)
+
+abbrev IsFloatlessIfThere : Option Data → Type 0
+IsFloatlessIfThere None = Unit {0}
+IsFloatlessIfThere (Some d) = has_float d ≡ false
+
+of_filter_at : {X : Type 0} (f : X → Option Data) (o : Option Data) (ds : List Data) → IsFloatlessIfThere o → is_floatless ds → is_floatless (cons_option o ds)
+of_filter_at f None ds first rest = rest
+of_filter_at f (Some d) ds first rest = onto d ds first rest
+
+of_filter_map : {X : Type 0} (f : X → Option Data) → ((x : X) → IsFloatlessIfThere (f x)) → (xs : List X) → is_floatless (filter_map f xs)
+of_filter_map f each [] = refl
+of_filter_map f each (x ∷ xs) = of_filter_at f (f x) (filter_map f xs) (each x) (of_filter_map f each xs)
+
+sender_at : (h : ℕ) (kind : Option Kind) → IsFloatlessIfThere (sender_json h kind)
+sender_at h (Some Sender) = refl
+sender_at h (Some Receiver) = tt
+sender_at h None = tt
+
+senders : {X : Type 0} (slots : List (Slot X)) (n : ℕ) → is_floatless (senders_json slots n)
+unfolding senders_json
+senders slots n = of_filter_map _ (λ h. sender_at h (kind_at (slice_get slots h))) _
+
+reader_at : (x : Broadcast ℕ) (h : ℕ) (position : Option ℕ) → IsFloatlessIfThere (option_map (reader_json x h) position)
+reader_at x h None = tt
+reader_at x h (Some position) = refl
+
+readers : (x : Broadcast ℕ) (n : ℕ) → is_floatless (readers_json x n)
+unfolding readers_json
+readers x n = of_filter_map _ (λ h. reader_at x h (position_at (slice_get x.slots h))) _
+
+watcher_at : (x : Watch ℕ) (h : ℕ) (mark : Option (Option ℕ)) → IsFloatlessIfThere (option_map (watcher_json x h) mark)
+watcher_at x h None = tt
+watcher_at x h (Some None) = refl
+watcher_at x h (Some (Some version)) = refl
+
+watchers : (x : Watch ℕ) (n : ℕ) → is_floatless (watchers_json x n)
+unfolding watchers_json
+watchers x n = of_filter_map _ (λ h. watcher_at x h (mark_at (slice_get x.slots h))) _
+
+of_channel : (x : ChanShown ℕ) → has_float (channel_json x) ≡ false
+of_channel (broadcast_shown x) = rw (readers x _, senders x.slots _, of_map natural (λ n. refl) x.window) refl
+of_channel (watch_shown x) = rw (watchers x _, senders x.slots _) refl
+
+pub of_world : (xs : List (ChanShown ℕ)) (len place : ℕ) → has_float (world_json xs len place) ≡ false
+unfolding world_json
+of_world xs len place = rw (of_map channel_json of_channel xs) refl

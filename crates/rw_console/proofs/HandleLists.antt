@@ -1,0 +1,58 @@
+-- What there is of the first handles, one handle more at a time.
+use Rattle.std.proofs.Common.{◌≡◌, ◌++◌, ◌∷◌, [], ◌+◌, ℕ, zero, suc, List, Option, Some, None, refl, ap, ◌∙◌, add-one, arith}
+use Rattle.std.specs.Prelude.{option_map, option_to_list, slice_get}
+use Rattle.std.specs.List.{filter_map, range_with_len}
+use Rattle.std.proofs.lemmas.List.Elements.{filter_map-append}
+use Rattle.std.proofs.lemmas.Grind.{common_steps}
+use Rattle.serde_json.specs.Data.{Data}
+use Rattle.rw_handles.specs.declared.kinds.Slot.{Slot}
+use Rattle.rw_handles.specs.Slots.{kind_at}
+use Rattle.rw_broadcast.specs.Machine.{position_at}
+use Rattle.rw_broadcast.specs.Shown.{Shown as Broadcast}
+use Rattle.rw_watch.specs.Machine.{mark_at}
+use Rattle.rw_watch.specs.Shown.{Shown as Watch}
+use Rattle.rw_console.specs.Json.{of_handles, sender_json, senders_json, reader_json, readers_json, watcher_json, watchers_json}
+
+range_more : (a n : ℕ) → range_with_len a (suc n) ≡ range_with_len a n ++ (a + n) ∷ []
+range_more a zero = let e : a ≡ a + 0 = omega arith in ap (λ (x : ℕ). x ∷ []) e
+range_more a (suc n) =
+    let e : a + 1 + n ≡ a + suc n = omega arith in
+    ap (λ (xs : List ℕ). a ∷ xs) (range_more (a + 1) n ∙ ap (λ (x : ℕ). range_with_len (a + 1) n ++ x ∷ []) e)
+
+first_more : (n : ℕ) → range_with_len 0 (n + 1) ≡ range_with_len 0 n ++ n ∷ []
+first_more n =
+    let e : 0 + n ≡ n = omega arith in
+    ap (range_with_len 0) (add-one n) ∙ range_more 0 n ∙ ap (λ (x : ℕ). range_with_len 0 n ++ x ∷ []) e
+
+of_one : (o : Option Data) → filter_map (λ (x : Option Data). x) (o ∷ []) ≡ option_to_list o
+of_one None = refl
+of_one (Some d) = refl
+
+of_handles-more : (f : ℕ → Option Data) (n : ℕ) → of_handles f (n + 1) ≡ of_handles f n ++ option_to_list (f n)
+of_handles-more f n = ap (filter_map f) (first_more n) ∙ filter_map-append f (range_with_len 0 n) (n ∷ []) ∙ ap (λ (ds : List Data). of_handles f n ++ ds) (of_one (f n))
+
+pub senders_json-more : {X : Type 0} (slots : List (Slot X)) (n : ℕ) → senders_json slots (n + 1) ≡ senders_json slots n ++ option_to_list (sender_json n (kind_at (slice_get slots n)))
+unfolding senders_json
+senders_json-more slots n = of_handles-more (λ h. sender_json h (kind_at (slice_get slots h))) n
+
+pub senders_json-none : {X : Type 0} (slots : List (Slot X)) → senders_json slots 0 ≡ []
+unfolding senders_json
+senders_json-none slots = refl
+
+pub readers_json-more : (x : Broadcast ℕ) (n : ℕ) → readers_json x (n + 1) ≡ readers_json x n ++ option_to_list (option_map (reader_json x n) (position_at (slice_get x.slots n)))
+unfolding readers_json
+readers_json-more x n = of_handles-more (λ h. option_map (reader_json x h) (position_at (slice_get x.slots h))) n
+
+pub readers_json-none : (x : Broadcast ℕ) → readers_json x 0 ≡ []
+unfolding readers_json
+readers_json-none x = refl
+
+pub watchers_json-more : (x : Watch ℕ) (n : ℕ) → watchers_json x (n + 1) ≡ watchers_json x n ++ option_to_list (option_map (watcher_json x n) (mark_at (slice_get x.slots n)))
+unfolding watchers_json
+watchers_json-more x n = of_handles-more (λ h. option_map (watcher_json x h) (mark_at (slice_get x.slots h))) n
+
+pub watchers_json-none : (x : Watch ℕ) → watchers_json x 0 ≡ []
+unfolding watchers_json
+watchers_json-none x = refl
+
+pub ruleset handle_lists = (senders_json-more, senders_json-none, readers_json-more, readers_json-none, watchers_json-more, watchers_json-none, common_steps)

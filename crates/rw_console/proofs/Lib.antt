@@ -1,0 +1,12 @@
+pub mod Written
+pub mod Kept
+pub mod Answering
+pub mod Scripting
+pub mod SessionEnds
+pub mod Listing
+pub mod Showing
+pub mod Searching
+pub mod ConditionReading
+pub mod Lists
+pub mod HandleLists
+pub mod Floatless

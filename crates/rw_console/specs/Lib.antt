@@ -1,0 +1,17 @@
+pub mod Texts
+pub mod Handles
+pub mod BroadcastBlock
+pub mod WatchBlock
+pub mod Blocks
+pub mod Json
+pub mod Conditions
+pub mod ConditionWords
+pub mod Entries
+pub mod Places
+pub mod Hits
+pub mod Commands
+pub mod Walking
+pub mod Report
+pub mod Streams
+pub mod SessionReport
+pub mod Heads

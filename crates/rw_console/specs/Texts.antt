@@ -1,0 +1,31 @@
+-- The lines that a session writes of places.
+use Rattle.std.specs.Prelude.{ℕ, List, [], ◌++◌, Bool, true, false, Option, None, Some, Result, Ok, Err, codes, decimal}
+use Rattle.rw_navigator.specs.declared.moves.OutOfRange.{OutOfRange}
+
+-- a number, and the words before it
+unfoldable pub labelled : List ℕ → ℕ → List ℕ
+labelled label n = label ++ decimal n
+
+-- ---- places
+
+abbrev pub place_line : ℕ → ℕ → List ℕ
+place_line len place = codes "place " ++ decimal place ++ codes " of " ++ decimal len ++ codes "\n"
+
+-- what a move says first, by its answer
+abbrev pub refusal : Result (Unit {0}) OutOfRange → List ℕ
+refusal (Ok done) = []
+refusal (Err out) = codes "out of range, "
+
+-- ---- searches
+
+-- the hit that was found, or that none was, from this place
+abbrev pub hit_line : ℕ → ℕ → Option ℕ → List ℕ
+hit_line len place None = codes "no hit, " ++ place_line len place
+hit_line len place (Some hit) = codes "hit " ++ decimal hit ++ codes " of " ++ decimal len ++ codes "\n"
+
+-- ---- channels
+
+-- the last word of a channel's first line
+abbrev pub open_or_closed : Bool → List ℕ
+open_or_closed true = codes " closed\n"
+open_or_closed false = codes " open\n"

@@ -1,0 +1,94 @@
+//! The lines that show a broadcast channel.
+
+ghost use Rattle.std.specs.Prelude.{◌≡◌, ◌++◌, OnOk, length, slice_get};
+ghost use Rattle.rw_broadcast.specs.Machine.{position_at};
+ghost use Rattle.rw_console.specs.Handles.{senders_line};
+ghost use Rattle.rw_console.specs.BroadcastBlock.{channel_numbers, channel_line, window_line, receiver_line, receiver_lines, broadcast_block};
+
+use crate::handles::push_sender;
+use crate::text::{open_or_closed, push_labelled};
+use rw_broadcast::Broadcast;
+use rw_law::Reversible;
+use std::alloc::AllocError;
+
+/// Appends the lines of a channel that has number i.
+pub fn push_broadcast(out: &mut Vec<u8>, i: u64, channel: &Broadcast<u64>) -> Result<(), AllocError>
+    ensures { OnOk result (out.new.items ≡ out.old.items ++ broadcast_block i channel.now.shown) }
+{
+    push_summary(out, i, channel)?;
+    push_window(out, channel)?;
+    push_senders(out, channel)?;
+    push_receivers(out, channel)
+}
+
+#[tactic(auto, unfolding(crate::specs::BroadcastBlock::channel_numbers))]
+fn push_numbers(out: &mut Vec<u8>, i: u64, channel: &Broadcast<u64>) -> Result<(), AllocError>
+    ensures { OnOk result (out.new.items ≡ out.old.items ++ channel_numbers i channel.now.shown) }
+{
+    push_labelled(out, b"channel ", i)?;
+    push_labelled(out, b" broadcast capacity ", channel.capacity())?;
+    push_labelled(out, b" sent ", channel.sent())?;
+    push_labelled(out, b" queued ", channel.queued())?;
+    push_labelled(out, b" made ", u64::from(channel.made()))
+}
+
+/// The first line: the channel's numbers, and whether it is open.
+#[tactic(auto, unfolding(crate::specs::BroadcastBlock::channel_line))]
+fn push_summary(out: &mut Vec<u8>, i: u64, channel: &Broadcast<u64>) -> Result<(), AllocError>
+    ensures { OnOk result (out.new.items ≡ out.old.items ++ channel_line i channel.now.shown) }
+{
+    push_numbers(out, i, channel)?;
+    out.extend_from_slice(open_or_closed(channel.closed()).as_bytes())
+}
+
+/// The retained values.
+fn push_window(out: &mut Vec<u8>, channel: &Broadcast<u64>) -> Result<(), AllocError>
+    ensures { OnOk result (out.new.items ≡ out.old.items ++ window_line channel.now.shown) }
+{
+    // The proof takes from here that there are few of them.
+    let _weight = channel.weight();
+    out.extend_from_slice(b"window")?;
+    let mut i = 0;
+    'each_value: while let Some(value) = channel.window(i) {
+        push_labelled(out, b" ", value)?;
+        i += 1;
+    }
+    out.extend_from_slice(b"\n")
+}
+
+/// The live senders.
+#[tactic(auto, using(crate::proofs::Written::numbered), unfolding(crate::specs::Handles::senders_line))]
+fn push_senders(out: &mut Vec<u8>, channel: &Broadcast<u64>) -> Result<(), AllocError>
+    ensures { OnOk result (out.new.items ≡ out.old.items ++ senders_line channel.now.shown.slots) }
+{
+    out.extend_from_slice(b"senders")?;
+    'each_handle: for h in 0..channel.made() {
+        push_sender(out, h, channel.kind(h))?;
+    }
+    out.extend_from_slice(b"\n")
+}
+
+#[tactic(auto, unfolding(crate::specs::BroadcastBlock::receiver_line))]
+fn push_receiver(out: &mut Vec<u8>, channel: &Broadcast<u64>, h: u32) -> Result<(), AllocError>
+    ensures { OnOk result (out.new.items ≡ out.old.items ++ receiver_line channel.now.shown h (position_at (slice_get channel.now.shown.slots h))) }
+{
+    let Some(position) = channel.position(h) else {
+        return Ok(());
+    };
+    push_labelled(out, b"receiver ", u64::from(h))?;
+    push_labelled(out, b" position ", position)?;
+    push_labelled(out, b" unread ", channel.unread(h).unwrap())?;
+    push_labelled(out, b" lag ", channel.lag(h).unwrap())?;
+    out.extend_from_slice(b"\n")
+}
+
+/// The live receivers, a line each.
+#[tactic(auto, using(crate::proofs::Written::numbered))]
+fn push_receivers(out: &mut Vec<u8>, channel: &Broadcast<u64>) -> Result<(), AllocError>
+    ensures { OnOk result (out.new.items ≡ out.old.items ++ receiver_lines channel.now.shown (length channel.now.shown.slots)) }
+{
+    'each_handle: for h in 0..channel.made() {
+        push_receiver(out, channel, h)?;
+    }
+    Ok(())
+}

@@ -1,0 +1,138 @@
+//! Conditions as text.
+
+ghost use Rattle.std.specs.Prelude.{◌≡◌, find, IfSome, IsSome};
+ghost use Rattle.std.specs.Str.{bytes_eq};
+ghost use Rattle.rw_console.specs.declared.condition.Cond.{Cond};
+ghost use Rattle.rw_console.specs.ConditionWords.{condition_in, condition_of_word, condition_text, condition_word_text, condition_words, three_numbers_in, two_numbers_in, HasNumerals};
+
+use crate::condition::Cond;
+use rw_lines::{cut, numeral};
+use rw_script::ReplyWord;
+
+/// The word that a condition begins with.
+#[derive(Clone, Copy)]
+enum ConditionWord {
+    Actor,
+    Channel,
+    Reply,
+    Unread,
+    Lagging,
+    Unseen,
+    Version,
+    Closed,
+    Queue,
+}
+
+impl ConditionWord {
+    fn text(self) -> &'static [u8]
+        ensures { result.now ≡ condition_word_text self }
+    {
+        match self {
+            ConditionWord::Actor => b"actor",
+            ConditionWord::Channel => b"channel",
+            ConditionWord::Reply => b"reply",
+            ConditionWord::Unread => b"unread",
+            ConditionWord::Lagging => b"lagging",
+            ConditionWord::Unseen => b"unseen",
+            ConditionWord::Version => b"version",
+            ConditionWord::Closed => b"closed",
+            ConditionWord::Queue => b"queue",
+        }
+    }
+
+    /// The first of these words that a token is.
+    fn among(words: &[ConditionWord], token: &[u8]) -> Option<ConditionWord>
+        ensures { result ≡ find (λ w. bytes_eq (condition_word_text w) token.now) words.now }
+    {
+        words.iter().copied().find(|word| word.text() == token)
+    }
+
+    /// The word that a token is.
+    fn of(token: &[u8]) -> Option<ConditionWord>
+        ensures { result ≡ find (λ w. bytes_eq (condition_word_text w) token.now) condition_words }
+    {
+        let words = [
+            ConditionWord::Actor,
+            ConditionWord::Channel,
+            ConditionWord::Reply,
+            ConditionWord::Unread,
+            ConditionWord::Lagging,
+            ConditionWord::Unseen,
+            ConditionWord::Version,
+            ConditionWord::Closed,
+            ConditionWord::Queue,
+        ];
+        ConditionWord::among(&words, token)
+    }
+
+    /// The condition of this word and of what stands behind it.
+    fn read(self, rest: &[u8]) -> Option<Cond>
+        ensures { result ≡ condition_of_word self rest.now }
+    {
+        match self {
+            ConditionWord::Actor => Some(Cond::Actor(numeral(rest)?)),
+            ConditionWord::Channel => Some(Cond::Channel(numeral(rest)?)),
+            ConditionWord::Reply => Some(Cond::ReplyKind(ReplyWord::of(rest)?)),
+            ConditionWord::Unread => {
+                let (channel, handle, count) = three_numbers(rest)?;
+                Some(Cond::UnreadAtLeast {
+                    channel,
+                    handle,
+                    count,
+                })
+            }
+            ConditionWord::Lagging => {
+                let (channel, handle) = two_numbers(rest)?;
+                Some(Cond::Lagging { channel, handle })
+            }
+            ConditionWord::Unseen => {
+                let (channel, handle) = two_numbers(rest)?;
+                Some(Cond::Unseen { channel, handle })
+            }
+            ConditionWord::Version => {
+                let (channel, version) = two_numbers(rest)?;
+                Some(Cond::VersionAtLeast { channel, version })
+            }
+            ConditionWord::Closed => Some(Cond::Closed(numeral(rest)?)),
+            ConditionWord::Queue => {
+                let (channel, count) = two_numbers(rest)?;
+                Some(Cond::QueueAtLeast { channel, count })
+            }
+        }
+    }
+}
+
+fn two_numbers(text: &[u8]) -> Option<(u64, u64)>
+    ensures { result ≡ two_numbers_in text.now }
+{
+    let (first, second) = cut(text, b' ')?;
+    Some((numeral(first)?, numeral(second)?))
+}
+
+fn three_numbers(text: &[u8]) -> Option<(u64, u64, u64)>
+    ensures { result ≡ three_numbers_in text.now }
+{
+    let (first, rest) = cut(text, b' ')?;
+    let first = numeral(first)?;
+    let (second, third) = two_numbers(rest)?;
+    Some((first, second, third))
+}
+
+#[tactic(auto, unfolding(crate::specs::ConditionWords::condition_in))]
+fn condition_from(text: &[u8]) -> Option<Cond>
+    ensures { result ≡ condition_in text.now }
+{
+    let (word, rest) = cut(text, b' ')?;
+    ConditionWord::of(word)?.read(rest)
+}
+
+/// The condition that a text spells: its word and its arguments, one space between them.
+pub fn condition_of(text: &[u8]) -> Option<Cond>
+    // What is read is spelled so.
+    ensures found { IfSome result (λ cond. (text.now ≡ condition_text cond) × HasNumerals cond) }
+    // What is spelled so is read.
+    ensures only { (cond : Cond) → HasNumerals cond → text.now ≡ condition_text cond → IsSome result }
+    ensures exact { result ≡ condition_in text.now }
+{
+    condition_from(text)
+}

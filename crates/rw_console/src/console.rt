@@ -1,0 +1,130 @@
+//! The console: commands from a reader, and what they write.
+
+ghost use Rattle.std.specs.Prelude.{◌≡◌, IfOk, IfErr, OnOk};
+ghost use Rattle.std.specs.Io.KnownBytes.{Appends};
+ghost use Rattle.rw_console.specs.Commands.{command_in, is_quit};
+ghost use Rattle.rw_console.specs.Report.{commands_report, output_of, place_of};
+ghost use Rattle.rw_console.specs.Streams.{Always, Answers, Stops, StopsWriting};
+
+use crate::command::{Command, command_of};
+use crate::walk::Walk;
+use rw_lines::{Next, StreamFault, flush, next_line, put};
+use std::alloc::Global;
+use std::io::{Read, Write};
+
+/// Writes the bytes. At an `Err` a front of them was written.
+pub(crate) fn put_out<W: Write>(writer: &mut W, bytes: &[u8]) -> Result<(), StreamFault>
+    ensures ok { OnOk result (Appends (W.contents writer.old) (W.contents writer.new) bytes.now) }
+    ensures err { IfErr result (StopsWriting (W.contents writer.old) (W.contents writer.new) bytes.now) }
+{
+    match put(writer, bytes) {
+        Ok(()) => Ok(()),
+        Err(_) => Err(StreamFault::Write),
+    }
+}
+
+/// Writes the entry that leads to a place. At an `Err` a front of its line was written.
+fn write_step<W: Write>(
+    walk: &Walk,
+    place: u64,
+    writer: &mut W,
+    out: &mut Vec<u8>,
+) -> Result<(), StreamFault>
+    ensures ok { OnOk result (Appends (W.contents writer.old) (W.contents writer.new) (output_of walk.now.run place Command.Step)) }
+    ensures err { IfErr result (StopsWriting (W.contents writer.old) (W.contents writer.new) (output_of walk.now.run place Command.Step)) }
+{
+    out.clear();
+    if walk.push_step(place, out).is_err() {
+        return Err(StreamFault::NoMemory);
+    }
+    put_out(writer, out)
+}
+
+/// Writes the run's entries, one by one. At an `Err` a front of them was written.
+fn write_entries<W: Write>(
+    walk: &Walk,
+    writer: &mut W,
+    out: &mut Vec<u8>,
+) -> Result<(), StreamFault>
+    ensures ok { OnOk result (Appends (W.contents writer.old) (W.contents writer.new) (output_of walk.now.run walk.now.place Command.List)) }
+    ensures err { IfErr result (StopsWriting (W.contents writer.old) (W.contents writer.new) (output_of walk.now.run walk.now.place Command.List)) }
+{
+    'each_entry: for i in 0..walk.len() {
+        write_step(walk, i + 1, writer, out)?;
+    }
+    Ok(())
+}
+
+/// Writes what a command says, and does what it asks for. At an `Err` a front of its output was written.
+fn write_answer<W: Write>(
+    walk: &mut Walk,
+    command: Command,
+    writer: &mut W,
+    out: &mut Vec<u8>,
+) -> Result<(), StreamFault>
+    ensures ok { OnOk result (Appends (W.contents writer.old) (W.contents writer.new) (output_of walk.old.run walk.old.place command)) }
+    ensures err { IfErr result (StopsWriting (W.contents writer.old) (W.contents writer.new) (output_of walk.old.run walk.old.place command)) }
+    ensures place { OnOk result (walk.new.place ≡ place_of walk.old.run walk.old.place command) }
+    ensures run { walk.new.run ≡ walk.old.run }
+{
+    if matches!(command, Command::List) {
+        return write_entries(walk, writer, out);
+    }
+    out.clear();
+    if walk.answer(command, out).is_err() {
+        return Err(StreamFault::NoMemory);
+    }
+    put_out(writer, out)
+}
+
+/// Does what a line asks for, and answers whether that was to quit. At an `Err` a front of its output was written.
+fn answer_line<W: Write>(
+    walk: &mut Walk,
+    writer: &mut W,
+    line: &[u8],
+    out: &mut Vec<u8>,
+) -> Result<bool, StreamFault>
+    ensures quit { IfOk result (λ q. q ≡ is_quit (command_in line.now)) }
+    ensures ok { OnOk result (Appends (W.contents writer.old) (W.contents writer.new) (output_of walk.old.run walk.old.place (command_in line.now))) }
+    ensures place { OnOk result (walk.new.place ≡ place_of walk.old.run walk.old.place (command_in line.now)) }
+    ensures run { walk.new.run ≡ walk.old.run }
+    ensures err { IfErr result (StopsWriting (W.contents writer.old) (W.contents writer.new) (output_of walk.old.run walk.old.place (command_in line.now))) }
+{
+    let command = command_of(line);
+    write_answer(walk, command, writer, out)?;
+    flush(writer)?;
+    Ok(matches!(command, Command::Quit))
+}
+
+/// Does what the lines ask for, to the reader's end or to a `quit`.
+///
+/// `allowed` is how many bytes the reader may still give, and counts down.
+pub fn commands<R: Read, W: Write>(
+    alloc: Global,
+    walk: &mut Walk,
+    reader: &mut R,
+    writer: &mut W,
+    allowed: &mut u64,
+) -> Result<(), StreamFault>
+    ensures ok { OnOk result (Answers (R.remaining reader.old) (R.remaining reader.new) (W.contents writer.old) (W.contents writer.new)
+        (commands_report walk.old.run walk.old.place)) }
+    ensures err { IfErr result (Stops (R.remaining reader.old) (R.remaining reader.new) (W.contents writer.old) (W.contents writer.new)
+        (commands_report walk.old.run walk.old.place) Always allowed.old) }
+{
+    let mut line = Vec::new(alloc);
+    let mut out = Vec::new(alloc);
+    'each_line: loop {
+        match next_line(reader, allowed, &mut line)? {
+            Next::End => return Ok(()),
+            Next::Last => {
+                answer_line(walk, writer, &line, &mut out)?;
+                return Ok(());
+            }
+            Next::Line => {
+                if answer_line(walk, writer, &line, &mut out)? {
+                    return Ok(());
+                }
+            }
+        }
+    }
+}

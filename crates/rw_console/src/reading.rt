@@ -1,0 +1,111 @@
+//! Reads the script of a session, up to the line `---`.
+
+ghost use Rattle.std.specs.Prelude.{◌≡◌, ◌+◌, ◌-◌, ◌^◌, ◌<◌, Ok, Err, MatchOption, IfOk, IfErr};
+ghost use Rattle.rw_script.specs.Script.{opening, after_line};
+ghost use Rattle.rw_console.specs.Heads.{GivesHead, GivesLines, StopsInScript};
+
+use rw_lines::{Next, StreamFault, next_line};
+use rw_script::{Script, ScriptFault, ScriptFaultKind, ScriptReader, is_mark};
+use std::alloc::Global;
+use std::io::Read;
+
+/// Where the reading of a script stops.
+#[derive(Clone, Copy, Debug, PartialEq, Eq)]
+pub enum ScriptEnd {
+    /// Behind the line `---`.
+    Mark,
+    /// At the reader's end.
+    Reader,
+    /// Behind the first line that is at fault.
+    Fault(ScriptFault),
+}
+
+/// What the front of a session's bytes is.
+#[derive(Drop)]
+pub enum Head {
+    /// A script; commands follow.
+    Script(Script),
+    /// A script, and nothing behind it.
+    Ended(Script),
+    /// A script with a fault.
+    Refused(ScriptFault),
+}
+
+/// Takes a line of the script, and answers its fault.
+fn take_line(script: &mut ScriptReader, line: &[u8]) -> Result<Option<ScriptFault>, StreamFault>
+    requires { script.old.lines < 2 ^ 64 - 1 }
+    ensures ok { IfOk result (λ o. MatchOption o
+        ((after_line script.old line.now ≡ Ok script.new) × (script.new.lines ≡ script.old.lines + 1))
+        (λ f. after_line script.old line.now ≡ Err f)) }
+    ensures err { IfErr result (λ e. e ≡ StreamFault.NoMemory) }
+{
+    match script.take(line) {
+        Ok(()) => Ok(None),
+        Err(fault) => match fault.kind {
+            ScriptFaultKind::NoMemory => Err(StreamFault::NoMemory),
+            _ => Ok(Some(fault)),
+        },
+    }
+}
+
+/// Reads the lines of a script.
+fn read_lines<R: Read>(
+    alloc: Global,
+    reader: &mut R,
+    allowed: &mut u64,
+    script: &mut ScriptReader,
+) -> Result<ScriptEnd, StreamFault>
+    requires few { allowed.old < 2 ^ 63 }
+    requires fresh { script.old ≡ opening }
+    ensures ok { IfOk result (GivesLines (R.remaining reader.old) (R.remaining reader.new) allowed.old allowed.new script.new) }
+    ensures err { IfErr result (StopsInScript (R.remaining reader.old) (R.remaining reader.new) allowed.old) }
+{
+    let mut line = Vec::new(alloc);
+    'each_line: loop {
+        match next_line(reader, allowed, &mut line)? {
+            Next::End => return Ok(ScriptEnd::Reader),
+            Next::Last => {
+                if is_mark(&line) {
+                    return Ok(ScriptEnd::Reader);
+                }
+                match take_line(script, &line)? {
+                    Some(fault) => return Ok(ScriptEnd::Fault(fault)),
+                    None => return Ok(ScriptEnd::Reader),
+                }
+            }
+            Next::Line => {
+                if is_mark(&line) {
+                    return Ok(ScriptEnd::Mark);
+                }
+                match take_line(script, &line)? {
+                    Some(fault) => return Ok(ScriptEnd::Fault(fault)),
+                    None => {}
+                }
+            }
+        }
+    }
+}
+
+/// Reads a script, up to the line `---`, its first fault, or the reader's end.
+pub fn read_script<R: Read>(
+    alloc: Global,
+    reader: &mut R,
+    allowed: &mut u64,
+) -> Result<Head, StreamFault>
+    requires { allowed.old < 2 ^ 63 }
+    ensures ok { IfOk result (GivesHead (R.remaining reader.old) (R.remaining reader.new) allowed.old allowed.new) }
+    ensures err { IfErr result (StopsInScript (R.remaining reader.old) (R.remaining reader.new) allowed.old) }
+{
+    let mut script = ScriptReader::new(alloc);
+    match read_lines(alloc, reader, allowed, &mut script)? {
+        ScriptEnd::Fault(fault) => Ok(Head::Refused(fault)),
+        ScriptEnd::Mark => match script.finish() {
+            Ok(script) => Ok(Head::Script(script)),
+            Err(fault) => Ok(Head::Refused(fault)),
+        },
+        ScriptEnd::Reader => match script.finish() {
+            Ok(script) => Ok(Head::Ended(script)),
+            Err(fault) => Ok(Head::Refused(fault)),
+        },
+    }
+}

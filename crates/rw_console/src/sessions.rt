@@ -1,0 +1,130 @@
+//! A session: a script, and then commands that walk over its run.
+
+ghost use Rattle.std.specs.Prelude.{◌≡◌, IfOk, IfErr, OnOk};
+ghost use Rattle.std.specs.Io.KnownBytes.{Appends};
+ghost use Rattle.rw_script.specs.Running.{run_of};
+ghost use Rattle.rw_console.specs.Heads.{HasMark};
+ghost use Rattle.rw_console.specs.SessionReport.{fault_line, outcome, outcome_at, recording_of, report, waiting_line};
+ghost use Rattle.rw_console.specs.Streams.{Answers, Stops, StopsWriting};
+
+use crate::console::{commands, put_out};
+use crate::reading::{Head, read_script};
+use crate::text::{push_fault, push_waiting};
+use crate::walk::Walk;
+use rw_journal::Run;
+pub use rw_lines::StreamFault as SessionFault;
+use rw_lines::flush;
+use rw_script::{Script, ScriptFault, run_one};
+use std::alloc::Global;
+use std::io::{Read, Write};
+
+/// How a session ended.
+#[derive(Clone, Copy, Debug, PartialEq, Eq)]
+pub enum Outcome {
+    /// Each command was answered.
+    Done,
+    /// The script has a fault, and no command was read.
+    Refused(ScriptFault),
+    /// Each command was answered, over the calls before the line of this number, which would wait.
+    Waited(u64),
+}
+
+/// The most bytes that a session reads.
+pub const MOST_BYTES: u64 = 268_435_456;
+
+/// Writes the bytes and hands them on. At an `Err` a front of them was written.
+fn put_whole<W: Write>(writer: &mut W, bytes: &[u8]) -> Result<(), SessionFault>
+    ensures ok { OnOk result (Appends (W.contents writer.old) (W.contents writer.new) bytes.now) }
+    ensures err { IfErr result (StopsWriting (W.contents writer.old) (W.contents writer.new) bytes.now) }
+{
+    put_out(writer, bytes)?;
+    flush(writer)
+}
+
+/// Writes a script's fault. At an `Err` a front of it was written.
+fn refuse<W: Write>(alloc: Global, writer: &mut W, fault: ScriptFault) -> Result<(), SessionFault>
+    ensures ok { OnOk result (Appends (W.contents writer.old) (W.contents writer.new) (fault_line fault)) }
+    ensures err { IfErr result (StopsWriting (W.contents writer.old) (W.contents writer.new) (fault_line fault)) }
+{
+    let mut out = Vec::new(alloc);
+    if push_fault(&mut out, fault).is_err() {
+        return Err(SessionFault::NoMemory);
+    }
+    put_whole(writer, &out)
+}
+
+/// Writes which line would wait, if one would. At an `Err` a front of it was written.
+fn say_waiting<W: Write>(
+    alloc: Global,
+    writer: &mut W,
+    waits: Option<u64>,
+) -> Result<(), SessionFault>
+    ensures ok { OnOk result (Appends (W.contents writer.old) (W.contents writer.new) (waiting_line waits)) }
+    ensures err { IfErr result (StopsWriting (W.contents writer.old) (W.contents writer.new) (waiting_line waits)) }
+{
+    let mut out = Vec::new(alloc);
+    if push_waiting(&mut out, waits).is_err() {
+        return Err(SessionFault::NoMemory);
+    }
+    put_whole(writer, &out)
+}
+
+/// Runs a script, and writes which line would wait, if one would. At an `Err` a front of that was written.
+fn begin<W: Write>(
+    alloc: Global,
+    script: &Script,
+    writer: &mut W,
+) -> Result<(Run<u64>, Option<u64>), SessionFault>
+    ensures run { IfOk result (λ p. p.0 ≡ recording_of script.now) }
+    ensures waits { IfOk result (λ p. p.1 ≡ (run_of script.now).waits) }
+    ensures ok { OnOk result (Appends (W.contents writer.old) (W.contents writer.new) (waiting_line (run_of script.now).waits)) }
+    ensures err { IfErr result (StopsWriting (W.contents writer.old) (W.contents writer.new) (waiting_line (run_of script.now).waits)) }
+{
+    let Ok((run, waits)) = run_one(alloc, script) else {
+        return Err(SessionFault::NoMemory);
+    };
+    say_waiting(alloc, writer, waits)?;
+    Ok((run, waits))
+}
+
+/// How the session of a script ends.
+fn outcome_at(waits: Option<u64>) -> Outcome
+    ensures { result ≡ outcome_at waits }
+{
+    match waits {
+        None => Outcome::Done,
+        Some(line) => Outcome::Waited(line),
+    }
+}
+
+/// Reads a script and then commands, runs the script, and writes what the commands ask for. A `quit` or the reader's end ends
+/// it; no byte behind a `quit`, or behind a line of the script that is at fault, is read.
+pub fn session<R: Read, W: Write>(
+    alloc: Global,
+    reader: &mut R,
+    writer: &mut W,
+) -> Result<Outcome, SessionFault>
+    ensures ok { IfOk result (λ o. (done : Answers (R.remaining reader.old) (R.remaining reader.new) (W.contents writer.old) (W.contents writer.new) report)
+        × (outcome done.bytes ≡ o)) }
+    ensures err { IfErr result (Stops (R.remaining reader.old) (R.remaining reader.new) (W.contents writer.old) (W.contents writer.new) report HasMark MOST_BYTES) }
+{
+    let mut allowed = MOST_BYTES;
+    match read_script(alloc, reader, &mut allowed)? {
+        Head::Refused(fault) => {
+            refuse(alloc, writer, fault)?;
+            Ok(Outcome::Refused(fault))
+        }
+        Head::Ended(script) => {
+            let (_, waits) = begin(alloc, &script, writer)?;
+            Ok(outcome_at(waits))
+        }
+        Head::Script(script) => {
+            let (run, waits) = begin(alloc, &script, writer)?;
+            let Ok(mut walk) = Walk::open(alloc, &run) else {
+                return Err(SessionFault::NoMemory);
+            };
+            commands(alloc, &mut walk, reader, writer, &mut allowed)?;
+            Ok(outcome_at(waits))
+        }
+    }
+}

@@ -1,0 +1,57 @@
+//! Readers and writers that fail at one call.
+
+use rw_console::{Outcome, SessionFault, session};
+use rw_devices::{FailingReader, FailingWriter};
+
+const INPUT: &[u8] =
+    b"broadcast 2\n0 0 send 0 1\n0 0 try-recv 1\n0 0 recv 1\n---\nlist\nstate\nstate json\nback\nstep\nrforward reply value\nrback closed 0\nlost\nquit\n";
+
+const REPORT: &[u8] =
+    b"would wait 4\n#1 1 0 0 send 0 1 = sent 1\n#2 2 0 0 try-recv 1 = value 1\nplace 2 of 2\nchannel 0 broadcast capacity 2 sent 1 queued 0 made 2 open\nwindow 1\nsenders 0\nreceiver 1 position 1 unread 0 lag 0\n{\"channels\":[{\"capacity\":2,\"closed\":false,\"kind\":\"broadcast\",\"made\":2,\"queued\":0,\"receivers\":[{\"handle\":1,\"lag\":0,\"position\":1,\"unread\":0}],\"senders\":[0],\"sent\":1,\"window\":[1]}],\"len\":2,\"place\":2}\nplace 1 of 2\n#1 1 0 0 send 0 1 = sent 1\nhit 2 of 2\nno hit, place 2 of 2\nbad command\n";
+
+#[test]
+fn each_read_fails(rt: HostRuntime) {
+    let mut done = false;
+    for k in 0..200u64 {
+        let mut reader = FailingReader::new(INPUT, 1, Some(k));
+        let mut writer = FailingWriter::new(rt.alloc(), 4096, None);
+        let ended = session(rt.alloc(), &mut reader, &mut writer);
+        if ended == Ok(Outcome::Waited(4)) {
+            done = true;
+            assert_eq!(rt; writer.written(), REPORT);
+        } else {
+            assert_eq!(rt; ended, Err(SessionFault::Read), "{k}");
+            assert!(rt; !done && REPORT.starts_with(writer.written()), "{k}");
+        }
+    }
+    assert!(rt; done);
+}
+
+#[test]
+fn each_write_fails(rt: HostRuntime) {
+    let mut done = false;
+    for k in 0..200u64 {
+        let mut reader = FailingReader::new(INPUT, 64, None);
+        let mut writer = FailingWriter::new(rt.alloc(), 5, Some(k));
+        let ended = session(rt.alloc(), &mut reader, &mut writer);
+        if ended == Ok(Outcome::Waited(4)) {
+            done = true;
+            assert_eq!(rt; writer.written(), REPORT);
+            // Once for the line that would wait, and once for each command.
+            assert_eq!(rt; writer.flushes(), 10);
+        } else {
+            assert_eq!(rt; ended, Err(SessionFault::Write), "{k}");
+            assert!(rt; !done && REPORT.starts_with(writer.written()), "{k}");
+        }
+    }
+    assert!(rt; done);
+}
+
+#[test]
+fn a_writer_that_takes_nothing(rt: HostRuntime) {
+    let mut reader = FailingReader::new(INPUT, 64, None);
+    let mut writer = FailingWriter::new(rt.alloc(), 0, None);
+    let ended = session(rt.alloc(), &mut reader, &mut writer);
+    assert_eq!(rt; ended, Err(SessionFault::Write));
+    assert_eq!(rt; writer.written(), b"".as_slice());
+}

@@ -1,0 +1,20 @@
+//! Sessions that are played.
+
+use rw_console::{Outcome, session};
+use rw_devices::{FailingReader, FailingWriter};
+use std::alloc::Global;
+use std::process::Abort;
+
+/// A session's name, its input and its report.
+pub type Session = (&'static str, &'static [u8], &'static [u8]);
+
+/// Plays each session, whose script is run to its end.
+pub fn play(rt: &impl Abort, alloc: Global, sessions: &[Session]) {
+    for (name, input, report) in sessions {
+        let mut reader = FailingReader::new(input, 64, None);
+        let mut writer = FailingWriter::new(alloc, 4096, None);
+        let ended = session(alloc, &mut reader, &mut writer);
+        assert!(rt; matches!(ended, Ok(Outcome::Done)), "{name}");
+        assert_eq!(rt; writer.written(), *report, "{name}");
+    }
+}
