@@ -1,9 +1,1 @@
-pub mod Answering
-pub mod Following
-pub mod Kept
-pub mod Recorded
-pub mod Scripting
-pub mod Sessions
 pub mod Telling
-pub mod Waiting
-pub mod Written

@@ -5,10 +5,11 @@ use Rattle.std.specs.Io.KnownBytes.{Appends}
 use Rattle.std.proofs.lemmas.List.{take_all}
 use Rattle.rw_lines.specs.declared.streams.ShortWrite.{ShortWrite}
 use Rattle.rw_lines.specs.declared.streams.StreamFault.{StreamFault}
-use Rattle.rw_ttd.specs.declared.session.Outcome.{Outcome}
-use Rattle.rw_ttd.specs.declared.session.TheConstants.{MOST_BYTES}
-use Rattle.rw_ttd.specs.Report.{outcome, report}
-use Rattle.rw_ttd.specs.Session.{Answers, HasMark, Stops}
+use Rattle.rw_console.specs.declared.sessions.Outcome.{Outcome}
+use Rattle.rw_console.specs.declared.sessions.TheConstants.{MOST_BYTES}
+use Rattle.rw_console.specs.Heads.{HasMark}
+use Rattle.rw_console.specs.SessionReport.{outcome, report}
+use Rattle.rw_console.specs.Streams.{Answers, Stops}
 use Rattle.rw_ttd.specs.Statuses.{said_of, status_of}
 use Rattle.rw_ttd.specs.Runs.{Ends, Runs}
 

@@ -1,12 +1,2 @@
-pub mod Words
-pub mod Script
-pub mod Takes
-pub mod Recordings
-pub mod Walking
-pub mod Commands
-pub mod Texts
-pub mod Report
-pub mod Session
-pub mod Heads
 pub mod Statuses
 pub mod Runs

@@ -1,11 +1,12 @@
 -- A run of the program over its three streams.
-use Rattle.std.specs.Prelude.{◌≡◌, ℕ, List, Option, Result, Ok, Err, take}
+use Rattle.std.specs.Prelude.{◌≡◌, ◌⊎◌, ℕ, List, Option, Result, Ok, Err, take}
 use Rattle.std.specs.Io.KnownBytes.{Appends}
 use Rattle.rw_lines.specs.declared.streams.StreamFault.{StreamFault}
-use Rattle.rw_ttd.specs.declared.session.Outcome.{Outcome}
-use Rattle.rw_ttd.specs.declared.session.TheConstants.{MOST_BYTES}
-use Rattle.rw_ttd.specs.Report.{outcome, report}
-use Rattle.rw_ttd.specs.Session.{Answers, HasMark, Stops}
+use Rattle.rw_console.specs.declared.sessions.Outcome.{Outcome}
+use Rattle.rw_console.specs.declared.sessions.TheConstants.{MOST_BYTES}
+use Rattle.rw_console.specs.Heads.{HasMark}
+use Rattle.rw_console.specs.SessionReport.{outcome, report}
+use Rattle.rw_console.specs.Streams.{Answers, Stops}
 use Rattle.rw_ttd.specs.Statuses.{said_of, status_of}
 
 -- a session that ended so has read these bytes and written these
@@ -20,3 +21,7 @@ pub record Runs (reader reader' writer writer' errors errors' : Option (List ℕ
   pub session : Ends reader reader' writer writer' ended
   pub answered : status ≡ status_of ended
   pub told : (n : ℕ) × Appends errors errors' (take n (said_of ended))
+
+-- the program's exit statuses: 2 for a command line that is refused, and those of sessions
+abbrev pub IsStatus : ℕ → Type 0
+IsStatus n = (n ≡ 2) ⊎ ((ended : Result Outcome StreamFault) × (n ≡ status_of ended))

@@ -1,27 +1,15 @@
-//! The program `ttd`: a session with the time-travel debugger of a broadcast channel.
+//! The program `ttd`: sessions with the time-travel debugger of channels.
 //!
-//! A session reads a script, which opens a channel and makes calls on it, and then commands, which walk over the places of
-//! the run and show the channel there. Its one contract is that of `session`: what it writes is the report of the bytes that
-//! it reads (`specs/Report.antt`), whose states are those of the record of all that was ever sent.
-//! Start reading at that definition, then at `session.rt`, and go on with `reading.rt` (the script) and `console.rt` (the
-//! commands).
+//! It takes the one word `session`, and runs a session on standard input and output. Its one contract is that of `session_on`:
+//! what is written is the report of the bytes that are read (`rw_console`'s `specs/SessionReport.antt`), and the exit status and
+//! the line on the stream for errors are those of the session's end (`specs/Statuses.antt`).
+//! Start reading at `program.rt`.
 #![tactic(auto)]
 
-mod channel;
-mod command;
-mod console;
-mod faults;
 mod program;
-mod reading;
-mod recording;
-mod script;
-mod session;
 mod status;
 #[cfg(test)]
 mod tests;
-mod text;
-mod walk;
-mod words;
 
 use std::process::ExitCode;
 

@@ -2,13 +2,13 @@
 
 ghost use Rattle.std.specs.Prelude.{◌≡◌, ℕ, take};
 ghost use Rattle.std.specs.Io.KnownBytes.{Appends};
-ghost use Rattle.rw_ttd.specs.Runs.{Runs};
+ghost use Rattle.rw_ttd.specs.Runs.{IsStatus, Runs};
 ghost use Rattle.rw_ttd.specs.Statuses.{said_of, status_of};
 
-use crate::session::{Outcome, SessionFault, session};
 use crate::status::{REFUSED_WORDS, said, status};
 use clap::Command;
 use clap::error::ErrorKind;
+use rw_console::{Outcome, SessionFault, session};
 use rw_lines::put;
 use std::alloc::Global;
 use std::io::{self, BufReader, Read, Write};
@@ -54,7 +54,9 @@ fn asks_session(alloc: Global, words: &[String]) -> Result<(), clap::Error> {
 }
 
 /// Runs the program on the real words and streams, and answers its exit status.
-pub fn run<R: Env + Input + Print + AllocGlobal, E: Write>(rt: &R, err: &mut E) -> u8 {
+pub fn run<R: Env + Input + Print + AllocGlobal, E: Write>(rt: &R, err: &mut E) -> u8
+    ensures { IsStatus result }
+{
     let alloc = rt.alloc();
     let Ok(args) = std::env::args(rt) else {
         return REFUSED_WORDS;

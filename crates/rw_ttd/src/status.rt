@@ -3,7 +3,7 @@
 ghost use Rattle.std.specs.Prelude.{◌≡◌};
 ghost use Rattle.rw_ttd.specs.Statuses.{said_of, status_of};
 
-use crate::session::{Outcome, SessionFault};
+use rw_console::{Outcome, SessionFault};
 
 /// The command line was refused.
 pub const REFUSED_WORDS: u8 = 2;
@@ -15,12 +15,13 @@ pub fn status(ended: Result<Outcome, SessionFault>) -> u8
     match ended {
         Ok(Outcome::Done) => 0,
         Ok(Outcome::Refused(_)) => 1,
+        Ok(Outcome::Waited(_)) => 3,
         Err(SessionFault::Read | SessionFault::Write | SessionFault::TooMuch) => 4,
         Err(SessionFault::NoMemory) => 5,
     }
 }
 
-/// The line on the stream for errors. A session that came to its end, and a script that is refused, have none there.
+/// The line on the stream for errors. A session that came to its end has none there, whatever its script.
 pub fn said(ended: Result<Outcome, SessionFault>) -> &'static str
     ensures { result.now ≡ said_of ended }
 {

@@ -1,6 +1,0 @@
-use Rattle.std.proofs.Common.{◌≡◌, ◌++◌}
-use Rattle.rw_ttd.specs.Texts.{sender_words}
-use Rattle.rw_ttd.proofs.channel.push_senders.Given as goal
-
-abbrev pub invariant-each_handle : goal.invariant-each_handle
-invariant-each_handle l = l.out.items ≡ l.initial.out.items ++ sender_words l.channel.shown l.h
