@@ -10,3 +10,4 @@ pub mod ConditionReading
 pub mod Lists
 pub mod HandleLists
 pub mod Floatless
+pub mod Beginnings

@@ -1,4 +1,9 @@
 //! Sessions: a script is run, and commands walk over the places of its run.
+//!
+//! The one contract is that of `session`: what it writes is the report of the bytes that it reads, whose states are those of the
+//! records of all that was ever sent. Start reading at `specs/SessionReport.antt`, which says what is written first, and at
+//! `specs/Report.antt`, which says what commands write at the places of a run. Go on with `sessions.rt`, `reading.rt` (the
+//! script), `console.rt` (the commands) and `walk.rt` (the run at a place).
 #![tactic(auto)]
 
 mod blocks;
@@ -7,6 +12,7 @@ mod command;
 mod condition;
 mod condition_words;
 mod console;
+mod debugging;
 mod entries;
 mod handles;
 mod json;
@@ -20,5 +26,6 @@ mod watch_block;
 
 pub use condition::Cond;
 pub use console::commands;
+pub use debugging::debug;
 pub use sessions::{MOST_BYTES, Outcome, SessionFault, session};
 pub use walk::Walk;

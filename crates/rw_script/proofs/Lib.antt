@@ -1,5 +1,5 @@
 pub mod WordLaws
-mod ArgumentLaws
+pub mod ArgumentLaws
 mod ShapeLaws
 mod BroadcastTables
 mod WatchTables
@@ -11,3 +11,4 @@ pub mod NamedLaws
 pub mod KeptLaws
 pub mod ReadingLaws
 pub mod PlayLaws
+pub mod LineLaws

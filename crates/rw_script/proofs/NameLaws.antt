@@ -4,7 +4,7 @@ use Rattle.std.specs.Prelude.{position, is_some, slice_get}
 use Rattle.std.specs.List.{position_or_len, IsDistinct}
 use Rattle.std.specs.Map.{keys_of, values_of, lookup}
 use Rattle.std.specs.Str.{bytes_eq}
-use Rattle.std.proofs.lemmas.Bool.{cond-true, cond-false, lt-ltb, le-ltb, ltb-false, cases_order, eq-eqb, ne_eqb}
+use Rattle.std.proofs.lemmas.Bool.{cond-true, cond-false, lt-ltb, le-ltb, ltb-false, cases_order}
 use Rattle.std.proofs.lemmas.List.{length-map, get_or-map}
 use Rattle.std.proofs.lemmas.List.Quantifiers.{position-Some}
 use Rattle.std.proofs.lemmas.List.Sums.{position_or_len_is, fails_before_first}
@@ -52,13 +52,6 @@ and_false false b h = refl
 or_false : (a b : Bool) → (a || b) ≡ false → (a ≡ false) × (b ≡ false)
 or_false true b h = absurd cc
 or_false false b h = (refl, h)
-
-pub same_pair : (a b c d : ℕ) → a ≡ b → c ≡ d → (eqb a b && eqb c d) ≡ true
-same_pair a b c d h k = all_of _ _ (eq-eqb a b h) (eq-eqb c d k)
-
-pub other_pair : (a b c d : ℕ) → ((a ≡ b) × (c ≡ d → ⊥)) ⊎ (a ≡ b → ⊥) → (eqb a b && eqb c d) ≡ false
-other_pair a b c d (inl p) = and_false _ _ (ne_eqb c d p.1)
-other_pair a b c d (inr n) = both _ _ (ne_eqb a b n)
 
 -- ---- names
 

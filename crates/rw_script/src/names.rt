@@ -1,6 +1,6 @@
 //! The names that a script binds.
 
-ghost use Rattle.std.specs.Prelude.{◌≡◌, ◌<◌, [], ◌∷◌, ◌++◌, false, length, option_map, IfSome, OnOk, OnErr};
+ghost use Rattle.std.specs.Prelude.{◌≡◌, ◌<◌, ◌==◌, ◌&&◌, [], ◌∷◌, ◌++◌, false, length, option_map, IfSome, OnOk, OnErr};
 ghost use Rattle.rw_script.specs.StepLines.{is_bound_again, is_taken, number_of, with_bound};
 
 use indexmap::IndexMap;
@@ -13,6 +13,15 @@ use std::marker::Model;
 struct Binding {
     actor: u32,
     channel: u32,
+}
+
+impl Binding {
+    /// Whether it was by this actor on this channel.
+    fn is_by(&self, actor: u32, channel: u32) -> bool
+        ensures { result ≡ (self.now.actor == actor && self.now.channel == channel) }
+    {
+        self.actor == actor && self.channel == channel
+    }
 }
 
 /// The names that a script binds, in order of binding, each under its number: 0, 1, 2, .. .
@@ -45,8 +54,7 @@ impl Names {
         ensures within { IfSome result (λ i. i < length self.now) }
     {
         let number = self.bindings.get_index_of(name)?;
-        let binding = self.bindings[number];
-        if binding.actor == actor && binding.channel == channel {
+        if self.bindings[number].is_by(actor, channel) {
             Some(number)
         } else {
             None

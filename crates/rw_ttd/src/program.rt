@@ -11,8 +11,11 @@ use clap::error::ErrorKind;
 use rw_console::{Outcome, SessionFault, session};
 use rw_lines::put;
 use std::alloc::Global;
-use std::io::{self, BufReader, Read, Write};
+use std::io::{self, BufReader, BufWriter, Read, Write};
 use std::rt::Env;
+
+/// How many bytes of output are kept before they are handed on.
+const OUTPUT_BUFFER: usize = 65_536;
 
 /// Says on `err` why a session stopped before its end, and answers the exit status. A failure of `err` itself changes no status.
 fn tell<E: Write>(err: &mut E, ended: Result<Outcome, SessionFault>) -> u8
@@ -75,5 +78,9 @@ pub fn run<R: Env + Input + Print + AllocGlobal, E: Write>(rt: &R, err: &mut E) 
     let Ok(mut input) = BufReader::new(alloc, rt.reader()) else {
         return tell(err, Err(SessionFault::NoMemory));
     };
-    session_on(alloc, &mut input, &mut io::writer(rt), err)
+    // A session flushes once per command, and a long list goes out in large pieces.
+    let Ok(mut out) = BufWriter::with_capacity(alloc, OUTPUT_BUFFER, io::writer(rt)) else {
+        return tell(err, Err(SessionFault::NoMemory));
+    };
+    session_on(alloc, &mut input, &mut out, err)
 }

@@ -1,0 +1,33 @@
+//! Commands over a run that is there already.
+
+ghost use Rattle.std.specs.Prelude.{IfErr, OnOk};
+ghost use Rattle.rw_console.specs.Places.{last_place};
+ghost use Rattle.rw_console.specs.Report.{commands_report};
+ghost use Rattle.rw_console.specs.Streams.{Always, Answers, Stops};
+
+use crate::console::commands;
+use crate::sessions::{MOST_BYTES, SessionFault};
+use crate::walk::Walk;
+use rw_journal::Run;
+use std::alloc::Global;
+use std::io::{Read, Write};
+
+/// Reads commands, and writes what they ask for at the places of a run, from its last place on. A `quit` or the reader's end
+/// ends it; no byte behind a `quit` is read.
+pub fn debug<R: Read, W: Write>(
+    alloc: Global,
+    run: &Run<u64>,
+    reader: &mut R,
+    writer: &mut W,
+) -> Result<(), SessionFault>
+    ensures ok { OnOk result (Answers (R.remaining reader.old) (R.remaining reader.new) (W.contents writer.old) (W.contents writer.new)
+        (commands_report run.now (last_place run.now))) }
+    ensures err { IfErr result (Stops (R.remaining reader.old) (R.remaining reader.new) (W.contents writer.old) (W.contents writer.new)
+        (commands_report run.now (last_place run.now)) Always MOST_BYTES) }
+{
+    let mut allowed = MOST_BYTES;
+    let Ok(mut walk) = Walk::open(alloc, run) else {
+        return Err(SessionFault::NoMemory);
+    };
+    commands(alloc, &mut walk, reader, writer, &mut allowed)
+}

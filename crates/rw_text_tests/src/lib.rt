@@ -1,0 +1,7 @@
+//! Tests of `rw_text`: texts of runs that are read, written and read again, and texts of none.
+#![tactic(auto)]
+
+#[cfg(test)]
+mod reading;
+#[cfg(test)]
+mod writing;

@@ -1,0 +1,173 @@
+//! Texts of runs and of none.
+
+use rw_text::{TextFault, read};
+use std::alloc::Global;
+use std::test::Fail;
+
+/// How many entries the run has. Without a contract the tests' proofs stay short.
+fn length(alloc: Global, bytes: &[u8]) -> Result<u64, TextFault> {
+    let run = read::<u64>(alloc, bytes)?;
+    Ok(run.len())
+}
+
+#[test]
+fn the_text_of_a_run_is_read(rt: HostRuntime) -> Result<(), Fail> {
+    let small =
+        b"ttd-journal 1\nbroadcast 4\nsteps\n1 0 0 send 0 7 = sent 1\n2 0 0 try-recv 1 = value 7\n3 0 0 drop 0 = dropped\nend\n";
+    assert_eq!(rt; small.len(), 110);
+    for (text, entries) in [
+        (small.as_slice(), 3),
+        (
+            b"ttd-journal 1\nwatch 18446744073709551615\nsteps\nend\n",
+            0,
+        ),
+        // Equal stamps on two channels, by two actors.
+        (
+            b"ttd-journal 1\nbroadcast 2\nwatch 5\nsteps\n1 0 0 send 0 1 = sent 1\n1 1 1 send 0 6 = stored\nend\n",
+            2,
+        ),
+    ] {
+        assert_eq!(rt; length(rt.alloc(), text), Ok(entries));
+    }
+    Ok(())
+}
+
+#[test]
+fn the_first_fault_is_answered(rt: HostRuntime) -> Result<(), Fail> {
+    for (text, fault) in [
+        (b"".as_slice(), TextFault::Truncated),
+        (b"ttd-journal 3\n", TextFault::Malformed(1)),
+        (b"ttd-journal 1\nsteps\n", TextFault::Malformed(2)),
+        (b"ttd-journal 1\nbroadcast 0\n", TextFault::LimitExceeded(2)),
+        (
+            b"ttd-journal 1\nbroadcast 65537\n",
+            TextFault::LimitExceeded(2),
+        ),
+        (
+            b"ttd-journal 1\nwatch 18446744073709551616\n",
+            TextFault::Malformed(2),
+        ),
+        (
+            b"ttd-journal 1\nwatch 5\nsteps\n1 0 4294967296 borrow 0 = value 5\n",
+            TextFault::Malformed(4),
+        ),
+        // Of a line with two faults the kinds go in order.
+        (
+            b"ttd-journal 1\nbroadcast 4\nsteps\n1 64 0 send 0 07 = sent 1\n",
+            TextFault::Malformed(4),
+        ),
+        (
+            b"ttd-journal 1\nbroadcast 4\nsteps\n1 0 0 recv 4294967296 = nothing\n",
+            TextFault::Malformed(4),
+        ),
+        (
+            b"ttd-journal 1\nbroadcast 4\nsteps\n0 0 0 recv 4294967296 = empty\n",
+            TextFault::LimitExceeded(4),
+        ),
+        (
+            b"ttd-journal 1\nbroadcast 4\nsteps\n1 0 0 subscribe 0 = new 4294967296\n",
+            TextFault::LimitExceeded(4),
+        ),
+        (
+            b"ttd-journal 1\nbroadcast 4\nsteps\n0 0 0 recv 1 = empty\n",
+            TextFault::WrongOrder(4),
+        ),
+        // The step would wait.
+        (
+            b"ttd-journal 1\nbroadcast 4\nsteps\n1 0 0 recv 1 = empty\n",
+            TextFault::WrongReply(4),
+        ),
+        (
+            b"ttd-journal 1\nbroadcast 2\nwatch 5\nsteps\n1 0 0 send 0 1 = sent 1\n1 0 1 send 0 6 = stored\nend\n",
+            TextFault::WrongOrder(6),
+        ),
+    ] {
+        assert_eq!(rt; length(rt.alloc(), text), Err(fault));
+    }
+    Ok(())
+}
+
+/// The text of three entries, with these as its last lines.
+fn with_lines(alloc: Global, lines: [&[u8]; 4]) -> Result<Vec<u8>, Fail> {
+    let mut text = Vec::new(alloc);
+    text.extend_from_slice(b"ttd-journal 1\nbroadcast 4\nsteps\n")?;
+    for line in lines {
+        text.extend_from_slice(line)?;
+        text.push(b'\n')?;
+    }
+    Ok(text)
+}
+
+#[test]
+fn one_line_is_wrong(rt: HostRuntime) -> Result<(), Fail> {
+    let (send, receive, leave, end) = (
+        b"1 0 0 send 0 7 = sent 1".as_slice(),
+        b"2 0 0 try-recv 1 = value 7".as_slice(),
+        b"3 0 0 drop 0 = dropped".as_slice(),
+        b"end".as_slice(),
+    );
+    for (lines, answer) in [
+        ([send, receive, leave, end], Ok(3)),
+        (
+            [send, b"2 0 0 try-recv 1 = value 8", leave, end],
+            Err(TextFault::WrongReply(5)),
+        ),
+        (
+            [b"1 0 0 send 0 07 = sent 1", receive, leave, end],
+            Err(TextFault::Malformed(4)),
+        ),
+        (
+            [send, b"1 0 0 try-recv 1 = value 7", leave, end],
+            Err(TextFault::WrongOrder(5)),
+        ),
+        (
+            [b"1 64 0 send 0 7 = sent 1", receive, leave, end],
+            Err(TextFault::LimitExceeded(4)),
+        ),
+        (
+            [
+                send,
+                receive,
+                b"4611686018427387905 0 0 drop 0 = dropped",
+                end,
+            ],
+            Err(TextFault::LimitExceeded(6)),
+        ),
+        (
+            [send, b"2 0 0 recv 1 = empty", leave, end],
+            Err(TextFault::WrongReply(5)),
+        ),
+        ([send, receive, end, end], Err(TextFault::Malformed(7))),
+        ([send, receive, end, b"x"], Err(TextFault::Malformed(7))),
+    ] {
+        let text = with_lines(rt.alloc(), lines)?;
+        assert_eq!(rt; length(rt.alloc(), &text), answer);
+    }
+    Ok(())
+}
+
+#[test]
+fn a_text_is_cut_anywhere(rt: HostRuntime) -> Result<(), Fail> {
+    let mut text = with_lines(
+        rt.alloc(),
+        [
+            b"1 0 0 send 0 7 = sent 1",
+            b"2 0 0 try-recv 1 = value 7",
+            b"3 0 0 drop 0 = dropped",
+            b"end",
+        ],
+    )?;
+    for n in 0..text.len() {
+        assert_eq!(rt; length(rt.alloc(), &text[..n]), Err(TextFault::Truncated));
+    }
+    text.push(b'x')?;
+    assert_eq!(rt; length(rt.alloc(), &text), Err(TextFault::Malformed(8)));
+    for (n, fault) in [
+        (256, TextFault::Truncated),
+        (257, TextFault::LimitExceeded(1)),
+    ] {
+        let long = vec![in rt.alloc(); b'x'; n]?;
+        assert_eq!(rt; length(rt.alloc(), &long), Err(fault));
+    }
+    Ok(())
+}
