@@ -1,5 +1,5 @@
 -- A run of the program over its three streams.
-use Rattle.std.specs.Prelude.{◌≡◌, ◌⊎◌, ℕ, List, Option, Result, Ok, Err, take}
+use Rattle.std.specs.Prelude.{◌≡◌, ℕ, List, Option, Result, Ok, Err, take}
 use Rattle.std.specs.Io.KnownBytes.{Appends}
 use Rattle.rw_lines.specs.declared.streams.StreamFault.{StreamFault}
 use Rattle.rw_console.specs.declared.sessions.Outcome.{Outcome}
@@ -21,7 +21,3 @@ pub record Runs (reader reader' writer writer' errors errors' : Option (List ℕ
   pub session : Ends reader reader' writer writer' ended
   pub answered : status ≡ status_of ended
   pub told : (n : ℕ) × Appends errors errors' (take n (said_of ended))
-
--- the program's exit statuses: 2 for a command line that is refused, and those of sessions
-abbrev pub IsStatus : ℕ → Type 0
-IsStatus n = (n ≡ 2) ⊎ ((ended : Result Outcome StreamFault) × (n ≡ status_of ended))

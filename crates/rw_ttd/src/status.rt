@@ -5,8 +5,14 @@ ghost use Rattle.rw_ttd.specs.Statuses.{said_of, status_of};
 
 use rw_console::{Outcome, SessionFault};
 
+/// The input was refused.
+pub const REFUSED_INPUT: u8 = 1;
+
 /// The command line was refused.
 pub const REFUSED_WORDS: u8 = 2;
+
+/// A call of the script would wait.
+pub const WOULD_WAIT: u8 = 3;
 
 /// The exit status of a session that ended so.
 pub fn status(ended: Result<Outcome, SessionFault>) -> u8
@@ -14,8 +20,8 @@ pub fn status(ended: Result<Outcome, SessionFault>) -> u8
 {
     match ended {
         Ok(Outcome::Done) => 0,
-        Ok(Outcome::Refused(_)) => 1,
-        Ok(Outcome::Waited(_)) => 3,
+        Ok(Outcome::Refused(_)) => REFUSED_INPUT,
+        Ok(Outcome::Waited(_)) => WOULD_WAIT,
         Err(SessionFault::Read | SessionFault::Write | SessionFault::TooMuch) => 4,
         Err(SessionFault::NoMemory) => 5,
     }

@@ -1,0 +1,131 @@
+//! Scripts and journal texts in files: what is written, what is told, and the statuses.
+
+use crate::files::{check_file, debug_file, record_file};
+use rw_devices::{FailingReader, FailingWriter};
+use std::test::Fail;
+
+const SCRIPT: &[u8] = b"broadcast 4\n0 0 send 0 7\n0 0 try-recv 1\n0 0 drop 0\n";
+
+const JOURNAL: &[u8] =
+    b"ttd-journal 1\nbroadcast 4\nsteps\n1 0 0 send 0 7 = sent 1\n2 0 0 try-recv 1 = value 7\n3 0 0 drop 0 = dropped\nend\n";
+
+/// A file, the answered status, what is written, and what is told on the stream for errors.
+type Case = (&'static [u8], u8, &'static [u8], &'static [u8]);
+
+#[test]
+fn records_scripts(rt: HostRuntime) -> Result<(), Fail> {
+    let cases: [Case; 5] = [
+        (SCRIPT, 0, JOURNAL, b""),
+        (
+            b"broadcast 2\n0 0 recv 1\n0 0 send 0 1\n---\nlist\n",
+            3,
+            b"ttd-journal 1\nbroadcast 2\nsteps\nend\n",
+            b"would wait 2\n",
+        ),
+        (b"broadcast 0\n", 1, b"", b"script fault 1 bad-capacity\n"),
+        (b"", 1, b"", b"script fault 1 no-channels\n"),
+        // What follows the mark isn't judged.
+        (
+            b"watch 3\n---\nno command",
+            0,
+            b"ttd-journal 1\nwatch 3\nsteps\nend\n",
+            b"",
+        ),
+    ];
+    for (script, status, written, told) in cases {
+        let mut file = FailingReader::new(script, 7, None);
+        let mut out = FailingWriter::new(rt.alloc(), 64, None);
+        let mut err = FailingWriter::new(rt.alloc(), 64, None);
+        let answered = record_file(rt.alloc(), &mut file, &mut out, &mut err);
+        assert_eq!(rt; answered, status);
+        assert_eq!(rt; out.written(), written);
+        assert_eq!(rt; err.written(), told);
+    }
+    Ok(())
+}
+
+#[test]
+fn checks_journals(rt: HostRuntime) -> Result<(), Fail> {
+    let cases: [Case; 6] = [
+        (JOURNAL, 0, b"ok 3\n", b""),
+        (
+            b"ttd-journal 1\nbroadcast 4\nsteps\n1 0 0 send 0 7 = sent 1\n2 0 0 try-recv 1 = value 8\n3 0 0 drop 0 = dropped\nend\n",
+            1,
+            b"journal fault wrong-reply 5\n",
+            b"",
+        ),
+        (
+            b"ttd-journal 1\nbroadcast 4\nsteps\n1 0 0 send 0 07 = sent 1\nend\n",
+            1,
+            b"journal fault malformed 4\n",
+            b"",
+        ),
+        (
+            b"ttd-journal 1\nbroadcast 4\nsteps\n1 0 0 send 0 7 = sent 1\n1 0 0 try-recv 1 = value 7\nend\n",
+            1,
+            b"journal fault wrong-order 5\n",
+            b"",
+        ),
+        (
+            b"ttd-journal 1\nbroadcast 0\n",
+            1,
+            b"journal fault limit-exceeded 2\n",
+            b"",
+        ),
+        (b"", 1, b"journal fault truncated\n", b""),
+    ];
+    for (text, status, written, told) in cases {
+        let mut file = FailingReader::new(text, 7, None);
+        let mut out = FailingWriter::new(rt.alloc(), 64, None);
+        let mut err = FailingWriter::new(rt.alloc(), 64, None);
+        let answered = check_file(rt.alloc(), &mut file, &mut out, &mut err);
+        assert_eq!(rt; answered, status);
+        assert_eq!(rt; out.written(), written);
+        assert_eq!(rt; err.written(), told);
+    }
+    Ok(())
+}
+
+#[test]
+fn debugs_journals(rt: HostRuntime) -> Result<(), Fail> {
+    let mut file = FailingReader::new(JOURNAL, 64, None);
+    let mut input = FailingReader::new(b"state\nback\nstep\n", 64, None);
+    let mut out = FailingWriter::new(rt.alloc(), 4096, None);
+    let mut err = FailingWriter::new(rt.alloc(), 64, None);
+    let answered = debug_file(rt.alloc(), &mut file, &mut input, &mut out, &mut err);
+    let written: &[u8] =
+        b"place 3 of 3\nchannel 0 broadcast capacity 4 sent 1 queued 0 made 2 closed\nwindow 7\nsenders\nreceiver 1 position 1 unread 0 lag 0\nplace 2 of 3\n#2 2 0 0 try-recv 1 = value 7\n";
+    assert_eq!(rt; answered, 0);
+    assert_eq!(rt; out.written(), written);
+    assert_eq!(rt; err.written(), b"".as_slice());
+    Ok(())
+}
+
+#[test]
+fn files_and_writers_that_fail(rt: HostRuntime) -> Result<(), Fail> {
+    let cases: [(Option<u64>, Option<u64>, u8, &[u8]); 2] = [
+        (Some(1), None, 4, b"read fault\n"),
+        (None, Some(1), 4, b"write fault\n"),
+    ];
+    for (reads, writes, status, told) in cases {
+        let mut file = FailingReader::new(SCRIPT, 7, reads);
+        let mut out = FailingWriter::new(rt.alloc(), 3, writes);
+        let mut err = FailingWriter::new(rt.alloc(), 64, None);
+        assert_eq!(rt;
+            record_file(rt.alloc(), &mut file, &mut out, &mut err),
+            status
+        );
+        assert_eq!(rt; err.written(), told);
+        assert!(rt; JOURNAL.starts_with(out.written()));
+        let mut file = FailingReader::new(JOURNAL, 7, reads);
+        let mut out = FailingWriter::new(rt.alloc(), 3, writes);
+        let mut err = FailingWriter::new(rt.alloc(), 64, None);
+        assert_eq!(rt;
+            check_file(rt.alloc(), &mut file, &mut out, &mut err),
+            status
+        );
+        assert_eq!(rt; err.written(), told);
+        assert!(rt; b"ok 3\n".starts_with(out.written()));
+    }
+    Ok(())
+}
