@@ -102,30 +102,57 @@ fn debugs_journals(rt: HostRuntime) -> Result<(), Fail> {
 }
 
 #[test]
-fn files_and_writers_that_fail(rt: HostRuntime) -> Result<(), Fail> {
-    let cases: [(Option<u64>, Option<u64>, u8, &[u8]); 2] = [
-        (Some(1), None, 4, b"read fault\n"),
-        (None, Some(1), 4, b"write fault\n"),
-    ];
-    for (reads, writes, status, told) in cases {
-        let mut file = FailingReader::new(SCRIPT, 7, reads);
-        let mut out = FailingWriter::new(rt.alloc(), 3, writes);
+fn each_read_and_each_write_fails(rt: HostRuntime) -> Result<(), Fail> {
+    let mut done = false;
+    for k in 0..100u64 {
+        let mut file = FailingReader::new(SCRIPT, 7, Some(k));
+        let mut out = FailingWriter::new(rt.alloc(), 3, Some(k));
         let mut err = FailingWriter::new(rt.alloc(), 64, None);
-        assert_eq!(rt;
-            record_file(rt.alloc(), &mut file, &mut out, &mut err),
-            status
-        );
-        assert_eq!(rt; err.written(), told);
-        assert!(rt; JOURNAL.starts_with(out.written()));
-        let mut file = FailingReader::new(JOURNAL, 7, reads);
-        let mut out = FailingWriter::new(rt.alloc(), 3, writes);
-        let mut err = FailingWriter::new(rt.alloc(), 64, None);
-        assert_eq!(rt;
-            check_file(rt.alloc(), &mut file, &mut out, &mut err),
-            status
-        );
-        assert_eq!(rt; err.written(), told);
-        assert!(rt; b"ok 3\n".starts_with(out.written()));
+        let answered = record_file(rt.alloc(), &mut file, &mut out, &mut err);
+        if answered == 0 {
+            done = true;
+            assert_eq!(rt; out.written(), JOURNAL);
+            assert_eq!(rt; err.written(), b"".as_slice());
+        } else {
+            // Eight reads give the script, and a ninth its end.
+            let told: &[u8] = if k < 9 {
+                b"read fault\n"
+            } else {
+                b"write fault\n"
+            };
+            assert_eq!(rt; answered, 4, "{k}");
+            assert_eq!(rt; err.written(), told, "{k}");
+            assert!(rt; !done && JOURNAL.starts_with(out.written()), "{k}");
+        }
     }
+    assert!(rt; done);
+    Ok(())
+}
+
+#[test]
+fn each_read_and_each_write_of_a_check_fails(rt: HostRuntime) -> Result<(), Fail> {
+    let mut done = false;
+    for k in 0..30u64 {
+        let mut file = FailingReader::new(JOURNAL, 7, Some(k));
+        let mut out = FailingWriter::new(rt.alloc(), 3, Some(k / 9));
+        let mut err = FailingWriter::new(rt.alloc(), 64, None);
+        let answered = check_file(rt.alloc(), &mut file, &mut out, &mut err);
+        if answered == 0 {
+            done = true;
+            assert_eq!(rt; out.written(), b"ok 3\n".as_slice());
+            assert_eq!(rt; err.written(), b"".as_slice());
+        } else {
+            // Sixteen reads give the journal, and one more its end.
+            let told: &[u8] = if k < 17 {
+                b"read fault\n"
+            } else {
+                b"write fault\n"
+            };
+            assert_eq!(rt; answered, 4, "{k}");
+            assert_eq!(rt; err.written(), told, "{k}");
+            assert!(rt; !done && b"ok 3\n".starts_with(out.written()), "{k}");
+        }
+    }
+    assert!(rt; done);
     Ok(())
 }
