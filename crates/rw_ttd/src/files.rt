@@ -19,7 +19,10 @@ enum NoRun {
 
 /// The run whose journal text a file is.
 fn read_run<F: Read>(alloc: Global, file: &mut F) -> Result<Run<u64>, NoRun> {
-    let bytes = read_whole(alloc, file).map_err(NoRun::Stream)?;
+    let bytes = match read_whole(alloc, file) {
+        Ok(bytes) => bytes,
+        Err(fault) => return Err(NoRun::Stream(fault)),
+    };
     match rw_text::read(alloc, &bytes) {
         Ok(run) => Ok(run),
         Err(TextFault::NoMemory) => Err(NoRun::Stream(SessionFault::NoMemory)),
