@@ -51,9 +51,26 @@ fn the_first_fault_is_answered(rt: HostRuntime) -> Result<(), Fail> {
             b"ttd-journal 1\nwatch 5\nsteps\n1 0 4294967296 borrow 0 = value 5\n",
             TextFault::Malformed(4),
         ),
-        // Of a line with two faults the kinds go in order.
+        // The step would wait.
         (
-            b"ttd-journal 1\nbroadcast 4\nsteps\n1 64 0 send 0 07 = sent 1\n",
+            b"ttd-journal 1\nbroadcast 4\nsteps\n1 0 0 recv 1 = empty\n",
+            TextFault::WrongReply(4),
+        ),
+        (
+            b"ttd-journal 1\nbroadcast 2\nwatch 5\nsteps\n1 0 0 send 0 1 = sent 1\n1 0 1 send 0 6 = stored\nend\n",
+            TextFault::WrongOrder(6),
+        ),
+    ] {
+        assert_eq!(rt; length(rt.alloc(), text), Err(fault));
+    }
+    Ok(())
+}
+
+#[test]
+fn the_kinds_of_a_line_go_in_order(rt: HostRuntime) -> Result<(), Fail> {
+    for (text, fault) in [
+        (
+            b"ttd-journal 1\nbroadcast 4\nsteps\n1 64 0 send 0 07 = sent 1\n".as_slice(),
             TextFault::Malformed(4),
         ),
         (
@@ -71,15 +88,6 @@ fn the_first_fault_is_answered(rt: HostRuntime) -> Result<(), Fail> {
         (
             b"ttd-journal 1\nbroadcast 4\nsteps\n0 0 0 recv 1 = empty\n",
             TextFault::WrongOrder(4),
-        ),
-        // The step would wait.
-        (
-            b"ttd-journal 1\nbroadcast 4\nsteps\n1 0 0 recv 1 = empty\n",
-            TextFault::WrongReply(4),
-        ),
-        (
-            b"ttd-journal 1\nbroadcast 2\nwatch 5\nsteps\n1 0 0 send 0 1 = sent 1\n1 0 1 send 0 6 = stored\nend\n",
-            TextFault::WrongOrder(6),
         ),
     ] {
         assert_eq!(rt; length(rt.alloc(), text), Err(fault));
