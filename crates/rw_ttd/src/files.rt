@@ -1,5 +1,7 @@
 //! Scripts and journal texts in files.
 
+ghost use Rattle.std.specs.Prelude.{◌≤◌, IfErr};
+
 use crate::inputs::read_whole;
 use crate::program::tell;
 use crate::status::{REFUSED_INPUT, WOULD_WAIT};
@@ -37,12 +39,9 @@ fn put_line<W: Write>(out: &mut W, line: &str) -> Result<(), SessionFault> {
 }
 
 /// Writes a journal text's first fault, and answers the exit status.
-fn refuse_text<W: Write, E: Write>(
-    alloc: Global,
-    out: &mut W,
-    err: &mut E,
-    fault: TextFault,
-) -> u8 {
+fn refuse_text<W: Write, E: Write>(alloc: Global, out: &mut W, err: &mut E, fault: TextFault) -> u8
+    ensures { result ≤ 5 }
+{
     let Ok(line) = format!(in alloc; "journal fault {fault}\n") else {
         return tell(err, Err(SessionFault::NoMemory));
     };
@@ -58,7 +57,9 @@ pub fn check_file<F: Read, W: Write, E: Write>(
     file: &mut F,
     out: &mut W,
     err: &mut E,
-) -> u8 {
+) -> u8
+    ensures { result ≤ 5 }
+{
     let run = match read_run(alloc, file) {
         Ok(run) => run,
         Err(NoRun::Stream(fault)) => return tell(err, Err(fault)),
@@ -80,7 +81,9 @@ pub fn debug_file<F: Read, R: Read, W: Write, E: Write>(
     input: &mut R,
     out: &mut W,
     err: &mut E,
-) -> u8 {
+) -> u8
+    ensures { result ≤ 5 }
+{
     let run = match read_run(alloc, file) {
         Ok(run) => run,
         Err(NoRun::Stream(fault)) => return tell(err, Err(fault)),
@@ -93,7 +96,9 @@ pub fn debug_file<F: Read, R: Read, W: Write, E: Write>(
 }
 
 /// The script in a file.
-fn read_script<F: Read, E: Write>(alloc: Global, file: &mut F, err: &mut E) -> Result<Script, u8> {
+fn read_script<F: Read, E: Write>(alloc: Global, file: &mut F, err: &mut E) -> Result<Script, u8>
+    ensures { IfErr result (λ status. status ≤ 5) }
+{
     let bytes = match read_whole(alloc, file) {
         Ok(bytes) => bytes,
         Err(fault) => return Err(tell(err, Err(fault))),
@@ -117,7 +122,9 @@ pub fn record_file<F: Read, W: Write, E: Write>(
     file: &mut F,
     out: &mut W,
     err: &mut E,
-) -> u8 {
+) -> u8
+    ensures { result ≤ 5 }
+{
     let script = match read_script(alloc, file, err) {
         Ok(script) => script,
         Err(status) => return status,

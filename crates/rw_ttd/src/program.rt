@@ -1,6 +1,6 @@
 //! The command line, and the streams of a session.
 
-ghost use Rattle.std.specs.Prelude.{◌≡◌, ℕ, take};
+ghost use Rattle.std.specs.Prelude.{◌≡◌, ◌≤◌, ℕ, take};
 ghost use Rattle.std.specs.Io.KnownBytes.{Appends};
 ghost use Rattle.rw_ttd.specs.Runs.{Runs};
 ghost use Rattle.rw_ttd.specs.Statuses.{said_of, status_of};
@@ -22,6 +22,7 @@ const OUTPUT_BUFFER: usize = 65_536;
 /// Says on `err` why a session stopped before its end, and answers the exit status. A failure of `err` itself changes no status.
 pub fn tell<E: Write>(err: &mut E, ended: Result<Outcome, SessionFault>) -> u8
     ensures status { result ≡ status_of ended }
+    ensures known { result ≤ 5 }
     ensures told { (n : ℕ) × Appends (E.contents err.old) (E.contents err.new) (take n (said_of ended)) }
 {
     let _ = put(err, said(ended).as_bytes());
@@ -35,8 +36,9 @@ pub fn session_on<R: Read, W: Write, E: Write>(
     out: &mut W,
     err: &mut E,
 ) -> u8
-    ensures { Runs (R.remaining input.old) (R.remaining input.new) (W.contents out.old) (W.contents out.new)
+    ensures runs { Runs (R.remaining input.old) (R.remaining input.new) (W.contents out.old) (W.contents out.new)
         (E.contents err.old) (E.contents err.new) result }
+    ensures known { result ≤ 5 }
 {
     let ended = session(alloc, input, out);
     tell(err, ended)
@@ -89,7 +91,9 @@ fn answer<R: Files + Input + Print + AllocGlobal, E: Write>(
     rt: &R,
     asked: Asked<'_>,
     err: &mut E,
-) -> u8 {
+) -> u8
+    ensures { result ≤ 5 }
+{
     let alloc = rt.alloc();
     // A session flushes once per command, and a long list goes out in large pieces.
     let Ok(mut out) = BufWriter::with_capacity(alloc, OUTPUT_BUFFER, io::writer(rt)) else {
@@ -114,7 +118,9 @@ fn answer<R: Files + Input + Print + AllocGlobal, E: Write>(
 }
 
 /// Runs the program on the real words, files and streams, and answers its exit status.
-pub fn run<R: Env + Files + Input + Print + AllocGlobal, E: Write>(rt: &R, err: &mut E) -> u8 {
+pub fn run<R: Env + Files + Input + Print + AllocGlobal, E: Write>(rt: &R, err: &mut E) -> u8
+    ensures { result ≤ 5 }
+{
     let alloc = rt.alloc();
     let Ok(args) = std::env::args(rt) else {
         return REFUSED_WORDS;

@@ -1,6 +1,6 @@
 //! What a session's end is told by: an exit status, and a line on the stream for errors.
 
-ghost use Rattle.std.specs.Prelude.{◌≡◌};
+ghost use Rattle.std.specs.Prelude.{◌≡◌, ◌≤◌};
 ghost use Rattle.rw_ttd.specs.Statuses.{said_of, status_of};
 
 use rw_console::{Outcome, SessionFault};
@@ -16,7 +16,8 @@ pub const WOULD_WAIT: u8 = 3;
 
 /// The exit status of a session that ended so.
 pub fn status(ended: Result<Outcome, SessionFault>) -> u8
-    ensures { result ≡ status_of ended }
+    ensures status { result ≡ status_of ended }
+    ensures known { result ≤ 5 }
 {
     match ended {
         Ok(Outcome::Done) => 0,
