@@ -13,7 +13,8 @@ use Rattle.rw_lines.proofs.LineLaws.{lines_line, lines_last, lines_unlines, unli
 use Rattle.rw_journal.specs.Run.{Recording}
 use Rattle.rw_console.specs.Commands.{command_in, is_quit}
 use Rattle.rw_console.specs.Report.{output_of, outputs, commands_report, place_of}
-use Rattle.rw_console.specs.Streams.{Answers, Stops, Explains, Always, IsOfWriting, StopsWriting, WritesFront}
+use Rattle.rw_console.specs.Streams.{Answers, Stops, Explains, Always}
+use Rattle.rw_lines.specs.Writing.{IsOfWriting, StopsWriting, WritesFront}
 use Rattle.rw_console.proofs.Kept.{command_in-kept}
 
 pub record Answering (reader reader' writer writer' : Option (List ℕ)) (before allowed : ℕ) (start run : Recording ℕ) (first place : ℕ) : Type 0 where

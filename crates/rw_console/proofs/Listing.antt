@@ -11,7 +11,7 @@ use Rattle.rw_world.specs.Specified.{WorldEntry}
 use Rattle.rw_console.specs.Entries.{entry_lines}
 use Rattle.rw_console.specs.Places.{entry_to}
 use Rattle.rw_console.specs.Report.{step_line}
-use Rattle.rw_console.specs.Streams.{StopsWriting}
+use Rattle.rw_lines.specs.Writing.{StopsWriting}
 
 -- the lines of the first i entries were written
 pub record Listing (w w' : Option (List ℕ)) (run : Recording ℕ) (i : ℕ) : Type 0 where

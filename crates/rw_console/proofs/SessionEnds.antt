@@ -19,7 +19,8 @@ use Rattle.rw_console.specs.Heads.{ExplainsScript, StopsInScript, HasMark, Gives
 use Rattle.rw_console.specs.Places.{last_place}
 use Rattle.rw_console.specs.Report.{commands_report}
 use Rattle.rw_console.specs.SessionReport.{recording_of, fault_line, waiting_line, answer, outcome_at, outcome_of, report, outcome}
-use Rattle.rw_console.specs.Streams.{Answers, Stops, Explains, Always, IsOfWriting, StopsWriting}
+use Rattle.rw_console.specs.Streams.{Answers, Stops, Explains, Always}
+use Rattle.rw_lines.specs.Writing.{IsOfWriting, StopsWriting}
 
 unlines-append : (a b : List (List ℕ)) → unlines (a ++ b) ≡ unlines a ++ unlines b
 unlines-append a b = flat_map-append (λ (l : List ℕ). l ++ 10 ∷ []) a b

@@ -4,7 +4,7 @@ use Rattle.rw_journal.specs.Interleaving.{journal_of}
 use Rattle.rw_journal.specs.Run.{Recording}
 use Rattle.rw_lines.specs.Lines.{lines}
 use Rattle.rw_script.specs.declared.faults.ScriptFault.{ScriptFault}
-use Rattle.rw_script.specs.Faults.{fault_word}
+use Rattle.rw_script.specs.Faults.{fault_text}
 use Rattle.rw_script.specs.Running.{run_of}
 use Rattle.rw_script.specs.Script.{Script, script_in, after_mark}
 use Rattle.rw_world.specs.Machines.{of_world}
@@ -21,7 +21,7 @@ recording_of s = record { specs = s.specs; entries = journal_of of_world (opened
 -- ---- the first lines
 
 abbrev pub fault_line : ScriptFault → List ℕ
-fault_line f = codes "script fault " ++ decimal f.line ++ codes " " ++ fault_word f.kind ++ codes "\n"
+fault_line f = fault_text f ++ codes "\n"
 
 -- where a line would wait, its number
 abbrev pub waiting_line : Option ℕ → List ℕ

@@ -5,28 +5,6 @@ use Rattle.rw_lines.specs.declared.streams.StreamFault.{StreamFault}
 use Rattle.rw_lines.specs.declared.streams.StreamFault.TheVariants.{Read, Write, TooMuch, NoMemory}
 use Rattle.rw_lines.specs.Lines.{IsUnbroken, unlines}
 
--- ---- writing alone
-
--- a front of the output was written
-pub record WritesFront (writer writer' : Option (List ℕ)) (output : List ℕ) : Type 0 where
-  pub text : List ℕ
-  pub rest : List ℕ
-  pub written : Appends writer writer' text
-  pub front : text ++ rest ≡ output
-
--- a fault of writing alone
-abbrev pub IsOfWriting : StreamFault → Type 0
-IsOfWriting Read = ⊥
-IsOfWriting TooMuch = ⊥
-IsOfWriting Write = ⊤
-IsOfWriting NoMemory = ⊤
-
--- writing stopped at this fault, where a front of the output was written
-abbrev pub StopsWriting : Option (List ℕ) → Option (List ℕ) → List ℕ → StreamFault → Type 0
-StopsWriting writer writer' output fault = IsOfWriting fault × WritesFront writer writer' output
-
--- ---- reading and writing
-
 -- It read bytes and wrote their report, and either there were no more, or more would not change the report.
 pub record Answers (reader reader' writer writer' : Option (List ℕ)) (report : List ℕ → List ℕ) : Type 0 where
   pub bytes : List ℕ

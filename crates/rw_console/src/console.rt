@@ -4,24 +4,14 @@ ghost use Rattle.std.specs.Prelude.{◌≡◌, IfOk, IfErr, OnOk};
 ghost use Rattle.std.specs.Io.KnownBytes.{Appends};
 ghost use Rattle.rw_console.specs.Commands.{command_in, is_quit};
 ghost use Rattle.rw_console.specs.Report.{commands_report, output_of, place_of};
-ghost use Rattle.rw_console.specs.Streams.{Always, Answers, Stops, StopsWriting};
+ghost use Rattle.rw_lines.specs.Writing.{StopsWriting};
+ghost use Rattle.rw_console.specs.Streams.{Always, Answers, Stops};
 
 use crate::command::{Command, command_of};
 use crate::walk::Walk;
-use rw_lines::{Next, StreamFault, flush, next_line, put};
+use rw_lines::{Next, StreamFault, flush, next_line, put_out};
 use std::alloc::Global;
 use std::io::{Read, Write};
-
-/// Writes the bytes. At an `Err` a front of them was written.
-pub(crate) fn put_out<W: Write>(writer: &mut W, bytes: &[u8]) -> Result<(), StreamFault>
-    ensures ok { OnOk result (Appends (W.contents writer.old) (W.contents writer.new) bytes.now) }
-    ensures err { IfErr result (StopsWriting (W.contents writer.old) (W.contents writer.new) bytes.now) }
-{
-    match put(writer, bytes) {
-        Ok(()) => Ok(()),
-        Err(_) => Err(StreamFault::Write),
-    }
-}
 
 /// Writes the entry that leads to a place. At an `Err` a front of its line was written.
 fn write_step<W: Write>(

@@ -5,15 +5,15 @@ ghost use Rattle.std.specs.Io.KnownBytes.{Appends};
 ghost use Rattle.rw_script.specs.Running.{run_of};
 ghost use Rattle.rw_console.specs.Heads.{HasMark};
 ghost use Rattle.rw_console.specs.SessionReport.{fault_line, outcome, outcome_at, recording_of, report, waiting_line};
-ghost use Rattle.rw_console.specs.Streams.{Answers, Stops, StopsWriting};
+ghost use Rattle.rw_lines.specs.Writing.{StopsWriting};
+ghost use Rattle.rw_console.specs.Streams.{Answers, Stops};
 
-use crate::console::{commands, put_out};
+use crate::console::commands;
 use crate::reading::{Head, read_script};
-use crate::text::{push_fault, push_waiting};
 use crate::walk::Walk;
 use rw_journal::Run;
 pub use rw_lines::StreamFault as SessionFault;
-use rw_lines::flush;
+use rw_lines::put_whole;
 use rw_script::{Script, ScriptFault, run_one};
 use std::alloc::Global;
 use std::io::{Read, Write};
@@ -32,25 +32,15 @@ pub enum Outcome {
 /// The most bytes that a session reads.
 pub const MOST_BYTES: u64 = 268_435_456;
 
-/// Writes the bytes and hands them on. At an `Err` a front of them was written.
-fn put_whole<W: Write>(writer: &mut W, bytes: &[u8]) -> Result<(), SessionFault>
-    ensures ok { OnOk result (Appends (W.contents writer.old) (W.contents writer.new) bytes.now) }
-    ensures err { IfErr result (StopsWriting (W.contents writer.old) (W.contents writer.new) bytes.now) }
-{
-    put_out(writer, bytes)?;
-    flush(writer)
-}
-
 /// Writes a script's fault. At an `Err` a front of it was written.
 fn refuse<W: Write>(alloc: Global, writer: &mut W, fault: ScriptFault) -> Result<(), SessionFault>
     ensures ok { OnOk result (Appends (W.contents writer.old) (W.contents writer.new) (fault_line fault)) }
     ensures err { IfErr result (StopsWriting (W.contents writer.old) (W.contents writer.new) (fault_line fault)) }
 {
-    let mut out = Vec::new(alloc);
-    if push_fault(&mut out, fault).is_err() {
+    let Ok(line) = format!(in alloc; "{fault}\n") else {
         return Err(SessionFault::NoMemory);
-    }
-    put_whole(writer, &out)
+    };
+    put_whole(writer, line.as_bytes())
 }
 
 /// Writes which line would wait, if one would. At an `Err` a front of it was written.
@@ -62,25 +52,27 @@ fn say_waiting<W: Write>(
     ensures ok { OnOk result (Appends (W.contents writer.old) (W.contents writer.new) (waiting_line waits)) }
     ensures err { IfErr result (StopsWriting (W.contents writer.old) (W.contents writer.new) (waiting_line waits)) }
 {
-    let mut out = Vec::new(alloc);
-    if push_waiting(&mut out, waits).is_err() {
+    let Some(number) = waits else {
+        return Ok(());
+    };
+    let Ok(line) = format!(in alloc; "would wait {number}\n") else {
         return Err(SessionFault::NoMemory);
-    }
-    put_whole(writer, &out)
+    };
+    put_whole(writer, line.as_bytes())
 }
 
 /// Runs a script, and writes which line would wait, if one would. At an `Err` a front of that was written.
 fn begin<W: Write>(
     alloc: Global,
-    script: &Script,
+    script: Script,
     writer: &mut W,
 ) -> Result<(Run<u64>, Option<u64>), SessionFault>
-    ensures run { IfOk result (λ p. p.0 ≡ recording_of script.now) }
-    ensures waits { IfOk result (λ p. p.1 ≡ (run_of script.now).waits) }
-    ensures ok { OnOk result (Appends (W.contents writer.old) (W.contents writer.new) (waiting_line (run_of script.now).waits)) }
-    ensures err { IfErr result (StopsWriting (W.contents writer.old) (W.contents writer.new) (waiting_line (run_of script.now).waits)) }
+    ensures run { IfOk result (λ p. p.0 ≡ recording_of script) }
+    ensures waits { IfOk result (λ p. p.1 ≡ (run_of script).waits) }
+    ensures ok { OnOk result (Appends (W.contents writer.old) (W.contents writer.new) (waiting_line (run_of script).waits)) }
+    ensures err { IfErr result (StopsWriting (W.contents writer.old) (W.contents writer.new) (waiting_line (run_of script).waits)) }
 {
-    let Ok((run, waits)) = run_one(alloc, script) else {
+    let Ok((run, waits)) = run_one(alloc, &script) else {
         return Err(SessionFault::NoMemory);
     };
     say_waiting(alloc, writer, waits)?;
@@ -115,12 +107,12 @@ pub fn session<R: Read, W: Write>(
             Ok(Outcome::Refused(fault))
         }
         Head::Ended(script) => {
-            let (_, waits) = begin(alloc, &script, writer)?;
+            let (_, waits) = begin(alloc, script, writer)?;
             Ok(outcome_at(waits))
         }
         Head::Script(script) => {
-            let (run, waits) = begin(alloc, &script, writer)?;
-            let Ok(mut walk) = Walk::open(alloc, &run) else {
+            let (run, waits) = begin(alloc, script, writer)?;
+            let Ok(mut walk) = Walk::over(alloc, run) else {
                 return Err(SessionFault::NoMemory);
             };
             commands(alloc, &mut walk, reader, writer, &mut allowed)?;

@@ -1,12 +1,10 @@
 //! The lines that a session writes of places: each function appends to a buffer.
 
 ghost use Rattle.std.specs.Prelude.{◌≡◌, ◌++◌, OnOk};
-ghost use Rattle.rw_console.specs.SessionReport.{fault_line, waiting_line};
 ghost use Rattle.rw_console.specs.Texts.{hit_line, labelled, open_or_closed, place_line, refusal};
 
 use rw_lines::push_number;
 use rw_navigator::OutOfRange;
-use rw_script::ScriptFault;
 use std::alloc::AllocError;
 
 #[tactic(auto, unfolding(crate::specs::Texts::labelled))]
@@ -15,30 +13,6 @@ pub fn push_labelled(out: &mut Vec<u8>, label: &[u8], n: u64) -> Result<(), Allo
 {
     out.extend_from_slice(label)?;
     push_number(out, n)
-}
-
-pub fn push_fault(out: &mut Vec<u8>, fault: ScriptFault) -> Result<(), AllocError>
-    ensures { OnOk result (out.new.items ≡ out.old.items ++ fault_line fault) }
-{
-    out.extend_from_slice(b"script fault ")?;
-    push_number(out, fault.line)?;
-    out.extend_from_slice(b" ")?;
-    out.extend_from_slice(fault.kind.word().as_bytes())?;
-    out.extend_from_slice(b"\n")
-}
-
-/// Appends which line would wait, if one would.
-pub fn push_waiting(out: &mut Vec<u8>, waits: Option<u64>) -> Result<(), AllocError>
-    ensures { OnOk result (out.new.items ≡ out.old.items ++ waiting_line waits) }
-{
-    match waits {
-        None => Ok(()),
-        Some(line) => {
-            out.extend_from_slice(b"would wait ")?;
-            push_number(out, line)?;
-            out.extend_from_slice(b"\n")
-        }
-    }
 }
 
 pub fn push_place(out: &mut Vec<u8>, len: u64, place: u64) -> Result<(), AllocError>

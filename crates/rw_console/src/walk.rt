@@ -1,7 +1,9 @@
 //! A walk over the places of a run.
 
-ghost use Rattle.std.specs.Prelude.{◌≡◌, ◌++◌, ◌≢◌, false, length, IfOk, IfSome, OnOk};
-ghost use Rattle.rw_console.specs.Places.{entry_to, last_place};
+ghost use Rattle.std.specs.Prelude.{◌≡◌, ◌++◌, ◌≢◌, ℕ, false, length, IfOk, IfSome, OnOk};
+ghost use Rattle.rw_law.specs.Journal.{after as state_after};
+ghost use Rattle.rw_navigator.specs.Visit.{start_of};
+ghost use Rattle.rw_console.specs.Places.{entry_to, last_place, shown_at};
 ghost use Rattle.rw_console.specs.Report.{output_of, place_of};
 
 use crate::blocks::push_world;
@@ -44,7 +46,7 @@ impl Model for Walk {
 }
 
 impl Walk {
-    /// Begins at the last place.
+    /// Begins at the last place, with a copy of the run's entries.
     pub fn open(alloc: Global, run: &Run<u64>) -> Result<Walk, NoMemory>
         ensures run { IfOk result (λ walk. walk.run ≡ run.now) }
         ensures place { IfOk result (λ walk. walk.place ≡ last_place run.now) }
@@ -52,13 +54,32 @@ impl Walk {
         machines::<u64>();
         documented::<u64>();
         let start = run.start(alloc)?;
-        let mut visit = Navigator::open(alloc, start, run.entries())?;
+        let visit = Navigator::open(alloc, start, run.entries())?;
+        Ok(Walk::at_end(alloc, Snapshot::of(run), visit))
+    }
+
+    /// The same with the run's own entries: a session holds one list of them.
+    pub fn over(alloc: Global, run: Run<u64>) -> Result<Walk, NoMemory>
+        ensures run { IfOk result (λ walk. walk.run ≡ run) }
+        ensures place { IfOk result (λ walk. walk.place ≡ last_place run) }
+    {
+        machines::<u64>();
+        documented::<u64>();
+        let start = run.start(alloc)?;
+        let whole = Snapshot::of(&run);
+        let visit = Navigator::over(start, run.into_entries())?;
+        Ok(Walk::at_end(alloc, whole, visit))
+    }
+
+    /// A walk of a visit to the run's entries, at their last place.
+    fn at_end(alloc: Global, run: Snapshot<Run<u64>>, mut visit: Navigator<World<u64>>) -> Walk
+        requires entries { visit.entries ≡ run.value.entries }
+        requires shows { (n : ℕ) → state_after ⟦<World<u64> as Reversible>⟧ (start_of ⟦<World<u64> as Reversible>⟧ visit) visit.entries n ≡ shown_at run.value n }
+        ensures run { result.run ≡ run.value }
+        ensures place { result.place ≡ last_place run.value }
+    {
         let _ = visit.step(Move::End);
-        Ok(Walk {
-            alloc,
-            run: Snapshot::of(run),
-            visit,
-        })
+        Walk { alloc, run, visit }
     }
 
     /// How many entries the run has.

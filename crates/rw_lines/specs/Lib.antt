@@ -3,3 +3,4 @@ pub mod Lines
 pub mod Numerals
 pub mod Reading
 pub mod Tokens
+pub mod Writing

@@ -14,5 +14,5 @@ mod tokens;
 
 pub use lines::{LONGEST_LINE, Next, is_skipped, next_line};
 pub use numerals::{numeral, push_number};
-pub use streams::{ShortWrite, StreamFault, flush, next_byte, put};
+pub use streams::{ShortWrite, StreamFault, flush, next_byte, put, put_out, put_whole};
 pub use tokens::{cut, is_name, is_word};

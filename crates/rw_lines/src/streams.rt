@@ -5,6 +5,7 @@
 ghost use Rattle.std.specs.Prelude.{◌≡◌, ◌<◌, take, length, option_to_list, IsNone, IfOk, IfErr, OnOk};
 ghost use Rattle.std.specs.Io.KnownBytes.{Keeps, Appends, Consumes, IsAtEnd};
 ghost use Rattle.rw_lines.specs.declared.streams.StreamFault.TheVariants.{Write};
+ghost use Rattle.rw_lines.specs.Writing.{StopsWriting};
 
 use std::io;
 use thiserror::Error;
@@ -79,4 +80,24 @@ pub fn flush<W: io::Write>(writer: &mut W) -> Result<(), StreamFault>
     ensures err { IfErr result (λ e. e ≡ StreamFault.Write) }
 {
     writer.flush().map_err(|_| StreamFault::Write)
+}
+
+/// The same for a caller that doesn't count: at an `Err` the writer holds a front of the bytes.
+pub fn put_out<W: io::Write>(writer: &mut W, bytes: &[u8]) -> Result<(), StreamFault>
+    ensures ok { OnOk result (Appends (W.contents writer.old) (W.contents writer.new) bytes.now) }
+    ensures err { IfErr result (StopsWriting (W.contents writer.old) (W.contents writer.new) bytes.now) }
+{
+    match put(writer, bytes) {
+        Ok(()) => Ok(()),
+        Err(_) => Err(StreamFault::Write),
+    }
+}
+
+/// Writes all of the bytes, and makes the writer hand them on. At an `Err` it holds a front of them.
+pub fn put_whole<W: io::Write>(writer: &mut W, bytes: &[u8]) -> Result<(), StreamFault>
+    ensures ok { OnOk result (Appends (W.contents writer.old) (W.contents writer.new) bytes.now) }
+    ensures err { IfErr result (StopsWriting (W.contents writer.old) (W.contents writer.new) bytes.now) }
+{
+    put_out(writer, bytes)?;
+    flush(writer)
 }

@@ -1,5 +1,5 @@
 -- The words of faults, and how a fault of words is one of scripts.
-use Rattle.std.specs.Prelude.{◌≡◌, ◌⊎◌, ℕ, List, Result, Ok, Err, codes}
+use Rattle.std.specs.Prelude.{◌≡◌, ◌⊎◌, ◌++◌, ℕ, List, Result, Ok, Err, codes, decimal}
 use Rattle.rw_script.specs.declared.arguments.WordFault.{WordFault}
 use Rattle.rw_script.specs.declared.arguments.WordFault.TheVariants as words
 use Rattle.rw_script.specs.declared.faults.ScriptFaultKind.{ScriptFaultKind}
@@ -22,6 +22,10 @@ fault_word NameTaken = codes "name-taken"
 fault_word TooManySteps = codes "too-many-steps"
 fault_word NoChannels = codes "no-channels"
 fault_word NoMemory = codes "no-memory"
+
+-- the text of a fault: `script fault LINE KIND`
+abbrev pub fault_text : ScriptFault → List ℕ
+fault_text f = codes "script fault " ++ (decimal f.line ++ (codes " " ++ fault_word f.kind))
 
 -- in a script, a handle that is too large is a bad argument like any other
 abbrev pub kind_of_words : WordFault → ScriptFaultKind

@@ -65,6 +65,11 @@ impl ScriptFaultKind {
 }
 
 impl fmt::Display for ScriptFaultKind {
+    ghost use Rattle.std.specs.Prelude.{Some};
+    ghost use Rattle.rw_script.specs.Faults.{fault_word};
+
+    ghost output = { λ kind. Some (fault_word kind) };
+
     fn fmt<W: fmt::Write>(&self, f: &mut fmt::Formatter<W>) -> fmt::Result {
         write!(f, "{}", self.word())
     }
@@ -94,6 +99,11 @@ pub struct ScriptFault {
 }
 
 impl fmt::Display for ScriptFault {
+    ghost use Rattle.std.specs.Prelude.{Some};
+    ghost use Rattle.rw_script.specs.Faults.{fault_text};
+
+    ghost output = { λ fault. Some (fault_text fault) };
+
     fn fmt<W: fmt::Write>(&self, f: &mut fmt::Formatter<W>) -> fmt::Result {
         write!(f, "script fault {} {}", self.line, self.kind)
     }

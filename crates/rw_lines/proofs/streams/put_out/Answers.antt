@@ -1,6 +1,6 @@
 use Rattle.std.proofs.Common.{drop}
 use Rattle.std.proofs.lemmas.List.{take-append-drop}
-use Rattle.rw_console.proofs.console.put_out.Goals as goal
+use Rattle.rw_lines.proofs.streams.put_out.Goals as goal
 
 pub returns-in-Err-clause-err : goal.returns-in-Err-clause-err
 returns-in-Err-clause-err g c = (
