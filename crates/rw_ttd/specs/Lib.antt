@@ -1,2 +1,4 @@
+pub mod Endings
+pub mod Files
 pub mod Statuses
 pub mod Runs

@@ -1,5 +1,6 @@
--- What a session's end is told by: an exit status, and a line on the stream for errors.
-use Rattle.std.specs.Prelude.{ℕ, List, [], Result, Ok, Err, codes}
+-- What an end is told by: an exit status, and a line on the stream for errors.
+use Rattle.std.specs.Prelude.{◌≡◌, ℕ, List, [], Option, Result, Ok, Err, codes, take}
+use Rattle.std.specs.Io.KnownBytes.{Appends}
 use Rattle.rw_lines.specs.declared.streams.StreamFault.{StreamFault}
 use Rattle.rw_lines.specs.declared.streams.StreamFault.TheVariants.{Read, Write, TooMuch, NoMemory}
 use Rattle.rw_console.specs.declared.sessions.Outcome.{Outcome}
@@ -22,3 +23,11 @@ said_of (Err Read) = codes "read fault\n"
 said_of (Err Write) = codes "write fault\n"
 said_of (Err TooMuch) = codes "read fault\n"
 said_of (Err NoMemory) = codes "no memory\n"
+
+-- a line was written, or the front of it that was taken
+abbrev pub Says : Option (List ℕ) → Option (List ℕ) → List ℕ → Type 0
+Says err err' line = (n : ℕ) × Appends err err' (take n line)
+
+-- an end was told: by this exit status, and by its line
+abbrev pub Tells : Option (List ℕ) → Option (List ℕ) → ℕ → Result Outcome StreamFault → Type 0
+Tells err err' status ended = Says err err' (said_of ended) × (status ≡ status_of ended)

@@ -1,7 +1,8 @@
 //! Whole inputs.
 
-ghost use Rattle.std.specs.Prelude.{IfOk};
+ghost use Rattle.std.specs.Prelude.{IfOk, IfErr};
 ghost use Rattle.std.specs.Io.KnownBytes.{Consumes, IsAtEnd};
+ghost use Rattle.rw_ttd.specs.Files.{StopsReading};
 
 use rw_console::{MOST_BYTES, SessionFault};
 use std::alloc::Global;
@@ -14,6 +15,7 @@ const PIECE: usize = 65_536;
 pub fn read_whole<R: Read>(alloc: Global, reader: &mut R) -> Result<Vec<u8>, SessionFault>
     ensures read { IfOk result (λ bytes. Consumes (R.remaining reader.old) (R.remaining reader.new) bytes.items) }
     ensures whole { IfOk result (λ bytes. IsAtEnd (R.remaining reader.new)) }
+    ensures fault { IfErr result (λ fault. StopsReading (R.remaining reader.old) (R.remaining reader.new) fault) }
 {
     let mut bytes = Vec::new(alloc);
     let mut piece = [0u8; PIECE];

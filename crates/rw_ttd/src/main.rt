@@ -1,9 +1,9 @@
 //! The program `ttd`: sessions with the time-travel debugger of channels.
 //!
 //! `ttd session` runs a session on standard input and output, `ttd record FILE` writes the journal of a script, `ttd check FILE`
-//! judges a journal, and `ttd debug FILE` takes commands over one. Its one contract is that of `session_on`: what is written is
-//! the report of the bytes that are read (`rw_console`'s `specs/SessionReport.antt`), and the exit status and the line on the
-//! stream for errors are those of the session's end (`specs/Statuses.antt`).
+//! judges a journal, and `ttd debug FILE` takes commands over one. The one contract is that of `session_on` and of the three
+//! functions over files: what they write, what they tell on the stream for errors and the exit status are those of the bytes
+//! that they read. For a session `rw_console`'s `specs/SessionReport.antt` says which, for a file `specs/Endings.antt`.
 //! Start reading at `program.rt`, and go on with `files.rt`.
 #![tactic(auto)]
 
@@ -15,6 +15,9 @@ mod program;
 mod status;
 #[cfg(test)]
 mod tests;
+#[cfg(test)]
+mod word_tests;
+mod words;
 
 use std::process::ExitCode;
 

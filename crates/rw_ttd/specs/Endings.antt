@@ -1,0 +1,46 @@
+-- What a run over a file comes to.
+use Rattle.std.specs.Prelude.{ℕ, List, [], ◌++◌, length, Result, Ok, Err, codes, decimal}
+use Rattle.rw_console.specs.SessionReport.{fault_line, outcome_at, recording_of, waiting_line}
+use Rattle.rw_journal.specs.Run.{Recording}
+use Rattle.rw_lines.specs.Lines.{lines}
+use Rattle.rw_script.specs.declared.faults.ScriptFault.{ScriptFault}
+use Rattle.rw_script.specs.Running.{run_of}
+use Rattle.rw_script.specs.Script.{Script, script_in}
+use Rattle.rw_script.specs.StepLines.{numbers}
+use Rattle.rw_text.specs.declared.faults.TextFault.{TextFault}
+use Rattle.rw_text.specs.Faults.{fault_text}
+use Rattle.rw_text.specs.Reading.{reading_of}
+use Rattle.rw_text.specs.Texts.{text}
+use Rattle.rw_ttd.specs.Statuses.{status_of}
+
+-- a text on standard output, a line on the stream for errors, and an exit status
+pub record Ending : Type 0 where
+  pub written : List ℕ
+  pub told : List ℕ
+  pub status : ℕ
+
+-- a script's fault is told on the stream for errors
+abbrev pub refused_script : ScriptFault → Ending
+refused_script fault = record { written = []; told = fault_line fault; status = 1 }
+
+-- a journal text's fault is written where the journal would be shown
+abbrev pub refused_text : TextFault → Ending
+refused_text fault = record { written = codes "journal fault " ++ fault_text fault ++ codes "\n"; told = []; status = 1 }
+
+-- ---- `record`: the journal text of a script's run; which line would wait is told behind it
+
+abbrev pub recorded : Result Script ScriptFault → Ending
+recorded (Ok script) = record { written = text numbers (recording_of script); told = waiting_line (run_of script).waits; status = status_of (Ok (outcome_at (run_of script).waits)) }
+recorded (Err fault) = refused_script fault
+
+abbrev pub record_of : List ℕ → Ending
+record_of bytes = recorded (script_in (lines bytes))
+
+-- ---- `check`: how many entries a journal text has
+
+abbrev pub checked : Result (Recording ℕ) TextFault → Ending
+checked (Ok run) = record { written = codes "ok " ++ decimal (length run.entries) ++ codes "\n"; told = []; status = 0 }
+checked (Err fault) = refused_text fault
+
+abbrev pub check_of : List ℕ → Ending
+check_of bytes = checked (reading_of numbers bytes)

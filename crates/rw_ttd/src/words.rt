@@ -1,0 +1,68 @@
+//! The words of the command line.
+
+use clap::error::ErrorKind;
+use clap::{Arg, ArgAction, Command};
+use std::alloc::Global;
+
+/// What is done with a file.
+#[derive(Clone, Copy, Debug, PartialEq, Eq)]
+pub enum Verb {
+    Record,
+    Check,
+    Debug,
+}
+
+/// What the words of the command line ask for.
+#[derive(Clone, Copy, Debug, PartialEq, Eq)]
+pub enum Asked<'a> {
+    Session,
+    Over(Verb, &'a str),
+}
+
+/// A subcommand whose one word is a path.
+fn with_file<'a>(alloc: Global, name: &'a str, about: &'a str) -> Result<Command<'a>, clap::Error> {
+    let file = Arg::new(alloc, "FILE")
+        .required(true)
+        .action(ArgAction::Set);
+    Ok(Command::new(alloc, name).about(about).arg(file)?)
+}
+
+/// The words that the program takes.
+fn command_line<'a>(alloc: Global) -> Result<Command<'a>, clap::Error> {
+    let session = Command::new(alloc, "session").about(
+        "Read a script and then commands over its run, from standard input",
+    );
+    Ok(
+        Command::new(alloc, "ttd")
+            .bin_name("ttd")?
+            .about("Time-travel debugger of broadcast and watch channels")
+            .subcommand_required(true)
+            .subcommand(session)?
+            .subcommand(with_file(
+                alloc,
+                "record",
+                "Run the script in FILE and write its journal",
+            )?)?
+            .subcommand(with_file(alloc, "check", "Judge the journal in FILE")?)?
+            .subcommand(with_file(
+                alloc,
+                "debug",
+                "Read commands over the journal in FILE, from standard input",
+            )?)?,
+    )
+}
+
+/// Reads the words of the command line, the program's own name first.
+pub fn read_words<'a>(alloc: Global, words: &'a [String]) -> Result<Asked<'a>, clap::Error> {
+    let matches = command_line(alloc)?.try_get_matches_from(words)?;
+    if let Some((name, inner)) = matches.subcommand() {
+        match (name, inner.get_str("FILE")) {
+            ("session", _) => return Ok(Asked::Session),
+            ("record", Some(path)) => return Ok(Asked::Over(Verb::Record, path)),
+            ("check", Some(path)) => return Ok(Asked::Over(Verb::Check, path)),
+            ("debug", Some(path)) => return Ok(Asked::Over(Verb::Debug, path)),
+            _ => {}
+        }
+    }
+    Err(command_line(alloc)?.error(ErrorKind::MissingSubcommand, "a subcommand is missing")?)
+}
