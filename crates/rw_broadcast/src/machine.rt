@@ -14,6 +14,7 @@ use rw_law::NoMemory;
 use rw_ring::Ring;
 use std::alloc::Global;
 use std::marker::Model;
+use thiserror::Error;
 
 /// The greatest capacity that may be asked for.
 const MOST_CAPACITY: u32 = 65536;
@@ -39,11 +40,13 @@ impl<V: Copy> Model for Broadcast<V> {
 }
 
 /// Why a channel isn't opened.
-#[derive(Clone, Copy, Debug, PartialEq, Eq)]
+#[derive(Clone, Copy, Debug, PartialEq, Eq, Error)]
 pub enum OpenFault {
     /// The capacity that was asked for is 0 or above 65,536.
+    #[error("bad capacity")]
     BadCapacity,
     /// A growth was refused.
+    #[error("no memory")]
     NoMemory,
 }
 

@@ -1,5 +1,7 @@
 //! The words of handles: kinds, slots, and what a look for a handle finds.
 
+use thiserror::Error;
+
 /// What a handle is for.
 #[derive(Clone, Copy, Debug, PartialEq, Eq)]
 pub enum Kind {
@@ -15,13 +17,16 @@ pub enum Slot<X> {
 }
 
 /// Why a handle can't be used for a call.
-#[derive(Clone, Copy, Debug, PartialEq, Eq)]
+#[derive(Clone, Copy, Debug, PartialEq, Eq, Error)]
 pub enum HandleFault {
     /// The number was never made.
+    #[error("unknown handle")]
     Unknown,
     /// Its handle was dropped.
+    #[error("handle is gone")]
     Gone,
     /// Its handle is of another kind.
+    #[error("wrong kind of handle")]
     WrongKind,
 }
 

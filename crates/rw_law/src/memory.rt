@@ -1,9 +1,11 @@
 //! The one fault of a growth.
 
 use std::alloc::{AllocError, AllocFailed};
+use thiserror::Error;
 
 /// A growth was refused. What was to grow is as it was.
-#[derive(Clone, Copy, Debug, PartialEq, Eq)]
+#[derive(Clone, Copy, Debug, PartialEq, Eq, Error)]
+#[error("no memory")]
 pub struct NoMemory;
 
 impl From<AllocError> for NoMemory {

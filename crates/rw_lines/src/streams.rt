@@ -28,7 +28,8 @@ pub enum StreamFault {
 }
 
 /// A writer failed, or took no byte, when it had taken so many.
-#[derive(Clone, Copy, Debug, PartialEq, Eq)]
+#[derive(Clone, Copy, Debug, PartialEq, Eq, Error)]
+#[error("write fault after {written} bytes")]
 pub struct ShortWrite {
     pub written: usize,
 }

@@ -3,6 +3,8 @@
 ghost use Rattle.std.specs.Prelude.{◌≡◌, ◌≤◌};
 ghost use Rattle.rw_navigator.specs.Moves.{place_after};
 
+use thiserror::Error;
+
 /// Where to go from a place.
 #[derive(Clone, Copy, Debug, PartialEq, Eq)]
 pub enum Move {
@@ -19,7 +21,8 @@ pub enum Move {
 }
 
 /// The move leads to no place of the journal. It has changed nothing.
-#[derive(Clone, Copy, Debug, PartialEq, Eq)]
+#[derive(Clone, Copy, Debug, PartialEq, Eq, Error)]
+#[error("out of range")]
 pub struct OutOfRange;
 
 impl Move {

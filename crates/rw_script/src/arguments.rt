@@ -8,15 +8,19 @@ ghost use Rattle.rw_script.specs.Words.{alone, flag_in, handle_in, handle_value_
 
 use rw_law::Payload;
 use rw_lines::{cut, numeral};
+use thiserror::Error;
 
 /// Why a text isn't a call or a reply: the first that holds, in this order.
-#[derive(Clone, Copy, Debug, PartialEq, Eq)]
+#[derive(Clone, Copy, Debug, PartialEq, Eq, Error)]
 pub enum WordFault {
     /// The first word isn't one of the channel's kind.
+    #[error("wrong word")]
     WrongWord,
     /// What stands behind the word isn't what the word takes.
+    #[error("bad arguments")]
     BadArguments,
     /// All else reads, and the handle's number is above 4,294,967,295.
+    #[error("handle too large")]
     HandleTooLarge,
 }
 

@@ -4,7 +4,7 @@ use Rattle.rw_lines.specs.declared.streams.StreamFault.{StreamFault}
 use Rattle.rw_console.specs.declared.sessions.Outcome.{Outcome}
 use Rattle.rw_console.specs.declared.sessions.TheConstants.{MOST_BYTES}
 use Rattle.rw_console.specs.Streams.{Answers, Stops}
-use Rattle.rw_ttd.specs.Statuses.{Tells, status_of}
+use Rattle.rw_ttd.specs.Statuses.{Tells}
 
 module _ (report : List ℕ → List ℕ) (outcome : List ℕ → Outcome) (begun : List (List ℕ) → Type 0) where
   -- what ended so has read these bytes and written these

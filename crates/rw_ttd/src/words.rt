@@ -64,5 +64,6 @@ pub fn read_words<'a>(alloc: Global, words: &'a [String]) -> Result<Asked<'a>, c
             _ => {}
         }
     }
+    // A subcommand is required and each has its arm, so this isn't met; no contract says so.
     Err(command_line(alloc)?.error(ErrorKind::MissingSubcommand, "a subcommand is missing")?)
 }

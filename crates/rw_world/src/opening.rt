@@ -9,6 +9,7 @@ use rw_broadcast::{BCall, BReply, Broadcast};
 use rw_law::{NoMemory, Reversible};
 use rw_watch::{WCall, WReply, Watch};
 use std::alloc::Global;
+use thiserror::Error;
 
 /// A channel of this library: a broadcast or a watch.
 pub type Chan<V> = Channel<Broadcast<V>, Watch<V>>;
@@ -38,15 +39,19 @@ pub enum Spec<V> {
 }
 
 /// Why a world isn't opened: the first that holds, in this order.
-#[derive(Clone, Copy, Debug, PartialEq, Eq)]
+#[derive(Clone, Copy, Debug, PartialEq, Eq, Error)]
 pub enum OpenFault {
     /// There is no spec.
+    #[error("no channels")]
     NoChannels,
     /// There are more than 64 specs.
+    #[error("too many channels")]
     TooManyChannels,
     /// The capacity of this channel is 0 or above 65,536. It is the first such channel.
+    #[error("bad capacity of channel {0}")]
     BadCapacity(u32),
     /// A growth was refused.
+    #[error("no memory")]
     NoMemory,
 }
 

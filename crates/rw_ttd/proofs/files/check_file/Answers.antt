@@ -1,4 +1,4 @@
-use Rattle.std.proofs.Common.{rules, inr, ◌∙◌}
+use Rattle.std.proofs.Common.{inr}
 use Rattle.rw_lines.specs.declared.streams.StreamFault.TheVariants.{NoMemory}
 use Rattle.rw_ttd.proofs.FileRuns.{failed, not_checked, over}
 use Rattle.rw_ttd.proofs.files.check_file.Goals as goal

@@ -1,4 +1,4 @@
-use Rattle.std.proofs.Common.{rules, inr, ◌∙◌}
+use Rattle.std.proofs.Common.{rules, inr}
 use Rattle.rw_lines.specs.declared.streams.StreamFault.TheVariants.{NoMemory}
 use Rattle.rw_ttd.proofs.FileRuns.{closes, failed, not_recorded, over, written_run}
 use Rattle.rw_ttd.proofs.files.record_file.Goals as goal

@@ -1,4 +1,4 @@
-use Rattle.std.proofs.Common.{ℕ, ◌+◌, ◌<◌, ◌≤◌, ◌≡◌, length, take, ◌++◌, sym, arith}
+use Rattle.std.proofs.Common.{◌≡◌, length, take, ◌++◌, sym, arith}
 use Rattle.std.proofs.lemmas.List.{length-append}
 use Rattle.rw_lines.proofs.Known.{Consumes-then}
 use Rattle.rw_ttd.proofs.inputs.read_whole.Goals as goal
