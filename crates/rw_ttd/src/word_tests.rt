@@ -44,9 +44,18 @@ fn words_are_taken(rt: HostRuntime) -> Result<(), Fail> {
 /// The line that the texts of clap end with.
 const MORE: &str = "\nFor more information, try '--help'.\n";
 
+/// What is told of words that aren't taken, and nothing of others.
+fn told_of(alloc: Global, texts: &[&str]) -> Result<String, Fail> {
+    let words = words_of(alloc, texts)?;
+    match read_words(alloc, words.as_slice()) {
+        Ok(_) => Ok(String::new(alloc)),
+        Err(error) => Ok(format!(in alloc; "{error}")?),
+    }
+}
+
 #[test]
-fn other_words_are_told_why(rt: HostRuntime) -> Result<(), Fail> {
-    let cases: [(&[&str], &str); 8] = [
+fn unknown_subcommands_are_told(rt: HostRuntime) -> Result<(), Fail> {
+    let cases: [(&[&str], &str); 4] = [
         (
             &["ttd"],
             "error: 'ttd' requires a subcommand but one was not provided\n  [subcommands: session, record, check, debug, help]\n\nUsage: ttd <COMMAND>\n",
@@ -55,6 +64,26 @@ fn other_words_are_told_why(rt: HostRuntime) -> Result<(), Fail> {
             &["ttd", "walk"],
             "error: unrecognized subcommand 'walk'\n\nUsage: ttd <COMMAND>\n",
         ),
+        (
+            &["ttd", "--version"],
+            "error: unexpected argument '--version' found\n\nUsage: ttd <COMMAND>\n",
+        ),
+        (
+            &["ttd", "salvage", "a"],
+            "error: unrecognized subcommand 'salvage'\n\nUsage: ttd <COMMAND>\n",
+        ),
+    ];
+    for (texts, told) in cases {
+        let text = told_of(rt.alloc(), texts)?;
+        let whole = format!(in rt.alloc(); "{told}{MORE}")?;
+        assert_eq!(rt; text.as_str(), whole.as_str());
+    }
+    Ok(())
+}
+
+#[test]
+fn wrong_words_of_a_subcommand_are_told(rt: HostRuntime) -> Result<(), Fail> {
+    let cases: [(&[&str], &str); 4] = [
         (
             &["ttd", "session", "x"],
             "error: unexpected argument 'x' found\n\nUsage: ttd session\n",
@@ -68,44 +97,24 @@ fn other_words_are_told_why(rt: HostRuntime) -> Result<(), Fail> {
             "error: unexpected argument 'b' found\n\nUsage: ttd check <FILE>\n",
         ),
         (
-            &["ttd", "--version"],
-            "error: unexpected argument '--version' found\n\nUsage: ttd <COMMAND>\n",
-        ),
-        (
             &["ttd", "record", "--threads", "a"],
             "error: unexpected argument '--threads' found\n\n  tip: to pass '--threads' as a value, use '-- --threads'\n\nUsage: ttd record <FILE>\n",
         ),
-        (
-            &["ttd", "salvage", "a"],
-            "error: unrecognized subcommand 'salvage'\n\nUsage: ttd <COMMAND>\n",
-        ),
     ];
     for (texts, told) in cases {
-        let words = words_of(rt.alloc(), texts)?;
-        match read_words(rt.alloc(), words.as_slice()) {
-            Ok(read) => assert!(rt; false, "{read:?}"),
-            Err(error) => {
-                let text = format!(in rt.alloc(); "{error}")?;
-                let whole = format!(in rt.alloc(); "{told}{MORE}")?;
-                assert_eq!(rt; text.as_str(), whole.as_str());
-            }
-        }
+        let text = told_of(rt.alloc(), texts)?;
+        let whole = format!(in rt.alloc(); "{told}{MORE}")?;
+        assert_eq!(rt; text.as_str(), whole.as_str());
     }
     Ok(())
 }
 
 #[test]
 fn help_shows_the_subcommands(rt: HostRuntime) -> Result<(), Fail> {
-    let words = words_of(rt.alloc(), &["ttd", "--help"])?;
-    match read_words(rt.alloc(), words.as_slice()) {
-        Ok(read) => assert!(rt; false, "{read:?}"),
-        Err(error) => {
-            let text = format!(in rt.alloc(); "{error}")?;
-            assert_eq!(rt;
-                text.as_str(),
-                "Time-travel debugger of broadcast and watch channels\n\nUsage: ttd <COMMAND>\n\nCommands:\n  session  Read a script and then commands over its run, from standard input\n  record   Run the script in FILE and write its journal\n  check    Judge the journal in FILE\n  debug    Read commands over the journal in FILE, from standard input\n  help     Print this message or the help of the given subcommand(s)\n\nOptions:\n  -h, --help  Print help\n"
-            );
-        }
-    }
+    let text = told_of(rt.alloc(), &["ttd", "--help"])?;
+    assert_eq!(rt;
+        text.as_str(),
+        "Time-travel debugger of broadcast and watch channels\n\nUsage: ttd <COMMAND>\n\nCommands:\n  session  Read a script and then commands over its run, from standard input\n  record   Run the script in FILE and write its journal\n  check    Judge the journal in FILE\n  debug    Read commands over the journal in FILE, from standard input\n  help     Print this message or the help of the given subcommand(s)\n\nOptions:\n  -h, --help  Print help\n"
+    );
     Ok(())
 }
