@@ -10,14 +10,14 @@ use Rattle.rw_lines.specs.Lines.{IsUnbroken, lines, unlines}
 use Rattle.rw_lines.specs.Reading.{kept, GivesLine, GivesLast, GivesNone, StopsBecause, StopsInLine}
 use Rattle.rw_lines.proofs.Known.{Appends-none, Appends-then, Consumes-none, Consumes-then}
 use Rattle.rw_lines.proofs.LineLaws.{lines_line, lines_last, lines_unlines, unlines_push}
-use Rattle.rw_journal.specs.Run.{Recording}
+use Rattle.rw_journal.specs.Run.{Run}
 use Rattle.rw_console.specs.Commands.{command_in, is_quit}
 use Rattle.rw_console.specs.Report.{output_of, outputs, commands_report, place_of}
 use Rattle.rw_console.specs.Streams.{Answers, Stops, Explains, Always}
 use Rattle.rw_lines.specs.Writing.{IsOfWriting, StopsWriting, WritesFront}
 use Rattle.rw_console.proofs.Kept.{command_in-kept}
 
-pub record Answering (reader reader' writer writer' : Option (List ℕ)) (before allowed : ℕ) (start run : Recording ℕ) (first place : ℕ) : Type 0 where
+pub record Answering (reader reader' writer writer' : Option (List ℕ)) (before allowed : ℕ) (start run : Run ℕ) (first place : ℕ) : Type 0 where
   pub ls : List (List ℕ)
   pub each : All IsUnbroken ls
   pub read : Consumes reader reader' (unlines ls)
@@ -27,7 +27,7 @@ pub record Answering (reader reader' writer writer' : Option (List ℕ)) (before
   pub count : length (unlines ls) + allowed ≡ before
   pub same : run ≡ start
 
-pub begins : (r w : Option (List ℕ)) (before : ℕ) (start : Recording ℕ) (first : ℕ) → Answering r r w w before before start start first first
+pub begins : (r w : Option (List ℕ)) (before : ℕ) (start : Run ℕ) (first : ℕ) → Answering r r w w before before start start first first
 begins r w before start first = record {
   ls = [];
   each = All-nil IsUnbroken;
@@ -42,19 +42,19 @@ begins r w before start first = record {
 -- ---- what lines write
 
 -- what the lines behind a command's line write
-abbrev rest_of : Recording ℕ → ℕ → List ℕ → List (List ℕ) → List ℕ
+abbrev rest_of : Run ℕ → ℕ → List ℕ → List (List ℕ) → List ℕ
 rest_of run place l ls = outputs run (place_of run place (command_in l)) ls
 
-outputs_go : (run : Recording ℕ) (place : ℕ) (l : List ℕ) (ls : List (List ℕ)) → is_quit (command_in l) ≡ false
+outputs_go : (run : Run ℕ) (place : ℕ) (l : List ℕ) (ls : List (List ℕ)) → is_quit (command_in l) ≡ false
     → outputs run place (l ∷ ls) ≡ output_of run place (command_in l) ++ rest_of run place l ls
 outputs_go run place l ls e = ap (λ (x : List ℕ). output_of run place (command_in l) ++ x) (cond-false (is_quit (command_in l)) [] (rest_of run place l ls) e)
 
-outputs_quit : (run : Recording ℕ) (place : ℕ) (l : List ℕ) (ls : List (List ℕ)) → is_quit (command_in l) ≡ true → outputs run place (l ∷ ls) ≡ output_of run place (command_in l)
+outputs_quit : (run : Run ℕ) (place : ℕ) (l : List ℕ) (ls : List (List ℕ)) → is_quit (command_in l) ≡ true → outputs run place (l ∷ ls) ≡ output_of run place (command_in l)
 outputs_quit run place l ls e =
     ap (λ (x : List ℕ). output_of run place (command_in l) ++ x) (cond-true (is_quit (command_in l)) [] (rest_of run place l ls) e)
     ∙ append-nil (output_of run place (command_in l))
 
-outputs_last : (run : Recording ℕ) (place : ℕ) (l : List ℕ) → outputs run place (l ∷ []) ≡ output_of run place (command_in l)
+outputs_last : (run : Run ℕ) (place : ℕ) (l : List ℕ) → outputs run place (l ∷ []) ≡ output_of run place (command_in l)
 outputs_last run place l =
     elim (cases_Bool (is_quit (command_in l))) [
       | inl e ↦ outputs_quit run place l [] e
@@ -76,8 +76,8 @@ line_only text u = lines_line text [] u
 of_text : (line text : List ℕ) → line ≡ kept text → command_in line ≡ command_in text
 of_text line text fits = ap command_in fits ∙ command_in-kept text
 
-pub more_line : {r0 r r' w0 w w' : Option (List ℕ)} {before allowed allowed' : ℕ} {start run : Recording ℕ} {first place : ℕ} {line : List ℕ} → (a : Answering r0 r w0 w before allowed start run first place) (l : GivesLine r r' allowed allowed' line) (quit : is_quit (command_in line) ≡ false)
-    (put : Appends w w' (output_of run place (command_in line))) (run' : Recording ℕ) (place' : ℕ) (p : place' ≡ place_of run place (command_in line)) (s : run' ≡ run)
+pub more_line : {r0 r r' w0 w w' : Option (List ℕ)} {before allowed allowed' : ℕ} {start run : Run ℕ} {first place : ℕ} {line : List ℕ} → (a : Answering r0 r w0 w before allowed start run first place) (l : GivesLine r r' allowed allowed' line) (quit : is_quit (command_in line) ≡ false)
+    (put : Appends w w' (output_of run place (command_in line))) (run' : Run ℕ) (place' : ℕ) (p : place' ≡ place_of run place (command_in line)) (s : run' ≡ run)
     → Answering r0 r' w0 w' before allowed' start run' first place'
 more_line {r0 = r0} {r = r} {r' = r'} {w0 = w0} {w = w} {w' = w'} {before = before} {allowed = allowed} {allowed' = allowed'} {start = start} {run = run} {first = first} {place = place} {line = line} a l quit put run' place' p s =
     let c = of_text _ l.text l.fits in
@@ -98,7 +98,7 @@ more_line {r0 = r0} {r = r} {r' = r'} {w0 = w0} {w = w} {w' = w'} {before = befo
     }
 
 -- at a line that quits
-pub quits : {r0 r r' w0 w w' : Option (List ℕ)} {before allowed allowed' : ℕ} {start run : Recording ℕ} {first place : ℕ} {line : List ℕ} → (a : Answering r0 r w0 w before allowed start run first place) (l : GivesLine r r' allowed allowed' line) (quit : is_quit (command_in line) ≡ true)
+pub quits : {r0 r r' w0 w w' : Option (List ℕ)} {before allowed allowed' : ℕ} {start run : Run ℕ} {first place : ℕ} {line : List ℕ} → (a : Answering r0 r w0 w before allowed start run first place) (l : GivesLine r r' allowed allowed' line) (quit : is_quit (command_in line) ≡ true)
     (put : Appends w w' (output_of run place (command_in line))) → Answers r0 r' w0 w' (commands_report start first)
 quits {r0 = r0} {r = r} {r' = r'} {w0 = w0} {w = w} {w' = w'} {start = start} {first = first} {place = place} a l quit put =
     let c = of_text _ l.text l.fits in
@@ -117,7 +117,7 @@ quits {r0 = r0} {r = r} {r' = r'} {w0 = w0} {w = w} {w' = w'} {start = start} {f
     }
 
 -- at the last line
-pub ends_last : {r0 r r' w0 w w' : Option (List ℕ)} {before allowed allowed' : ℕ} {start run : Recording ℕ} {first place : ℕ} {line : List ℕ} → (a : Answering r0 r w0 w before allowed start run first place) (l : GivesLast r r' allowed allowed' line)
+pub ends_last : {r0 r r' w0 w w' : Option (List ℕ)} {before allowed allowed' : ℕ} {start run : Run ℕ} {first place : ℕ} {line : List ℕ} → (a : Answering r0 r w0 w before allowed start run first place) (l : GivesLast r r' allowed allowed' line)
     (put : Appends w w' (output_of run place (command_in line))) → Answers r0 r' w0 w' (commands_report start first)
 ends_last {r0 = r0} {r = r} {r' = r'} {w0 = w0} {w = w} {w' = w'} {before = before} {allowed = allowed} {allowed' = allowed'} {start = start} {run = run} {first = first} {place = place} {line = line} a l put =
     let c = of_text _ l.text l.fits in
@@ -133,7 +133,7 @@ ends_last {r0 = r0} {r = r} {r' = r'} {w0 = w0} {w = w} {w' = w'} {before = befo
     }
 
 -- at the end
-pub ends : {r0 r r' w0 w : Option (List ℕ)} {before allowed allowed' : ℕ} {start run : Recording ℕ} {first place : ℕ} → (a : Answering r0 r w0 w before allowed start run first place) (l : GivesNone r r' allowed allowed') → Answers r0 r' w0 w (commands_report start first)
+pub ends : {r0 r r' w0 w : Option (List ℕ)} {before allowed allowed' : ℕ} {start run : Run ℕ} {first place : ℕ} → (a : Answering r0 r w0 w before allowed start run first place) (l : GivesNone r r' allowed allowed') → Answers r0 r' w0 w (commands_report start first)
 ends {r0 = r0} {r = r} {r' = r'} {w0 = w0} {w = w} {before = before} {allowed = allowed} {allowed' = allowed'} {start = start} {run = run} {first = first} {place = place} a l =
     let here : commands_report start first (unlines a.ls ++ []) ≡ a.text = ap (outputs start first) (lines_unlines a.ls [] a.each) ∙ a.follows [] ∙ append-nil a.text in
     record {
@@ -143,7 +143,7 @@ ends {r0 = r0} {r = r} {r' = r'} {w0 = w0} {w = w} {before = before} {allowed = 
       whole = inl l.ended;
     }
 
-explains : {r0 r w0 w : Option (List ℕ)} {before allowed : ℕ} {start run : Recording ℕ} {first place : ℕ} → (a : Answering r0 r w0 w before allowed start run first place) (part : List ℕ) (e : StreamFault) (why : StopsBecause part allowed e)
+explains : {r0 r w0 w : Option (List ℕ)} {before allowed : ℕ} {start run : Run ℕ} {first place : ℕ} → (a : Answering r0 r w0 w before allowed start run first place) (part : List ℕ) (e : StreamFault) (why : StopsBecause part allowed e)
     → Explains (commands_report start first) Always before (unlines a.ls ++ part) a.text e
 explains {r0 = r0} {r = r} {w0 = w0} {w = w} {before = before} {allowed = allowed} {start = start} {run = run} {first = first} {place = place} a part Read why = (a.ls, part, a.each, why.0, refl, λ _. sym (ap (commands_report start first) (sym (append-nil (unlines a.ls))) ∙ ap (outputs start first) (lines_unlines a.ls [] a.each) ∙ a.follows [] ∙ append-nil a.text))
 explains {r0 = r0} {r = r} {w0 = w0} {w = w} {before = before} {allowed = allowed} {start = start} {run = run} {first = first} {place = place} a part TooMuch why = omega (arith, a.count, length-append (unlines a.ls) part)
@@ -151,7 +151,7 @@ explains {r0 = r0} {r = r} {w0 = w0} {w = w} {before = before} {allowed = allowe
 explains {r0 = r0} {r = r} {w0 = w0} {w = w} {before = before} {allowed = allowed} {start = start} {run = run} {first = first} {place = place} a part NoMemory why = tt
 
 -- where reading stopped
-pub stops_reading : {r0 r r' w0 w : Option (List ℕ)} {before allowed : ℕ} {start run : Recording ℕ} {first place : ℕ} → (a : Answering r0 r w0 w before allowed start run first place) (e : StreamFault) (s : StopsInLine r r' allowed e)
+pub stops_reading : {r0 r r' w0 w : Option (List ℕ)} {before allowed : ℕ} {start run : Run ℕ} {first place : ℕ} → (a : Answering r0 r w0 w before allowed start run first place) (e : StreamFault) (s : StopsInLine r r' allowed e)
     → Stops r0 r' w0 w (commands_report start first) Always before e
 stops_reading {r0 = r0} {r = r} {r' = r'} {w0 = w0} {w = w} {before = before} {allowed = allowed} {start = start} {run = run} {first = first} {place = place} a e s = record {
   bytes = unlines a.ls ++ s.text;
@@ -163,14 +163,14 @@ stops_reading {r0 = r0} {r = r} {r' = r'} {w0 = w0} {w = w} {before = before} {a
   why = explains a s.text e s.why;
 }
 
-explains_writing : (start : Recording ℕ) (first before : ℕ) → (bytes text : List ℕ) (e : StreamFault) → IsOfWriting e → Explains (commands_report start first) Always before bytes text e
+explains_writing : (start : Run ℕ) (first before : ℕ) → (bytes text : List ℕ) (e : StreamFault) → IsOfWriting e → Explains (commands_report start first) Always before bytes text e
 explains_writing start first before bytes text Read why = absurd why
 explains_writing start first before bytes text TooMuch why = absurd why
 explains_writing start first before bytes text Write why = tt
 explains_writing start first before bytes text NoMemory why = tt
 
 -- where writing the output of a line stopped
-stops_at : {r0 r r' w0 w w' : Option (List ℕ)} {before allowed : ℕ} {start run : Recording ℕ} {first place : ℕ} {line : List ℕ} → (a : Answering r0 r w0 w before allowed start run first place) (e : StreamFault) (why : IsOfWriting e) (piece text : List ℕ) (fits : line ≡ kept text) (read : Consumes r r' piece) (one : lines piece ≡ text ∷ [])
+stops_at : {r0 r r' w0 w w' : Option (List ℕ)} {before allowed : ℕ} {start run : Run ℕ} {first place : ℕ} {line : List ℕ} → (a : Answering r0 r w0 w before allowed start run first place) (e : StreamFault) (why : IsOfWriting e) (piece text : List ℕ) (fits : line ≡ kept text) (read : Consumes r r' piece) (one : lines piece ≡ text ∷ [])
     (put : WritesFront w w' (output_of run place (command_in line))) → Stops r0 r' w0 w' (commands_report start first) Always before e
 stops_at {r0 = r0} {r = r} {r' = r'} {w0 = w0} {w = w} {w' = w'} {before = before} {start = start} {run = run} {first = first} {place = place} {line = line} a e why piece text fits read one put =
     let c = of_text _ text fits in
@@ -189,10 +189,10 @@ stops_at {r0 = r0} {r = r} {r' = r'} {w0 = w0} {w = w} {w' = w'} {before = befor
       why = explains_writing start first before (unlines a.ls ++ piece) (a.text ++ put'.text) e why;
     }
 
-pub stops_writing_line : {r0 r r' w0 w w' : Option (List ℕ)} {before allowed allowed' : ℕ} {start run : Recording ℕ} {first place : ℕ} {line : List ℕ} → (a : Answering r0 r w0 w before allowed start run first place) (l : GivesLine r r' allowed allowed' line) (e : StreamFault)
+pub stops_writing_line : {r0 r r' w0 w w' : Option (List ℕ)} {before allowed allowed' : ℕ} {start run : Run ℕ} {first place : ℕ} {line : List ℕ} → (a : Answering r0 r w0 w before allowed start run first place) (l : GivesLine r r' allowed allowed' line) (e : StreamFault)
     (f : StopsWriting w w' (output_of run place (command_in line)) e) → Stops r0 r' w0 w' (commands_report start first) Always before e
 stops_writing_line a l e f = stops_at a e f.0 (l.text ++ 10 ∷ []) l.text l.fits l.read (line_only l.text l.unbroken) f.1
 
-pub stops_writing_last : {r0 r r' w0 w w' : Option (List ℕ)} {before allowed allowed' : ℕ} {start run : Recording ℕ} {first place : ℕ} {line : List ℕ} → (a : Answering r0 r w0 w before allowed start run first place) (l : GivesLast r r' allowed allowed' line) (e : StreamFault)
+pub stops_writing_last : {r0 r r' w0 w w' : Option (List ℕ)} {before allowed allowed' : ℕ} {start run : Run ℕ} {first place : ℕ} {line : List ℕ} → (a : Answering r0 r w0 w before allowed start run first place) (l : GivesLast r r' allowed allowed' line) (e : StreamFault)
     (f : StopsWriting w w' (output_of run place (command_in line)) e) → Stops r0 r' w0 w' (commands_report start first) Always before e
 stops_writing_last a l e f = stops_at a e f.0 l.text l.text l.fits l.read (lines_last l.text l.unbroken l.some) f.1

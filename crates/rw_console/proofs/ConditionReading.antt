@@ -8,9 +8,9 @@ use Rattle.rw_lines.specs.Cut.{cut}
 use Rattle.rw_lines.specs.Numerals.{numeral_in}
 use Rattle.rw_lines.proofs.CutLaws.{cut_joined, cut_parts}
 use Rattle.rw_lines.proofs.NumeralLaws.{lacks-decimal, named, only}
-use Rattle.rw_script.specs.declared.reply_word.ReplyWord.{ReplyWord}
-use Rattle.rw_script.specs.ReplyWords.{reply_word_in, reply_word_text}
-use Rattle.rw_script.proofs.ReplyWordLaws.{found as reply_word_found}
+use Rattle.rw_words.specs.declared.reply_word.ReplyWord.{ReplyWord}
+use Rattle.rw_words.specs.ReplyWords.{reply_word_in, reply_word_text}
+use Rattle.rw_words.proofs.ReplyWordLaws.{found as reply_word_found}
 use Rattle.rw_console.specs.declared.condition.Cond.{Cond}
 use Rattle.rw_console.specs.declared.condition.Cond.TheVariants.{Actor, Channel, ReplyKind, UnreadAtLeast, Lagging, Unseen, VersionAtLeast, Closed, QueueAtLeast}
 use Rattle.rw_console.specs.declared.condition_words.ConditionWord.{ConditionWord}

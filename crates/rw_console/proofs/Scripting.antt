@@ -14,7 +14,7 @@ use Rattle.rw_lines.proofs.Known.{Consumes-none, Consumes-then}
 use Rattle.rw_lines.proofs.LineLaws.{lines_last, lines_unlines, unlines_push}
 use Rattle.rw_script.specs.declared.faults.ScriptFault.{ScriptFault}
 use Rattle.rw_script.specs.Script.{Reading, opening, after_line, ended, script_from, script_in, after_mark, is_mark}
-use Rattle.rw_script.specs.Words.{◌>>=◌}
+use Rattle.rw_words.specs.Words.{◌>>=◌}
 use Rattle.rw_console.specs.Heads.{GivesScript, GivesAll, GivesFault, StopsInScript, ExplainsScript, HasMark}
 use Rattle.rw_console.proofs.Kept.{is_mark-kept, after_line-kept}
 use Rattle.rw_console.proofs.Answering.{line_after}

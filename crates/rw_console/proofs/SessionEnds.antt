@@ -12,7 +12,7 @@ use Rattle.rw_lines.proofs.Known.{Appends-none, Appends-then, Consumes-then}
 use Rattle.rw_lines.proofs.LineLaws.{lines_unlines}
 use Rattle.rw_script.specs.declared.faults.ScriptFault.{ScriptFault}
 use Rattle.rw_console.specs.declared.sessions.Outcome.TheVariants.{Refused}
-use Rattle.rw_journal.specs.Run.{Recording}
+use Rattle.rw_journal.specs.Run.{Run}
 use Rattle.rw_script.specs.Running.{run_of}
 use Rattle.rw_script.specs.Script.{Script, script_in, after_mark}
 use Rattle.rw_console.specs.Heads.{ExplainsScript, StopsInScript, HasMark, GivesScript, GivesAll, GivesFault}
@@ -64,10 +64,10 @@ whole_at : {r0 r1 : Option (List ℕ)} {before after : ℕ} {s : Script} → (r2
 whole_at r2 h bs (inl e) = inl e
 whole_at {s = s} r2 h bs (inr m) = inr (λ more. ap report (append_assoc (unlines h.ls) bs more) ∙ report_at h (bs ++ more) ∙ ap (λ (x : List ℕ). said s ++ x) (m more) ∙ sym (report_at h bs))
 
-pub done : {r0 r1 r2 w0 w1 w2 : Option (List ℕ)} {before after : ℕ} {s : Script} → (h : GivesScript r0 r1 before after (Ok s)) (first : Appends w0 w1 (said s)) (run : Recording ℕ) (same : run ≡ recording_of s)
+pub done : {r0 r1 r2 w0 w1 w2 : Option (List ℕ)} {before after : ℕ} {s : Script} → (h : GivesScript r0 r1 before after (Ok s)) (first : Appends w0 w1 (said s)) (run : Run ℕ) (same : run ≡ recording_of s)
     (place : ℕ) (p : place ≡ last_place run) (waits : Option ℕ) (e : waits ≡ (run_of s).waits) (d : Answers r1 r2 w1 w2 (commands_report run place)) → (done : Answers r0 r2 w0 w2 report) × (outcome done.bytes ≡ outcome_at waits)
 done {r0 = r0} {r1 = r1} {r2 = r2} {w0 = w0} {w1 = w1} {w2 = w2} {s = s} h first run same place p waits e d' =
-    let d : Answers r1 r2 w1 w2 (answered s) = subst (λ (t : Recording ℕ). Answers r1 r2 w1 w2 (commands_report t (last_place t))) same (subst (λ (q : ℕ). Answers r1 r2 w1 w2 (commands_report run q)) p d') in (
+    let d : Answers r1 r2 w1 w2 (answered s) = subst (λ (t : Run ℕ). Answers r1 r2 w1 w2 (commands_report t (last_place t))) same (subst (λ (q : ℕ). Answers r1 r2 w1 w2 (commands_report run q)) p d') in (
       record {
         bytes = unlines h.ls ++ d.bytes;
         read = Consumes-then r0 r1 r2 (unlines h.ls) d.bytes h.read d.read;
@@ -91,11 +91,11 @@ explains h bytes text TooMuch why = omega (arith, h.count, length-append (unline
 explains h bytes text Write why = tt
 explains h bytes text NoMemory why = tt
 
-pub stops : {r0 r1 r2 w0 w1 w2 : Option (List ℕ)} {before after : ℕ} {s : Script} → (h : GivesScript r0 r1 before after (Ok s)) (first : Appends w0 w1 (said s)) (run : Recording ℕ) (same : run ≡ recording_of s)
+pub stops : {r0 r1 r2 w0 w1 w2 : Option (List ℕ)} {before after : ℕ} {s : Script} → (h : GivesScript r0 r1 before after (Ok s)) (first : Appends w0 w1 (said s)) (run : Run ℕ) (same : run ≡ recording_of s)
     (place : ℕ) (p : place ≡ last_place run) (e : StreamFault) (d : Stops r1 r2 w1 w2 (commands_report run place) Always after e) → Stops r0 r2 w0 w2 report HasMark before e
 stops {r0 = r0} {r1 = r1} {r2 = r2} {w0 = w0} {w1 = w1} {w2 = w2} {after = after} {s = s} h first run same place p e d' =
     let d : Stops r1 r2 w1 w2 (answered s) Always after e =
-    subst (λ (t : Recording ℕ). Stops r1 r2 w1 w2 (commands_report t (last_place t)) Always after e) same (subst (λ (q : ℕ). Stops r1 r2 w1 w2 (commands_report run q) Always after e) p d') in
+    subst (λ (t : Run ℕ). Stops r1 r2 w1 w2 (commands_report t (last_place t)) Always after e) same (subst (λ (q : ℕ). Stops r1 r2 w1 w2 (commands_report run q) Always after e) p d') in
     record {
       bytes = unlines h.ls ++ d.bytes;
       text = said s ++ d.text;

@@ -2,11 +2,11 @@
 use Rattle.std.proofs.Common.{◌≡◌, ℕ, zero, suc, List, [], ◌∷◌, false, Option, Some, None, refl, sym, ap, ◌∙◌, take}
 use Rattle.std.specs.Prelude.{map, slice_get, IfSome}
 use Rattle.std.proofs.lemmas.List.{take-map}
-use Rattle.rw_journal.specs.Run.{Recording}
+use Rattle.rw_journal.specs.Run.{Run}
 use Rattle.rw_law.specs.declared.machine.Reversible.{Ghosts}
 use Rattle.rw_law.specs.declared.journal.Entry.{Entry}
 use Rattle.rw_law.specs.Journal.{after_all, IsLegal}
-use Rattle.rw_navigator.specs.Visit.{Visit, IsVisit, start_of}
+use Rattle.rw_navigator.specs.Navigator.{Navigator, IsNavigator, start_of}
 use Rattle.rw_world.specs.Machines.{ChanShown, of_world}
 use Rattle.rw_world.specs.Openings.{opened}
 use Rattle.rw_world.specs.Records.{ShowsItsRecords, shown_after}
@@ -18,7 +18,7 @@ calls_lead xs [] = refl
 calls_lead xs (e ∷ es) = calls_lead (of_world.next xs e.call) es
 
 -- a machine that goes as worlds do shows at each place what the records show
-pub shows_along : (along : List (ChanShown ℕ) → List (WorldEntry ℕ) → List (ChanShown ℕ)) → IsAfterOfWorlds along → ShowsItsRecords ℕ → (run : Recording ℕ) (n : ℕ)
+pub shows_along : (along : List (ChanShown ℕ) → List (WorldEntry ℕ) → List (ChanShown ℕ)) → IsAfterOfWorlds along → ShowsItsRecords ℕ → (run : Run ℕ) (n : ℕ)
     → along (opened run.specs) (take n run.entries) ≡ shown_at run n
 shows_along along as_worlds shows run n =
     as_worlds (opened run.specs) (take n run.entries)
@@ -40,7 +40,7 @@ module _ {M C R P : Type 0} (m : Ghosts M C R P) where
   recorded_at x (e ∷ es) (suc i) legal = recorded_at (m.next x e.call) es i legal.1
 
 -- the entries of a visit are recorded
-pub visited : {M C R P : Type 0} {m : Ghosts M C R P} {v : Visit M C R P} → IsVisit m v → (i : ℕ) (o : Option (Entry M C R P)) → o ≡ slice_get v.entries i → IfSome o (IsRecorded m)
+pub visited : {M C R P : Type 0} {m : Ghosts M C R P} {v : Navigator M C R P} → IsNavigator m v → (i : ℕ) (o : Option (Entry M C R P)) → o ≡ slice_get v.entries i → IfSome o (IsRecorded m)
 visited {m = m} {v = v} is i o e = rw e (recorded_at m (start_of m v) v.entries i is.legal)
 
 pub no_wait : {M C R P : Type 0} (m : Ghosts M C R P) (o : Option (Entry M C R P)) → IfSome o (IsRecorded m) → IfSome o (λ e. m.is_waiting e.reply ≡ false)

@@ -12,8 +12,8 @@ use Rattle.rw_watch.specs.Shown.{Shown as Watch}
 use Rattle.rw_world.specs.Kinds.{broadcast_shown, watch_shown}
 use Rattle.rw_world.specs.Machines.{ChanShown}
 use Rattle.rw_world.specs.Specified.{WorldEntry}
-use Rattle.rw_script.specs.declared.reply_word.ReplyWord.{ReplyWord}
-use Rattle.rw_script.specs.ReplyWords.{reply_word_of, reply_word_text}
+use Rattle.rw_words.specs.declared.reply_word.ReplyWord.{ReplyWord}
+use Rattle.rw_words.specs.ReplyWords.{reply_word_of, reply_word_text}
 use Rattle.rw_console.specs.declared.condition.Cond.{Cond}
 use Rattle.rw_console.specs.declared.condition.Cond.TheVariants.{Actor, Channel, ReplyKind, UnreadAtLeast, Lagging, Unseen, VersionAtLeast, Closed, QueueAtLeast}
 

@@ -10,7 +10,7 @@ pub mod Entries
 pub mod Places
 pub mod Hits
 pub mod Commands
-pub mod Walking
+pub mod Walk
 pub mod Report
 pub mod Streams
 pub mod SessionReport

@@ -1,7 +1,7 @@
 -- The report of commands: what they write at the places of a run.
 use Rattle.std.specs.Prelude.{ℕ, List, [], ◌∷◌, ◌++◌, Option, None, Some, if◌then◌else◌, codes}
 use Rattle.std.specs.Option.{unwrap_or}
-use Rattle.rw_journal.specs.Run.{Recording}
+use Rattle.rw_journal.specs.Run.{Run}
 use Rattle.rw_lines.specs.Lines.{lines}
 use Rattle.rw_navigator.specs.Moves.{answer_to, landing}
 use Rattle.rw_world.specs.Specified.{WorldEntry}
@@ -21,7 +21,7 @@ step_line place None = codes "no step\n"
 step_line place (Some entry) = entry_line place entry
 
 -- what a command writes at a place
-abbrev pub output_of : Recording ℕ → ℕ → Command → List ℕ
+abbrev pub output_of : Run ℕ → ℕ → Command → List ℕ
 output_of run place Skip = []
 output_of run place (Move m) = refusal (answer_to (last_place run) place m) ++ place_line (last_place run) (landing (last_place run) place m)
 output_of run place State = place_line (last_place run) place ++ world_blocks (shown_at run place)
@@ -34,7 +34,7 @@ output_of run place Quit = []
 output_of run place Bad = codes "bad command\n"
 
 -- the place after a command
-abbrev pub place_of : Recording ℕ → ℕ → Command → ℕ
+abbrev pub place_of : Run ℕ → ℕ → Command → ℕ
 place_of run place (Move m) = landing (last_place run) place m
 place_of run place (SearchBack cond) = unwrap_or (hit_below run cond place) place
 place_of run place (SearchForward cond) = unwrap_or (hit_above run cond place) place
@@ -47,11 +47,11 @@ place_of run place Quit = place
 place_of run place Bad = place
 
 -- what the lines of the console write, from a place on, up to the one that quits
-abbrev pub outputs : Recording ℕ → ℕ → List (List ℕ) → List ℕ
+abbrev pub outputs : Run ℕ → ℕ → List (List ℕ) → List ℕ
 outputs run place [] = []
 outputs run place (line ∷ ls) = output_of run place (command_in line)
     ++ (if is_quit (command_in line) then [] else outputs run (place_of run place (command_in line)) ls)
 
 -- the same of bytes
-abbrev pub commands_report : Recording ℕ → ℕ → List ℕ → List ℕ
+abbrev pub commands_report : Run ℕ → ℕ → List ℕ → List ℕ
 commands_report run place bytes = outputs run place (lines bytes)

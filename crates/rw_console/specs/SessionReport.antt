@@ -1,7 +1,7 @@
 -- The report of a session: what it writes for the bytes that it reads.
 use Rattle.std.specs.Prelude.{ℕ, List, [], ◌++◌, Option, None, Some, Result, Ok, Err, codes, decimal}
 use Rattle.rw_journal.specs.Interleaving.{journal_of}
-use Rattle.rw_journal.specs.Run.{Recording}
+use Rattle.rw_journal.specs.Run.{Run}
 use Rattle.rw_lines.specs.Lines.{lines}
 use Rattle.rw_script.specs.declared.faults.ScriptFault.{ScriptFault}
 use Rattle.rw_script.specs.Faults.{fault_text}
@@ -15,7 +15,7 @@ use Rattle.rw_console.specs.Places.{last_place}
 use Rattle.rw_console.specs.Report.{outputs}
 
 -- a script's run: its channels, and the journal of the calls before the first that would wait
-abbrev pub recording_of : Script → Recording ℕ
+abbrev pub recording_of : Script → Run ℕ
 recording_of s = record { specs = s.specs; entries = journal_of of_world (opened s.specs) 0 (run_of s).calls }
 
 -- ---- the first lines

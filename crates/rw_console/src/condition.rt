@@ -2,12 +2,12 @@
 
 ghost use Rattle.std.specs.Prelude.{◌≡◌, Some, None, nat_lt, if◌then◌else◌, slice_get, option_map};
 ghost use Rattle.rw_console.specs.Conditions.{broadcast_at, closed_at, has, lag_at, queued_at, same_word, seen_at, unread_at, version_at, watch_at};
-ghost use Rattle.rw_script.specs.ReplyWords.{reply_word_of};
+ghost use Rattle.rw_words.specs.ReplyWords.{reply_word_of};
 
 use rw_broadcast::Broadcast;
 use rw_law::{Entry, Reversible};
 use rw_navigator::Probe;
-use rw_script::ReplyWord;
+use rw_words::ReplyWord;
 use rw_watch::Watch;
 use rw_world::{Chan, ChanReply, World};
 

@@ -7,7 +7,7 @@ ghost use Rattle.rw_console.specs.ConditionWords.{condition_in, condition_of_wor
 
 use crate::condition::Cond;
 use rw_lines::{cut, numeral};
-use rw_script::ReplyWord;
+use rw_words::ReplyWord;
 
 /// The word that a condition begins with.
 #[derive(Clone, Copy)]

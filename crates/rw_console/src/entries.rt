@@ -5,7 +5,7 @@ ghost use Rattle.rw_console.specs.Entries.{entry_line};
 
 use rw_law::{Entry, Reversible};
 use rw_lines::push_number;
-use rw_script::write_entry;
+use rw_words::write_entry;
 use rw_world::World;
 use std::alloc::AllocError;
 

@@ -2,7 +2,7 @@
 
 ghost use Rattle.std.specs.Prelude.{◌≡◌, ◌++◌, ◌≢◌, ℕ, false, length, IfOk, IfSome, OnOk};
 ghost use Rattle.rw_law.specs.Journal.{after as state_after};
-ghost use Rattle.rw_navigator.specs.Visit.{start_of};
+ghost use Rattle.rw_navigator.specs.Navigator.{start_of};
 ghost use Rattle.rw_console.specs.Places.{entry_to, last_place, shown_at};
 ghost use Rattle.rw_console.specs.Report.{output_of, place_of};
 
@@ -32,11 +32,11 @@ pub struct Walk {
 impl Model for Walk {
     ghost use Rattle.std.specs.Prelude.{◌≡◌, ℕ};
     ghost use Rattle.rw_law.specs.Journal.{after as state_after};
-    ghost use Rattle.rw_navigator.specs.Visit.{start_of};
+    ghost use Rattle.rw_navigator.specs.Navigator.{start_of};
     ghost use Rattle.rw_console.specs.Places.{shown_at};
-    ghost use Rattle.rw_console.specs.Walking.{Walking};
+    ghost use Rattle.rw_console.specs.Walk.{Walk as Seen};
 
-    ghost Value = { Walking };
+    ghost Value = { Seen };
 
     ghost view = { λ a. record { run = a.run.value; place = a.visit.place } };
 

@@ -1,3 +1,4 @@
 pub mod Journal
 pub mod Laws
 pub mod Outcomes
+pub mod Numbers

@@ -7,11 +7,13 @@
 //! The crate `rw_devices` above has the tests, over readers and writers that fail.
 #![tactic(auto)]
 
+mod bytes;
 mod lines;
 mod numerals;
 mod streams;
 mod tokens;
 
+pub use bytes::{put_bytes, put_number, put_small_number};
 pub use lines::{LONGEST_LINE, Next, is_skipped, next_line};
 pub use numerals::{numeral, push_number};
 pub use streams::{ShortWrite, StreamFault, flush, next_byte, put, put_out, put_whole};

@@ -6,7 +6,7 @@ use Rattle.rw_law.specs.declared.machine.Reversible.{Ghosts}
 use Rattle.rw_navigator.specs.declared.moves.Move.{Move}
 use Rattle.rw_navigator.specs.declared.moves.OutOfRange.{OutOfRange}
 use Rattle.rw_navigator.specs.Moves.{answer_to, landing, distance, answers_to, landing_all, distance_all, MovedBy}
-use Rattle.rw_navigator.specs.Visit.{Visit, MovedTo}
+use Rattle.rw_navigator.specs.Navigator.{Navigator, MovedTo}
 use Rattle.rw_navigator.proofs.Visits.{moved_on}
 use Rattle.rw_navigator.proofs.MoveLists.{answers_to-push, landing_all-push, distance_all-push}
 
@@ -28,7 +28,7 @@ told_on len p n q moves i d old new r left longer answer same there told =
 
 module _ {M C R P : Type 0} (m : Ghosts M C R P) where
   -- the way of the moves before move i, and then of move i
-  pub walked_on : (u v w : Visit M C R P) (moves : List Move) (i : ℕ) (d : Move) → i < length moves
+  pub walked_on : (u v w : Navigator M C R P) (moves : List Move) (i : ℕ) (d : Move) → i < length moves
       → MovedTo m u v (landing_all (length u.entries) u.place (take i moves)) (distance_all (length u.entries) u.place (take i moves))
       → MovedBy m v w (get_or moves i d)
       → MovedTo m u w (landing_all (length u.entries) u.place (take (i + 1) moves)) (distance_all (length u.entries) u.place (take (i + 1) moves))

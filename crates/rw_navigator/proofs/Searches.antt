@@ -6,7 +6,7 @@ use Rattle.std.proofs.lemmas.Bool.Decides.{nat_tests}
 use Rattle.rw_law.specs.declared.machine.Reversible.{Ghosts}
 use Rattle.rw_law.specs.Journal.{after}
 use Rattle.rw_navigator.specs.Search.{step_hit, state_hit, last_below, first_of_next, first_above, TestsView}
-use Rattle.rw_navigator.specs.Visit.{Visit, MovedTo, start_of}
+use Rattle.rw_navigator.specs.Navigator.{Navigator, MovedTo, start_of}
 
 above_zero : (p : ℕ) → 0 < p → nat_lt 0 p ≡ true
 above_zero p h = grind (arith, nat_tests)
@@ -16,7 +16,7 @@ pub step_hit-is : {E : Type 0} (holds : E → Bool) (es : List E) (p : ℕ) (e :
 step_hit-is holds es p e above read = rw (above_zero p above) (ap (λ o. option_map_or holds o false) read)
 
 -- whether place p is a hit, by the machine's states there and at the place before
-pub state_hit-is : {M C R P : Type 0} (m : Ghosts M C R P) (f : m.View → Bool) (holds : M → Bool) (o v w : Visit M C R P) (p q n k : ℕ) (a b : Bool)
+pub state_hit-is : {M C R P : Type 0} (m : Ghosts M C R P) (f : m.View → Bool) (holds : M → Bool) (o v w : Navigator M C R P) (p q n k : ℕ) (a b : Bool)
     → TestsView m f holds → p ≡ q + 1 → MovedTo m o v p n → MovedTo m o w q k → a ≡ holds v.machine.state → b ≡ holds w.machine.state
     → state_hit m f (start_of m o) o.entries p ≡ (a && not b)
 state_hit-is m f holds o v w p q n k a b tests next here before now then =

@@ -1,4 +1,4 @@
-pub mod Counting
+pub mod Counted
 pub mod Moves
 pub mod Search
-pub mod Visit
+pub mod Navigator

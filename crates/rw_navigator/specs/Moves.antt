@@ -4,7 +4,7 @@ use Rattle.rw_navigator.specs.declared.moves.Move.{Move}
 use Rattle.rw_navigator.specs.declared.moves.Move.TheVariants.{Back, Forward, Goto, Start, End}
 use Rattle.rw_navigator.specs.declared.moves.OutOfRange.{OutOfRange}
 use Rattle.rw_law.specs.declared.machine.Reversible.{Ghosts}
-use Rattle.rw_navigator.specs.Visit.{Visit, MovedTo}
+use Rattle.rw_navigator.specs.Navigator.{Navigator, MovedTo}
 
 -- the place of this number, if it is one of 0 to len
 abbrev pub place_at : ℕ → ℕ → Option ℕ
@@ -55,13 +55,13 @@ distance_all len p (move ∷ moves) = distance len p move + distance_all len (la
 
 module _ {M C R P : Type 0} (m : Ghosts M C R P) where
   -- the new visit is where the move leads from the old one, by one call of the machine per place
-  abbrev pub MovedBy : (old new : Visit M C R P) → Move → Type 0
+  abbrev pub MovedBy : (old new : Navigator M C R P) → Move → Type 0
   MovedBy old new move =
       let len = length old.entries in
       MovedTo m old new (landing len old.place move) (distance len old.place move)
 
   -- the same of a list of moves
-  abbrev pub WalkedBy : (old new : Visit M C R P) → List Move → Type 0
+  abbrev pub WalkedBy : (old new : Navigator M C R P) → List Move → Type 0
   WalkedBy old new moves =
       let len = length old.entries in
       MovedTo m old new (landing_all len old.place moves) (distance_all len old.place moves)

@@ -4,7 +4,7 @@ use Rattle.std.specs.Option.{option_map_or}
 use Rattle.rw_law.specs.declared.machine.Reversible.{Ghosts}
 use Rattle.rw_law.specs.declared.journal.Entry.{Entry}
 use Rattle.rw_law.specs.Journal.{after}
-use Rattle.rw_navigator.specs.Visit.{Visit, start_of, MovedTo}
+use Rattle.rw_navigator.specs.Navigator.{Navigator, start_of, MovedTo}
 
 -- the entry that leads to place p meets the condition
 abbrev pub step_hit : {E : Type 0} → (E → Bool) → List E → ℕ → Bool
@@ -16,7 +16,7 @@ module _ {M C R P : Type 0} (m : Ghosts M C R P) where
   state_hit holds start es p = nat_lt 0 p && (holds (after m start es p) && not (holds (after m start es (p - 1))))
 
   -- place p of the visited journal is a hit of a condition: of one on entries, or of one on states
-  abbrev pub hit : Bool → (Entry M C R P → Bool) → (m.View → Bool) → Visit M C R P → ℕ → Bool
+  abbrev pub hit : Bool → (Entry M C R P → Bool) → (m.View → Bool) → Navigator M C R P → ℕ → Bool
   hit on_step step state v p = if on_step then step_hit step v.entries p else state_hit state (start_of m v) v.entries p
 
   -- the test of machines is the test f of what they show
@@ -24,7 +24,7 @@ module _ {M C R P : Type 0} (m : Ghosts M C R P) where
   TestsView f holds = (x : M) → holds x ≡ f (m.shown x)
 
   -- the new visit is at the place that was found, or where none was, at the old place, after at most so many calls
-  abbrev pub SearchedTo : (old new : Visit M C R P) → Option ℕ → ℕ → Type 0
+  abbrev pub SearchedTo : (old new : Navigator M C R P) → Option ℕ → ℕ → Type 0
   SearchedTo old new found most = (n : ℕ) × (n ≤ most) × MovedTo m old new (unwrap_or found old.place) n
 
 -- the greatest number below p that passes

@@ -1,7 +1,7 @@
 //! A machine whose calls are counted.
 
 ghost use Rattle.std.specs.Prelude.{◌≡◌, ◌<◌};
-ghost use Rattle.rw_navigator.specs.Counting.{count_after};
+ghost use Rattle.rw_navigator.specs.Counted.{count_after};
 
 use rw_law::Reversible;
 use std::marker::Model;
@@ -14,9 +14,9 @@ pub struct Counted<R: Reversible> {
 }
 
 impl<R: Reversible> Model for Counted<R> {
-    ghost use Rattle.rw_navigator.specs.Counting.{Counting};
+    ghost use Rattle.rw_navigator.specs.Counted.{Counted as Seen};
 
-    ghost Value = { Counting R };
+    ghost Value = { Seen R };
 
     ghost view = { λ a. record { state = a.machine; turns = a.count } };
 }

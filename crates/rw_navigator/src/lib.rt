@@ -2,7 +2,7 @@
 //!
 //! Place n of a journal is where its first n entries lead. A `Navigator` holds the entries and one machine, and goes from
 //! place to place by undoing or redoing one entry per place: it never starts again from the opening.
-//! The one contract is the record `MovedTo` of `specs/Visit.antt`, which every move ensures: the machine shows the state of
+//! The one contract is the record `MovedTo` of `specs/Navigator.antt`, which every move ensures: the machine shows the state of
 //! its new place, and has made as many calls more as there are places in between.
 //! Start reading at `places.rt`, the Navigator and its single steps, and go on with `walks.rt`. The searches, which stop where a
 //! condition is met, are in `search_back.rt` and `search_forward.rt`.

@@ -1,7 +1,7 @@
 //! Moves and lists of moves.
 
 ghost use Rattle.std.specs.Prelude.{◌≡◌, ◌≤◌, ◌-◌, length, IfOk, OnOk, OnErr};
-ghost use Rattle.rw_navigator.specs.Visit.{MovedTo};
+ghost use Rattle.rw_navigator.specs.Navigator.{MovedTo};
 ghost use Rattle.rw_navigator.specs.Moves.{distance_between, answer_to, answers_to, MovedBy, WalkedBy};
 
 use crate::moves::{Move, OutOfRange};

@@ -4,10 +4,10 @@ use Rattle.std.specs.Prelude.{is_some}
 use Rattle.rw_lines.specs.Cut.{cut}
 use Rattle.rw_lines.specs.Tokens.{is_name}
 use Rattle.rw_lines.proofs.CutLaws.{cut_parts}
-use Rattle.rw_script.specs.Arguments.{rest_text}
+use Rattle.rw_words.specs.Arguments.{rest_text}
 use Rattle.rw_script.specs.Fields.{bound_in, named, named_parts, named_in}
-use Rattle.rw_script.specs.Words.{head_of, rest_of}
-use Rattle.rw_script.proofs.WordLaws.{joined}
+use Rattle.rw_words.specs.Words.{head_of, rest_of}
+use Rattle.rw_words.proofs.WordLaws.{joined}
 
 -- a text in three parts
 pub whole_text : (text : List ℕ) (p : List ℕ × List ℕ) → cut 32 text ≡ Some p → text ≡ p.0 ++ 32 ∷ (head_of p.1 (cut 32 p.1) ++ rest_text (rest_of (cut 32 p.1)))

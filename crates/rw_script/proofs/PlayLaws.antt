@@ -16,7 +16,7 @@ use Rattle.rw_world.specs.Machines.{Chan, ChanCall, ChanReply, ChanPatch, ChanSh
 use Rattle.rw_world.specs.Openings.{opened, kind_of_spec}
 use Rattle.rw_world.specs.Records.{ChannelRecord, opened_records, next_records, reply_from, records_after, shown_after, RepliesByRecords}
 use Rattle.rw_world.specs.Specified.{WorldEntry, StraysBySpecs}
-use Rattle.rw_journal.specs.Book.{History, last_stamp_from, last_stamp, opening_of, state_of, reply_to}
+use Rattle.rw_journal.specs.Book.{Book, last_stamp_from, last_stamp, opening_of, state_of, reply_to}
 use Rattle.rw_journal.specs.Interleaving.{CountsFrom, interleaving_of}
 use Rattle.rw_script.specs.declared.steps.Step.{Step}
 use Rattle.rw_script.specs.Kept.{IsStep}
@@ -59,7 +59,7 @@ calls_of es = map (λ e. e.call) es
 
 -- a book of a world
 abbrev pub WorldBook : Type 0
-WorldBook = History (List (Chan ℕ)) (RowCall (ChanCall ℕ)) (ChanReply ℕ) (ChanPatch ℕ)
+WorldBook = Book (List (Chan ℕ)) (RowCall (ChanCall ℕ)) (ChanReply ℕ) (ChanPatch ℕ)
 
 shown_by_calls : (x : List (ChanShown ℕ)) (es : List (WorldEntry ℕ)) → after_all of_world x es ≡ shown_after x (calls_of es)
 shown_by_calls x [] = refl

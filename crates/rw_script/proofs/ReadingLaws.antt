@@ -4,7 +4,7 @@ use Rattle.std.proofs.lemmas.Bool.{cond-true, cond-false}
 use Rattle.rw_lines.specs.Lines.{lines}
 use Rattle.rw_script.specs.declared.faults.ScriptFault.{ScriptFault}
 use Rattle.rw_script.specs.Script.{Reading, after_line, ended, is_mark, script_from, script_in}
-use Rattle.rw_script.specs.Words.{◌>>=◌}
+use Rattle.rw_words.specs.Words.{◌>>=◌}
 
 -- what was read leads on to the whole, and counts its lines
 pub record HasRead (bytes rest : List ℕ) (r : Reading) : Type 0 where

@@ -1,7 +1,7 @@
 -- The words of faults, and how a fault of words is one of scripts.
 use Rattle.std.specs.Prelude.{◌≡◌, ◌⊎◌, ◌++◌, ℕ, List, Result, Ok, Err, codes, decimal}
-use Rattle.rw_script.specs.declared.arguments.WordFault.{WordFault}
-use Rattle.rw_script.specs.declared.arguments.WordFault.TheVariants as words
+use Rattle.rw_words.specs.declared.arguments.WordFault.{WordFault}
+use Rattle.rw_words.specs.declared.arguments.WordFault.TheVariants as words
 use Rattle.rw_script.specs.declared.faults.ScriptFaultKind.{ScriptFaultKind}
 use Rattle.rw_script.specs.declared.faults.ScriptFaultKind.TheVariants.{TooLong, Syntax, BadCapacity, TooManyChannels, BadActors, UnknownActor, UnknownChannel, WrongWord, BadArguments, UnknownName, NameTaken, TooManySteps, NoChannels, NoMemory}
 use Rattle.rw_script.specs.declared.faults.ScriptFault.{ScriptFault}

@@ -4,8 +4,8 @@ use Rattle.std.specs.Str.{bytes_eq}
 use Rattle.rw_lines.specs.Cut.{cut}
 use Rattle.rw_lines.specs.Numerals.{numeral_in}
 use Rattle.rw_lines.specs.Tokens.{is_word, is_name}
-use Rattle.rw_script.specs.Arguments.{◌>>=◌, rest_text}
-use Rattle.rw_script.specs.Words.{head_of, rest_of}
+use Rattle.rw_words.specs.Arguments.{◌>>=◌, rest_text}
+use Rattle.rw_words.specs.Words.{head_of, rest_of}
 
 -- ---- the fields
 

@@ -1,9 +1,3 @@
-pub mod Arguments
-pub mod Words
-pub mod BroadcastWords
-pub mod WatchWords
-pub mod Texts
-pub mod ReplyWords
 pub mod Faults
 pub mod Fields
 pub mod StepLines

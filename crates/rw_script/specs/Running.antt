@@ -1,7 +1,7 @@
 -- The run of a script: its calls in the order of its lines, up to the first that would wait.
 use Rattle.std.specs.Prelude.{◌≡◌, ℕ, Bool, true, false, List, [], ◌∷◌, ◌++◌, get_or, Option, None, Some, if◌then◌else◌}
 use Rattle.rw_law.specs.declared.machine.Reversible.{Ghosts}
-use Rattle.rw_journal.specs.Book.{History, IsTaken, reply_to}
+use Rattle.rw_journal.specs.Book.{Book, IsTaken, reply_to}
 use Rattle.rw_broadcast.specs.declared.calls.BReply.{BReply}
 use Rattle.rw_broadcast.specs.declared.calls.BReply.TheVariants as b
 use Rattle.rw_broadcast.specs.Channel as broadcast
@@ -81,7 +81,7 @@ run_of s = run_from (opened_records s.specs) [] s.steps
 -- ---- a step of the run on a book
 
 -- the call was taken with the reply that it has, and this is the handle that it made
-pub record IsMade {M P : Type 0} (m : Ghosts M (RowCall (ChanCall ℕ)) (ChanReply ℕ) P) (old new : History M (RowCall (ChanCall ℕ)) (ChanReply ℕ) P) (c : ℕ × RowCall (ChanCall ℕ)) (handle : ℕ) : Type 0 where
+pub record IsMade {M P : Type 0} (m : Ghosts M (RowCall (ChanCall ℕ)) (ChanReply ℕ) P) (old new : Book M (RowCall (ChanCall ℕ)) (ChanReply ℕ) P) (c : ℕ × RowCall (ChanCall ℕ)) (handle : ℕ) : Type 0 where
   pub stamp : ℕ
   pub taken : IsTaken m old new c.0 0 c.1 stamp (reply_to m old c.1)
   pub handle_is : handle ≡ made_by (reply_to m old c.1)

@@ -13,10 +13,10 @@ use Rattle.rw_script.specs.declared.faults.ScriptFault.{ScriptFault}
 use Rattle.rw_script.specs.declared.head.Head.{Head}
 use Rattle.rw_script.specs.declared.head.Head.TheVariants.{Broadcast, Watch, Actors}
 use Rattle.rw_script.specs.declared.steps.Step.{Step}
-use Rattle.rw_script.specs.Arguments as option
+use Rattle.rw_words.specs.Arguments as option
 use Rattle.rw_script.specs.Fields.{fields_in}
 use Rattle.rw_script.specs.StepLines.{Said, Bound, said_in, target_in, is_bound_again, with_bound}
-use Rattle.rw_script.specs.Words.{◌>>=◌, or_fault}
+use Rattle.rw_words.specs.Words.{◌>>=◌, or_fault}
 
 -- the channels, how many actors there are, and the calls in order
 pub record Script : Type 0 where

@@ -1,28 +1,24 @@
 -- Step lines: `ACTOR CHANNEL WORD HANDLE ARGS`, where a name may stand for the handle, and ` as NAME` may follow a call
 -- that makes a handle.
-use Rattle.std.specs.Prelude.{◌^◌, ◌<◌, ℕ, Bool, true, false, not, ◌&&◌, ◌==◌, is_some, if◌then◌else◌, List, [], ◌∷◌, ◌++◌, Option, None, Some, Result, Ok, Err, position}
+use Rattle.std.specs.Prelude.{ℕ, Bool, true, false, not, ◌&&◌, ◌==◌, is_some, if◌then◌else◌, List, [], ◌∷◌, ◌++◌, Option, None, Some, Result, Ok, Err, position}
 use Rattle.std.specs.Option.{option_map}
 use Rattle.std.specs.List.{list_any}
 use Rattle.std.specs.Str.{bytes_eq}
-use Rattle.rw_law.specs.declared.value.Payload.{Ghosts}
+use Rattle.rw_law.specs.Numbers.{numbers}
 use Rattle.rw_broadcast.specs.Channel as broadcast
 use Rattle.rw_watch.specs.Channel as watch
 use Rattle.rw_world.specs.declared.channels.ChannelCall.TheVariants as call
 use Rattle.rw_world.specs.Kinds.{Kind}
 use Rattle.rw_world.specs.Kinds as kinds
 use Rattle.rw_world.specs.Machines.{ChanCall}
-use Rattle.rw_script.specs.declared.arguments.WordFault.{WordFault}
+use Rattle.rw_words.specs.declared.arguments.WordFault.{WordFault}
 use Rattle.rw_script.specs.declared.faults.ScriptFaultKind.{ScriptFaultKind}
 use Rattle.rw_script.specs.declared.faults.ScriptFaultKind.TheVariants.{BadArguments, UnknownName}
 use Rattle.rw_script.specs.declared.said.SaidCall.{SaidCall}
 use Rattle.rw_script.specs.Faults.{kind_of_words}
 use Rattle.rw_script.specs.Fields.{named_in}
-use Rattle.rw_script.specs.Texts.{call_in}
-use Rattle.rw_script.specs.Words.{◌>>=◌, or_fault, map_ok}
-
--- the values of a script are numbers, and a number is its own word
-abbrev pub numbers : Ghosts ℕ
-numbers = record { is_value = λ v. v < 2 ^ 64; word_of = λ v. v; value_of = λ w. Some w }
+use Rattle.rw_words.specs.Texts.{call_in}
+use Rattle.rw_words.specs.Words.{◌>>=◌, or_fault, map_ok}
 
 -- ---- the call that a line makes
 

@@ -3,7 +3,7 @@
 ghost use Rattle.std.specs.Prelude.{◌≡◌};
 ghost use Rattle.rw_script.specs.Faults.{fault_word, kind_of_words};
 
-use crate::arguments::WordFault;
+use rw_words::WordFault;
 use std::error::Error;
 use std::fmt;
 

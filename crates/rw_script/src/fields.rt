@@ -3,8 +3,8 @@
 ghost use Rattle.std.specs.Prelude.{◌≡◌, ◌≤◌, length, option_map, IfSome};
 ghost use Rattle.rw_script.specs.Fields.{fields_in, number_field};
 
-use crate::arguments::first_word;
 use rw_lines::{cut, is_word, numeral};
+use rw_words::first_word;
 
 /// A numeral with the space behind it, and the rest.
 #[tactic(auto, unfolding(crate::specs::Fields::number_field))]

@@ -6,7 +6,7 @@ ghost use Rattle.rw_world.specs.Openings.{has_bad_capacity, kind_of_spec};
 ghost use Rattle.rw_script.specs.Kept.{IsStep};
 ghost use Rattle.rw_script.specs.Script.{actors_of, after_line, ended, is_broadcast, is_in_head, is_mark, opening, spec_for, with_head, with_line, with_said, with_spec, with_step};
 ghost use Rattle.rw_script.specs.StepLines.{kind_if, said_of, target_in};
-ghost use Rattle.rw_script.specs.Words.{map_ok};
+ghost use Rattle.rw_words.specs.Words.{map_ok};
 
 use crate::faults::{ScriptFault, ScriptFaultKind};
 use crate::fields::fields_of;

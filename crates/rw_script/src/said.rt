@@ -2,17 +2,16 @@
 
 ghost use Rattle.std.specs.Prelude.{◌≡◌, ◌≤◌, ◌+◌, ◌++◌, ◌∷◌, length, option_map, take, false, IfOk};
 ghost use Rattle.rw_world.specs.Channel.{strays_at};
-ghost use Rattle.rw_script.specs.Arguments.{rest_text};
+ghost use Rattle.rw_words.specs.Arguments.{rest_text};
 ghost use Rattle.rw_script.specs.Fields.{bound_in, handle_text, name_in, named};
-ghost use Rattle.rw_script.specs.StepLines.{kind_if, makes, numbers, said_by, said_in, said_of};
-ghost use Rattle.rw_script.specs.Texts.{call_in};
-ghost use Rattle.rw_script.specs.Words.{map_ok};
+ghost use Rattle.rw_law.specs.Numbers.{numbers};
+ghost use Rattle.rw_script.specs.StepLines.{kind_if, makes, said_by, said_in, said_of};
+ghost use Rattle.rw_words.specs.Texts.{call_in};
+ghost use Rattle.rw_words.specs.Words.{map_ok};
 
-use crate::arguments::{WordFault, first_word};
-use crate::bytes::put_bytes;
 use crate::faults::ScriptFaultKind;
-use crate::reading::read_call;
-use rw_lines::{cut, is_name};
+use rw_lines::{cut, is_name, put_bytes};
+use rw_words::{WordFault, first_word, read_call};
 use rw_world::{ChanCall, ChannelCall};
 
 /// A call that may name its handle, and may bind a name.

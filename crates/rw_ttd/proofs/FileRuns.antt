@@ -3,14 +3,14 @@ use Rattle.std.proofs.Common.{◌≡◌, ℕ, List, [], Option, None, Some, Ok, 
 use Rattle.std.specs.Io.KnownBytes.{Appends, Keeps}
 use Rattle.std.proofs.lemmas.List.{append-nil}
 use Rattle.rw_console.specs.SessionReport.{recording_of}
-use Rattle.rw_journal.specs.Run.{Recording}
+use Rattle.rw_journal.specs.Run.{Run}
 use Rattle.rw_lines.specs.Writing.{WritesFront}
 use Rattle.rw_lines.specs.declared.streams.StreamFault.{StreamFault}
 use Rattle.rw_lines.proofs.Known.{Appends-none}
 use Rattle.rw_lines.specs.declared.streams.StreamFault.TheVariants.{NoMemory}
 use Rattle.rw_script.specs.Running.{run_of}
 use Rattle.rw_script.specs.Script.{Script}
-use Rattle.rw_script.specs.StepLines.{numbers}
+use Rattle.rw_law.specs.Numbers.{numbers}
 use Rattle.rw_text.specs.Reading.{reading_of}
 use Rattle.rw_text.specs.Texts.{text}
 use Rattle.rw_ttd.specs.declared.files.Refusal.{Refusal}
@@ -32,13 +32,13 @@ keeps_same None = tt
 keeps_same (Some xs) = refl
 
 -- a run of a script's channels and journal is the script's
-pub written_run : (out out' : Option (List ℕ)) (run : Recording ℕ) (script : Script) → run.specs ≡ (recording_of script).specs → run.entries ≡ (recording_of script).entries
+pub written_run : (out out' : Option (List ℕ)) (run : Run ℕ) (script : Script) → run.specs ≡ (recording_of script).specs → run.entries ≡ (recording_of script).entries
     → Appends out out' (text numbers run) → Appends out out' (text numbers (recording_of script))
 written_run out out' run script specs entries put =
     let same : run ≡ recording_of script =
     ap (λ specs. record { specs = specs; entries = run.entries }) specs
     ∙ ap (λ entries. record { specs = script.specs; entries = entries }) entries in
-    subst (λ (r : Recording ℕ). Appends out out' (text numbers r)) same put
+    subst (λ (r : Run ℕ). Appends out out' (text numbers r)) same put
 
 -- a script's journal was written, and which line would wait was told, or memory ran out then
 pub closes : {out out' err err' : Option (List ℕ)} {status : ℕ} (script : Script) (waits : Option ℕ) → Appends out out' (text numbers (recording_of script)) → waits ≡ (run_of script).waits

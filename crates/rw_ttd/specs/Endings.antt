@@ -1,12 +1,12 @@
 -- What a run over a file comes to.
 use Rattle.std.specs.Prelude.{ℕ, List, [], ◌++◌, length, Result, Ok, Err, codes, decimal}
 use Rattle.rw_console.specs.SessionReport.{fault_line, outcome_at, recording_of, waiting_line}
-use Rattle.rw_journal.specs.Run.{Recording}
+use Rattle.rw_journal.specs.Run.{Run}
 use Rattle.rw_lines.specs.Lines.{lines}
 use Rattle.rw_script.specs.declared.faults.ScriptFault.{ScriptFault}
 use Rattle.rw_script.specs.Running.{run_of}
 use Rattle.rw_script.specs.Script.{Script, script_in}
-use Rattle.rw_script.specs.StepLines.{numbers}
+use Rattle.rw_law.specs.Numbers.{numbers}
 use Rattle.rw_text.specs.declared.faults.TextFault.{TextFault}
 use Rattle.rw_text.specs.Faults.{fault_text}
 use Rattle.rw_text.specs.Reading.{reading_of}
@@ -38,7 +38,7 @@ record_of bytes = recorded (script_in (lines bytes))
 
 -- ---- `check`: how many entries a journal text has
 
-abbrev pub checked : Result (Recording ℕ) TextFault → Ending
+abbrev pub checked : Result (Run ℕ) TextFault → Ending
 checked (Ok run) = record { written = codes "ok " ++ decimal (length run.entries) ++ codes "\n"; told = []; status = 0 }
 checked (Err fault) = refused_text fault
 

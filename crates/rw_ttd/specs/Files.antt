@@ -6,14 +6,14 @@ use Rattle.rw_console.specs.declared.sessions.TheConstants.{MOST_BYTES}
 use Rattle.rw_console.specs.Places.{last_place}
 use Rattle.rw_console.specs.Report.{commands_report}
 use Rattle.rw_console.specs.Streams.{Always}
-use Rattle.rw_journal.specs.Run.{Recording}
+use Rattle.rw_journal.specs.Run.{Run}
 use Rattle.rw_console.specs.SessionReport.{outcome_at, waiting_line}
 use Rattle.rw_lines.specs.declared.streams.StreamFault.{StreamFault}
 use Rattle.rw_lines.specs.declared.streams.StreamFault.TheVariants.{Read, Write, TooMuch, NoMemory}
 use Rattle.rw_lines.specs.Lines.{lines}
 use Rattle.rw_lines.specs.Writing.{WritesFront}
 use Rattle.rw_script.specs.Script.{Script, script_in}
-use Rattle.rw_script.specs.StepLines.{numbers}
+use Rattle.rw_law.specs.Numbers.{numbers}
 use Rattle.rw_text.specs.declared.faults.TextFault.{TextFault}
 use Rattle.rw_text.specs.Reading.{reading_of}
 use Rattle.rw_ttd.specs.declared.files.Refusal.{Refusal}
@@ -57,7 +57,7 @@ pub record OverFile (file file' : Option (List ℕ)) (Made : List ℕ → Type 0
 
 -- ---- `debug`: the commands are read over the run whose journal text a file is, or no command is read
 
-abbrev pub Debugs : Option (List ℕ) → Option (List ℕ) → Option (List ℕ) → Option (List ℕ) → Option (List ℕ) → Option (List ℕ) → ℕ → Result (Recording ℕ) TextFault → Type 0
+abbrev pub Debugs : Option (List ℕ) → Option (List ℕ) → Option (List ℕ) → Option (List ℕ) → Option (List ℕ) → Option (List ℕ) → ℕ → Result (Run ℕ) TextFault → Type 0
 Debugs input input' out out' err err' status (Ok run) = Runs (commands_report run (last_place run)) (λ bytes. Done) Always input input' out out' err err' status
 Debugs input input' out out' err err' status (Err fault) = Keeps input input' × Closes out out' err err' status (refused_text fault)
 
@@ -72,7 +72,7 @@ abbrev pub HasScript : Option (List ℕ) → Option (List ℕ) → Script → Ty
 HasScript file file' script = ReadsWhole file file' (λ bytes. script_in (lines bytes) ≡ Ok script)
 
 -- a file is this run's journal text
-abbrev pub HasRun : Option (List ℕ) → Option (List ℕ) → Recording ℕ → Type 0
+abbrev pub HasRun : Option (List ℕ) → Option (List ℕ) → Run ℕ → Type 0
 HasRun file file' run = ReadsWhole file file' (λ bytes. reading_of numbers bytes ≡ Ok run)
 
 -- a file can't be read whole, or memory ran out, or this is its first fault as a script

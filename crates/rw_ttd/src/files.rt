@@ -3,7 +3,7 @@
 ghost use Rattle.std.specs.Prelude.{◌≤◌, [], IfOk, IfErr, OnOk};
 ghost use Rattle.std.specs.Io.KnownBytes.{Appends, Keeps};
 ghost use Rattle.rw_lines.specs.Writing.{StopsWriting};
-ghost use Rattle.rw_script.specs.StepLines.{numbers};
+ghost use Rattle.rw_law.specs.Numbers.{numbers};
 ghost use Rattle.rw_text.specs.Reading.{reading_of};
 ghost use Rattle.rw_text.specs.Texts.{text};
 ghost use Rattle.rw_ttd.specs.Endings.{check_of, record_of};

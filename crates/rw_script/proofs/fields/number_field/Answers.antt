@@ -1,5 +1,5 @@
 use Rattle.std.proofs.Common.{sym, arith}
-use Rattle.rw_script.proofs.CutLengths.{cut_lengths}
+use Rattle.rw_words.proofs.CutLengths.{cut_lengths}
 use Rattle.rw_script.proofs.fields.number_field.Goals as goal
 
 pub returns-clause-within : goal.returns-clause-within

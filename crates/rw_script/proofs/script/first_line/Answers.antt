@@ -1,6 +1,6 @@
 use Rattle.std.proofs.Common.{sym, arith}
 use Rattle.rw_lines.proofs.LineLaws.{lines_cut, lines_uncut}
-use Rattle.rw_script.proofs.CutLengths.{cut_lengths}
+use Rattle.rw_words.proofs.CutLengths.{cut_lengths}
 use Rattle.rw_script.proofs.script.first_line.Goals as goal
 
 pub returns-in-Some-clause-lines : goal.returns-in-Some-clause-lines

@@ -1,6 +1,6 @@
 use Rattle.std.proofs.Common.{drop}
 use Rattle.std.proofs.lemmas.List.{take-append-drop}
-use Rattle.rw_script.specs.StepLines.{numbers}
+use Rattle.rw_law.specs.Numbers.{numbers}
 use Rattle.rw_text.specs.Texts.{text}
 use Rattle.rw_ttd.proofs.files.write_journal.Goals as goal
 

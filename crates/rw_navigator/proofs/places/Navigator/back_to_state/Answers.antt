@@ -1,7 +1,7 @@
 use Rattle.std.proofs.Common.{◌≡◌, ◌≤◌, ℕ, ◌+◌, ◌-◌, subst, arith}
 use Rattle.std.specs.Prelude.{not, ◌&&◌}
 use Rattle.rw_navigator.specs.Search.{state_hit}
-use Rattle.rw_navigator.specs.Visit.{MovedTo, start_of}
+use Rattle.rw_navigator.specs.Navigator.{MovedTo, start_of}
 use Rattle.rw_navigator.proofs.Visits.{moved_on, back_one, on_one}
 use Rattle.rw_navigator.proofs.Searches.{state_hit-is, found_below, not_below}
 use Rattle.rw_navigator.proofs.places.Navigator.back_to_state.Goals as goal

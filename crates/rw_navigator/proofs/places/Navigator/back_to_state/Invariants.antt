@@ -1,6 +1,6 @@
 use Rattle.std.proofs.Common.{◌≡◌, ◌≤◌, ◌-◌, Bool}
 use Rattle.rw_navigator.specs.Search.{state_hit, last_below, TestsView}
-use Rattle.rw_navigator.specs.Visit.{MovedTo, start_of}
+use Rattle.rw_navigator.specs.Navigator.{MovedTo, start_of}
 use Rattle.rw_navigator.proofs.places.Navigator.back_to_state.Given as goal
 
 -- the machine stands one place before the counter, and no place from the counter on is a hit

@@ -1,7 +1,7 @@
 use Rattle.std.proofs.Common.{◌≡◌, ◌≤◌, ℕ, ◌+◌, ◌-◌, length, refl, subst, arith}
 use Rattle.std.specs.Prelude.{not, ◌&&◌}
 use Rattle.rw_navigator.specs.Search.{state_hit}
-use Rattle.rw_navigator.specs.Visit.{MovedTo, start_of}
+use Rattle.rw_navigator.specs.Navigator.{MovedTo, start_of}
 use Rattle.rw_navigator.proofs.Visits.{moved_on, on_one}
 use Rattle.rw_navigator.proofs.Searches.{state_hit-is, found_above, not_above}
 use Rattle.rw_navigator.proofs.places.Navigator.forward_to_state.Goals as goal

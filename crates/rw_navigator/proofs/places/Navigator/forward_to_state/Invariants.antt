@@ -1,6 +1,6 @@
 use Rattle.std.proofs.Common.{◌≡◌, ◌≤◌, ◌-◌, Bool, length}
 use Rattle.rw_navigator.specs.Search.{state_hit, first_above, TestsView}
-use Rattle.rw_navigator.specs.Visit.{MovedTo, start_of}
+use Rattle.rw_navigator.specs.Navigator.{MovedTo, start_of}
 use Rattle.rw_navigator.proofs.places.Navigator.forward_to_state.Given as goal
 
 -- the machine stands at the counter, and no place up to it is a hit

@@ -1,5 +1,5 @@
 use Rattle.std.proofs.Common.{◌≡◌, ◌≤◌, ◌-◌}
-use Rattle.rw_navigator.specs.Visit.{MovedTo}
+use Rattle.rw_navigator.specs.Navigator.{MovedTo}
 use Rattle.rw_navigator.proofs.places.Navigator.go_back.Given as goal
 
 -- as many places back as the counter has gone on

@@ -1,5 +1,5 @@
 use Rattle.std.proofs.Common.{◌≡◌, ◌≤◌, length, take, vec_len, vec_capacity}
-use Rattle.rw_navigator.specs.Visit.{MovedTo}
+use Rattle.rw_navigator.specs.Navigator.{MovedTo}
 use Rattle.rw_navigator.specs.Moves.{answers_to, landing_all, distance_all}
 use Rattle.rw_navigator.proofs.places.Navigator.walk.Given as goal
 

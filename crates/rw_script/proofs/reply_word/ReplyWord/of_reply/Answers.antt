@@ -1,5 +1,0 @@
-use Rattle.rw_script.proofs.ReplyWordLaws.{first}
-use Rattle.rw_script.proofs.reply_word.ReplyWord.of_reply.Goals as goal
-
-pub returns-clause-first : goal.returns-clause-first
-returns-clause-first g c = rw c.word_of.ensures (first g.V.Payload c.args.reply.now)

@@ -1,0 +1,5 @@
+//! Worked rows of both channels, recorded in a book and walked by a navigator.
+
+mod broadcasts;
+mod playing;
+mod watches;

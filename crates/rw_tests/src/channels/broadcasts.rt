@@ -1,0 +1,296 @@
+//! Rows of a broadcast channel.
+ghost use Rattle.std.specs.Prelude.{◌<◌, length};
+
+use crate::channels::playing::{Shows, Step, play, record_and_walk};
+use rw_broadcast::{BCall, BReply, Broadcast};
+use rw_handles::Kind;
+use std::alloc::Global;
+use std::process::Abort;
+use std::test::Fail;
+
+/// What the readers answer at a place: of the first values of the window and of the first handles.
+#[derive(Clone, Copy, Debug, PartialEq)]
+pub struct Place {
+    capacity: u64,
+    sent: u64,
+    queued: u64,
+    made: u32,
+    closed: bool,
+    window: [Option<u64>; 5],
+    kinds: [Option<Kind>; 3],
+    /// Position, unread and lag, of a receiver.
+    receivers: [Option<(u64, u64, u64)>; 3],
+}
+
+fn receiver(machine: &Broadcast<u64>, id: u32) -> Option<(u64, u64, u64)> {
+    Some((machine.position(id)?, machine.unread(id)?, machine.lag(id)?))
+}
+
+impl Shows for Broadcast<u64> {
+    type Place = Place;
+
+    fn place(&self) -> Place {
+        Place {
+            capacity: self.capacity(),
+            sent: self.sent(),
+            queued: self.queued(),
+            made: self.made(),
+            closed: self.closed(),
+            window: [
+                self.window(0),
+                self.window(1),
+                self.window(2),
+                self.window(3),
+                self.window(4),
+            ],
+            kinds: [self.kind(0), self.kind(1), self.kind(2)],
+            receivers: [receiver(self, 0), receiver(self, 1), receiver(self, 2)],
+        }
+    }
+}
+
+/// Records a row and walks it, on channels of this capacity.
+fn play_at(rt: &impl Abort, alloc: Global, capacity: u32, steps: &[Row]) -> Result<(), Fail>
+    requires { length steps.now < 100 }
+{
+    let recorded = Broadcast::open(alloc, capacity)?;
+    let walked = Broadcast::open(alloc, capacity)?;
+    play(rt, alloc, recorded, walked, steps)
+}
+
+type Row = Step<BCall<u64>, BReply<u64>, Place>;
+
+/// What a channel of this capacity shows at its opening.
+fn opening(capacity: u64) -> Place {
+    Place {
+        capacity,
+        sent: 0,
+        queued: 0,
+        made: 2,
+        closed: false,
+        window: [None; 5],
+        kinds: [Some(Kind::Sender), Some(Kind::Receiver), None],
+        receivers: [None, Some((0, 0, 0)), None],
+    }
+}
+
+#[test]
+fn overrun_walked_back(rt: HostRuntime) -> Result<(), Fail> {
+    let full = Place {
+        sent: 2,
+        queued: 2,
+        window: [Some(1), Some(2), None, None, None],
+        receivers: [None, Some((0, 2, 0)), None],
+        ..opening(2)
+    };
+    let overrun = Place {
+        sent: 3,
+        window: [Some(2), Some(3), None, None, None],
+        receivers: [None, Some((0, 3, 1)), None],
+        ..full
+    };
+    let read = Place {
+        queued: 0,
+        receivers: [None, Some((3, 0, 0)), None],
+        ..overrun
+    };
+    let steps: &[Row] = &[
+        Step::new(BCall::Send(0, 1), BReply::Sent(1)),
+        Step::to(BCall::Send(0, 2), BReply::Sent(1), full),
+        Step::to(BCall::Send(0, 3), BReply::Sent(1), overrun),
+        Step::new(BCall::TryRecv(1), BReply::Lagged(1)),
+        Step::new(BCall::TryRecv(1), BReply::Value(2)),
+        Step::new(BCall::TryRecv(1), BReply::Value(3)),
+        Step::to(BCall::TryRecv(1), BReply::Empty, read),
+    ];
+    play_at(&rt, rt.alloc(), 2, steps)
+}
+
+#[test]
+fn capacity_is_rounded_up(rt: HostRuntime) -> Result<(), Fail> {
+    let overrun = Place {
+        sent: 5,
+        queued: 4,
+        window: [Some(2), Some(3), Some(4), Some(5), None],
+        receivers: [None, Some((0, 5, 1)), None],
+        ..opening(4)
+    };
+    let moved = Place {
+        receivers: [None, Some((1, 4, 0)), None],
+        ..overrun
+    };
+    let steps: &[Row] = &[
+        Step::new(BCall::Send(0, 1), BReply::Sent(1)),
+        Step::new(BCall::Send(0, 2), BReply::Sent(1)),
+        Step::new(BCall::Send(0, 3), BReply::Sent(1)),
+        Step::new(BCall::Send(0, 4), BReply::Sent(1)),
+        Step::to(BCall::Send(0, 5), BReply::Sent(1), overrun),
+        Step::to(BCall::TryRecv(1), BReply::Lagged(1), moved),
+    ];
+    play_at(&rt, rt.alloc(), 3, steps)
+}
+
+#[test]
+fn lagged_then_closed(rt: HostRuntime) -> Result<(), Fail> {
+    let closed = Place {
+        sent: 2,
+        closed: true,
+        window: [Some(2), None, None, None, None],
+        kinds: [None, Some(Kind::Receiver), None],
+        receivers: [None, Some((2, 0, 0)), None],
+        ..opening(1)
+    };
+    let steps: &[Row] = &[
+        Step::new(BCall::Send(0, 1), BReply::Sent(1)),
+        Step::new(BCall::Send(0, 2), BReply::Sent(1)),
+        Step::new(BCall::DropHandle(0), BReply::Dropped),
+        Step::new(BCall::TryRecv(1), BReply::Lagged(1)),
+        Step::new(BCall::TryRecv(1), BReply::Value(2)),
+        Step::to(BCall::TryRecv(1), BReply::Closed, closed),
+    ];
+    play_at(&rt, rt.alloc(), 1, steps)
+}
+
+#[test]
+fn send_without_receivers(rt: HostRuntime) -> Result<(), Fail> {
+    let alone = Place {
+        kinds: [Some(Kind::Sender), None, None],
+        receivers: [None; 3],
+        ..opening(4)
+    };
+    let steps: &[Row] = &[
+        Step::to(BCall::DropHandle(1), BReply::Dropped, alone),
+        Step::to(BCall::Send(0, 9), BReply::NoReceivers(9), alone),
+        Step::new(BCall::Subscribe(0), BReply::New(2)),
+        Step::new(BCall::ReceiverCount(0), BReply::Count(1)),
+        Step::new(BCall::Send(0, 9), BReply::Sent(1)),
+        Step::new(BCall::Recv(2), BReply::Value(9)),
+        Step::new(BCall::Recv(2), BReply::Waits),
+    ];
+    play_at(&rt, rt.alloc(), 4, steps)
+}
+
+#[test]
+fn drop_reads_the_rest(rt: HostRuntime) -> Result<(), Fail> {
+    let unread = Place {
+        sent: 2,
+        queued: 2,
+        window: [Some(5), Some(6), None, None, None],
+        receivers: [None, Some((0, 2, 0)), None],
+        ..opening(4)
+    };
+    let dropped = Place {
+        queued: 0,
+        kinds: [Some(Kind::Sender), None, None],
+        receivers: [None; 3],
+        ..unread
+    };
+    let steps: &[Row] = &[
+        Step::new(BCall::Send(0, 5), BReply::Sent(1)),
+        Step::to(BCall::Send(0, 6), BReply::Sent(1), unread),
+        Step::to(BCall::DropHandle(1), BReply::Dropped, dropped),
+    ];
+    play_at(&rt, rt.alloc(), 4, steps)
+}
+
+#[test]
+fn resubscribe_skips_the_backlog(rt: HostRuntime) -> Result<(), Fail> {
+    let resubscribed = Place {
+        sent: 5,
+        queued: 2,
+        made: 3,
+        window: [Some(4), Some(5), None, None, None],
+        kinds: [
+            Some(Kind::Sender),
+            Some(Kind::Receiver),
+            Some(Kind::Receiver),
+        ],
+        receivers: [None, Some((0, 5, 3)), Some((5, 0, 0))],
+        ..opening(2)
+    };
+    let steps: &[Row] = &[
+        Step::new(BCall::Send(0, 1), BReply::Sent(1)),
+        Step::new(BCall::Send(0, 2), BReply::Sent(1)),
+        Step::new(BCall::Send(0, 3), BReply::Sent(1)),
+        Step::new(BCall::Send(0, 4), BReply::Sent(1)),
+        Step::new(BCall::Send(0, 5), BReply::Sent(1)),
+        Step::to(BCall::Resubscribe(1), BReply::New(2), resubscribed),
+        Step::new(BCall::Send(0, 6), BReply::Sent(2)),
+        Step::new(BCall::ReceiverLen(1), BReply::Count(6)),
+        Step::new(BCall::ReceiverLen(2), BReply::Count(1)),
+    ];
+    play_at(&rt, rt.alloc(), 2, steps)
+}
+
+#[test]
+fn sender_len_counts_the_slowest(rt: HostRuntime) -> Result<(), Fail> {
+    let steps: &[Row] = &[
+        Step::new(BCall::Subscribe(0), BReply::New(2)),
+        Step::new(BCall::Send(0, 10), BReply::Sent(2)),
+        Step::new(BCall::Send(0, 20), BReply::Sent(2)),
+        Step::new(BCall::Send(0, 30), BReply::Sent(2)),
+        Step::new(BCall::SenderLen(0), BReply::Count(3)),
+        Step::new(BCall::Recv(1), BReply::Value(10)),
+        Step::new(BCall::SenderLen(0), BReply::Count(3)),
+        Step::new(BCall::Recv(2), BReply::Value(10)),
+        Step::new(BCall::SenderLen(0), BReply::Count(2)),
+    ];
+    play_at(&rt, rt.alloc(), 16, steps)
+}
+
+#[test]
+fn refused_handles(rt: HostRuntime) -> Result<(), Fail> {
+    let steps: &[Row] = &[
+        Step::to(BCall::Send(5, 1), BReply::Unknown, opening(2)),
+        Step::to(BCall::Send(1, 1), BReply::WrongKind, opening(2)),
+        Step::to(BCall::Recv(0), BReply::WrongKind, opening(2)),
+        Step::new(BCall::DropHandle(1), BReply::Dropped),
+        Step::new(BCall::Recv(1), BReply::Gone),
+    ];
+    play_at(&rt, rt.alloc(), 2, steps)
+}
+
+#[test]
+fn handle_limit(rt: HostRuntime) -> Result<(), Fail> {
+    let full = Place {
+        made: 65_536,
+        ..opening(1)
+    };
+    let mut steps: Vec<Row> = Vec::new(rt.alloc());
+    for number in 2..65_536 {
+        steps.push(Step::new(BCall::CloneSender(0), BReply::New(number)))?;
+    }
+    steps.push(Step::new(BCall::CloneSender(0), BReply::TooManyHandles))?;
+    steps.push(Step::to(BCall::DropHandle(2), BReply::Dropped, full))?;
+    steps.push(Step::to(BCall::CloneSender(0), BReply::TooManyHandles, full))?;
+    let recorded = Broadcast::open(rt.alloc(), 1)?;
+    let walked = Broadcast::open(rt.alloc(), 1)?;
+    record_and_walk(&rt, rt.alloc(), recorded, walked, &steps)
+}
+
+/// The greatest channel, filled and overrun by one value: the first is evicted, and one place back it is there again.
+#[test]
+fn greatest_capacity_overrun_by_one(rt: HostRuntime) -> Result<(), Fail> {
+    let full = Place {
+        sent: 65_536,
+        queued: 65_536,
+        window: [Some(0), Some(1), Some(2), Some(3), Some(4)],
+        receivers: [None, Some((0, 65_536, 0)), None],
+        ..opening(65_536)
+    };
+    let overrun = Place {
+        sent: 65_537,
+        window: [Some(1), Some(2), Some(3), Some(4), Some(5)],
+        receivers: [None, Some((0, 65_537, 1)), None],
+        ..full
+    };
+    let mut steps: Vec<Row> = Vec::new(rt.alloc());
+    for value in 0..65_535 {
+        steps.push(Step::new(BCall::Send(0, value), BReply::Sent(1)))?;
+    }
+    steps.push(Step::to(BCall::Send(0, 65_535), BReply::Sent(1), full))?;
+    steps.push(Step::to(BCall::Send(0, 65_536), BReply::Sent(1), overrun))?;
+    let recorded = Broadcast::open(rt.alloc(), 65_536)?;
+    let walked = Broadcast::open(rt.alloc(), 65_536)?;
+    record_and_walk(&rt, rt.alloc(), recorded, walked, &steps)
+}

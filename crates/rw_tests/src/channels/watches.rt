@@ -1,0 +1,221 @@
+//! Rows of a watch channel.
+ghost use Rattle.std.specs.Prelude.{◌<◌, length};
+
+use crate::channels::playing::{Shows, Step, play};
+use rw_handles::Kind;
+use rw_watch::{WCall, WReply, Watch};
+use std::alloc::Global;
+use std::process::Abort;
+use std::test::Fail;
+
+/// What the readers answer at a place: of the channel, and of its first handles.
+#[derive(Clone, Copy, Debug, PartialEq)]
+pub struct Place {
+    version: u64,
+    value: u64,
+    made: u32,
+    closed: bool,
+    kinds: [Option<Kind>; 3],
+    /// The mark of a receiver, and whether it has seen the value.
+    receivers: [Option<(Option<u64>, bool)>; 3],
+}
+
+fn receiver(machine: &Watch<u64>, id: u32) -> Option<(Option<u64>, bool)> {
+    Some((machine.mark(id)?, machine.is_seen(id)?))
+}
+
+impl Shows for Watch<u64> {
+    type Place = Place;
+
+    fn place(&self) -> Place {
+        Place {
+            version: self.version(),
+            value: self.value(),
+            made: self.made(),
+            closed: self.closed(),
+            kinds: [self.kind(0), self.kind(1), self.kind(2)],
+            receivers: [receiver(self, 0), receiver(self, 1), receiver(self, 2)],
+        }
+    }
+}
+
+/// Records a row and walks it, on channels of this value.
+fn play_at(rt: &impl Abort, alloc: Global, init: u64, steps: &[Row]) -> Result<(), Fail>
+    requires { length steps.now < 100 }
+{
+    let recorded = Watch::open(alloc, init)?;
+    let walked = Watch::open(alloc, init)?;
+    assert_eq!(rt; walked.place(), opening(init));
+    play(rt, alloc, recorded, walked, steps)
+}
+
+type Row = Step<WCall<u64>, WReply<u64>, Place>;
+
+/// What a channel of this value shows at its opening.
+fn opening(value: u64) -> Place {
+    Place {
+        version: 0,
+        value,
+        made: 2,
+        closed: false,
+        kinds: [Some(Kind::Sender), Some(Kind::Receiver), None],
+        receivers: [None, Some((Some(0), true)), None],
+    }
+}
+
+#[test]
+fn same_value_is_a_change(rt: HostRuntime) -> Result<(), Fail> {
+    let unseen = Place {
+        version: 1,
+        receivers: [None, Some((Some(0), false)), None],
+        ..opening(7)
+    };
+    let seen = Place {
+        receivers: [None, Some((Some(1), true)), None],
+        ..unseen
+    };
+    let steps: &[Row] = &[
+        Step::new(WCall::HasChanged(1), WReply::Flag(false)),
+        Step::new(WCall::Send(0, 7), WReply::Stored),
+        Step::to(WCall::HasChanged(1), WReply::Flag(true), unseen),
+        Step::new(WCall::Changed(1), WReply::Done),
+        Step::to(WCall::HasChanged(1), WReply::Flag(false), seen),
+    ];
+    play_at(&rt, rt.alloc(), 7, steps)
+}
+
+#[test]
+fn last_change_of_a_closed_watch(rt: HostRuntime) -> Result<(), Fail> {
+    let closed = Place {
+        version: 1,
+        value: 8,
+        closed: true,
+        kinds: [None, Some(Kind::Receiver), None],
+        receivers: [None, Some((Some(1), true)), None],
+        ..opening(7)
+    };
+    let steps: &[Row] = &[
+        Step::new(WCall::Send(0, 8), WReply::Stored),
+        Step::new(WCall::DropHandle(0), WReply::Dropped),
+        Step::new(WCall::HasChanged(1), WReply::Closed),
+        Step::new(WCall::Changed(1), WReply::Done),
+        Step::new(WCall::Changed(1), WReply::Closed),
+        Step::to(WCall::Borrow(1), WReply::Value(8), closed),
+    ];
+    play_at(&rt, rt.alloc(), 7, steps)
+}
+
+#[test]
+fn watch_without_receivers(rt: HostRuntime) -> Result<(), Fail> {
+    let steps: &[Row] = &[
+        Step::new(WCall::DropHandle(1), WReply::Dropped),
+        Step::new(WCall::IsClosed(0), WReply::Flag(true)),
+        Step::new(WCall::AwaitClosed(0), WReply::Done),
+        Step::new(WCall::ReceiverCount(0), WReply::Count(0)),
+        Step::new(WCall::Send(0, 2), WReply::NoReceivers(2)),
+        Step::new(WCall::Borrow(0), WReply::Value(1)),
+        Step::new(WCall::SendReplace(0, 3), WReply::Old(1)),
+        Step::new(WCall::Subscribe(0), WReply::New(2)),
+        Step::new(WCall::HasChanged(2), WReply::Flag(false)),
+        Step::new(WCall::Borrow(2), WReply::Value(3)),
+    ];
+    play_at(&rt, rt.alloc(), 1, steps)
+}
+
+#[test]
+fn silent_modification(rt: HostRuntime) -> Result<(), Fail> {
+    let silent = Place {
+        value: 5,
+        ..opening(1)
+    };
+    let steps: &[Row] = &[
+        Step::new(
+            WCall::Modify {
+                told: false,
+                handle: 0,
+                value: 5,
+            },
+            WReply::Told(false),
+        ),
+        Step::new(WCall::Borrow(1), WReply::Value(5)),
+        Step::to(WCall::HasChanged(1), WReply::Flag(false), silent),
+    ];
+    play_at(&rt, rt.alloc(), 1, steps)
+}
+
+#[test]
+fn marks_are_cloned(rt: HostRuntime) -> Result<(), Fail> {
+    let cloned = Place {
+        made: 3,
+        kinds: [
+            Some(Kind::Sender),
+            Some(Kind::Receiver),
+            Some(Kind::Receiver),
+        ],
+        receivers: [None, Some((Some(0), true)), Some((None, false))],
+        ..opening(4)
+    };
+    let seen = Place {
+        receivers: [None, Some((Some(0), true)), Some((Some(0), true))],
+        ..cloned
+    };
+    let steps: &[Row] = &[
+        Step::new(WCall::MarkChanged(1), WReply::Done),
+        Step::new(WCall::MarkChanged(1), WReply::Done),
+        Step::new(WCall::CloneReceiver(1), WReply::New(2)),
+        Step::to(WCall::MarkUnchanged(1), WReply::Done, cloned),
+        Step::new(WCall::HasChanged(1), WReply::Flag(false)),
+        Step::new(WCall::HasChanged(2), WReply::Flag(true)),
+        Step::to(WCall::Changed(2), WReply::Done, seen),
+    ];
+    play_at(&rt, rt.alloc(), 4, steps)
+}
+
+#[test]
+fn four_steps_back(rt: HostRuntime) -> Result<(), Fail> {
+    let alone = Place {
+        kinds: [Some(Kind::Sender), None, None],
+        receivers: [None; 3],
+        ..opening(7)
+    };
+    let modified = Place {
+        version: 1,
+        value: 9,
+        made: 3,
+        kinds: [Some(Kind::Sender), None, Some(Kind::Receiver)],
+        receivers: [None, None, Some((Some(1), true))],
+        ..alone
+    };
+    let steps: &[Row] = &[
+        Step::to(WCall::DropHandle(1), WReply::Dropped, alone),
+        Step::new(
+            WCall::Modify {
+                told: true,
+                handle: 0,
+                value: 9,
+            },
+            WReply::Told(true),
+        ),
+        Step::new(WCall::Subscribe(0), WReply::New(2)),
+        Step::new(WCall::HasChanged(2), WReply::Flag(false)),
+        Step::to(WCall::Borrow(2), WReply::Value(9), modified),
+    ];
+    play_at(&rt, rt.alloc(), 7, steps)
+}
+
+#[test]
+fn refused_and_waiting_calls(rt: HostRuntime) -> Result<(), Fail> {
+    let steps: &[Row] = &[
+        Step::to(WCall::Send(5, 1), WReply::Unknown, opening(3)),
+        Step::to(WCall::Update(0), WReply::WrongKind, opening(3)),
+        Step::to(WCall::Changed(1), WReply::Waits, opening(3)),
+        Step::to(WCall::AwaitClosed(0), WReply::Waits, opening(3)),
+        Step::new(WCall::CloneSender(0), WReply::New(2)),
+        Step::new(WCall::DropHandle(2), WReply::Dropped),
+        Step::new(WCall::Borrow(2), WReply::Gone),
+        Step::new(WCall::Send(0, 4), WReply::Stored),
+        Step::new(WCall::Update(1), WReply::Value(4)),
+        Step::new(WCall::HasChanged(1), WReply::Flag(false)),
+    ];
+    play_at(&rt, rt.alloc(), 3, steps)
+}

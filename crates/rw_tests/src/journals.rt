@@ -1,0 +1,5 @@
+//! Books of a small machine, and books and runs of worlds.
+
+mod books;
+mod drafts;
+mod worlds;

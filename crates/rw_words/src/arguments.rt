@@ -1,0 +1,148 @@
+//! What stands behind a word.
+
+ghost use Rattle.std.specs.Prelude.{◌≡◌, option_map};
+ghost use Rattle.rw_lines.specs.Cut.{cut};
+ghost use Rattle.rw_lines.specs.Numerals.{numeral_in};
+ghost use Rattle.rw_words.specs.Arguments.{flag_named, number_value_flag_named, number_value_named, value_named};
+ghost use Rattle.rw_words.specs.Words.{alone, flag_in, handle_in, handle_value_flag_in, handle_value_in, handle_within, head_of, number_in, rest_of, value_in};
+
+use rw_law::Payload;
+use rw_lines::{cut, numeral};
+use thiserror::Error;
+
+/// Why a text isn't a call or a reply: the first that holds, in this order.
+#[derive(Clone, Copy, Debug, PartialEq, Eq, Error)]
+pub enum WordFault {
+    /// The first word isn't one of the channel's kind.
+    #[error("wrong word")]
+    WrongWord,
+    /// What stands behind the word isn't what the word takes.
+    #[error("bad arguments")]
+    BadArguments,
+    /// All else reads, and the handle's number is above 4,294,967,295.
+    #[error("handle too large")]
+    HandleTooLarge,
+}
+
+/// The arguments of a call or a reply.
+#[derive(Clone, Copy)]
+pub(crate) enum Args<V> {
+    Nothing,
+    Handle(u32),
+    Number(u64),
+    Value(V),
+    Flag(bool),
+    HandleValue(u32, V),
+    HandleValueFlag(u32, V, bool),
+}
+
+/// The word at the front, and what stands behind the space after it.
+pub fn first_word(text: &[u8]) -> (&[u8], Option<&[u8]>)
+    ensures word { result.0.now ≡ head_of text.now (cut 32 text.now) }
+    ensures rest { option_map (λ r. r.now) result.1 ≡ rest_of (cut 32 text.now) }
+{
+    match cut(text, b' ') {
+        None => (text, None),
+        Some((word, rest)) => (word, Some(rest)),
+    }
+}
+
+fn value_named<V: Payload>(text: &[u8]) -> Option<V>
+    ensures { result ≡ value_named V.Payload text.now }
+{
+    V::from_word(numeral(text)?)
+}
+
+fn flag_named(text: &[u8]) -> Option<bool>
+    ensures { result ≡ flag_named text.now }
+{
+    if text == b"yes".as_slice() {
+        Some(true)
+    } else if text == b"no".as_slice() {
+        Some(false)
+    } else {
+        None
+    }
+}
+
+#[tactic(auto, unfolding(crate::specs::Arguments::number_value_named))]
+fn number_value_named<V: Payload>(text: &[u8]) -> Option<(u64, V)>
+    ensures { result ≡ number_value_named V.Payload text.now }
+{
+    let (number, value) = cut(text, b' ')?;
+    Some((numeral(number)?, value_named(value)?))
+}
+
+#[tactic(auto, unfolding(crate::specs::Arguments::number_value_flag_named))]
+fn number_value_flag_named<V: Payload>(text: &[u8]) -> Option<(u64, (V, bool))>
+    ensures { result ≡ number_value_flag_named V.Payload text.now }
+{
+    let (number, rest) = cut(text, b' ')?;
+    let number = numeral(number)?;
+    let (value, flag) = cut(rest, b' ')?;
+    Some((number, (value_named(value)?, flag_named(flag)?)))
+}
+
+/// The thing that was named by its word alone.
+pub(crate) fn alone<T: Copy>(rest: Option<&[u8]>, thing: T) -> Result<T, WordFault>
+    ensures { result ≡ alone (option_map (λ r. r.now) rest.entry) thing }
+{
+    match rest {
+        None => Ok(thing),
+        Some(_) => Err(WordFault::BadArguments),
+    }
+}
+
+pub(crate) fn number(rest: Option<&[u8]>) -> Result<u64, WordFault>
+    ensures { result ≡ number_in (option_map (λ r. r.now) rest.entry) }
+{
+    let text = rest.ok_or(WordFault::BadArguments)?;
+    numeral(text).ok_or(WordFault::BadArguments)
+}
+
+pub(crate) fn value<V: Payload>(rest: Option<&[u8]>) -> Result<V, WordFault>
+    ensures { result ≡ value_in V.Payload (option_map (λ r. r.now) rest.entry) }
+{
+    let text = rest.ok_or(WordFault::BadArguments)?;
+    value_named(text).ok_or(WordFault::BadArguments)
+}
+
+pub(crate) fn flag(rest: Option<&[u8]>) -> Result<bool, WordFault>
+    ensures { result ≡ flag_in (option_map (λ r. r.now) rest.entry) }
+{
+    let text = rest.ok_or(WordFault::BadArguments)?;
+    flag_named(text).ok_or(WordFault::BadArguments)
+}
+
+fn handle_within(number: u64) -> Result<u32, WordFault>
+    ensures { result ≡ handle_within number }
+{
+    u32::try_from(number).map_err(|_| WordFault::HandleTooLarge)
+}
+
+#[tactic(auto, unfolding(crate::specs::Words::handle_in))]
+pub(crate) fn handle(rest: Option<&[u8]>) -> Result<u32, WordFault>
+    ensures { result ≡ handle_in (option_map (λ r. r.now) rest.entry) }
+{
+    handle_within(number(rest)?)
+}
+
+#[tactic(auto, unfolding(crate::specs::Words::handle_value_in))]
+pub(crate) fn handle_value<V: Payload>(rest: Option<&[u8]>) -> Result<(u32, V), WordFault>
+    ensures { result ≡ handle_value_in V.Payload (option_map (λ r. r.now) rest.entry) }
+{
+    let text = rest.ok_or(WordFault::BadArguments)?;
+    let (number, value) = number_value_named(text).ok_or(WordFault::BadArguments)?;
+    Ok((handle_within(number)?, value))
+}
+
+#[tactic(auto, unfolding(crate::specs::Words::handle_value_flag_in))]
+pub(crate) fn handle_value_flag<V: Payload>(
+    rest: Option<&[u8]>,
+) -> Result<(u32, (V, bool)), WordFault>
+    ensures { result ≡ handle_value_flag_in V.Payload (option_map (λ r. r.now) rest.entry) }
+{
+    let text = rest.ok_or(WordFault::BadArguments)?;
+    let (number, (value, flag)) = number_value_flag_named(text).ok_or(WordFault::BadArguments)?;
+    Ok((handle_within(number)?, (value, flag)))
+}

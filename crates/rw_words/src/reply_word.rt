@@ -1,0 +1,74 @@
+//! The first words of replies, of either kind of channel.
+
+ghost use Rattle.std.specs.Prelude.{◌≡◌, IfSome, IsSome};
+ghost use Rattle.rw_words.specs.declared.reply_word.ReplyWord.{ReplyWord};
+ghost use Rattle.rw_words.specs.Texts.{reply_text};
+ghost use Rattle.rw_words.specs.ReplyWords.{first_word, reply_word_in, reply_word_of, reply_word_text};
+
+use crate::broadcast::{self, BroadcastReplyWord};
+use crate::watch::{self, WatchReplyWord};
+use rw_law::Payload;
+use rw_world::{ChanReply, ChannelReply};
+
+/// The first word of a reply. One that both tables have may stand here as either's: what counts is its text.
+#[derive(Clone, Copy, Debug)]
+pub enum ReplyWord {
+    Broadcast(BroadcastReplyWord),
+    Watch(WatchReplyWord),
+}
+
+/// The word that a token is, of the broadcast's table or else of the watch's.
+fn word_in(token: &[u8]) -> Option<ReplyWord>
+    ensures { result ≡ reply_word_in token.now }
+{
+    match BroadcastReplyWord::of(token) {
+        Some(word) => Some(ReplyWord::Broadcast(word)),
+        None => Some(ReplyWord::Watch(WatchReplyWord::of(token)?)),
+    }
+}
+
+/// The word of a reply, from the table of its kind.
+fn word_of<V: Copy>(reply: &ChanReply<V>) -> Option<ReplyWord>
+    ensures { result ≡ reply_word_of reply.now }
+{
+    match reply {
+        ChannelReply::B(reply) => {
+            let (word, _) = broadcast::reply_parts(reply)?;
+            Some(ReplyWord::Broadcast(word))
+        }
+        ChannelReply::W(reply) => {
+            let (word, _) = watch::reply_parts(reply)?;
+            Some(ReplyWord::Watch(word))
+        }
+        ChannelReply::NoChannel => None,
+    }
+}
+
+impl ReplyWord {
+    /// The word that a token is, if some reply has it.
+    pub fn of(token: &[u8]) -> Option<ReplyWord>
+        ensures exact { result ≡ reply_word_in token.now }
+        ensures found { IfSome result (λ word. reply_word_text word ≡ token.now) }
+        ensures only { (word : ReplyWord) → reply_word_text word ≡ token.now → IsSome result }
+    {
+        word_in(token)
+    }
+
+    /// The word of a reply. A reply that waits or strays has none.
+    pub fn of_reply<V: Payload>(reply: &ChanReply<V>) -> Option<ReplyWord>
+        ensures exact { result ≡ reply_word_of reply.now }
+        ensures first { IfSome result (λ word. first_word (reply_text V.Payload reply.now) ≡ reply_word_text word) }
+    {
+        word_of(reply)
+    }
+
+    /// The word as text.
+    pub fn text(self) -> &'static [u8]
+        ensures { result.now ≡ reply_word_text self }
+    {
+        match self {
+            ReplyWord::Broadcast(word) => word.text(),
+            ReplyWord::Watch(word) => word.text(),
+        }
+    }
+}
