@@ -1,21 +1,25 @@
 //! How long a step takes, in nanoseconds: of a machine alone, of a book that records its calls, and of a navigator that redoes
 //! and undoes them.
 //!
-//! `rw_bench COUNT` makes COUNT steps of each workload, or 1,000. The times go to standard error, with the bytes of an entry.
-//! Standard output has what each workload came to, which is the same each time.
-//! Start reading at `workloads.rt`, which says what is done, and go on with `measure.rt`, which says what is timed.
+//! `rw_bench COUNT` makes COUNT steps of each workload, or 1,000. The times go to standard error, with the bytes of an entry and
+//! those that handles, retained values and channels take. Standard output has what each workload came to, which is the same
+//! each time.
+//! Start reading at `workloads.rt`, which says what is done, and go on with `measure.rt`, which says what is timed, and
+//! `memory.rt`, which says what memory is counted.
 #![tactic(auto)]
 
 ghost use Rattle.std.specs.Prelude.{◌≡◌};
 
 mod channels;
 mod measure;
+mod memory;
 mod steps;
 mod workloads;
 
 use anyhow::{Context, Result};
 use channels::{on_broadcast, on_watch, on_world};
 use measure::Measured;
+use memory::report_memory;
 use rw_law::Entry;
 use rw_world::{Spec, World};
 use std::alloc::Global;
@@ -106,6 +110,7 @@ fn watch(
 fn main(rt: HostRuntime) -> Result<()> {
     let alloc = rt.alloc();
     let asked = asked_steps(&rt)?;
+    report_memory(&rt)?;
     eprintln!(rt; "bytes of an entry: {}", entry_bytes())?;
     eprintln!(rt; "nanoseconds a step:")?;
     eprintln!(rt; "  apply    take    redo    undo")?;

@@ -6,7 +6,7 @@ use Rattle.std.proofs.Math.Nat.{two-pow-succ, pow-le-pow_right}
 use Rattle.std.proofs.Math.Seq.{drop-nil}
 use Rattle.std.proofs.lemmas.Nat.{pow_pos}
 use Rattle.std.proofs.lemmas.Bool.{cond_both, leb-true, leb-false, cases_order}
-use Rattle.rw_handles.specs.Slots.{HANDLES}
+use Rattle.rw_ring.specs.declared.ring.TheConstants.{MOST_CAPACITY}
 use Rattle.rw_broadcast.specs.Arithmetic.{power_from, retained_capacity}
 use Rattle.rw_broadcast.specs.Record.{first_slots, opened}
 use Rattle.rw_broadcast.specs.Shown.{shown}
@@ -58,7 +58,7 @@ power_from-le (suc k) p n some =
     let P = λ (r : ℕ). (0 < r) × (r ≤ doubled k (2 * p)) in
     cond_both (nat_le n p) _ _ P (λ _. (some, omega (arith, doubled-ge k (2 * p)))) (λ _. power_from-le k (2 * p) n (omega arith))
 
-pub retained-bounds : (asked : ℕ) → (0 < retained_capacity asked) × (retained_capacity asked ≤ HANDLES)
+pub retained-bounds : (asked : ℕ) → (0 < retained_capacity asked) × (retained_capacity asked ≤ MOST_CAPACITY)
 unfolding doubled retained_capacity
 retained-bounds asked = power_from-le 16 1 asked (omega arith)
 

@@ -11,7 +11,8 @@ use Rattle.rw_handles.specs.declared.kinds.Slot.{Slot}
 use Rattle.rw_handles.specs.declared.kinds.Slot.TheVariants.{Live}
 use Rattle.rw_handles.specs.declared.kinds.Found.{Found}
 use Rattle.rw_handles.specs.declared.kinds.Found.TheVariants.{Fault, Handle}
-use Rattle.rw_handles.specs.Slots.{HANDLES, found}
+use Rattle.rw_handles.specs.Slots.{found}
+use Rattle.rw_handles.specs.declared.table.TheConstants.{MOST_HANDLES}
 use Rattle.rw_law.proofs.Lists.{slice_get-drop}
 use Rattle.rw_broadcast.specs.declared.calls.BCall.{BCall}
 use Rattle.rw_broadcast.specs.declared.calls.BCall.TheVariants.{Send, Subscribe, CloneSender, Resubscribe, TryRecv, Recv, DropHandle, SenderLen, ReceiverCount, ReceiverLen}
@@ -23,7 +24,7 @@ use Rattle.rw_broadcast.specs.Record.{Record, opened, after, step}
 use Rattle.rw_broadcast.specs.Record as of_record
 use Rattle.rw_broadcast.specs.Shown.{Shown, shown, IsAllowed, IsPlaced, next}
 use Rattle.rw_broadcast.specs.Shown as of_shown
-use Rattle.rw_broadcast.specs.Laws.{ShowsItsSteps, ShowsAllowed, IsShownBySome, IsDocumented}
+use Rattle.rw_broadcast.specs.Laws.{shown_after, ShowsItsSteps, ShowsItsRecord, RepliesByRecord, ShowsAllowed, IsShownBySome, IsDocumented}
 use Rattle.rw_ring.specs.Windows.{put, put-drop}
 use Rattle.rw_broadcast.specs.Soundness.{broadcast_laws}
 use Rattle.rw_broadcast.proofs.Powers.{retained-bounds}
@@ -65,7 +66,7 @@ module _ {V : Type 0} (r : Record V) where
 
   same_found : (call : BCall V) (f : Found ℕ) → effect_found rest call f ≡ effect_found whole call f
   same_found call (Fault f) = refl
-  same_found call (Handle kind position) = ap (λ e. cond (makes call && nat_le HANDLES (length r.slots)) (Keep, TooManyHandles) e) (same_with call kind position)
+  same_found call (Handle kind position) = ap (λ e. cond (makes call && nat_le MOST_HANDLES (length r.slots)) (Keep, TooManyHandles) e) (same_with call kind position)
 
   same_effect : (call : BCall V) → effect rest call ≡ effect whole call
   same_effect call = same_found call (found (wanted call) r.slots (handle_of call))
@@ -111,6 +112,21 @@ allowed_after {V} r (call ∷ calls) ok =
 
 pub shows_allowed : (V : Type 0) → ShowsAllowed V
 shows_allowed V asked calls = allowed_after (opened asked) calls (allowed_opening asked)
+
+shows_after : {V : Type 0} (r : Record V) (calls : List (BCall V)) → IsAllowed (shown r) → shown_after (shown r) calls ≡ shown (after r calls)
+shows_after r [] ok = refl
+shows_after {V} r (call ∷ calls) ok =
+    let here = (shows_its_steps V r call ok.some_capacity).1 in
+    let P = λ (x : Shown V). IsAllowed x in
+    ap (λ x. shown_after x calls) here ∙ shows_after (step r call).0 calls (subst P here ((broadcast_laws {V = V}).next_allowed (shown r) call ok))
+
+pub shows_its_record : (V : Type 0) → ShowsItsRecord V
+shows_its_record V asked calls = shows_after (opened asked) calls (allowed_opening asked)
+
+pub replies_by_record : (V : Type 0) → RepliesByRecord V
+replies_by_record V asked calls call =
+    ap (λ (x : Shown V). of_shown.reply_of x call) (shows_its_record V asked calls)
+    ∙ (shows_its_steps V (after (opened asked) calls) call (shows_allowed V asked calls).some_capacity).0
 
 -- what a record shows that sent these values
 shown_is : {V : Type 0} (capacity sent : ℕ) (all window : List V) (slots : List (Slot ℕ)) → length all ≡ sent → drop (sent - capacity) all ≡ window

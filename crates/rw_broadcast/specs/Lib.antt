@@ -6,3 +6,4 @@ pub mod Laws
 pub mod Soundness
 pub mod Machine
 pub mod Inside
+pub mod Results

@@ -3,7 +3,9 @@ use Rattle.std.specs.Prelude.{◌≡◌, ℕ, ◌+◌, ◌-◌, ◌≤◌, ◌<�
 use Rattle.rw_handles.specs.declared.kinds.Kind.TheVariants.{Sender, Receiver}
 use Rattle.rw_handles.specs.declared.kinds.Slot.{Slot}
 use Rattle.rw_handles.specs.declared.kinds.Slot.TheVariants.{Live, Spent}
-use Rattle.rw_handles.specs.Slots.{HANDLES, IsLive, IsReceiver}
+use Rattle.rw_handles.specs.Slots.{IsLive, IsReceiver}
+use Rattle.rw_handles.specs.declared.table.TheConstants.{MOST_HANDLES}
+use Rattle.rw_ring.specs.declared.ring.TheConstants.{MOST_CAPACITY}
 use Rattle.rw_law.specs.Outcomes.{Outcome}
 use Rattle.rw_ring.specs.Windows.{put, evicted, unput}
 use Rattle.rw_broadcast.specs.declared.calls.BCall.{BCall}
@@ -92,9 +94,9 @@ IsPlaced sent Spent = ⊤
 -- what channels can show
 pub record IsAllowed {V : Type 0} (x : Shown V) : Type 0 where
   pub some_capacity : 0 < x.capacity
-  pub small_capacity : x.capacity ≤ HANDLES
+  pub small_capacity : x.capacity ≤ MOST_CAPACITY
   pub retained : length x.window ≡ min x.sent x.capacity
-  pub few_slots : length x.slots ≤ HANDLES
+  pub few_slots : length x.slots ≤ MOST_HANDLES
   pub placed : All (IsPlaced x.sent) x.slots
 
 -- one of the values can have been sent last: no receiver has received them all

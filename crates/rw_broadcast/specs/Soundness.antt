@@ -10,7 +10,8 @@ use Rattle.rw_handles.specs.declared.kinds.Kind.TheVariants.{Sender, Receiver}
 use Rattle.rw_handles.specs.declared.kinds.Slot.{Slot}
 use Rattle.rw_handles.specs.declared.kinds.Slot.TheVariants.{Live, Spent}
 use Rattle.rw_handles.specs.declared.kinds.Found.TheVariants.{Handle}
-use Rattle.rw_handles.specs.Slots.{HANDLES, found}
+use Rattle.rw_handles.specs.Slots.{found}
+use Rattle.rw_handles.specs.declared.table.TheConstants.{MOST_HANDLES}
 use Rattle.rw_handles.proofs.Checks.{of_checked}
 use Rattle.rw_handles.proofs.SlotLaws.{found_at_is, found_at_wanted, set_back, slice_get-set, live_push, receiver_set, All-slice_get}
 use Rattle.rw_law.specs.Laws.{Laws}
@@ -42,7 +43,7 @@ right_keep x call reply = record {
   weight_rises = omega arith;
 }
 
-right_make : {V : Type 0} (x : Shown V) (call : BCall V) (kind : Kind) (position : ℕ) → IsPlaced x.sent (Live kind position) → length x.slots < HANDLES → IsRight x call (Make kind position, New (length x.slots))
+right_make : {V : Type 0} (x : Shown V) (call : BCall V) (kind : Kind) (position : ℕ) → IsPlaced x.sent (Live kind position) → length x.slots < MOST_HANDLES → IsRight x call (Make kind position, New (length x.slots))
 right_make x call kind position placed few = record {
   undone = λ _. ap (λ slots. record x { slots = slots }) (push_back x.slots (Live kind position));
   next_allowed = λ ok. record {
@@ -145,7 +146,7 @@ right_receive x call position nothing here =
     (λ none. right_read x call position _ nothing here (omega (arith, ltb-false 0 behind none)) refl)
 
 -- each call, with the handle that it found
-right_with : {V : Type 0} (x : Shown V) (call : BCall V) (kind : Kind) (position : ℕ) → found (wanted call) x.slots (handle_of call) ≡ Handle kind position → (makes call ≡ true → length x.slots < HANDLES) → IsRight x call (effect_with (channel_of x) call kind position)
+right_with : {V : Type 0} (x : Shown V) (call : BCall V) (kind : Kind) (position : ℕ) → found (wanted call) x.slots (handle_of call) ≡ Handle kind position → (makes call ≡ true → length x.slots < MOST_HANDLES) → IsRight x call (effect_with (channel_of x) call kind position)
 unfolding Stands
 right_with x (Send h v) kind position is few = sound_if IsAllowed weight back Fits refuses (outcome_of x) (receivers (channel_of x) == 0) (λ _. right_keep x _ _) (λ _. right_append x _ v (Sent (receivers (channel_of x))) refl)
 right_with x (Subscribe h) kind position is few = right_make x _ Receiver x.sent (omega arith) (few refl)

@@ -6,7 +6,7 @@ ghost use Rattle.rw_broadcast.specs.Shown.{patch_of_send};
 use rw_handles::{HandleFault, Kind};
 
 /// A call. The number is that of the handle that it is made with.
-#[derive(Clone, Copy)]
+#[derive(Clone, Copy, Debug, PartialEq)]
 pub enum BCall<V> {
     /// Sends a value to all live receivers.
     Send(u32, V),
@@ -64,7 +64,7 @@ pub enum BReply<V> {
 }
 
 /// What undoing a step needs beside its call.
-#[derive(Clone, Copy)]
+#[derive(Clone, Copy, Debug, PartialEq)]
 pub enum BPatch<V> {
     /// Nothing changed.
     Same,

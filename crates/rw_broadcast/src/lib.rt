@@ -10,10 +10,14 @@ mod calls;
 mod laws;
 mod least;
 mod machine;
+mod results;
 
 pub use calls::{BCall, BPatch, BReply};
 pub use laws::channel_laws;
 pub use machine::{Broadcast, OpenFault};
+pub use results::TryRecvError;
+pub use rw_handles::{Refusal, SendError};
+pub use rw_ring::MOST_CAPACITY;
 
 #[cfg(test)]
 mod tests;

@@ -1,6 +1,6 @@
 //! The machine of a broadcast channel.
 ghost use Rattle.std.specs.Prelude.{◌≡◌, ◌<◌, ◌≤◌, ◌↔◌, ◌⊎◌, IfOk};
-ghost use Rattle.rw_handles.specs.Slots.{HANDLES};
+ghost use Rattle.rw_ring.specs.declared.ring.TheConstants.{MOST_CAPACITY};
 ghost use Rattle.rw_broadcast.specs.Arithmetic.{retained_capacity};
 ghost use Rattle.rw_broadcast.specs.Record.{opened};
 ghost use Rattle.rw_broadcast.specs.Shown.{shown};
@@ -11,13 +11,10 @@ mod steps;
 
 use rw_handles::Table;
 use rw_law::NoMemory;
-use rw_ring::Ring;
+use rw_ring::{MOST_CAPACITY, Ring};
 use std::alloc::Global;
 use std::marker::Model;
 use thiserror::Error;
-
-/// The greatest capacity that may be asked for.
-const MOST_CAPACITY: u32 = 65536;
 
 /// A broadcast channel: the last values that were sent, as many as it retains, and its handles.
 #[derive(Drop)]
@@ -84,10 +81,10 @@ impl<V: Copy> Broadcast<V> {
 /// How many values are retained where this many are asked for.
 fn retained_capacity(asked: u32) -> u64
     requires some { 0 < asked }
-    requires small { asked ≤ HANDLES }
+    requires small { asked ≤ MOST_CAPACITY }
     ensures capacity { result ≡ retained_capacity asked }
     ensures some_capacity { 0 < result }
-    ensures most { result ≤ HANDLES }
+    ensures most { result ≤ MOST_CAPACITY }
 {
     u64::from(asked).next_power_of_two()
 }

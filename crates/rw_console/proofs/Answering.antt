@@ -1,5 +1,5 @@
 -- Commands of which some lines were answered.
-use Rattle.std.proofs.Common.{◌≡◌, ◌++◌, ◌∷◌, [], ◌+◌, ℕ, true, false, List, Option, refl, sym, ap, subst, ◌∙◌, length, All, arith, append_assoc, inl, inr}
+use Rattle.std.proofs.Common.{◌≡◌, ◌++◌, ◌∷◌, [], ◌+◌, ◌≤◌, ℕ, true, false, List, Option, refl, sym, ap, subst, ◌∙◌, length, All, arith, append_assoc, inl, inr}
 use Rattle.std.specs.Io.KnownBytes.{Consumes, Appends}
 use Rattle.std.proofs.lemmas.Bool.{cases_Bool, cond-true, cond-false}
 use Rattle.std.proofs.lemmas.List.{append-nil, length-append}
@@ -99,7 +99,7 @@ more_line {r0 = r0} {r = r} {r' = r'} {w0 = w0} {w = w} {w' = w'} {before = befo
 
 -- at a line that quits
 pub quits : {r0 r r' w0 w w' : Option (List ℕ)} {before allowed allowed' : ℕ} {start run : Run ℕ} {first place : ℕ} {line : List ℕ} → (a : Answering r0 r w0 w before allowed start run first place) (l : GivesLine r r' allowed allowed' line) (quit : is_quit (command_in line) ≡ true)
-    (put : Appends w w' (output_of run place (command_in line))) → Answers r0 r' w0 w' (commands_report start first)
+    (put : Appends w w' (output_of run place (command_in line))) → Answers r0 r' w0 w' (commands_report start first) before
 quits {r0 = r0} {r = r} {r' = r'} {w0 = w0} {w = w} {w' = w'} {start = start} {first = first} {place = place} a l quit put =
     let c = of_text _ l.text l.fits in
     let out : List ℕ = output_of start place (command_in l.text) in
@@ -111,6 +111,7 @@ quits {r0 = r0} {r = r} {r' = r'} {w0 = w0} {w = w} {w' = w'} {start = start} {f
     let here : commands_report start first bytes ≡ a.text ++ out = ap (commands_report start first) (sym (append-nil bytes)) ∙ at [] in
     record {
       bytes = bytes;
+      few = omega (arith, length-append (unlines a.ls) (l.text ++ 10 ∷ []), length-append l.text (10 ∷ []), l.count, a.count);
       read = Consumes-then r0 r r' (unlines a.ls) (l.text ++ 10 ∷ []) a.read l.read;
       written = subst (λ (t : List ℕ). Appends w0 w' t) (sym here) (Appends-then w0 w w' a.text out a.written put');
       whole = inr (λ more. at more ∙ sym here);
@@ -118,7 +119,7 @@ quits {r0 = r0} {r = r} {r' = r'} {w0 = w0} {w = w} {w' = w'} {start = start} {f
 
 -- at the last line
 pub ends_last : {r0 r r' w0 w w' : Option (List ℕ)} {before allowed allowed' : ℕ} {start run : Run ℕ} {first place : ℕ} {line : List ℕ} → (a : Answering r0 r w0 w before allowed start run first place) (l : GivesLast r r' allowed allowed' line)
-    (put : Appends w w' (output_of run place (command_in line))) → Answers r0 r' w0 w' (commands_report start first)
+    (put : Appends w w' (output_of run place (command_in line))) → Answers r0 r' w0 w' (commands_report start first) before
 ends_last {r0 = r0} {r = r} {r' = r'} {w0 = w0} {w = w} {w' = w'} {before = before} {allowed = allowed} {allowed' = allowed'} {start = start} {run = run} {first = first} {place = place} {line = line} a l put =
     let c = of_text _ l.text l.fits in
     let put' : Appends w w' (output_of start place (command_in l.text)) = rw (← a.same, ← c) put in
@@ -127,17 +128,19 @@ ends_last {r0 = r0} {r = r} {r' = r'} {w0 = w0} {w = w} {w' = w'} {before = befo
     ∙ a.follows (l.text ∷ []) ∙ ap (λ (x : List ℕ). a.text ++ x) (outputs_last start place l.text) in
     record {
       bytes = unlines a.ls ++ l.text;
+      few = omega (arith, length-append (unlines a.ls) l.text, l.count, a.count);
       read = Consumes-then r0 r r' (unlines a.ls) l.text a.read l.read;
       written = subst (λ (t : List ℕ). Appends w0 w' t) (sym here) (Appends-then w0 w w' a.text (output_of start place (command_in l.text)) a.written put');
       whole = inl l.ended;
     }
 
 -- at the end
-pub ends : {r0 r r' w0 w : Option (List ℕ)} {before allowed allowed' : ℕ} {start run : Run ℕ} {first place : ℕ} → (a : Answering r0 r w0 w before allowed start run first place) (l : GivesNone r r' allowed allowed') → Answers r0 r' w0 w (commands_report start first)
+pub ends : {r0 r r' w0 w : Option (List ℕ)} {before allowed allowed' : ℕ} {start run : Run ℕ} {first place : ℕ} → (a : Answering r0 r w0 w before allowed start run first place) (l : GivesNone r r' allowed allowed') → Answers r0 r' w0 w (commands_report start first) before
 ends {r0 = r0} {r = r} {r' = r'} {w0 = w0} {w = w} {before = before} {allowed = allowed} {allowed' = allowed'} {start = start} {run = run} {first = first} {place = place} a l =
     let here : commands_report start first (unlines a.ls ++ []) ≡ a.text = ap (outputs start first) (lines_unlines a.ls [] a.each) ∙ a.follows [] ∙ append-nil a.text in
     record {
       bytes = unlines a.ls ++ [];
+      few = omega (arith, length-append {A = ℕ} (unlines a.ls) [], a.count);
       read = Consumes-then r0 r r' (unlines a.ls) [] a.read l.read;
       written = subst (λ (t : List ℕ). Appends w0 w t) (sym here) a.written;
       whole = inl l.ended;
@@ -145,10 +148,10 @@ ends {r0 = r0} {r = r} {r' = r'} {w0 = w0} {w = w} {before = before} {allowed = 
 
 explains : {r0 r w0 w : Option (List ℕ)} {before allowed : ℕ} {start run : Run ℕ} {first place : ℕ} → (a : Answering r0 r w0 w before allowed start run first place) (part : List ℕ) (e : StreamFault) (why : StopsBecause part allowed e)
     → Explains (commands_report start first) Always before (unlines a.ls ++ part) a.text e
-explains {r0 = r0} {r = r} {w0 = w0} {w = w} {before = before} {allowed = allowed} {start = start} {run = run} {first = first} {place = place} a part Read why = (a.ls, part, a.each, why.0, refl, λ _. sym (ap (commands_report start first) (sym (append-nil (unlines a.ls))) ∙ ap (outputs start first) (lines_unlines a.ls [] a.each) ∙ a.follows [] ∙ append-nil a.text))
+explains {r0 = r0} {r = r} {w0 = w0} {w = w} {before = before} {allowed = allowed} {start = start} {run = run} {first = first} {place = place} a part Read why = (a.ls, part, a.each, why.0, refl, λ _. sym (ap (commands_report start first) (sym (append-nil (unlines a.ls))) ∙ ap (outputs start first) (lines_unlines a.ls [] a.each) ∙ a.follows [] ∙ append-nil a.text), omega (arith, a.count, length-append (unlines a.ls) part, why.1))
 explains {r0 = r0} {r = r} {w0 = w0} {w = w} {before = before} {allowed = allowed} {start = start} {run = run} {first = first} {place = place} a part TooMuch why = omega (arith, a.count, length-append (unlines a.ls) part)
 explains {r0 = r0} {r = r} {w0 = w0} {w = w} {before = before} {allowed = allowed} {start = start} {run = run} {first = first} {place = place} a part Write why = absurd why
-explains {r0 = r0} {r = r} {w0 = w0} {w = w} {before = before} {allowed = allowed} {start = start} {run = run} {first = first} {place = place} a part NoMemory why = tt
+explains {r0 = r0} {r = r} {w0 = w0} {w = w} {before = before} {allowed = allowed} {start = start} {run = run} {first = first} {place = place} a part NoMemory why = omega (arith, a.count, length-append (unlines a.ls) part, why.1)
 
 -- where reading stopped
 pub stops_reading : {r0 r r' w0 w : Option (List ℕ)} {before allowed : ℕ} {start run : Run ℕ} {first place : ℕ} → (a : Answering r0 r w0 w before allowed start run first place) (e : StreamFault) (s : StopsInLine r r' allowed e)
@@ -163,16 +166,16 @@ stops_reading {r0 = r0} {r = r} {r' = r'} {w0 = w0} {w = w} {before = before} {a
   why = explains a s.text e s.why;
 }
 
-explains_writing : (start : Run ℕ) (first before : ℕ) → (bytes text : List ℕ) (e : StreamFault) → IsOfWriting e → Explains (commands_report start first) Always before bytes text e
-explains_writing start first before bytes text Read why = absurd why
-explains_writing start first before bytes text TooMuch why = absurd why
-explains_writing start first before bytes text Write why = tt
-explains_writing start first before bytes text NoMemory why = tt
+explains_writing : (start : Run ℕ) (first before : ℕ) → (bytes text : List ℕ) → length bytes ≤ before → (e : StreamFault) → IsOfWriting e → Explains (commands_report start first) Always before bytes text e
+explains_writing start first before bytes text few Read why = absurd why
+explains_writing start first before bytes text few TooMuch why = absurd why
+explains_writing start first before bytes text few Write why = few
+explains_writing start first before bytes text few NoMemory why = few
 
 -- where writing the output of a line stopped
-stops_at : {r0 r r' w0 w w' : Option (List ℕ)} {before allowed : ℕ} {start run : Run ℕ} {first place : ℕ} {line : List ℕ} → (a : Answering r0 r w0 w before allowed start run first place) (e : StreamFault) (why : IsOfWriting e) (piece text : List ℕ) (fits : line ≡ kept text) (read : Consumes r r' piece) (one : lines piece ≡ text ∷ [])
+stops_at : {r0 r r' w0 w w' : Option (List ℕ)} {before allowed : ℕ} {start run : Run ℕ} {first place : ℕ} {line : List ℕ} → (a : Answering r0 r w0 w before allowed start run first place) (e : StreamFault) (why : IsOfWriting e) (piece text : List ℕ) (few : length piece ≤ allowed) (fits : line ≡ kept text) (read : Consumes r r' piece) (one : lines piece ≡ text ∷ [])
     (put : WritesFront w w' (output_of run place (command_in line))) → Stops r0 r' w0 w' (commands_report start first) Always before e
-stops_at {r0 = r0} {r = r} {r' = r'} {w0 = w0} {w = w} {w' = w'} {before = before} {start = start} {run = run} {first = first} {place = place} {line = line} a e why piece text fits read one put =
+stops_at {r0 = r0} {r = r} {r' = r'} {w0 = w0} {w = w} {w' = w'} {before = before} {start = start} {run = run} {first = first} {place = place} {line = line} a e why piece text few fits read one put =
     let c = of_text _ text fits in
     let out : List ℕ = output_of start place (command_in text) in
     let put' : WritesFront w w' out = rw (← a.same, ← c) put in
@@ -186,13 +189,13 @@ stops_at {r0 = r0} {r = r} {r' = r'} {w0 = w0} {w = w} {w' = w'} {before = befor
       read = Consumes-then r0 r r' (unlines a.ls) piece a.read read;
       written = Appends-then w0 w w' a.text put'.text a.written put'.written;
       front = append_assoc a.text put'.text put'.rest ∙ ap (λ (x : List ℕ). a.text ++ x) put'.front ∙ sym here;
-      why = explains_writing start first before (unlines a.ls ++ piece) (a.text ++ put'.text) e why;
+      why = explains_writing start first before (unlines a.ls ++ piece) (a.text ++ put'.text) (omega (arith, length-append (unlines a.ls) piece, a.count)) e why;
     }
 
 pub stops_writing_line : {r0 r r' w0 w w' : Option (List ℕ)} {before allowed allowed' : ℕ} {start run : Run ℕ} {first place : ℕ} {line : List ℕ} → (a : Answering r0 r w0 w before allowed start run first place) (l : GivesLine r r' allowed allowed' line) (e : StreamFault)
     (f : StopsWriting w w' (output_of run place (command_in line)) e) → Stops r0 r' w0 w' (commands_report start first) Always before e
-stops_writing_line a l e f = stops_at a e f.0 (l.text ++ 10 ∷ []) l.text l.fits l.read (line_only l.text l.unbroken) f.1
+stops_writing_line a l e f = stops_at a e f.0 (l.text ++ 10 ∷ []) l.text (omega (arith, length-append l.text (10 ∷ []), l.count)) l.fits l.read (line_only l.text l.unbroken) f.1
 
 pub stops_writing_last : {r0 r r' w0 w w' : Option (List ℕ)} {before allowed allowed' : ℕ} {start run : Run ℕ} {first place : ℕ} {line : List ℕ} → (a : Answering r0 r w0 w before allowed start run first place) (l : GivesLast r r' allowed allowed' line) (e : StreamFault)
     (f : StopsWriting w w' (output_of run place (command_in line)) e) → Stops r0 r' w0 w' (commands_report start first) Always before e
-stops_writing_last a l e f = stops_at a e f.0 l.text l.text l.fits l.read (lines_last l.text l.unbroken l.some) f.1
+stops_writing_last a l e f = stops_at a e f.0 l.text l.text (omega (arith, l.count)) l.fits l.read (lines_last l.text l.unbroken l.some) f.1

@@ -1,5 +1,5 @@
 -- Commands over a run, before any was read.
-use Rattle.std.proofs.Common.{ℕ, List, [], Option, refl}
+use Rattle.std.proofs.Common.{ℕ, List, [], Option, refl, arith}
 use Rattle.rw_lines.specs.declared.streams.StreamFault.TheVariants.{NoMemory}
 use Rattle.rw_lines.proofs.Known.{Appends-none, Consumes-none}
 use Rattle.rw_console.specs.Streams.{Always, Stops}
@@ -13,5 +13,5 @@ stops_at_once r w report limit = record {
   read = Consumes-none r;
   written = Appends-none w;
   front = refl;
-  why = tt;
+  why = omega arith;
 }

@@ -11,8 +11,8 @@ use Rattle.rw_lines.proofs.NumeralLaws.{lacks-decimal, named, only}
 use Rattle.rw_words.specs.declared.reply_word.ReplyWord.{ReplyWord}
 use Rattle.rw_words.specs.ReplyWords.{reply_word_in, reply_word_text}
 use Rattle.rw_words.proofs.ReplyWordLaws.{found as reply_word_found}
-use Rattle.rw_console.specs.declared.condition.Cond.{Cond}
-use Rattle.rw_console.specs.declared.condition.Cond.TheVariants.{Actor, Channel, ReplyKind, UnreadAtLeast, Lagging, Unseen, VersionAtLeast, Closed, QueueAtLeast}
+use Rattle.rw_navigator.specs.declared.worlds.condition.Cond.{Cond}
+use Rattle.rw_navigator.specs.declared.worlds.condition.Cond.TheVariants.{Actor, Channel, ReplyKind, UnreadAtLeast, Lagging, Unseen, VersionAtLeast, Closed, QueueAtLeast}
 use Rattle.rw_console.specs.declared.condition_words.ConditionWord.{ConditionWord}
 use Rattle.rw_console.specs.declared.condition_words.ConditionWord.TheVariants as word
 use Rattle.rw_console.specs.ConditionWords.{◌>>=◌, condition_in, condition_of_word, condition_text, condition_word_text, condition_words, two_numbers_in, three_numbers_in, HasNumerals}

@@ -4,8 +4,6 @@ pub mod Answering
 pub mod Scripting
 pub mod SessionEnds
 pub mod Listing
-pub mod Showing
-pub mod Searching
 pub mod ConditionReading
 pub mod Lists
 pub mod HandleLists

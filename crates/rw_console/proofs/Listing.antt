@@ -9,7 +9,7 @@ use Rattle.rw_lines.specs.declared.streams.StreamFault.{StreamFault}
 use Rattle.rw_lines.proofs.Known.{Appends-none, Appends-then}
 use Rattle.rw_world.specs.Specified.{WorldEntry}
 use Rattle.rw_console.specs.Entries.{entry_lines}
-use Rattle.rw_console.specs.Places.{entry_to}
+use Rattle.rw_navigator.specs.Places.{entry_to}
 use Rattle.rw_console.specs.Report.{step_line}
 use Rattle.rw_lines.specs.Writing.{StopsWriting}
 

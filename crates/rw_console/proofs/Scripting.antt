@@ -97,10 +97,11 @@ ends_at_mark {r0 = r0} {r = r} {r' = r'} {reading = reading} s l mark =
     )
 
 -- at the reader's end
-pub ends : {r0 r r' : Option (List ℕ)} {before allowed allowed' : ℕ} {reading : Reading} → (s : Scripting r0 r before allowed reading) (l : GivesNone r r' allowed allowed') → GivesAll r0 r' (ended reading) × (reading.lines ≤ before)
+pub ends : {r0 r r' : Option (List ℕ)} {before allowed allowed' : ℕ} {reading : Reading} → (s : Scripting r0 r before allowed reading) (l : GivesNone r r' allowed allowed') → GivesAll r0 r' before (ended reading) × (reading.lines ≤ before)
 ends {r0 = r0} {r = r} {r' = r'} s l = (
   record {
     bytes = unlines s.ls ++ [];
+    few = omega (arith, length-append {A = ℕ} (unlines s.ls) [], s.count);
     read = Consumes-then r0 r r' (unlines s.ls) [] s.read l.read;
     ended = l.ended;
     script = ap script_in (lines_unlines s.ls [] s.each) ∙ s.script [];
@@ -114,12 +115,13 @@ last_lines ls text each u some = lines_unlines ls text each ∙ ap (λ (x : List
 
 -- at a mark without LF
 pub ends_at_last_mark : {r0 r r' : Option (List ℕ)} {before allowed allowed' : ℕ} {reading : Reading} {line : List ℕ} → (s : Scripting r0 r before allowed reading) (l : GivesLast r r' allowed allowed' line)
-    (mark : is_mark line ≡ true) → GivesAll r0 r' (ended reading) × (reading.lines ≤ before)
+    (mark : is_mark line ≡ true) → GivesAll r0 r' before (ended reading) × (reading.lines ≤ before)
 ends_at_last_mark {r0 = r0} {r = r} {r' = r'} {reading = reading} s l mark =
     let m : is_mark l.text ≡ true = sym (mark_of _ l.text l.fits) ∙ mark in
     let here = last_lines s.ls l.text s.each l.unbroken l.some in (
       record {
         bytes = unlines s.ls ++ l.text;
+        few = omega (arith, length-append (unlines s.ls) l.text, l.count, s.count);
         read = Consumes-then r0 r r' (unlines s.ls) l.text s.read l.read;
         ended = l.ended;
         script = ap script_in here ∙ s.script (l.text ∷ []) ∙ at_mark reading l.text [] m;
@@ -130,13 +132,14 @@ ends_at_last_mark {r0 = r0} {r = r} {r' = r'} {reading = reading} s l mark =
 
 -- behind the last line
 pub ends_at_last_line : {r0 r r' : Option (List ℕ)} {before allowed allowed' : ℕ} {reading : Reading} {line : List ℕ} → (s : Scripting r0 r before allowed reading) (l : GivesLast r r' allowed allowed' line)
-    (plain : is_mark line ≡ false) (reading' : Reading) (taken : (after_line reading line ≡ Ok reading') × (reading'.lines ≡ reading.lines + 1)) → GivesAll r0 r' (ended reading') × (reading'.lines ≤ before)
+    (plain : is_mark line ≡ false) (reading' : Reading) (taken : (after_line reading line ≡ Ok reading') × (reading'.lines ≡ reading.lines + 1)) → GivesAll r0 r' before (ended reading') × (reading'.lines ≤ before)
 ends_at_last_line {r0 = r0} {r = r} {r' = r'} {reading = reading} s l plain reading' taken =
     let m : is_mark l.text ≡ false = sym (mark_of _ l.text l.fits) ∙ plain in
     let t : after_line reading l.text ≡ Ok reading' = reading_after reading _ l.text l.fits ∙ taken.0 in
     let here = last_lines s.ls l.text s.each l.unbroken l.some in (
       record {
         bytes = unlines s.ls ++ l.text;
+        few = omega (arith, length-append (unlines s.ls) l.text, l.count, s.count);
         read = Consumes-then r0 r r' (unlines s.ls) l.text s.read l.read;
         ended = l.ended;
         script = ap script_in here ∙ s.script (l.text ∷ []) ∙ at_line_said reading (Ok reading') l.text [] m t;
@@ -147,19 +150,20 @@ ends_at_last_line {r0 = r0} {r = r} {r' = r'} {reading = reading} s l plain read
 
 -- at a line that is at fault
 pub fault_last : {r0 r r' : Option (List ℕ)} {before allowed allowed' : ℕ} {reading : Reading} {line : List ℕ} → (s : Scripting r0 r before allowed reading) (l : GivesLast r r' allowed allowed' line)
-    (plain : is_mark line ≡ false) (f : ScriptFault) (refused : after_line reading line ≡ Err f) → GivesFault r0 r' f
+    (plain : is_mark line ≡ false) (f : ScriptFault) (refused : after_line reading line ≡ Err f) → GivesFault r0 r' before f
 fault_last {r0 = r0} {r = r} {r' = r'} {reading = reading} s l plain f refused =
     let m : is_mark l.text ≡ false = sym (mark_of _ l.text l.fits) ∙ plain in
     let t : after_line reading l.text ≡ Err f = reading_after reading _ l.text l.fits ∙ refused in
     record {
       bytes = unlines s.ls ++ l.text;
+      few = omega (arith, length-append (unlines s.ls) l.text, l.count, s.count);
       read = Consumes-then r0 r r' (unlines s.ls) l.text s.read l.read;
       script = ap script_in (last_lines s.ls l.text s.each l.unbroken l.some) ∙ s.script (l.text ∷ []) ∙ at_line_said reading (Err f) l.text [] m t;
       whole = inl l.ended;
     }
 
 pub fault_line : {r0 r r' : Option (List ℕ)} {before allowed allowed' : ℕ} {reading : Reading} {line : List ℕ} → (s : Scripting r0 r before allowed reading) (l : GivesLine r r' allowed allowed' line)
-    (plain : is_mark line ≡ false) (f : ScriptFault) (refused : after_line reading line ≡ Err f) → GivesFault r0 r' f
+    (plain : is_mark line ≡ false) (f : ScriptFault) (refused : after_line reading line ≡ Err f) → GivesFault r0 r' before f
 fault_line {r0 = r0} {r = r} {r' = r'} {reading = reading} s l plain f refused =
     let m : is_mark l.text ≡ false = sym (mark_of _ l.text l.fits) ∙ plain in
     let t : after_line reading l.text ≡ Err f = reading_after reading _ l.text l.fits ∙ refused in
@@ -168,6 +172,7 @@ fault_line {r0 = r0} {r = r} {r' = r'} {reading = reading} s l plain f refused =
     ap script_in (line_after s.ls l.text more s.each l.unbroken) ∙ s.script (l.text ∷ lines more) ∙ at_line_said reading (Err f) l.text (lines more) m t in
     record {
       bytes = bytes;
+      few = omega (arith, length-append (unlines s.ls) (l.text ++ 10 ∷ []), length-append l.text (10 ∷ []), l.count, s.count);
       read = Consumes-then r0 r r' (unlines s.ls) (l.text ++ 10 ∷ []) s.read l.read;
       script = ap (λ (x : List ℕ). script_in (lines x)) (sym (append-nil bytes)) ∙ at [];
       whole = inr at;
@@ -178,10 +183,10 @@ no_mark ls e h = cc
 
 explains : {r0 r : Option (List ℕ)} {before allowed : ℕ} {reading : Reading} → (s : Scripting r0 r before allowed reading) (part : List ℕ) (e : StreamFault) (why : StopsBecause part allowed e)
     → ExplainsScript before (unlines s.ls ++ part) e
-explains s part Read why = (s.ls, part, s.each, why.0, refl, no_mark s.ls s.unmarked)
+explains s part Read why = (s.ls, part, s.each, why.0, refl, no_mark s.ls s.unmarked, omega (arith, s.count, length-append (unlines s.ls) part, why.1))
 explains s part TooMuch why = omega (arith, s.count, length-append (unlines s.ls) part)
 explains s part Write why = absurd why
-explains s part NoMemory why = tt
+explains s part NoMemory why = omega (arith, s.count, length-append (unlines s.ls) part, why.1)
 
 -- where reading stopped
 pub stops_reading : {r0 r r' : Option (List ℕ)} {before allowed : ℕ} {reading : Reading} → (s : Scripting r0 r before allowed reading) (e : StreamFault) (p : StopsInLine r r' allowed e)
@@ -198,7 +203,7 @@ pub stops_line : {r0 r r' : Option (List ℕ)} {before allowed allowed' : ℕ} {
 stops_line {r0 = r0} {r = r} {r' = r'} s l = record {
   bytes = unlines s.ls ++ (l.text ++ 10 ∷ []);
   read = Consumes-then r0 r r' (unlines s.ls) (l.text ++ 10 ∷ []) s.read l.read;
-  why = tt;
+  why = omega (arith, length-append (unlines s.ls) (l.text ++ 10 ∷ []), length-append l.text (10 ∷ []), l.count, s.count);
 }
 
 pub stops_last : {r0 r r' : Option (List ℕ)} {before allowed allowed' : ℕ} {reading : Reading} {line : List ℕ} → (s : Scripting r0 r before allowed reading) (l : GivesLast r r' allowed allowed' line)
@@ -206,5 +211,5 @@ pub stops_last : {r0 r r' : Option (List ℕ)} {before allowed allowed' : ℕ} {
 stops_last {r0 = r0} {r = r} {r' = r'} s l = record {
   bytes = unlines s.ls ++ l.text;
   read = Consumes-then r0 r r' (unlines s.ls) l.text s.read l.read;
-  why = tt;
+  why = omega (arith, length-append (unlines s.ls) l.text, l.count, s.count);
 }

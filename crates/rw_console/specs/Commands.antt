@@ -5,7 +5,7 @@ use Rattle.rw_lines.specs.Cut.{cut}
 use Rattle.rw_lines.specs.Lines.{is_skipped}
 use Rattle.rw_lines.specs.Numerals.{numeral_in}
 use Rattle.rw_navigator.specs.declared.moves.Move.TheVariants.{Back, Forward, Goto, Start, End}
-use Rattle.rw_console.specs.declared.condition.Cond.{Cond}
+use Rattle.rw_navigator.specs.declared.worlds.condition.Cond.{Cond}
 use Rattle.rw_console.specs.declared.command.Command.{Command}
 use Rattle.rw_console.specs.declared.command.Command.TheVariants.{Skip, Move, State, StateJson, Step, List as ListEntries, SearchBack, SearchForward, Quit, Bad}
 use Rattle.rw_console.specs.ConditionWords.{condition_in}

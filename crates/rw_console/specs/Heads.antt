@@ -1,5 +1,5 @@
 -- What the reading of a session's script gives.
-use Rattle.std.specs.Prelude.{◌≡◌, ◌⊎◌, ◌+◌, ◌<◌, ◌≤◌, ℕ, List, [], ◌++◌, Option, Result, Ok, Err, length, All, ⊤, true}
+use Rattle.std.specs.Prelude.{◌≡◌, ◌⊎◌, ◌+◌, ◌≤◌, ℕ, List, [], ◌++◌, Option, Result, Ok, Err, length, All, true}
 use Rattle.std.specs.List.{list_any}
 use Rattle.std.specs.Io.KnownBytes.{Consumes, IsAtEnd}
 use Rattle.rw_lines.specs.declared.streams.StreamFault.{StreamFault}
@@ -25,27 +25,29 @@ pub record GivesScript (reader reader' : Option (List ℕ)) (before after : ℕ)
   pub script : (more : List (List ℕ)) → script_in (ls ++ more) ≡ said
   pub rest : (more : List (List ℕ)) → after_mark (ls ++ more) ≡ more
 
--- All bytes were read. They say this, and have nothing for the console.
-pub record GivesAll (reader reader' : Option (List ℕ)) (said : Result Script ScriptFault) : Type 0 where
+-- All bytes were read, no more than are allowed. They say this, and have nothing for the console.
+pub record GivesAll (reader reader' : Option (List ℕ)) (limit : ℕ) (said : Result Script ScriptFault) : Type 0 where
   pub bytes : List ℕ
+  pub few : length bytes ≤ limit
   pub read : Consumes reader reader' bytes
   pub ended : IsAtEnd reader'
   pub script : script_in (lines bytes) ≡ said
   pub rest : after_mark (lines bytes) ≡ []
 
--- The bytes begin with a script's fault, whatever follows them, or all bytes were read.
-pub record GivesFault (reader reader' : Option (List ℕ)) (fault : ScriptFault) : Type 0 where
+-- The bytes, no more than are allowed, begin with a script's fault, whatever follows them, or all bytes were read.
+pub record GivesFault (reader reader' : Option (List ℕ)) (limit : ℕ) (fault : ScriptFault) : Type 0 where
   pub bytes : List ℕ
+  pub few : length bytes ≤ limit
   pub read : Consumes reader reader' bytes
   pub script : script_in (lines bytes) ≡ Err fault
   pub whole : IsAtEnd reader' ⊎ ((more : List ℕ) → script_in (lines (bytes ++ more)) ≡ Err fault)
 
 -- why reading stopped within the script
 abbrev pub ExplainsScript : ℕ → List ℕ → StreamFault → Type 0
-ExplainsScript limit bytes streams.Read = (ls : List (List ℕ)) × (part : List ℕ) × All IsUnbroken ls × IsUnbroken part × (bytes ≡ unlines ls ++ part) × (HasMark ls → ⊥)
-ExplainsScript limit bytes streams.TooMuch = limit < length bytes
+ExplainsScript limit bytes streams.Read = (ls : List (List ℕ)) × (part : List ℕ) × All IsUnbroken ls × IsUnbroken part × (bytes ≡ unlines ls ++ part) × (HasMark ls → ⊥) × (length bytes ≤ limit)
+ExplainsScript limit bytes streams.TooMuch = length bytes ≡ limit + 1
 ExplainsScript limit bytes streams.Write = ⊥
-ExplainsScript limit bytes streams.NoMemory = ⊤
+ExplainsScript limit bytes streams.NoMemory = length bytes ≤ limit
 
 pub record StopsInScript (reader reader' : Option (List ℕ)) (limit : ℕ) (fault : StreamFault) : Type 0 where
   pub bytes : List ℕ
@@ -55,11 +57,11 @@ pub record StopsInScript (reader reader' : Option (List ℕ)) (limit : ℕ) (fau
 -- the lines say what was read of them, or they begin with a fault
 abbrev pub GivesLines : Option (List ℕ) → Option (List ℕ) → ℕ → ℕ → Reading → ScriptEnd → Type 0
 GivesLines reader reader' before after r Mark = GivesScript reader reader' before after (ended r) × (r.lines ≤ before)
-GivesLines reader reader' before after r Reader = GivesAll reader reader' (ended r) × (r.lines ≤ before)
-GivesLines reader reader' before after r (Fault f) = GivesFault reader reader' f
+GivesLines reader reader' before after r Reader = GivesAll reader reader' before (ended r) × (r.lines ≤ before)
+GivesLines reader reader' before after r (Fault f) = GivesFault reader reader' before f
 
 -- the bytes begin with a script, are one, or begin with a fault
 abbrev pub GivesHead : Option (List ℕ) → Option (List ℕ) → ℕ → ℕ → Head → Type 0
 GivesHead reader reader' before after (heads.Script script) = GivesScript reader reader' before after (Ok script)
-GivesHead reader reader' before after (heads.Ended script) = GivesAll reader reader' (Ok script)
-GivesHead reader reader' before after (heads.Refused fault) = GivesFault reader reader' fault
+GivesHead reader reader' before after (heads.Ended script) = GivesAll reader reader' before (Ok script)
+GivesHead reader reader' before after (heads.Refused fault) = GivesFault reader reader' before fault

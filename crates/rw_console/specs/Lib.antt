@@ -4,10 +4,8 @@ pub mod BroadcastBlock
 pub mod WatchBlock
 pub mod Blocks
 pub mod Json
-pub mod Conditions
 pub mod ConditionWords
 pub mod Entries
-pub mod Places
 pub mod Hits
 pub mod Commands
 pub mod Walk

@@ -12,7 +12,7 @@ use Rattle.rw_console.specs.Commands.{command_in, is_quit}
 use Rattle.rw_console.specs.Entries.{entry_line, entry_lines}
 use Rattle.rw_console.specs.Hits.{hit_below, hit_above}
 use Rattle.rw_console.specs.Json.{json_text}
-use Rattle.rw_console.specs.Places.{last_place, shown_at, entry_to}
+use Rattle.rw_navigator.specs.Places.{last_place, shown_at, entry_to}
 use Rattle.rw_console.specs.Texts.{hit_line, place_line, refusal}
 
 -- what `step` writes at a place, by the entry that leads there

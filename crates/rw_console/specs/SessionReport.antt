@@ -11,7 +11,7 @@ use Rattle.rw_world.specs.Machines.{of_world}
 use Rattle.rw_world.specs.Openings.{opened}
 use Rattle.rw_console.specs.declared.sessions.Outcome.{Outcome}
 use Rattle.rw_console.specs.declared.sessions.Outcome.TheVariants.{Done, Refused, Waited}
-use Rattle.rw_console.specs.Places.{last_place}
+use Rattle.rw_navigator.specs.Places.{last_place}
 use Rattle.rw_console.specs.Report.{outputs}
 
 -- a script's run: its channels, and the journal of the calls before the first that would wait

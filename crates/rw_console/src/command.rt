@@ -3,10 +3,9 @@
 ghost use Rattle.std.specs.Prelude.{◌≡◌};
 ghost use Rattle.rw_console.specs.Commands.{command_in, word_alone, word_and_number, word_with};
 
-use crate::condition::Cond;
 use crate::condition_words::condition_of;
 use rw_lines::{LONGEST_LINE, cut, is_skipped, numeral};
-use rw_navigator::Move;
+use rw_navigator::{Cond, Move};
 
 /// What a line of the console asks for.
 #[derive(Clone, Copy, Debug)]

@@ -97,7 +97,7 @@ pub fn commands<R: Read, W: Write>(
     allowed: &mut u64,
 ) -> Result<(), StreamFault>
     ensures ok { OnOk result (Answers (R.remaining reader.old) (R.remaining reader.new) (W.contents writer.old) (W.contents writer.new)
-        (commands_report walk.old.run walk.old.place)) }
+        (commands_report walk.old.run walk.old.place) allowed.old) }
     ensures err { IfErr result (Stops (R.remaining reader.old) (R.remaining reader.new) (W.contents writer.old) (W.contents writer.new)
         (commands_report walk.old.run walk.old.place) Always allowed.old) }
 {

@@ -1,7 +1,7 @@
 //! Commands over a run that is there already.
 
 ghost use Rattle.std.specs.Prelude.{IfErr, OnOk};
-ghost use Rattle.rw_console.specs.Places.{last_place};
+ghost use Rattle.rw_navigator.specs.Places.{last_place};
 ghost use Rattle.rw_console.specs.Report.{commands_report};
 ghost use Rattle.rw_console.specs.Streams.{Always, Answers, Stops};
 
@@ -21,7 +21,7 @@ pub fn debug<R: Read, W: Write>(
     writer: &mut W,
 ) -> Result<(), SessionFault>
     ensures ok { OnOk result (Answers (R.remaining reader.old) (R.remaining reader.new) (W.contents writer.old) (W.contents writer.new)
-        (commands_report run.now (last_place run.now))) }
+        (commands_report run.now (last_place run.now)) MOST_BYTES) }
     ensures err { IfErr result (Stops (R.remaining reader.old) (R.remaining reader.new) (W.contents writer.old) (W.contents writer.new)
         (commands_report run.now (last_place run.now)) Always MOST_BYTES) }
 {

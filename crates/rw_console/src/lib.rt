@@ -9,7 +9,6 @@
 mod blocks;
 mod broadcast_block;
 mod command;
-mod condition;
 mod condition_words;
 mod console;
 mod debugging;
@@ -24,7 +23,6 @@ mod text;
 mod walk;
 mod watch_block;
 
-pub use condition::Cond;
 pub use console::commands;
 pub use debugging::debug;
 pub use sessions::{MOST_BYTES, Outcome, SessionFault, session};

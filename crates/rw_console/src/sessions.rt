@@ -2,6 +2,7 @@
 
 ghost use Rattle.std.specs.Prelude.{◌≡◌, IfOk, IfErr, OnOk};
 ghost use Rattle.std.specs.Io.KnownBytes.{Appends};
+ghost use Rattle.rw_navigator.specs.Places.{last_place};
 ghost use Rattle.rw_script.specs.Running.{run_of};
 ghost use Rattle.rw_console.specs.Heads.{HasMark};
 ghost use Rattle.rw_console.specs.SessionReport.{fault_line, outcome, outcome_at, recording_of, report, waiting_line};
@@ -11,10 +12,9 @@ ghost use Rattle.rw_console.specs.Streams.{Answers, Stops};
 use crate::console::commands;
 use crate::reading::{Head, read_script};
 use crate::walk::Walk;
-use rw_journal::Run;
 pub use rw_lines::StreamFault as SessionFault;
 use rw_lines::put_whole;
-use rw_script::{Script, ScriptFault, run_one};
+use rw_script::{Played, Script, ScriptFault, play};
 use std::alloc::Global;
 use std::io::{Read, Write};
 
@@ -61,22 +61,26 @@ fn say_waiting<W: Write>(
     put_whole(writer, line.as_bytes())
 }
 
-/// Runs a script, and writes which line would wait, if one would. At an `Err` a front of that was written.
+/// Runs a script, and writes which line would wait, if one would. At an `Err` a front of that was written. At `Ok` it gives the
+/// walk at the last place of the script's run, and that line's number.
 fn begin<W: Write>(
     alloc: Global,
     script: Script,
     writer: &mut W,
-) -> Result<(Run<u64>, Option<u64>), SessionFault>
-    ensures run { IfOk result (λ p. p.0 ≡ recording_of script) }
+) -> Result<(Walk, Option<u64>), SessionFault>
+    ensures run { IfOk result (λ p. p.0.run ≡ recording_of script) }
+    ensures place { IfOk result (λ p. p.0.place ≡ last_place p.0.run) }
     ensures waits { IfOk result (λ p. p.1 ≡ (run_of script).waits) }
     ensures ok { OnOk result (Appends (W.contents writer.old) (W.contents writer.new) (waiting_line (run_of script).waits)) }
     ensures err { IfErr result (StopsWriting (W.contents writer.old) (W.contents writer.new) (waiting_line (run_of script).waits)) }
 {
-    let Ok((run, waits)) = run_one(alloc, &script) else {
+    let Ok(played) = play(alloc, &script) else {
         return Err(SessionFault::NoMemory);
     };
+    let Played { specs, book, waits } = played;
+    let walk = Walk::of_book(alloc, specs, book);
     say_waiting(alloc, writer, waits)?;
-    Ok((run, waits))
+    Ok((walk, waits))
 }
 
 /// How the session of a script ends.
@@ -96,7 +100,7 @@ pub fn session<R: Read, W: Write>(
     reader: &mut R,
     writer: &mut W,
 ) -> Result<Outcome, SessionFault>
-    ensures ok { IfOk result (λ o. (done : Answers (R.remaining reader.old) (R.remaining reader.new) (W.contents writer.old) (W.contents writer.new) report)
+    ensures ok { IfOk result (λ o. (done : Answers (R.remaining reader.old) (R.remaining reader.new) (W.contents writer.old) (W.contents writer.new) report MOST_BYTES)
         × (outcome done.bytes ≡ o)) }
     ensures err { IfErr result (Stops (R.remaining reader.old) (R.remaining reader.new) (W.contents writer.old) (W.contents writer.new) report HasMark MOST_BYTES) }
 {
@@ -111,10 +115,7 @@ pub fn session<R: Read, W: Write>(
             Ok(outcome_at(waits))
         }
         Head::Script(script) => {
-            let (run, waits) = begin(alloc, script, writer)?;
-            let Ok(mut walk) = Walk::over(alloc, run) else {
-                return Err(SessionFault::NoMemory);
-            };
+            let (mut walk, waits) = begin(alloc, script, writer)?;
             commands(alloc, &mut walk, reader, writer, &mut allowed)?;
             Ok(outcome_at(waits))
         }

@@ -1,92 +1,66 @@
 //! A walk over the places of a run.
 
-ghost use Rattle.std.specs.Prelude.{◌≡◌, ◌++◌, ◌≢◌, ℕ, false, length, IfOk, IfSome, OnOk};
-ghost use Rattle.rw_law.specs.Journal.{after as state_after};
-ghost use Rattle.rw_navigator.specs.Navigator.{start_of};
-ghost use Rattle.rw_console.specs.Places.{entry_to, last_place, shown_at};
+ghost use Rattle.std.specs.Prelude.{◌≡◌, ◌++◌, ◌≢◌, None, false, IfOk, IfSome, OnOk};
 ghost use Rattle.rw_console.specs.Report.{output_of, place_of};
+ghost use Rattle.rw_journal.specs.Book.{opening_of};
+ghost use Rattle.rw_navigator.specs.Debugger.{as_run};
+ghost use Rattle.rw_navigator.specs.Places.{entry_to, last_place};
+ghost use Rattle.rw_world.specs.Openings.{opened, refusal};
 
 use crate::blocks::push_world;
 use crate::command::Command;
-use crate::condition::Cond;
 use crate::entries::push_entry;
 use crate::json::push_json;
 use crate::text::{push_hit, push_place, push_refusal};
-use rw_journal::Run;
+use rw_journal::{Book, Run};
 use rw_law::{Entry, NoMemory, Reversible};
-use rw_navigator::{Move, Navigator};
-use rw_world::{World, documented, machines};
+use rw_navigator::{Cond, Debugger, Move};
+use rw_world::{Spec, World};
 use std::alloc::{AllocError, Global};
 use std::marker::Model;
-use std::snapshot::Snapshot;
 
-/// A run, at one of its places.
+/// A debugger that writes what commands ask for.
 #[derive(Drop)]
 pub struct Walk {
     alloc: Global,
-    // Of no bytes: contracts see the run that is walked.
-    run: Snapshot<Run<u64>>,
-    visit: Navigator<World<u64>>,
+    debugger: Debugger<u64>,
 }
 
 impl Model for Walk {
-    ghost use Rattle.std.specs.Prelude.{◌≡◌, ℕ};
-    ghost use Rattle.rw_law.specs.Journal.{after as state_after};
-    ghost use Rattle.rw_navigator.specs.Navigator.{start_of};
-    ghost use Rattle.rw_console.specs.Places.{shown_at};
     ghost use Rattle.rw_console.specs.Walk.{Walk as Seen};
 
     ghost Value = { Seen };
 
-    ghost view = { λ a. record { run = a.run.value; place = a.visit.place } };
-
-    // The visit is to the run's entries, and shows at each place what the documented records show.
-    ghost invariant = { λ a. (a.visit.entries ≡ a.run.value.entries)
-        × ((n : ℕ) → state_after ⟦<World<u64> as Reversible>⟧ (start_of ⟦<World<u64> as Reversible>⟧ a.visit) a.visit.entries n ≡ shown_at a.run.value n) };
+    ghost view = { λ a. record { run = a.debugger.run; place = a.debugger.place } };
 }
 
 impl Walk {
-    /// Begins at the last place, with a copy of the run's entries.
+    /// Begins at the last place of a run, with a copy of it.
     pub fn open(alloc: Global, run: &Run<u64>) -> Result<Walk, NoMemory>
         ensures run { IfOk result (λ walk. walk.run ≡ run.now) }
         ensures place { IfOk result (λ walk. walk.place ≡ last_place run.now) }
     {
-        machines::<u64>();
-        documented::<u64>();
-        let start = run.start(alloc)?;
-        let visit = Navigator::open(alloc, start, run.entries())?;
-        Ok(Walk::at_end(alloc, Snapshot::of(run), visit))
+        let mut debugger = Debugger::open(alloc, run)?;
+        let _ = debugger.step(Move::End);
+        Ok(Walk { alloc, debugger })
     }
 
-    /// The same with the run's own entries: a session holds one list of them.
-    pub fn over(alloc: Global, run: Run<u64>) -> Result<Walk, NoMemory>
-        ensures run { IfOk result (λ walk. walk.run ≡ run) }
-        ensures place { IfOk result (λ walk. walk.place ≡ last_place run) }
+    /// Begins at the last place of the run of a book that was opened from these specs, with the book's machine and entries.
+    pub fn of_book(alloc: Global, specs: Vec<Spec<u64>>, book: Book<World<u64>>) -> Walk
+        requires opens { refusal specs.items ≡ None }
+        requires opened { opening_of ⟦<World<u64> as Reversible>⟧ book ≡ opened specs.items }
+        ensures run { result.run ≡ as_run specs.items book.entries }
+        ensures place { result.place ≡ last_place result.run }
     {
-        machines::<u64>();
-        documented::<u64>();
-        let start = run.start(alloc)?;
-        let whole = Snapshot::of(&run);
-        let visit = Navigator::over(start, run.into_entries())?;
-        Ok(Walk::at_end(alloc, whole, visit))
-    }
-
-    /// A walk of a visit to the run's entries, at their last place.
-    fn at_end(alloc: Global, run: Snapshot<Run<u64>>, mut visit: Navigator<World<u64>>) -> Walk
-        requires entries { visit.entries ≡ run.value.entries }
-        requires shows { (n : ℕ) → state_after ⟦<World<u64> as Reversible>⟧ (start_of ⟦<World<u64> as Reversible>⟧ visit) visit.entries n ≡ shown_at run.value n }
-        ensures run { result.run ≡ run.value }
-        ensures place { result.place ≡ last_place run.value }
-    {
-        let _ = visit.step(Move::End);
-        Walk { alloc, run, visit }
+        let debugger = Debugger::of_book(specs, book);
+        Walk { alloc, debugger }
     }
 
     /// How many entries the run has.
     pub fn len(&self) -> u64
         ensures { result ≡ last_place self.now.run }
     {
-        self.visit.len()
+        self.debugger.len()
     }
 
     /// The entry that leads to a place.
@@ -95,12 +69,10 @@ impl Walk {
         ensures recorded { IfSome result (λ e. ⟦<World<u64> as Reversible>⟧.is_waiting e.reply ≡ false) }
         ensures sent { IfSome result (λ e. ⟦<World<u64> as Reversible>⟧.is_straying e.reply ≡ false) }
     {
-        // The proof takes from here that the entries are a legal journal.
-        let _place = self.visit.place();
         if place == 0 {
             return None;
         }
-        self.visit.entry(place - 1)
+        self.debugger.entry(place - 1)
     }
 
     /// Makes a move, and appends what it says.
@@ -109,25 +81,31 @@ impl Walk {
         ensures place { OnOk result (self.new.place ≡ place_of self.old.run self.old.place (Command.Move to)) }
         ensures run { self.new.run ≡ self.old.run }
     {
-        let answer = self.visit.step(to);
+        let answer = self.debugger.step(to);
         push_refusal(out, answer)?;
-        push_place(out, self.visit.len(), self.visit.place())
+        push_place(out, self.debugger.len(), self.debugger.place())
     }
 
     /// Appends the state of the place.
     fn push_state(&self, out: &mut Vec<u8>) -> Result<(), AllocError>
         ensures { OnOk result (out.new.items ≡ out.old.items ++ output_of self.now.run self.now.place Command.State) }
     {
-        push_place(out, self.visit.len(), self.visit.place())?;
-        push_world(out, self.visit.state())
+        push_place(out, self.debugger.len(), self.debugger.place())?;
+        push_world(out, self.debugger.state())
     }
 
     /// Appends the same as JSON.
     fn push_json(&self, out: &mut Vec<u8>) -> Result<(), AllocError>
         ensures { OnOk result (out.new.items ≡ out.old.items ++ output_of self.now.run self.now.place Command.StateJson) }
     {
-        let world = self.visit.state();
-        push_json(self.alloc, out, world, self.visit.len(), self.visit.place())
+        let world = self.debugger.state();
+        push_json(
+            self.alloc,
+            out,
+            world,
+            self.debugger.len(),
+            self.debugger.place(),
+        )
     }
 
     /// Goes to the nearest hit below the place, and appends what that says.
@@ -136,9 +114,9 @@ impl Walk {
         ensures place { OnOk result (self.new.place ≡ place_of self.old.run self.old.place (Command.SearchBack cond)) }
         ensures run { self.new.run ≡ self.old.run }
     {
-        let from = self.visit.place();
-        let found = self.visit.back_to(&cond);
-        push_hit(out, self.visit.len(), from, found)
+        let from = self.debugger.place();
+        let found = self.debugger.back_to(&cond);
+        push_hit(out, self.debugger.len(), from, found)
     }
 
     /// Goes to the nearest hit above the place, and appends what that says.
@@ -147,9 +125,9 @@ impl Walk {
         ensures place { OnOk result (self.new.place ≡ place_of self.old.run self.old.place (Command.SearchForward cond)) }
         ensures run { self.new.run ≡ self.old.run }
     {
-        let from = self.visit.place();
-        let found = self.visit.forward_to(&cond);
-        push_hit(out, self.visit.len(), from, found)
+        let from = self.debugger.place();
+        let found = self.debugger.forward_to(&cond);
+        push_hit(out, self.debugger.len(), from, found)
     }
 
     /// Appends the entry that leads to a place.
@@ -178,7 +156,7 @@ impl Walk {
             Command::SearchBack(cond) => self.search_back(cond, out),
             Command::SearchForward(cond) => self.search_forward(cond, out),
             Command::Step => {
-                let place = self.visit.place();
+                let place = self.debugger.place();
                 self.push_step(place, out)
             }
             Command::Move(to) => self.make_move(to, out),

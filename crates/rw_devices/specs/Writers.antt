@@ -1,10 +1,14 @@
 -- What a failing writer shows.
-use Rattle.std.specs.Prelude.{ℕ, List, Option}
+use Rattle.std.specs.Prelude.{ℕ, List, Option, take}
 use Rattle.rw_devices.specs.declared.writers.FailingWriter.{FailingWriter}
 
 -- the bytes that it took
 abbrev pub written : FailingWriter → List ℕ
 written w = w.kept.items
+
+-- the first so many of them, that it handed on
+abbrev pub handed_on : FailingWriter → List ℕ
+handed_on w = take w.handed w.kept.items
 
 -- how many it takes at a call
 abbrev pub most_of : FailingWriter → ℕ

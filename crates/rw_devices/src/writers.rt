@@ -1,6 +1,6 @@
 //! A writer that fails.
 
-ghost use Rattle.std.specs.Prelude.{◌≡◌, ◌+◌, ◌-◌, ◌^◌, [], ◌↔◌, IsTrue, IsErr, IfOk, OnOk, Some, length, min};
+ghost use Rattle.std.specs.Prelude.{◌≡◌, ◌≤◌, ◌+◌, ◌-◌, ◌^◌, [], ◌↔◌, IsTrue, IsErr, IfOk, OnOk, OnErr, Some, length, min};
 ghost use Rattle.std.specs.Io.{WritesAtMost};
 ghost use Rattle.std.specs.Io.KnownBytes.{WriteAppends};
 ghost use Rattle.rw_devices.specs.Calls.{is_due, after_call};
@@ -11,6 +11,7 @@ use std::io::{Error, ErrorKind, Result, Write};
 
 /// Keeps what is written, a few bytes at a call, and fails at one call, which takes nothing.
 ///
+/// It hands on what it holds at a flush alone, as a buffer does, so that a caller who forgets one is found out.
 /// It fails by an interruption and goes well afterwards, so that a caller who tries again is found out.
 #[derive(Drop)]
 pub struct FailingWriter {
@@ -18,15 +19,18 @@ pub struct FailingWriter {
     most: usize,
     calls: Option<u64>,
     flushes: u64,
+    handed: usize,
+    ghost within: { handed ≤ length kept.items },
 }
 
 impl FailingWriter {
-    ghost use Rattle.rw_devices.specs.Writers.{written, most_of, calls_of, flushes_of};
+    ghost use Rattle.rw_devices.specs.Writers.{written, handed_on, most_of, calls_of, flushes_of};
 
     /// Takes at most `most` bytes at a call, which may be none. So many calls, flushes among them, go well before the one
     /// that fails, or all do.
     pub fn new(alloc: Global, most: usize, calls: Option<u64>) -> FailingWriter
         ensures written { written result ≡ [] }
+        ensures handed { handed_on result ≡ [] }
         ensures most { most_of result ≡ most }
         ensures calls { calls_of result ≡ calls }
         ensures flushes { flushes_of result ≡ 0 }
@@ -36,6 +40,7 @@ impl FailingWriter {
             most,
             calls,
             flushes: 0,
+            handed: 0,
         }
     }
 
@@ -44,6 +49,13 @@ impl FailingWriter {
         ensures { result.now ≡ written self.now }
     {
         self.kept.as_slice()
+    }
+
+    /// Those of them that were handed on, by the last flush that went well.
+    pub fn handed_on(&self) -> &[u8]
+        ensures { result.now ≡ handed_on self.now }
+    {
+        &self.kept.as_slice()[..self.handed]
     }
 
     /// How many flushes went well.
@@ -55,7 +67,7 @@ impl FailingWriter {
 }
 
 impl Write for FailingWriter {
-    ghost use Rattle.rw_devices.specs.Writers.{written, most_of, calls_of, flushes_of};
+    ghost use Rattle.rw_devices.specs.Writers.{written, handed_on, most_of, calls_of, flushes_of};
 
     ghost contents = { λ w. Some (written w) };
 
@@ -69,6 +81,7 @@ impl Write for FailingWriter {
         ensures most { most_of self.new ≡ most_of self.old }
         ensures calls { calls_of self.new ≡ after_call (calls_of self.old) }
         ensures flushes { flushes_of self.new ≡ flushes_of self.old }
+        ensures handed { handed_on self.new ≡ handed_on self.old }
     {
         if fails(&mut self.calls) {
             return Err(Error::from(ErrorKind::Interrupted));
@@ -82,6 +95,8 @@ impl Write for FailingWriter {
         ensures fails { IsErr result ↔ IsTrue (is_due (calls_of self.old)) }
         ensures counted { OnOk result (flushes_of self.new ≡ min (flushes_of self.old + 1) (2 ^ 64 - 1)) }
         ensures bytes { written self.new ≡ written self.old }
+        ensures handed { OnOk result (handed_on self.new ≡ written self.old) }
+        ensures held { OnErr result (handed_on self.new ≡ handed_on self.old) }
         ensures most { most_of self.new ≡ most_of self.old }
         ensures calls { calls_of self.new ≡ after_call (calls_of self.old) }
     {
@@ -89,6 +104,7 @@ impl Write for FailingWriter {
             return Err(Error::from(ErrorKind::Interrupted));
         }
         self.flushes = self.flushes.saturating_add(1);
+        self.handed = self.kept.len();
         Ok(())
     }
 }

@@ -10,10 +10,6 @@ use Rattle.rw_handles.specs.declared.kinds.HandleFault.TheVariants.{Unknown, Gon
 use Rattle.rw_handles.specs.declared.kinds.Found.{Found}
 use Rattle.rw_handles.specs.declared.kinds.Found.TheVariants.{Fault, Handle}
 
--- how many handles a channel makes at most
-abbrev pub HANDLES : ℕ
-HANDLES = 65536
-
 abbrev pub same_kind : Kind → Kind → Bool
 same_kind Sender Sender = true
 same_kind Receiver Receiver = true

@@ -8,11 +8,13 @@
 
 mod kinds;
 mod laws;
+mod refusals;
 mod table;
 mod tally;
 
 pub use kinds::{Found, HandleFault, Kind, Slot};
 pub use laws::undoings;
+pub use refusals::{Refusal, SendError};
 pub use table::{MOST_HANDLES, Table};
 
 #[cfg(test)]

@@ -2,7 +2,8 @@
 ghost use Rattle.std.specs.Prelude.{◌≡◌, ◌+◌, ◌-◌, ◌<◌, ◌≤◌, ◌++◌, ◌∷◌, [], length, take, slice_get, slice_set, Some, IfOk, OnOk, IsOk};
 ghost use Rattle.rw_handles.specs.declared.kinds.Kind.TheVariants.{Sender, Receiver};
 ghost use Rattle.rw_handles.specs.declared.kinds.Slot.TheVariants.{Live, Spent};
-ghost use Rattle.rw_handles.specs.Slots.{HANDLES, IsLive, found, looked, serves, alive, kind_at, receiver_at, value_at, with_value};
+ghost use Rattle.rw_handles.specs.Slots.{IsLive, found, looked, serves, alive, kind_at, receiver_at, value_at, with_value};
+ghost use Rattle.rw_handles.specs.declared.table.TheConstants.{MOST_HANDLES};
 
 use crate::kinds::{Found, HandleFault, Kind, Slot};
 use crate::tally::Tally;
@@ -23,7 +24,8 @@ pub struct Table<X: Copy> {
 impl<X: Copy> Model for Table<X> {
     ghost use Rattle.std.specs.Prelude.{◌≡◌, ◌-◌, ◌≤◌, vec_len, vec_capacity};
     ghost use Rattle.rw_handles.specs.declared.kinds.Kind.{Kind};
-    ghost use Rattle.rw_handles.specs.Slots.{HANDLES, alive};
+    ghost use Rattle.rw_handles.specs.Slots.{alive};
+    ghost use Rattle.rw_handles.specs.declared.table.TheConstants.{MOST_HANDLES};
     ghost use Rattle.rw_handles.specs.Handles.{Handles};
     ghost use Rattle.rw_handles.specs.Tally.{tally_of};
 
@@ -31,7 +33,7 @@ impl<X: Copy> Model for Table<X> {
 
     ghost view = { λ t. record { slots = t.slots.items; room = vec_capacity t.slots - vec_len t.slots } };
 
-    ghost invariant = { λ t. (vec_len t.slots ≤ HANDLES) × ((kind : Kind) → tally_of t.tally kind ≡ alive kind t.slots.items) };
+    ghost invariant = { λ t. (vec_len t.slots ≤ MOST_HANDLES) × ((kind : Kind) → tally_of t.tally kind ≡ alive kind t.slots.items) };
 }
 
 /// Whether a handle of this kind serves where one of the wanted kind is asked for.
@@ -73,7 +75,7 @@ impl<X: Copy> Table<X> {
     /// How many handles were made.
     pub fn made(&self) -> u32
         ensures made { result ≡ length self.now.slots }
-        ensures limited { result ≤ HANDLES }
+        ensures limited { result ≤ MOST_HANDLES }
     {
         self.slots.len() as u32
     }
@@ -87,7 +89,7 @@ impl<X: Copy> Table<X> {
 
     /// Makes room for n more. Where it is there already, no memory is taken.
     pub fn ready(&mut self, n: u64) -> Result<(), NoMemory>
-        requires { length self.old.slots + n ≤ HANDLES }
+        requires { length self.old.slots + n ≤ MOST_HANDLES }
         ensures same { self.new.slots ≡ self.old.slots }
         ensures grown { self.old.room ≤ self.new.room }
         ensures ok { OnOk result (n ≤ self.new.room) }
@@ -103,7 +105,7 @@ impl<X: Copy> Table<X> {
     /// Makes the next number's handle.
     pub fn make(&mut self, kind: Kind, x: X) -> u32
         requires room { 0 < self.old.room }
-        requires limit { length self.old.slots < HANDLES }
+        requires limit { length self.old.slots < MOST_HANDLES }
         ensures number { result ≡ length self.old.slots }
         ensures slots { self.new.slots ≡ self.old.slots ++ Live kind x ∷ [] }
         ensures room { self.new.room + 1 ≡ self.old.room }

@@ -1,6 +1,6 @@
 //! The count of live handles, by kind.
 ghost use Rattle.std.specs.Prelude.{◌≡◌, ◌<◌};
-ghost use Rattle.rw_handles.specs.Slots.{HANDLES};
+ghost use Rattle.rw_handles.specs.declared.table.TheConstants.{MOST_HANDLES};
 ghost use Rattle.rw_handles.specs.Tally.{tally_of, IsOneMore};
 
 use crate::kinds::Kind;
@@ -23,7 +23,7 @@ impl Tally {
     }
 
     pub fn add(&mut self, kind: Kind)
-        requires { tally_of self.old kind < HANDLES }
+        requires { tally_of self.old kind < MOST_HANDLES }
         ensures { IsOneMore kind self.old self.new }
     {
         match kind {

@@ -38,3 +38,13 @@ fn the_first_two(rt: HostRuntime) -> Result<(), Fail> {
     assert_eq!(rt; table.find(1, None), Found::Handle(Kind::Receiver, 4));
     Ok(())
 }
+
+#[test]
+fn room_for_many_handles(rt: HostRuntime) -> Result<(), Fail> {
+    for handles in [1_025, 65_536] {
+        let mut table: Table<u64> = Table::new(rt.alloc())?;
+        table.ready(handles)?;
+        assert!(rt; handles <= table.room());
+    }
+    Ok(())
+}

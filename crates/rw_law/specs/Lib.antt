@@ -2,3 +2,4 @@ pub mod Journal
 pub mod Laws
 pub mod Outcomes
 pub mod Numbers
+pub mod Room

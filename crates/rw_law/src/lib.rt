@@ -7,11 +7,13 @@
 #![tactic(auto)]
 
 mod journal;
+mod limits;
 mod machine;
 mod memory;
 mod value;
 
 pub use journal::Entry;
+pub use limits::{MOST_ACTORS, MOST_STAMP, MOST_WEIGHT};
 pub use machine::Reversible;
 pub use memory::NoMemory;
 pub use value::Payload;

@@ -1,7 +1,8 @@
 //! Machines whose steps can be undone.
 
-ghost use Rattle.std.specs.Prelude.{◌≡◌, ℕ, ◌+◌, ◌<◌, ◌≤◌, ◌^◌, Bool, OnOk, IsOk};
+ghost use Rattle.std.specs.Prelude.{◌≡◌, ℕ, ◌+◌, ◌<◌, ◌≤◌, Bool, OnOk, IsOk};
 ghost use Rattle.rw_law.specs.Laws.{Laws};
+ghost use Rattle.rw_law.specs.declared.limits.TheConstants.{MOST_WEIGHT};
 
 use crate::memory::NoMemory;
 
@@ -64,11 +65,11 @@ pub trait Reversible {
     /// The weight that the room allows.
     fn limit(&self) -> u64
         ensures limit { result ≡ reserved self.now }
-        ensures bound { result ≤ 2 ^ 62 };
+        ensures bound { result ≤ MOST_WEIGHT };
 
     /// Makes room for n more calls. Where there is room already, no memory is taken.
     fn ready(&mut self, n: u64) -> Result<(), NoMemory>
-        requires { weigh (shown self.old) + n ≤ 2 ^ 62 }
+        requires { weigh (shown self.old) + n ≤ MOST_WEIGHT }
         ensures view { shown self.new ≡ shown self.old }
         ensures room { OnOk result (weigh (shown self.old) + n ≤ reserved self.new) }
         ensures kept { reserved self.old ≤ reserved self.new }

@@ -1,3 +1,4 @@
+pub mod Debugging
 pub mod MoveLists
 pub mod MovesMade
 pub mod Recorded

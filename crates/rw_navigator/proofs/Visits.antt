@@ -1,12 +1,14 @@
 -- What a visit knows of its machine, and how one step of the machine carries it on.
 use Rattle.std.proofs.Common.{◌≡◌, ℕ, ◌+◌, ◌-◌, ◌^◌, ◌<◌, ◌≤◌, List, length, take, get_or, refl, sym, ◌∙◌, ap, subst, arith}
-use Rattle.std.proofs.lemmas.List.{length-take-le}
+use Rattle.std.proofs.Math.Seq.{take-length}
 use Rattle.rw_law.specs.declared.machine.Reversible.{Ghosts}
 use Rattle.rw_law.specs.declared.journal.Entry.{Entry}
-use Rattle.rw_law.specs.Journal.{after, IsLegal, before_all, LawsOf}
-use Rattle.rw_law.proofs.Journals.{weigh-after_all, before_all-after, after_more, fits_at, back_at}
+use Rattle.rw_law.specs.Journal.{after_all, after, IsLegal, before_all, LawsOf}
+use Rattle.rw_law.specs.Room.{HasRoom}
+use Rattle.rw_law.proofs.Journals.{before_all-after, after_more, fits_at, back_at}
+use Rattle.rw_law.proofs.Rooms.{room_for, room_ahead}
 use Rattle.rw_navigator.specs.Counted.{Counted, count_after}
-use Rattle.rw_navigator.specs.Navigator.{Navigator, IsNavigator, MovedTo, start_of}
+use Rattle.rw_navigator.specs.Navigator.{Navigator, IsAtEnd, IsNavigator, MovedTo, start_of}
 
 module _ {M C R P : Type 0} (m : Ghosts M C R P) where
   abbrev pub visit : Counted M → List (Entry M C R P) → ℕ → Navigator M C R P
@@ -42,21 +44,43 @@ module _ {M C R P : Type 0} (m : Ghosts M C R P) where
       let whole : MovedTo m u w (p + 1) (n + 1) = moved_on u v w p (p + 1) n 1 a (subst (λ r. MovedTo m v w (r + 1) 1) a.place b) in
       subst (λ r. MovedTo m u w r k) (sym e) (subst (λ j. MovedTo m u w (p + 1) j) (sym f) whole)
 
-  module _ (laws : LawsOf m) where
-    -- the machine has room for every entry that is left
-    pub room_at : (v : Navigator M C R P) → IsNavigator m v → v.place < length v.entries → m.weigh (m.shown v.machine.state) < m.reserved v.machine.state
-    room_at v i h =
-        let o : m.View = start_of m v in
-        let light : m.weigh (after m o v.entries v.place) ≤ m.weigh o + length (take v.place v.entries) =
-        weigh-after_all m laws o (take v.place v.entries) i.allowed in
-        let made : length (take v.place v.entries) ≡ v.place = length-take-le v.place v.entries i.inside in
-        let shown : m.weigh (m.shown v.machine.state) ≡ m.weigh (after m o v.entries v.place) = ap m.weigh i.shows in
-        let room : m.weigh o + length v.entries ≤ m.reserved v.machine.state = i.room in
-        omega arith
+  -- the machine has room for every entry that is left
+  pub room_at : (v : Navigator M C R P) → IsNavigator m v → v.place < length v.entries → m.weigh (m.shown v.machine.state) < m.reserved v.machine.state
+  room_at v i h = rw i.shows (room_for m (start_of m v) v.entries (m.reserved v.machine.state) v.place i.room h)
 
+  module _ (laws : LawsOf m) where
     -- where the machine shows the state of a place, the journal's start is what undoing leads to
     start_at : (o : m.View) (v : Navigator M C R P) → m.allowed o → IsLegal m o v.entries → m.shown v.machine.state ≡ after m o v.entries v.place → start_of m v ≡ o
     start_at o v a l h = ap (λ x. before_all m x (take v.place v.entries)) h ∙ before_all-after m laws o v.entries v.place a l
+
+    -- a machine that shows the start of a journal, with room ahead, visits its first place
+    pub at_first : (k : Counted M) (es : List (Entry M C R P)) (x : m.View) → m.shown k.state ≡ x → m.allowed x → IsLegal m x es → m.weigh x + length es ≤ m.reserved k.state → k.turns ≡ 0 → IsNavigator m (visit k es 0)
+    at_first k es x shows allowed legal room turns = record {
+      allowed = subst m.allowed (sym shows) allowed;
+      legal = subst (λ y. IsLegal m y es) (sym shows) legal;
+      shows = refl;
+      inside = omega arith;
+      counted = omega arith;
+      room = subst (λ y. HasRoom m y es (m.reserved k.state)) (sym shows) (room_ahead m laws x es (m.reserved k.state) allowed room);
+    }
+
+    -- a machine that has made the calls of a journal visits its last place
+    module _ (k : Counted M) (es : List (Entry M C R P)) (p : ℕ) (x : m.View) (made : IsAtEnd m x k.state es) (last : p ≡ length es) where
+      shows_last : m.shown k.state ≡ after m x es p
+      shows_last = made.shows ∙ sym (ap (after_all m x) (ap (λ n. take n es) last ∙ take-length es))
+
+      pub start_at_last : start_of m (visit k es p) ≡ x
+      start_at_last = start_at x (visit k es p) made.allowed made.legal shows_last
+
+      pub at_last : k.turns ≡ 0 → IsNavigator m (visit k es p)
+      at_last turns = record {
+        allowed = subst m.allowed (sym start_at_last) made.allowed;
+        legal = subst (λ y. IsLegal m y es) (sym start_at_last) made.legal;
+        shows = shows_last ∙ sym (ap (λ y. after m y es p) start_at_last);
+        inside = omega arith;
+        counted = omega arith;
+        room = subst (λ y. HasRoom m y es (m.reserved k.state)) (sym start_at_last) made.room;
+      }
 
     -- one call of the machine that leads to the state of place q carries the visit there
     module _ (k k' : Counted M) (es : List (Entry M C R P)) (p q : ℕ) (old : IsNavigator m (visit k es p)) (inside : q ≤ length es)
@@ -75,7 +99,7 @@ module _ {M C R P : Type 0} (m : Ghosts M C R P) where
             shows = shows ∙ ap (λ x. after m x es q) (sym same);
             inside = inside;
             counted = omega arith;
-            room = subst (λ x. m.weigh x + length es ≤ m.reserved k'.state) (sym same) (subst (λ n. m.weigh o + length es ≤ n) (sym room) old.room);
+            room = subst (λ x. HasRoom m x es (m.reserved k'.state)) (sym same) (subst (λ n. HasRoom m o es n) (sym room) old.room);
           }
 
       carried : IsNavigator m (visit k' es q) × MovedTo m (visit k es p) (visit k' es q) q 1

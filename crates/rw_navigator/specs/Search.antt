@@ -1,5 +1,5 @@
 -- Searches for the places where a condition is met.
-use Rattle.std.specs.Prelude.{◌≡◌, ℕ, zero, suc, ◌+◌, ◌-◌, ◌≤◌, Bool, false, not, ◌&&◌, nat_lt, if◌then◌else◌, Option, Some, None, List, slice_get, unwrap_or}
+use Rattle.std.specs.Prelude.{◌≡◌, ℕ, zero, suc, ◌+◌, ◌-◌, ◌*◌, ◌≤◌, Bool, false, not, ◌&&◌, nat_lt, if◌then◌else◌, Option, Some, None, List, slice_get, unwrap_or}
 use Rattle.std.specs.Option.{option_map_or}
 use Rattle.rw_law.specs.declared.machine.Reversible.{Ghosts}
 use Rattle.rw_law.specs.declared.journal.Entry.{Entry}
@@ -40,3 +40,14 @@ first_of_next test p (suc n) = if test (p + 1) then Some (p + 1) else first_of_n
 -- the least number above p, up to len, that passes
 abbrev pub first_above : (ℕ → Bool) → ℕ → ℕ → Option ℕ
 first_above test p len = first_of_next test p (len - p)
+
+-- the most calls of a search on states from place p towards the start: one place beyond the hit and back to it, or to the start
+-- and back
+abbrev pub most_below : ℕ → Option ℕ → ℕ
+most_below p None = 2 * p
+most_below p (Some q) = (p - q) + 2
+
+-- the same towards the end, place len: to the hit, or to the end and back
+abbrev pub most_above : ℕ → ℕ → Option ℕ → ℕ
+most_above p len None = 2 * (len - p)
+most_above p len (Some q) = q - p

@@ -5,7 +5,8 @@
 //! The one contract is the record `MovedTo` of `specs/Navigator.antt`, which every move ensures: the machine shows the state of
 //! its new place, and has made as many calls more as there are places in between.
 //! Start reading at `places.rt`, the Navigator and its single steps, and go on with `walks.rt`. The searches, which stop where a
-//! condition is met, are in `search_back.rt` and `search_forward.rt`.
+//! condition is met, are in `search_back.rt` and `search_forward.rt`. `worlds.rt` stands on it: a `Debugger` walks over the run of a
+//! world, and its contract says the documented state at each place.
 #![tactic(auto)]
 
 mod conditions;
@@ -15,11 +16,13 @@ mod places;
 mod search_back;
 mod search_forward;
 mod walks;
+mod worlds;
 
 pub use conditions::Probe;
 pub use counting::Counted;
 pub use moves::{Move, OutOfRange};
 pub use places::Navigator;
+pub use worlds::{Cond, Debugger};
 
 #[cfg(test)]
 mod tests;

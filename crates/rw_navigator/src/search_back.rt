@@ -3,7 +3,7 @@
 ghost use Rattle.std.specs.Prelude.{ℕ, Bool, IsTrue, unwrap_or, IfSome, not, ◌&&◌, ◌≡◌, ◌<◌, ◌≤◌, ◌-◌, ◌*◌};
 ghost use Rattle.rw_navigator.specs.Navigator.{start_of, MovedTo};
 ghost use Rattle.rw_navigator.specs.Moves.{distance_between};
-ghost use Rattle.rw_navigator.specs.Search.{hit, step_hit, state_hit, last_below, TestsView, SearchedTo};
+ghost use Rattle.rw_navigator.specs.Search.{hit, step_hit, state_hit, last_below, most_below, TestsView, SearchedTo};
 
 use crate::conditions::{Probe, comes_true};
 use crate::places::Navigator;
@@ -15,7 +15,8 @@ impl<R: Reversible> Navigator<R> {
     pub fn back_to<P: Probe<R>>(&mut self, probe: &P) -> Option<u64>
         ensures found { (f : R.View → Bool) → TestsView R.Reversible f (P.holds_of_state probe.now) →
             result ≡ last_below (hit R.Reversible (P.asks_step probe.now) (P.holds_of_step probe.now) f self.old) self.old.place }
-        ensures moved { SearchedTo R.Reversible self.old self.new result (2 * self.old.place) }
+        ensures moved { SearchedTo R.Reversible self.old self.new result (most_below self.old.place result) }
+        ensures below { IfSome result (λ place. (0 < place) × (place < self.old.place)) }
 
         // A condition on entries needs no premise, and no call but those of the way.
         ensures found_step { IsTrue (P.asks_step probe.now) →
@@ -34,7 +35,8 @@ impl<R: Reversible> Navigator<R> {
     /// Goes back to the nearest entry that meets the condition.
     fn back_to_step<P: Probe<R>>(&mut self, probe: &P) -> Option<u64>
         ensures found { result ≡ last_below (step_hit (P.holds_of_step probe.now) self.old.entries) self.old.place }
-        ensures below { unwrap_or result self.old.place ≤ self.old.place }
+        ensures below { IfSome result (λ place. (0 < place) × (place < self.old.place)) }
+        ensures no_farther { unwrap_or result self.old.place ≤ self.old.place }
         ensures moved { MovedTo R.Reversible self.old self.new (unwrap_or result self.old.place)
             (self.old.place - unwrap_or result self.old.place) }
     {
@@ -46,7 +48,7 @@ impl<R: Reversible> Navigator<R> {
     /// The nearest place below whose entry meets the condition.
     fn last_step_below<P: Probe<R>>(&self, probe: &P) -> Option<u64>
         ensures found { result ≡ last_below (step_hit (P.holds_of_step probe.now) self.now.entries) self.now.place }
-        ensures below { IfSome result (λ place. place < self.now.place) }
+        ensures below { IfSome result (λ place. (0 < place) × (place < self.now.place)) }
     {
         for place in (1..self.place()).rev() {
             if probe.step(self.entry_before(place)) {
@@ -60,7 +62,8 @@ impl<R: Reversible> Navigator<R> {
     fn back_to_state<P: Probe<R>>(&mut self, probe: &P) -> Option<u64>
         ensures found { (f : R.View → Bool) → TestsView R.Reversible f (P.holds_of_state probe.now) →
             result ≡ last_below (state_hit R.Reversible f (start_of R.Reversible self.old) self.old.entries) self.old.place }
-        ensures moved { SearchedTo R.Reversible self.old self.new result (2 * self.old.place) }
+        ensures moved { SearchedTo R.Reversible self.old self.new result (most_below self.old.place result) }
+        ensures below { IfSome result (λ place. (0 < place) × (place < self.old.place)) }
     {
         let from = self.place();
         if from == 0 {

@@ -3,7 +3,7 @@
 ghost use Rattle.std.specs.Prelude.{ℕ, Bool, IsTrue, unwrap_or, IfSome, length, ◌≡◌, ◌<◌, ◌≤◌, ◌-◌, ◌*◌};
 ghost use Rattle.rw_navigator.specs.Navigator.{start_of, MovedTo};
 ghost use Rattle.rw_navigator.specs.Moves.{distance_between};
-ghost use Rattle.rw_navigator.specs.Search.{hit, step_hit, state_hit, first_above, TestsView, SearchedTo};
+ghost use Rattle.rw_navigator.specs.Search.{hit, step_hit, state_hit, first_above, most_above, TestsView, SearchedTo};
 
 use crate::conditions::{Probe, comes_true};
 use crate::places::Navigator;
@@ -16,7 +16,8 @@ impl<R: Reversible> Navigator<R> {
         ensures found { (f : R.View → Bool) → TestsView R.Reversible f (P.holds_of_state probe.now) →
             result ≡ first_above (hit R.Reversible (P.asks_step probe.now) (P.holds_of_step probe.now) f self.old)
             self.old.place (length self.old.entries) }
-        ensures moved { SearchedTo R.Reversible self.old self.new result (2 * (length self.old.entries - self.old.place)) }
+        ensures moved { SearchedTo R.Reversible self.old self.new result (most_above self.old.place (length self.old.entries) result) }
+        ensures above { IfSome result (λ place. (self.old.place < place) × (place ≤ length self.old.entries)) }
 
         // A condition on entries needs no premise, and no call but those of the way.
         ensures found_step { IsTrue (P.asks_step probe.now) →
@@ -37,7 +38,8 @@ impl<R: Reversible> Navigator<R> {
     fn forward_to_step<P: Probe<R>>(&mut self, probe: &P) -> Option<u64>
         ensures found { result ≡ first_above (step_hit (P.holds_of_step probe.now) self.old.entries)
             self.old.place (length self.old.entries) }
-        ensures above { self.old.place ≤ unwrap_or result self.old.place }
+        ensures above { IfSome result (λ place. (self.old.place < place) × (place ≤ length self.old.entries)) }
+        ensures no_nearer { self.old.place ≤ unwrap_or result self.old.place }
         ensures inside { unwrap_or result self.old.place ≤ length self.old.entries }
         ensures moved { MovedTo R.Reversible self.old self.new (unwrap_or result self.old.place)
             (unwrap_or result self.old.place - self.old.place) }
@@ -51,8 +53,7 @@ impl<R: Reversible> Navigator<R> {
     fn first_step_above<P: Probe<R>>(&self, probe: &P) -> Option<u64>
         ensures found { result ≡ first_above (step_hit (P.holds_of_step probe.now) self.now.entries)
             self.now.place (length self.now.entries) }
-        ensures above { IfSome result (λ place. self.now.place < place) }
-        ensures inside { IfSome result (λ place. place ≤ length self.now.entries) }
+        ensures above { IfSome result (λ place. (self.now.place < place) × (place ≤ length self.now.entries)) }
     {
         for place in self.place()..self.len() {
             if probe.step(self.entry_before(place + 1)) {
@@ -67,7 +68,8 @@ impl<R: Reversible> Navigator<R> {
         ensures found { (f : R.View → Bool) → TestsView R.Reversible f (P.holds_of_state probe.now) →
             result ≡ first_above (state_hit R.Reversible f (start_of R.Reversible self.old) self.old.entries)
             self.old.place (length self.old.entries) }
-        ensures moved { SearchedTo R.Reversible self.old self.new result (2 * (length self.old.entries - self.old.place)) }
+        ensures moved { SearchedTo R.Reversible self.old self.new result (most_above self.old.place (length self.old.entries) result) }
+        ensures above { IfSome result (λ place. (self.old.place < place) × (place ≤ length self.old.entries)) }
     {
         let from = self.place();
         let mut before = probe.state(self.state());

@@ -5,10 +5,6 @@ use Rattle.std.proofs.lemmas.Bool.{cond_both, ltb-true, ltb-false, le-ltb, lt-lt
 use Rattle.std.proofs.lemmas.List.{length_push, drop-drop, drop-append-le}
 use Rattle.rw_law.proofs.Lists.{push_back}
 
--- how many values a window has at most
-abbrev pub VALUES : ℕ
-VALUES = 65536
-
 -- what a ring shows
 pub record Window (V : Type 0) : Type 0 where
   -- how many values are kept

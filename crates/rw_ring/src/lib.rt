@@ -9,7 +9,7 @@ mod laws;
 mod ring;
 
 pub use laws::window_laws;
-pub use ring::{MOST_VALUES, Ring};
+pub use ring::{MOST_CAPACITY, Ring};
 
 #[cfg(test)]
 mod tests;

@@ -1,6 +1,8 @@
 //! The ring: a value stands in the cell whose number is its position's remainder by the capacity.
-ghost use Rattle.std.specs.Prelude.{◌≡◌, ◌+◌, ◌-◌, ◌<◌, ◌≤◌, ◌^◌, min, [], length, slice_get, None, IfOk, is_some, nat_lt};
-ghost use Rattle.rw_ring.specs.Windows.{VALUES, put, evicted, unput, oldest, opened};
+ghost use Rattle.std.specs.Prelude.{◌≡◌, ◌+◌, ◌-◌, ◌<◌, ◌≤◌, min, [], length, slice_get, None, IfOk, is_some, nat_lt};
+ghost use Rattle.rw_ring.specs.declared.ring.TheConstants.{MOST_CAPACITY};
+ghost use Rattle.rw_law.specs.declared.limits.TheConstants.{MOST_WEIGHT};
+ghost use Rattle.rw_ring.specs.Windows.{put, evicted, unput, oldest, opened};
 
 use rw_law::NoMemory;
 use std::alloc::Global;
@@ -8,7 +10,7 @@ use std::marker::Model;
 use std::mem;
 
 /// How many values a ring keeps at most.
-pub const MOST_VALUES: u64 = 65536;
+pub const MOST_CAPACITY: u32 = 65_536;
 
 /// The last values of all that were put.
 #[derive(Drop)]
@@ -21,20 +23,21 @@ pub struct Ring<V: Copy> {
 impl<V: Copy> Model for Ring<V> {
     ghost use Rattle.std.specs.Prelude.{◌≡◌, ◌<◌, ◌≤◌, min, vec_len, vec_capacity};
     ghost use Rattle.rw_ring.specs.Cells.{in_order};
-    ghost use Rattle.rw_ring.specs.Windows.{Window, VALUES};
+    ghost use Rattle.rw_ring.specs.declared.ring.TheConstants.{MOST_CAPACITY};
+    ghost use Rattle.rw_ring.specs.Windows.{Window};
 
     ghost Value = { Window V };
 
     ghost view = { λ r. record { capacity = r.capacity; count = r.count; values = in_order r.capacity r.count r.cells.items } };
 
-    ghost invariant = { λ r. (0 < r.capacity) × (r.capacity ≤ VALUES) × (vec_len r.cells ≡ min r.count r.capacity) × (r.capacity ≤ vec_capacity r.cells) };
+    ghost invariant = { λ r. (0 < r.capacity) × (r.capacity ≤ MOST_CAPACITY) × (vec_len r.cells ≡ min r.count r.capacity) × (r.capacity ≤ vec_capacity r.cells) };
 }
 
 impl<V: Copy> Ring<V> {
     /// A ring to which nothing was put. All the memory it will need is taken here, and no cell is written.
     pub fn new(alloc: Global, capacity: u64) -> Result<Self, NoMemory>
         requires some { 0 < capacity }
-        requires most { capacity ≤ VALUES }
+        requires most { capacity ≤ MOST_CAPACITY }
         ensures { IfOk result (λ r. r ≡ opened capacity) }
     {
         Ok(Ring {
@@ -48,7 +51,7 @@ impl<V: Copy> Ring<V> {
     pub fn capacity(&self) -> u64
         ensures capacity { result ≡ self.now.capacity }
         ensures some { 0 < result }
-        ensures most { result ≤ VALUES }
+        ensures most { result ≤ MOST_CAPACITY }
     {
         self.capacity
     }
@@ -81,7 +84,7 @@ impl<V: Copy> Ring<V> {
 
     /// Puts one more value, and gives the one that is evicted for it.
     pub fn put(&mut self, v: V) -> Option<V>
-        requires { self.old.count < 2 ^ 62 }
+        requires { self.old.count < MOST_WEIGHT }
         ensures evicted { result ≡ evicted self.old.capacity self.old.values }
         ensures values { self.new.values ≡ put self.old.capacity self.old.values v }
         ensures count { self.new.count ≡ self.old.count + 1 }

@@ -3,3 +3,4 @@ pub mod NamedLaws
 pub mod KeptLaws
 pub mod ReadingLaws
 pub mod PlayLaws
+pub mod Spared

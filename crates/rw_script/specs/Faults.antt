@@ -35,25 +35,7 @@ kind_of_words words.HandleTooLarge = BadArguments
 
 -- ---- what may also be refused for want of memory
 
--- the refusal is the one that is said, but for want of memory, of which nothing says when it comes
-abbrev pub RefusesKind : {S : Type 0} → ScriptFaultKind → Result S ScriptFaultKind → Type 0
-RefusesKind kind said = (said ≡ Err kind) ⊎ (kind ≡ NoMemory)
-
--- the same, of a line
-abbrev pub Refuses : {S : Type 0} → ScriptFault → Result S ScriptFault → Type 0
-Refuses fault said = (said ≡ Err fault) ⊎ (fault.kind ≡ NoMemory)
-
--- what is given is what is said
+-- what is given is what is said, or memory ran out
 abbrev pub Gives : {S : Type 0} → Result S ScriptFault → Result S ScriptFault → Type 0
 Gives (Ok s) said = said ≡ Ok s
-Gives (Err fault) said = Refuses fault said
-
--- what was taken led to this
-abbrev pub TakesLine : {S X : Type 0} → Result X ScriptFaultKind → S → Result S ScriptFaultKind → Type 0
-TakesLine (Ok x) s said = said ≡ Ok s
-TakesLine (Err kind) s said = RefusesKind kind said
-
--- the same, of a line
-abbrev pub Takes : {S X : Type 0} → Result X ScriptFault → S → Result S ScriptFault → Type 0
-Takes (Ok x) s said = said ≡ Ok s
-Takes (Err fault) s said = Refuses fault said
+Gives (Err fault) said = (said ≡ Err fault) ⊎ (fault.kind ≡ NoMemory)

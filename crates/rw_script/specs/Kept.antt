@@ -4,6 +4,9 @@ use Rattle.rw_world.specs.declared.opening.Spec.{Spec}
 use Rattle.rw_world.specs.Channel.{strays_at}
 use Rattle.rw_world.specs.Openings.{has_bad_capacity, kind_of_spec, refusal}
 use Rattle.rw_world.specs.Shapes.{stray_of}
+use Rattle.rw_law.specs.declared.limits.TheConstants.{MOST_ACTORS}
+use Rattle.rw_world.specs.declared.opening.TheConstants.{MOST_CHANNELS}
+use Rattle.rw_script.specs.declared.reader.TheConstants.{MOST_STEPS}
 use Rattle.rw_script.specs.declared.steps.Step.{Step}
 use Rattle.rw_script.specs.Script.{Script, Reading, actors_of}
 
@@ -17,16 +20,16 @@ pub record IsStep (specs : List (Spec ℕ)) (actors : ℕ) (step : Step) : Type 
 pub record IsScript (s : Script) : Type 0 where
   pub opens : refusal s.specs ≡ None
   pub some_actor : 1 ≤ s.actors
-  pub few_actors : s.actors ≤ 64
-  pub few_steps : length s.steps ≤ 1048576
+  pub few_actors : s.actors ≤ MOST_ACTORS
+  pub few_steps : length s.steps ≤ MOST_STEPS
   pub steps : All (IsStep s.specs s.actors) s.steps
 
 -- the same on the way, where there may be no channel yet; no step binds two names
 pub record IsReading (r : Reading) : Type 0 where
   pub good_channels : All (λ s. has_bad_capacity s ≡ false) r.specs
-  pub few_channels : length r.specs ≤ 64
+  pub few_channels : length r.specs ≤ MOST_CHANNELS
   pub some_actor : 1 ≤ actors_of r
-  pub few_actors : actors_of r ≤ 64
-  pub few_steps : length r.steps ≤ 1048576
+  pub few_actors : actors_of r ≤ MOST_ACTORS
+  pub few_steps : length r.steps ≤ MOST_STEPS
   pub few_names : length r.names ≤ length r.steps
   pub steps : All (IsStep r.specs (actors_of r)) r.steps

@@ -7,6 +7,9 @@ use Rattle.rw_lines.specs.Lines.{is_skipped}
 use Rattle.rw_lines.specs.Numerals.{numeral_in}
 use Rattle.rw_world.specs.declared.opening.Spec.{Spec}
 use Rattle.rw_world.specs.declared.opening.Spec.TheVariants as spec
+use Rattle.rw_law.specs.declared.limits.TheConstants.{MOST_ACTORS}
+use Rattle.rw_world.specs.declared.opening.TheConstants.{MOST_CHANNELS}
+use Rattle.rw_script.specs.declared.reader.TheConstants.{MOST_STEPS}
 use Rattle.rw_script.specs.declared.faults.ScriptFaultKind.{ScriptFaultKind}
 use Rattle.rw_script.specs.declared.faults.ScriptFaultKind.TheVariants.{TooLong, Syntax, BadCapacity, TooManyChannels, BadActors, UnknownActor, UnknownChannel, NameTaken, TooManySteps, NoChannels}
 use Rattle.rw_script.specs.declared.faults.ScriptFault.{ScriptFault}
@@ -65,12 +68,12 @@ abbrev pub is_in_head : Reading → Bool
 is_in_head r = is_none r.actors && nat_eq (length r.steps) 0
 
 abbrev pub with_spec : Reading → Spec ℕ → Result Reading ScriptFaultKind
-with_spec r s = if nat_lt (length r.specs) 64 then Ok (record r { specs = r.specs ++ s ∷ [] }) else Err TooManyChannels
+with_spec r s = if nat_lt (length r.specs) MOST_CHANNELS then Ok (record r { specs = r.specs ++ s ∷ [] }) else Err TooManyChannels
 
 abbrev pub with_head : Reading → Head → Result Reading ScriptFaultKind
 with_head r (Broadcast n) = if nat_le 1 n && nat_le n 65536 then with_spec r (spec.Broadcast n) else Err BadCapacity
 with_head r (Watch v) = with_spec r (spec.Watch v)
-with_head r (Actors n) = if nat_le 1 n && nat_le n 64 then Ok (record r { actors = Some n }) else Err BadActors
+with_head r (Actors n) = if nat_le 1 n && nat_le n MOST_ACTORS then Ok (record r { actors = Some n }) else Err BadActors
 
 -- ---- step lines
 
@@ -86,7 +89,7 @@ spec_for r actor channel = if nat_lt actor (actors_of r) then or_fault UnknownCh
 abbrev pub with_said : Reading → ℕ → ℕ → Said → Option ℕ → Result Reading ScriptFaultKind
 with_said r actor channel said target =
     if is_bound_again r.names said.bound then Err NameTaken
-    else if nat_lt (length r.steps) 1048576 then Ok (record r {
+    else if nat_lt (length r.steps) MOST_STEPS then Ok (record r {
       steps = r.steps ++ record { line = r.lines; actor = actor; channel = channel; call = said.call; target = target; binds = is_some said.bound } ∷ [];
       names = with_bound r.names actor channel said.bound;
     })

@@ -19,7 +19,7 @@ mod script_tests;
 mod steps;
 
 pub use faults::{ScriptFault, ScriptFaultKind};
-pub use reader::{ScriptReader, is_mark};
-pub use running::{RunFault, run_one};
+pub use reader::{MOST_STEPS, ScriptReader, is_mark};
+pub use running::{Played, RunFault, play, run_one};
 pub use script::Script;
 pub use steps::Step;

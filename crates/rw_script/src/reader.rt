@@ -1,7 +1,7 @@
 //! A script, read line by line: channel lines, an actors line, then step lines.
 
 ghost use Rattle.std.specs.Prelude.{◌≡◌, ◌+◌, ◌-◌, ◌^◌, ◌<◌, ◌≤◌, true, false, Some, length, map, option_map, slice_get, IfErr, OnErr, IfOk, OnOk};
-ghost use Rattle.rw_script.specs.Faults.{Takes, TakesLine};
+ghost use Rattle.rw_script.specs.Memory.{Takes, TakesLine};
 ghost use Rattle.rw_world.specs.Openings.{has_bad_capacity, kind_of_spec};
 ghost use Rattle.rw_script.specs.Kept.{IsStep};
 ghost use Rattle.rw_script.specs.Script.{actors_of, after_line, ended, is_broadcast, is_in_head, is_mark, opening, spec_for, with_head, with_line, with_said, with_spec, with_step};
@@ -15,22 +15,14 @@ use crate::names::Names;
 use crate::said::{SaidCall, read_said};
 use crate::script::Script;
 use crate::steps::Step;
+use rw_law::MOST_ACTORS;
 use rw_lines::{LONGEST_LINE, is_skipped};
-use rw_world::Spec;
+use rw_world::{MOST_CAPACITY, MOST_CHANNELS, Spec};
 use std::alloc::Global;
 use std::marker::Model;
 
-/// The most channels of a script.
-const MOST_CHANNELS: usize = 64;
-
-/// The most actors of a script.
-const MOST_ACTORS: u64 = 64;
-
-/// The greatest capacity that a channel line may give.
-const MOST_CAPACITY: u64 = 65_536;
-
 /// The most step lines of a script.
-const MOST_STEPS: usize = 1_048_576;
+pub const MOST_STEPS: usize = 1_048_576;
 
 /// What the lines of a script so far say.
 #[derive(Drop)]
@@ -78,10 +70,11 @@ impl ScriptReader {
         self.lines
     }
 
-    /// Takes one line more, without its LF. At an `Err` nothing has changed, and the fault is that of this line.
+    /// Takes one line more, without its LF. At an `Err` nothing has changed, and the fault is that of this line; memory is asked
+    /// for only by a channel line or a step line that has no other fault.
     pub fn take(&mut self, line: &[u8]) -> Result<(), ScriptFault>
         requires { self.old.lines < 2 ^ 64 - 1 }
-        ensures taken { Takes result self.new (after_line self.old line.now) }
+        ensures taken { Takes result self.old self.new (after_line self.old line.now) }
         ensures lines { OnOk result (self.new.lines ≡ self.old.lines + 1) }
         ensures unchanged { OnErr result (self.new ≡ self.old) }
         ensures at { IfErr result (λ fault. fault.line ≡ self.old.lines + 1) }
@@ -122,7 +115,7 @@ impl ScriptReader {
     /// Takes the words of a line that was counted.
     #[tactic(auto, unfolding(crate::specs::Script::with_line))]
     fn take_line(&mut self, line: &[u8]) -> Result<(), ScriptFaultKind>
-        ensures taken { TakesLine result self.new (with_line self.old line.now) }
+        ensures taken { TakesLine result self.old self.new (with_line self.old line.now) }
         ensures unchanged { OnErr result (self.new ≡ self.old) }
         ensures lines { self.new.lines ≡ self.old.lines }
     {
@@ -152,20 +145,20 @@ impl ScriptReader {
     /// Takes a channel line or the actors line.
     fn take_head(&mut self, head: Head) -> Result<(), ScriptFaultKind>
         requires { is_in_head self.old ≡ true }
-        ensures taken { TakesLine result self.new (with_head self.old head) }
+        ensures taken { TakesLine result self.old self.new (with_head self.old head) }
         ensures unchanged { OnErr result (self.new ≡ self.old) }
         ensures lines { self.new.lines ≡ self.old.lines }
     {
         match head {
             Head::Broadcast(capacity) => {
-                if capacity < 1 || capacity > MOST_CAPACITY {
+                if capacity < 1 || capacity > u64::from(MOST_CAPACITY) {
                     return Err(ScriptFaultKind::BadCapacity);
                 }
                 self.take_spec(Spec::Broadcast(capacity as u32))
             }
             Head::Watch(value) => self.take_spec(Spec::Watch(value)),
             Head::Actors(actors) => {
-                if actors < 1 || actors > MOST_ACTORS {
+                if actors < 1 || actors > u64::from(MOST_ACTORS) {
                     return Err(ScriptFaultKind::BadActors);
                 }
                 self.actors = Some(actors as u32);
@@ -178,7 +171,7 @@ impl ScriptReader {
     fn take_spec(&mut self, spec: Spec<u64>) -> Result<(), ScriptFaultKind>
         requires head { is_in_head self.old ≡ true }
         requires good { has_bad_capacity spec ≡ false }
-        ensures taken { TakesLine result self.new (with_spec self.old spec) }
+        ensures taken { TakesLine result self.old self.new (with_spec self.old spec) }
         ensures unchanged { OnErr result (self.new ≡ self.old) }
         ensures lines { self.new.lines ≡ self.old.lines }
     {
@@ -195,7 +188,7 @@ impl ScriptReader {
     #[tactic(auto, unfolding(crate::specs::Script::with_step))]
     fn take_step(&mut self, line: &[u8]) -> Result<(), ScriptFaultKind>
         requires { length line.now ≤ 256 }
-        ensures taken { TakesLine result self.new (with_step self.old line.now) }
+        ensures taken { TakesLine result self.old self.new (with_step self.old line.now) }
         ensures unchanged { OnErr result (self.new ≡ self.old) }
         ensures lines { self.new.lines ≡ self.old.lines }
     {
@@ -252,7 +245,7 @@ impl ScriptReader {
         target: Option<u32>,
     ) -> Result<(), ScriptFaultKind>
         requires step { IsStep self.old.specs (actors_of self.old) (record { line = self.old.lines; actor = actor; channel = channel; call = said.now.call; target = target; binds = false }) }
-        ensures taken { TakesLine result self.new (with_said self.old actor channel (said_of said.now) target) }
+        ensures taken { TakesLine result self.old self.new (with_said self.old actor channel (said_of said.now) target) }
         ensures unchanged { OnErr result (self.new ≡ self.old) }
         ensures lines { self.new.lines ≡ self.old.lines }
     {

@@ -1,10 +1,10 @@
 //! The run of a script, on one book.
 
-ghost use Rattle.std.specs.Prelude.{◌≡◌, ◌<◌, ◌^◌, ◌++◌, ◌∷◌, [], false, if◌then◌else◌, length, IfOk, OnOk, IsTrue, MatchOption};
+ghost use Rattle.std.specs.Prelude.{◌≡◌, ◌<◌, ◌^◌, ◌++◌, ◌∷◌, [], None, false, if◌then◌else◌, length, IfOk, OnOk, IsTrue, MatchOption};
 ghost use Rattle.rw_journal.specs.Book.{last_stamp, opening_of, reply_to};
 ghost use Rattle.rw_journal.specs.Interleaving.{CountsFrom, interleaving_of, journal_of};
 ghost use Rattle.rw_world.specs.Machines.{of_world};
-ghost use Rattle.rw_world.specs.Openings.{opened};
+ghost use Rattle.rw_world.specs.Openings.{opened, refusal};
 ghost use Rattle.rw_script.specs.Running.{IsMade, call_of, filled, made_by, run_of, with_handle};
 
 use crate::script::Script;
@@ -14,8 +14,8 @@ use rw_journal::laws::journal_of_an_interleaving;
 use rw_journal::{Book, Run, TakeFault};
 use rw_watch::WReply;
 use rw_world::{
-    ChanCall, ChanReply, ChannelCall, ChannelReply, OpenFault, RowCall, World, documented, open,
-    specified,
+    ChanCall, ChanReply, ChannelCall, ChannelReply, OpenFault, RowCall, Spec, World, documented,
+    open, specified,
 };
 use std::alloc::Global;
 use thiserror::Error;
@@ -121,12 +121,22 @@ fn run_steps(
     Ok(None)
 }
 
-/// Runs a script: its calls in the order of its lines, with the stamps 1, 2, 3, .. . It stops at the first call that would
-/// wait, and gives the number of that line.
-pub fn run_one(alloc: Global, script: &Script) -> Result<(Run<u64>, Option<u64>), RunFault>
-    ensures specs { IfOk result (λ ran. ran.0.specs ≡ script.now.specs) }
-    ensures entries { IfOk result (λ ran. ran.0.entries ≡ journal_of of_world (opened script.now.specs) 0 (run_of script.now).calls) }
-    ensures waits { IfOk result (λ ran. ran.1 ≡ (run_of script.now).waits) }
+/// A script that was run: the specs of its channels, the book that has its calls, and the line that would wait, if one would.
+#[derive(Drop)]
+pub struct Played {
+    pub specs: Vec<Spec<u64>>,
+    pub book: Book<World<u64>>,
+    pub waits: Option<u64>,
+}
+
+/// Runs a script on a book: its calls in the order of its lines, with the stamps 1, 2, 3, .. . It stops at the first call that
+/// would wait, and gives the number of that line.
+pub fn play(alloc: Global, script: &Script) -> Result<Played, RunFault>
+    ensures specs { IfOk result (λ played. played.specs.items ≡ script.now.specs) }
+    ensures opens { IfOk result (λ played. refusal played.specs.items ≡ None) }
+    ensures opened { IfOk result (λ played. opening_of of_world played.book ≡ opened played.specs.items) }
+    ensures entries { IfOk result (λ played. played.book.entries ≡ journal_of of_world (opened script.now.specs) 0 (run_of script.now).calls) }
+    ensures waits { IfOk result (λ played. played.waits ≡ (run_of script.now).waits) }
 {
     let world = match open(alloc, script.specs()) {
         Ok(world) => world,
@@ -142,5 +152,15 @@ pub fn run_one(alloc: Global, script: &Script) -> Result<(Run<u64>, Option<u64>)
     let waits = run_steps(alloc, &mut book, script)?;
     book.kept();
     journal_of_an_interleaving::<World<u64>>();
+    Ok(Played { specs, book, waits })
+}
+
+/// The same as a run.
+pub fn run_one(alloc: Global, script: &Script) -> Result<(Run<u64>, Option<u64>), RunFault>
+    ensures specs { IfOk result (λ ran. ran.0.specs ≡ script.now.specs) }
+    ensures entries { IfOk result (λ ran. ran.0.entries ≡ journal_of of_world (opened script.now.specs) 0 (run_of script.now).calls) }
+    ensures waits { IfOk result (λ ran. ran.1 ≡ (run_of script.now).waits) }
+{
+    let Played { specs, book, waits } = play(alloc, script)?;
     Ok((Run::of_book(specs, book), waits))
 }

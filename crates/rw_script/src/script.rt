@@ -1,13 +1,14 @@
 //! Scripts.
 
-ghost use Rattle.std.specs.Prelude.{◌≡◌, ◌≤◌, ◌<◌, ◌∷◌, None, All, length};
+ghost use Rattle.std.specs.Prelude.{◌≡◌, ◌≤◌, ◌<◌, ◌∷◌, None, All, length, IfErr};
 ghost use Rattle.rw_lines.specs.Lines.{lines};
 ghost use Rattle.rw_world.specs.Openings.{refusal};
 ghost use Rattle.rw_script.specs.Faults.{Gives};
 ghost use Rattle.rw_script.specs.Kept.{IsScript, IsStep};
+ghost use Rattle.rw_script.specs.Memory.{AsksMemory};
 ghost use Rattle.rw_script.specs.Script.{script_in};
 
-use crate::faults::ScriptFault;
+use crate::faults::{ScriptFault, ScriptFaultKind};
 use crate::reader::{ScriptReader, is_mark};
 use crate::steps::Step;
 use rw_lines::cut;
@@ -37,7 +38,9 @@ impl Model for Script {
 impl Script {
     /// The script of these bytes, up to the line `---` or their end, or its first fault.
     pub fn read(alloc: Global, bytes: &[u8]) -> Result<Script, ScriptFault>
-        ensures { Gives result (script_in (lines bytes.now)) }
+        ensures given { Gives result (script_in (lines bytes.now)) }
+        // Memory may be wanting only where a line asks for it, and the lines before it were taken.
+        ensures memory { IfErr result (λ fault. fault.kind ≡ ScriptFaultKind.NoMemory → AsksMemory (lines bytes.now) fault.line) }
     {
         let mut reader = ScriptReader::new(alloc);
         let mut rest = bytes;

@@ -1,7 +1,8 @@
 //! Scripts that are refused, and scripts that run. In the tables `/` stands for a line's end.
 
-use crate::{RunFault, Script, ScriptFault, ScriptFaultKind, ScriptReader, run_one, write_entry};
+use crate::{RunFault, Script, ScriptFault, ScriptFaultKind, ScriptReader, run_one};
 use rw_law::Reversible;
+use rw_words::write_entry;
 use rw_world::{Spec, World};
 use std::alloc::Global;
 use std::process::Abort;

@@ -1,5 +1,5 @@
 //! Worked rows of both channels, recorded in a book and walked by a navigator.
 
-mod broadcasts;
-mod playing;
-mod watches;
+pub mod broadcasts;
+pub mod playing;
+pub mod watches;

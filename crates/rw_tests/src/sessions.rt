@@ -3,6 +3,7 @@
 mod broadcasts;
 mod commands;
 mod devices;
+mod handle_limit;
 mod limits;
 mod playing;
 mod refusals;

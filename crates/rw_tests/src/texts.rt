@@ -1,5 +1,7 @@
 //! Texts of runs that are read, written and read again, and texts of none.
 
+mod faults;
 mod reading;
-mod rows;
+mod round_trips;
+pub mod rows;
 mod writing;

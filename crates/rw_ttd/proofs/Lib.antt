@@ -1,2 +1,3 @@
 pub mod FileRuns
+pub mod Forgetting
 pub mod Telling

@@ -1,4 +1,8 @@
-pub mod Endings
-pub mod Files
+pub mod Lines
 pub mod Statuses
 pub mod Runs
+pub mod Endings
+pub mod Files
+pub mod Contents
+pub mod Verbs
+pub mod Words

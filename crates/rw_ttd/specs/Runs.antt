@@ -1,4 +1,4 @@
--- A run of commands over three streams.
+-- A run of commands over two streams, and how its end is told.
 use Rattle.std.specs.Prelude.{◌≡◌, ℕ, List, Option, Result, Ok, Err}
 use Rattle.rw_lines.specs.declared.streams.StreamFault.{StreamFault}
 use Rattle.rw_console.specs.declared.sessions.Outcome.{Outcome}
@@ -9,11 +9,11 @@ use Rattle.rw_ttd.specs.Statuses.{Tells}
 module _ (report : List ℕ → List ℕ) (outcome : List ℕ → Outcome) (begun : List (List ℕ) → Type 0) where
   -- what ended so has read these bytes and written these
   abbrev pub Ends : Option (List ℕ) → Option (List ℕ) → Option (List ℕ) → Option (List ℕ) → Result Outcome StreamFault → Type 0
-  Ends input input' out out' (Ok o) = (done : Answers input input' out out' report) × (outcome done.bytes ≡ o)
+  Ends input input' out out' (Ok o) = (done : Answers input input' out out' report MOST_BYTES) × (outcome done.bytes ≡ o)
   Ends input input' out out' (Err fault) = Stops input input' out out' report begun MOST_BYTES fault
 
-  -- It ended, and its end was told: by this exit status, and by its line on the stream for errors.
-  pub record Runs (input input' out out' err err' : Option (List ℕ)) (status : ℕ) : Type 0 where
+  -- It ended, and this line and this status tell its end.
+  pub record Runs (input input' out out' : Option (List ℕ)) (line : List ℕ) (status : ℕ) : Type 0 where
     pub ended : Result Outcome StreamFault
     pub commands : Ends input input' out out' ended
-    pub told : Tells err err' status ended
+    pub told : Tells line status ended

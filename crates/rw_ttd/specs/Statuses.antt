@@ -1,5 +1,5 @@
 -- What an end is told by: an exit status, and a line on the stream for errors.
-use Rattle.std.specs.Prelude.{◌≡◌, ℕ, List, [], Option, Result, Ok, Err, codes, take}
+use Rattle.std.specs.Prelude.{◌≡◌, ◌⊎◌, ◌<◌, ℕ, List, [], Option, Result, Ok, Err, codes, length, take}
 use Rattle.std.specs.Io.KnownBytes.{Appends}
 use Rattle.rw_lines.specs.declared.streams.StreamFault.{StreamFault}
 use Rattle.rw_lines.specs.declared.streams.StreamFault.TheVariants.{Read, Write, TooMuch, NoMemory}
@@ -24,10 +24,10 @@ said_of (Err Write) = codes "write fault\n"
 said_of (Err TooMuch) = codes "read fault\n"
 said_of (Err NoMemory) = codes "no memory\n"
 
--- a line was written, or the front of it that was taken
-abbrev pub Says : Option (List ℕ) → Option (List ℕ) → List ℕ → Type 0
-Says err err' line = (n : ℕ) × Appends err err' (take n line)
+-- this line and this status tell an end
+abbrev pub Tells : List ℕ → ℕ → Result Outcome StreamFault → Type 0
+Tells line status ended = (line ≡ said_of ended) × (status ≡ status_of ended)
 
--- an end was told: by this exit status, and by its line
-abbrev pub Tells : Option (List ℕ) → Option (List ℕ) → ℕ → Result Outcome StreamFault → Type 0
-Tells err err' status ended = Says err err' (said_of ended) × (status ≡ status_of ended)
+-- a line was written whole, or else its first bytes, fewer than all
+abbrev pub Says : Option (List ℕ) → Option (List ℕ) → List ℕ → Type 0
+Says err err' line = Appends err err' line ⊎ ((n : ℕ) × (n < length line) × Appends err err' (take n line))

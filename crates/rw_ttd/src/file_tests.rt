@@ -4,9 +4,9 @@ use crate::files::{check_file, debug_file, record_file};
 use rw_devices::{FailingReader, FailingWriter};
 use std::test::Fail;
 
-const SCRIPT: &[u8] = b"broadcast 4\n0 0 send 0 7\n0 0 try-recv 1\n0 0 drop 0\n";
+pub const SCRIPT: &[u8] = b"broadcast 4\n0 0 send 0 7\n0 0 try-recv 1\n0 0 drop 0\n";
 
-const JOURNAL: &[u8] =
+pub const JOURNAL: &[u8] =
     b"ttd-journal 1\nbroadcast 4\nsteps\n1 0 0 send 0 7 = sent 1\n2 0 0 try-recv 1 = value 7\n3 0 0 drop 0 = dropped\nend\n";
 
 /// A file, the answered status, what is written, and what is told on the stream for errors.
@@ -38,7 +38,7 @@ fn records_scripts(rt: HostRuntime) -> Result<(), Fail> {
         let mut err = FailingWriter::new(rt.alloc(), 64, None);
         let answered = record_file(rt.alloc(), &mut file, &mut out, &mut err);
         assert_eq!(rt; answered, status);
-        assert_eq!(rt; out.written(), written);
+        assert_eq!(rt; out.handed_on(), written);
         assert_eq!(rt; err.written(), told);
     }
     Ok(())
@@ -80,7 +80,7 @@ fn checks_journals(rt: HostRuntime) -> Result<(), Fail> {
         let mut err = FailingWriter::new(rt.alloc(), 64, None);
         let answered = check_file(rt.alloc(), &mut file, &mut out, &mut err);
         assert_eq!(rt; answered, status);
-        assert_eq!(rt; out.written(), written);
+        assert_eq!(rt; out.handed_on(), written);
         assert_eq!(rt; err.written(), told);
     }
     Ok(())
@@ -96,7 +96,7 @@ fn debugs_journals(rt: HostRuntime) -> Result<(), Fail> {
     let written: &[u8] =
         b"place 3 of 3\nchannel 0 broadcast capacity 4 sent 1 queued 0 made 2 closed\nwindow 7\nsenders\nreceiver 1 position 1 unread 0 lag 0\nplace 2 of 3\n#2 2 0 0 try-recv 1 = value 7\n";
     assert_eq!(rt; answered, 0);
-    assert_eq!(rt; out.written(), written);
+    assert_eq!(rt; out.handed_on(), written);
     assert_eq!(rt; err.written(), b"".as_slice());
     Ok(())
 }
@@ -111,7 +111,7 @@ fn each_read_and_each_write_fails(rt: HostRuntime) -> Result<(), Fail> {
         let answered = record_file(rt.alloc(), &mut file, &mut out, &mut err);
         if answered == 0 {
             done = true;
-            assert_eq!(rt; out.written(), JOURNAL);
+            assert_eq!(rt; out.handed_on(), JOURNAL);
             assert_eq!(rt; err.written(), b"".as_slice());
         } else {
             // Eight reads give the script, and a ninth its end.
@@ -139,7 +139,7 @@ fn each_read_and_each_write_of_a_check_fails(rt: HostRuntime) -> Result<(), Fail
         let answered = check_file(rt.alloc(), &mut file, &mut out, &mut err);
         if answered == 0 {
             done = true;
-            assert_eq!(rt; out.written(), b"ok 3\n".as_slice());
+            assert_eq!(rt; out.handed_on(), b"ok 3\n".as_slice());
             assert_eq!(rt; err.written(), b"".as_slice());
         } else {
             // Sixteen reads give the journal, and one more its end.
@@ -154,5 +154,27 @@ fn each_read_and_each_write_of_a_check_fails(rt: HostRuntime) -> Result<(), Fail
         }
     }
     assert!(rt; done);
+    Ok(())
+}
+
+// A failed write on the stream for errors changes neither the status nor what is written.
+#[test]
+fn each_write_of_a_told_line_fails(rt: HostRuntime) -> Result<(), Fail> {
+    let script: &[u8] = b"broadcast 2\n0 0 recv 1\n";
+    let line: &[u8] = b"would wait 2\n";
+    for k in 0..6u64 {
+        let mut file = FailingReader::new(script, 64, None);
+        let mut out = FailingWriter::new(rt.alloc(), 64, None);
+        let mut err = FailingWriter::new(rt.alloc(), 3, Some(k));
+        let answered = record_file(rt.alloc(), &mut file, &mut out, &mut err);
+        assert_eq!(rt; answered, 3, "{k}");
+        assert_eq!(rt;
+            out.handed_on(),
+            b"ttd-journal 1\nbroadcast 2\nsteps\nend\n".as_slice()
+        );
+        // Three bytes a write: five writes take the line.
+        assert_eq!(rt; err.written().len(), line.len().min(3 * k as usize), "{k}");
+        assert!(rt; line.starts_with(err.written()));
+    }
     Ok(())
 }

@@ -1,6 +1,6 @@
 //! Whole inputs.
 
-ghost use Rattle.std.specs.Prelude.{IfOk, IfErr};
+ghost use Rattle.std.specs.Prelude.{◌≤◌, length, IfOk, IfErr};
 ghost use Rattle.std.specs.Io.KnownBytes.{Consumes, IsAtEnd};
 ghost use Rattle.rw_ttd.specs.Files.{StopsReading};
 
@@ -14,6 +14,7 @@ const PIECE: usize = 65_536;
 /// All bytes of a reader. More than 268,435,456 are too much.
 pub fn read_whole<R: Read>(alloc: Global, reader: &mut R) -> Result<Vec<u8>, SessionFault>
     ensures read { IfOk result (λ bytes. Consumes (R.remaining reader.old) (R.remaining reader.new) bytes.items) }
+    ensures few { IfOk result (λ bytes. length bytes.items ≤ MOST_BYTES) }
     ensures whole { IfOk result (λ bytes. IsAtEnd (R.remaining reader.new)) }
     ensures fault { IfErr result (λ fault. StopsReading (R.remaining reader.old) (R.remaining reader.new) fault) }
 {

@@ -7,11 +7,13 @@
 //! Start reading at `program.rt`, and go on with `files.rt`.
 #![tactic(auto)]
 
+mod endings;
 #[cfg(test)]
 mod file_tests;
 mod files;
 mod inputs;
 mod program;
+mod reading;
 mod status;
 #[cfg(test)]
 mod tests;

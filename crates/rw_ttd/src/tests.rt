@@ -60,7 +60,7 @@ fn runs_on_three_streams(rt: HostRuntime) -> Result<(), Fail> {
         let mut errors = FailingWriter::new(rt.alloc(), 64, None);
         let answered = session_on(rt.alloc(), &mut reader, &mut writer, &mut errors);
         assert_eq!(rt; answered, number);
-        assert_eq!(rt; writer.written(), report);
+        assert_eq!(rt; writer.handed_on(), report);
         assert_eq!(rt; errors.written(), line);
     }
     Ok(())

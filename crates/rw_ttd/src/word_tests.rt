@@ -1,6 +1,10 @@
-//! The words of the command line: those that are taken, and what the others are told.
+//! The words of the command line: what those that are taken lead to, and what the others are told.
 
-use crate::words::{Asked, Verb, read_words};
+use crate::endings::Ended;
+use crate::file_tests::{JOURNAL, SCRIPT};
+use crate::program::{over_opened, session_end};
+use crate::words::{Asked, Verb, read_words, refuse_words};
+use rw_devices::{FailingReader, FailingWriter};
 use std::alloc::Global;
 use std::test::Fail;
 
@@ -41,15 +45,81 @@ fn words_are_taken(rt: HostRuntime) -> Result<(), Fail> {
     Ok(())
 }
 
+/// The words, what the file and standard input have, the status, what is written, and what is told.
+type Case = (
+    &'static [&'static str],
+    &'static [u8],
+    &'static [u8],
+    u8,
+    &'static [u8],
+    &'static [u8],
+);
+
+#[test]
+fn each_word_leads_to_its_function(rt: HostRuntime) -> Result<(), Fail> {
+    let alloc = rt.alloc();
+    let cases: [Case; 6] = [
+        (
+            &["ttd", "session"],
+            b"",
+            b"broadcast 1\n---\nback",
+            0,
+            b"out of range, place 0 of 0\n",
+            b"",
+        ),
+        (&["ttd", "record", "f"], SCRIPT, b"", 0, JOURNAL, b""),
+        (
+            &["ttd", "record", "f"],
+            JOURNAL,
+            b"",
+            1,
+            b"",
+            b"script fault 1 syntax\n",
+        ),
+        (&["ttd", "check", "f"], JOURNAL, b"", 0, b"ok 3\n", b""),
+        (
+            &["ttd", "debug", "f"],
+            JOURNAL,
+            b"step",
+            0,
+            b"#3 3 0 0 drop 0 = dropped\n",
+            b"",
+        ),
+        (
+            &["ttd", "debug", "f"],
+            SCRIPT,
+            b"step",
+            1,
+            b"journal fault malformed 1\n",
+            b"",
+        ),
+    ];
+    for (texts, bytes, typed, status, written, told) in cases {
+        let words = words_of(alloc, texts)?;
+        let file = FailingReader::new(bytes, 64, None);
+        let mut input = FailingReader::new(typed, 64, None);
+        let mut out = FailingWriter::new(alloc, 64, None);
+        let ended = match read_words(alloc, words.as_slice()) {
+            Ok(Asked::Session) => session_end(alloc, &mut input, &mut out),
+            Ok(Asked::Over(verb, _)) => over_opened(alloc, verb, Ok(file), &mut input, &mut out),
+            Err(error) => refuse_words(alloc, &error),
+        };
+        assert_eq!(rt; ended.status(), status);
+        assert_eq!(rt; ended.line().as_bytes(), told);
+        assert_eq!(rt; out.handed_on(), written);
+    }
+    Ok(())
+}
+
 /// The line that the texts of clap end with.
 const MORE: &str = "\nFor more information, try '--help'.\n";
 
-/// What is told of words that aren't taken, and nothing of others.
-fn told_of(alloc: Global, texts: &[&str]) -> Result<String, Fail> {
+/// How words end that aren't taken.
+fn refused(alloc: Global, texts: &[&str]) -> Result<Ended, Fail> {
     let words = words_of(alloc, texts)?;
     match read_words(alloc, words.as_slice()) {
-        Ok(_) => Ok(String::new(alloc)),
-        Err(error) => Ok(format!(in alloc; "{error}")?),
+        Ok(_) => Ok(Ended::silent(0)),
+        Err(error) => Ok(refuse_words(alloc, &error)),
     }
 }
 
@@ -74,9 +144,10 @@ fn unknown_subcommands_are_told(rt: HostRuntime) -> Result<(), Fail> {
         ),
     ];
     for (texts, told) in cases {
-        let text = told_of(rt.alloc(), texts)?;
+        let ended = refused(rt.alloc(), texts)?;
         let whole = format!(in rt.alloc(); "{told}{MORE}")?;
-        assert_eq!(rt; text.as_str(), whole.as_str());
+        assert_eq!(rt; ended.line(), whole.as_str());
+        assert_eq!(rt; ended.status(), 2);
     }
     Ok(())
 }
@@ -102,18 +173,20 @@ fn wrong_words_of_a_subcommand_are_told(rt: HostRuntime) -> Result<(), Fail> {
         ),
     ];
     for (texts, told) in cases {
-        let text = told_of(rt.alloc(), texts)?;
+        let ended = refused(rt.alloc(), texts)?;
         let whole = format!(in rt.alloc(); "{told}{MORE}")?;
-        assert_eq!(rt; text.as_str(), whole.as_str());
+        assert_eq!(rt; ended.line(), whole.as_str());
+        assert_eq!(rt; ended.status(), 2);
     }
     Ok(())
 }
 
 #[test]
 fn help_shows_the_subcommands(rt: HostRuntime) -> Result<(), Fail> {
-    let text = told_of(rt.alloc(), &["ttd", "--help"])?;
+    let ended = refused(rt.alloc(), &["ttd", "--help"])?;
+    assert_eq!(rt; ended.status(), 2);
     assert_eq!(rt;
-        text.as_str(),
+        ended.line(),
         "Time-travel debugger of broadcast and watch channels\n\nUsage: ttd <COMMAND>\n\nCommands:\n  session  Read a script and then commands over its run, from standard input\n  record   Run the script in FILE and write its journal\n  check    Judge the journal in FILE\n  debug    Read commands over the journal in FILE, from standard input\n  help     Print this message or the help of the given subcommand(s)\n\nOptions:\n  -h, --help  Print help\n"
     );
     Ok(())

@@ -1,7 +1,15 @@
 //! The words of the command line.
 
+ghost use Rattle.std.specs.Prelude.{◌≡◌, ◌≢◌, ◌⊎◌, Err};
+ghost use Rattle.clap.specs.Values.{kind_of};
+ghost use Rattle.rw_ttd.specs.Lines.{line_of};
+ghost use Rattle.rw_ttd.specs.Statuses.{Tells};
+
+use crate::endings::Ended;
+use crate::status::REFUSED_WORDS;
 use clap::error::ErrorKind;
 use clap::{Arg, ArgAction, Command};
+use rw_console::SessionFault;
 use std::alloc::Global;
 
 /// What is done with a file.
@@ -66,4 +74,19 @@ pub fn read_words<'a>(alloc: Global, words: &'a [String]) -> Result<Asked<'a>, c
     }
     // A subcommand is required and each has its arm, so this isn't met; no contract says so.
     Err(command_line(alloc)?.error(ErrorKind::MissingSubcommand, "a subcommand is missing")?)
+}
+
+/// How the program ends where its words aren't taken: the text that tells why, or want of memory.
+pub fn refuse_words(alloc: Global, error: &clap::Error) -> Ended
+    ensures memory { kind_of error.now ≡ ErrorKind.OutOfMemory → Tells (line_of result) result.status (Err SessionFault.NoMemory) }
+    ensures words { kind_of error.now ≢ ErrorKind.OutOfMemory → (result.status ≡ 2)
+        ⊎ Tells (line_of result) result.status (Err SessionFault.NoMemory) }
+{
+    match error.kind() {
+        ErrorKind::OutOfMemory => Ended::of(Err(SessionFault::NoMemory)),
+        _ => match format!(in alloc; "{error}") {
+            Ok(text) => Ended::told_by(text, REFUSED_WORDS),
+            Err(_) => Ended::of(Err(SessionFault::NoMemory)),
+        },
+    }
 }

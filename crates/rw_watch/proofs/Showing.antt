@@ -11,7 +11,7 @@ use Rattle.rw_watch.specs.Channel.{Change, Keep, Write, Make, Mark, Leave, effec
 use Rattle.rw_watch.specs.Record as whole
 use Rattle.rw_watch.specs.Record.{Record, told_count, last_value, channel_of, step, opened, after}
 use Rattle.rw_watch.specs.Shown.{Shown, shown, raised, changed, next, reply_of, IsAllowed, IsMarked}
-use Rattle.rw_watch.specs.Laws.{ShowsItsSteps, ShowsAllowed, IsShownBySome, IsDocumented}
+use Rattle.rw_watch.specs.Laws.{shown_after, ShowsItsSteps, ShowsItsRecord, RepliesByRecord, ShowsAllowed, IsShownBySome, IsDocumented}
 use Rattle.rw_watch.specs.Soundness.{watch_laws}
 
 last_value-push : {V : Type 0} (v : V) (changes : List (V × Bool)) (w : V) (told : Bool) → last_value v (changes ++ (w, told) ∷ []) ≡ w
@@ -57,6 +57,17 @@ allowed_after {V} r (call ∷ calls) ok =
 
 pub shows_allowed : (V : Type 0) → ShowsAllowed V
 shows_allowed V initial calls = allowed_after (opened initial) calls (allowed_opening initial)
+
+shows_after : {V : Type 0} (r : Record V) (calls : List (WCall V)) → shown_after (shown r) calls ≡ shown (after r calls)
+shows_after r [] = refl
+shows_after {V} r (call ∷ calls) = ap (λ x. shown_after x calls) (shows_its_steps V r call).1 ∙ shows_after (step r call).0 calls
+
+pub shows_its_record : (V : Type 0) → ShowsItsRecord V
+shows_its_record V initial calls = shows_after (opened initial) calls
+
+pub replies_by_record : (V : Type 0) → RepliesByRecord V
+replies_by_record V initial calls call =
+    ap (λ (x : Shown V). reply_of x call) (shows_its_record V initial calls) ∙ (shows_its_steps V (after (opened initial) calls) call).0
 
 -- so many changes, each told, that give the same value again
 abbrev told_again : {V : Type 0} → V → ℕ → List (V × Bool)

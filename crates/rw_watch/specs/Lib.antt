@@ -5,3 +5,4 @@ pub mod Machine
 pub mod Record
 pub mod Shown
 pub mod Soundness
+pub mod Results

@@ -4,7 +4,8 @@ use Rattle.rw_handles.specs.declared.kinds.Kind.{Kind}
 use Rattle.rw_handles.specs.declared.kinds.Kind.TheVariants.{Sender, Receiver}
 use Rattle.rw_handles.specs.declared.kinds.Slot.{Slot}
 use Rattle.rw_handles.specs.declared.kinds.Slot.TheVariants.{Live, Spent}
-use Rattle.rw_handles.specs.Slots.{HANDLES, IsLive, IsReceiver}
+use Rattle.rw_handles.specs.Slots.{IsLive, IsReceiver}
+use Rattle.rw_handles.specs.declared.table.TheConstants.{MOST_HANDLES}
 use Rattle.rw_law.specs.Outcomes.{Outcome}
 use Rattle.rw_watch.specs.declared.calls.WCall.{WCall}
 use Rattle.rw_watch.specs.declared.calls.WReply.{WReply}
@@ -100,7 +101,7 @@ IsMarked version Spent = ⊤
 
 -- what channels can show
 pub record IsAllowed {V : Type 0} (x : Shown V) : Type 0 where
-  pub few_slots : length x.slots ≤ HANDLES
+  pub few_slots : length x.slots ≤ MOST_HANDLES
   pub marked : All (IsMarked x.version) x.slots
 
 -- the last change can have been told: no receiver has seen it

@@ -8,7 +8,8 @@ use Rattle.rw_handles.specs.declared.kinds.Kind.TheVariants.{Sender, Receiver}
 use Rattle.rw_handles.specs.declared.kinds.Slot.{Slot}
 use Rattle.rw_handles.specs.declared.kinds.Slot.TheVariants.{Live, Spent}
 use Rattle.rw_handles.specs.declared.kinds.Found.TheVariants.{Handle}
-use Rattle.rw_handles.specs.Slots.{HANDLES, found, IsReceiver}
+use Rattle.rw_handles.specs.Slots.{found, IsReceiver}
+use Rattle.rw_handles.specs.declared.table.TheConstants.{MOST_HANDLES}
 use Rattle.rw_handles.proofs.Checks.{of_checked}
 use Rattle.rw_handles.proofs.SlotLaws.{found_at_is, found_at_wanted, set_back, slice_get-set, live_push, receiver_set, All-slice_get}
 use Rattle.rw_law.specs.Laws.{Laws}
@@ -43,7 +44,7 @@ right_keep x call reply = record {
   weight_rises = omega arith;
 }
 
-right_make : {V : Type 0} (x : Shown V) (call : WCall V) (kind : Kind) (mark : Option ℕ) → (IsAllowed x → IsMarked x.version (Live kind mark)) → length x.slots < HANDLES → IsRight x call (Make kind mark, New (length x.slots))
+right_make : {V : Type 0} (x : Shown V) (call : WCall V) (kind : Kind) (mark : Option ℕ) → (IsAllowed x → IsMarked x.version (Live kind mark)) → length x.slots < MOST_HANDLES → IsRight x call (Make kind mark, New (length x.slots))
 right_make x call kind mark marked few = record {
   undone = λ _. ap (λ slots. record x { slots = slots }) (push_back x.slots (Live kind mark));
   next_allowed = λ ok. record {
@@ -135,7 +136,7 @@ right_write x call v false reply served = record {
 }
 
 -- each call, with the handle that it found
-right_with : {V : Type 0} (x : Shown V) (call : WCall V) (kind : Kind) (mark : Option ℕ) → found (wanted call) x.slots (handle_of call) ≡ Handle kind mark → (makes call ≡ true → length x.slots < HANDLES) → IsRight x call (effect_with x call kind mark)
+right_with : {V : Type 0} (x : Shown V) (call : WCall V) (kind : Kind) (mark : Option ℕ) → found (wanted call) x.slots (handle_of call) ≡ Handle kind mark → (makes call ≡ true → length x.slots < MOST_HANDLES) → IsRight x call (effect_with x call kind mark)
 unfolding Stands
 right_with x (Send h v) kind mark is few = sound_if IsAllowed weight back Fits refuses (outcome_of x) (has_no_receiver x) (λ _. right_keep x _ _) (λ _. right_write x _ v true Stored refl)
 right_with x (SendReplace h v) kind mark is few = right_write x _ v true (Old x.value) refl

@@ -6,7 +6,7 @@ ghost use Rattle.rw_watch.specs.Shown.{patch_of_drop, patch_of_mark};
 use rw_handles::{HandleFault, Kind};
 
 /// A call. The number is that of the handle that it is made with.
-#[derive(Clone, Copy)]
+#[derive(Clone, Copy, Debug, PartialEq)]
 pub enum WCall<V> {
     /// Writes a value and tells the receivers, if there are any.
     Send(u32, V),
@@ -81,7 +81,7 @@ pub enum WReply<V> {
 }
 
 /// What undoing a step needs beside its call.
-#[derive(Clone, Copy)]
+#[derive(Clone, Copy, Debug, PartialEq)]
 pub enum WPatch<V> {
     /// Nothing changed.
     Same,

@@ -9,10 +9,13 @@
 mod calls;
 mod laws;
 mod machine;
+mod results;
 
 pub use calls::{WCall, WPatch, WReply};
 pub use laws::channel_laws;
 pub use machine::Watch;
+pub use results::RecvError;
+pub use rw_handles::{Refusal, SendError};
 
 #[cfg(test)]
 mod tests;

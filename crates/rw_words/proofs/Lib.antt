@@ -7,3 +7,4 @@ pub mod TextLaws
 pub mod ReplyWordLaws
 pub mod CutLengths
 pub mod LineLaws
+pub mod Spared

@@ -18,15 +18,15 @@ use Rattle.rw_world.specs.Kinds.{broadcast_shown, watch_shown}
 use Rattle.rw_world.specs.Lists.{modified, Each}
 use Rattle.rw_world.specs.Machines.{ChanCall, ChanShown, of_broadcast, of_watch, of_chan, of_world}
 use Rattle.rw_world.specs.Openings.{opened_channel, opened}
-use Rattle.rw_world.specs.Records.{ChannelRecord, broadcast_record, watch_record, opened_records, step_of, next_records, records_after, shown_record, shown_records, shown_after, ShowsItsRecords, RepliesByRecords}
+use Rattle.rw_world.specs.Records.{ChannelRecord, broadcast_record, watch_record, opened_records, step_of, next_records, records_after, shown_record, shown_records, shown_after, ShowsItsRecords, RepliesByRecords, ShowsItsSteps}
 use Rattle.rw_world.specs.RowLaws.{row_laws}
 
 module _ {V : Type 0} where
-  chan_laws : LawsOf (of_chan {V = V})
+  pub chan_laws : LawsOf (of_chan {V = V})
   chan_laws = channel_laws of_broadcast of_watch broadcast_laws watch_laws
 
   -- what each record shows is allowed
-  abbrev AreAllowed : List (ChanShown V) → Type 0
+  abbrev pub AreAllowed : List (ChanShown V) → Type 0
   AreAllowed xs = Each (of_chan {V = V}).allowed xs
 
   -- a step of a channel on what its record shows is the step of the record
@@ -69,12 +69,12 @@ module _ {V : Type 0} where
       shows_after (next_records rs c) calls (allowed_next rs c allowed)
       ∙ ap (λ xs. shown_after xs calls) (shows_step_at rs c.channel c.call allowed)
 
-  allowed_opened : (specs : List (Spec V)) → AreAllowed (shown_records (opened_records specs))
+  pub allowed_opened : (specs : List (Spec V)) → AreAllowed (shown_records (opened_records specs))
   allowed_opened [] = tt
   allowed_opened (Broadcast capacity ∷ specs) = (broadcast.shows_allowed V capacity [], allowed_opened specs)
   allowed_opened (Watch init ∷ specs) = (watch.shows_allowed V init [], allowed_opened specs)
 
-  shows_opened : (specs : List (Spec V)) → shown_records (opened_records specs) ≡ opened specs
+  pub shows_opened : (specs : List (Spec V)) → shown_records (opened_records specs) ≡ opened specs
   shows_opened [] = refl
   shows_opened (Broadcast capacity ∷ specs) = ap (λ xs. opened_channel (Broadcast capacity) ∷ xs) (shows_opened specs)
   shows_opened (Watch init ∷ specs) = ap (λ xs. opened_channel (Watch init) ∷ xs) (shows_opened specs)
@@ -89,3 +89,6 @@ replies_by_records V specs calls c =
     let rs = records_after (opened_records specs) calls in
     let reply_to = λ (xs : List (ChanShown V)). (of_world {V = V}).reply_of xs c in
     ap reply_to (sym (shows_its_records V specs calls)) ∙ replies_at rs c.channel c.call (allowed_after (opened_records specs) calls (allowed_opened specs))
+
+pub shows_its_steps : (V : Type 0) → ShowsItsSteps V
+shows_its_steps V rs c allowed = (replies_at rs c.channel c.call allowed, sym (shows_step_at rs c.channel c.call allowed))

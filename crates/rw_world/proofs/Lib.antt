@@ -2,5 +2,6 @@ pub mod Documenting
 pub mod Modifying
 pub mod OneMember
 pub mod Parting
+pub mod Places
 pub mod Shaping
 pub mod Specifying

@@ -1,5 +1,6 @@
 -- One element of a list changed, and the extremes of a list of numbers.
-use Rattle.std.specs.Prelude.{ℕ, zero, suc, ◌^◌, max, min, List, [], ◌∷◌}
+use Rattle.std.specs.Prelude.{ℕ, zero, suc, max, min, List, [], ◌∷◌}
+use Rattle.rw_law.specs.declared.limits.TheConstants.{MOST_WEIGHT}
 
 -- the list with f of the element at index i, where there is one
 abbrev pub modified : {X : Type 0} → (X → X) → List X → ℕ → List X
@@ -17,7 +18,7 @@ abbrev pub greatest : {X : Type 0} → (X → ℕ) → List X → ℕ
 greatest f [] = 0
 greatest f (x ∷ xs) = max (f x) (greatest f xs)
 
--- the least of f of each element, at most 2 ^ 62
+-- the least of f of each element, at most the greatest weight
 abbrev pub least : {X : Type 0} → (X → ℕ) → List X → ℕ
-least f [] = 2 ^ 62
+least f [] = MOST_WEIGHT
 least f (x ∷ xs) = min (f x) (least f xs)

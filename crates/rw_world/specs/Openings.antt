@@ -1,10 +1,12 @@
 -- What a world shows at its opening, from what its channels are opened as.
 use Rattle.std.specs.Prelude.{Bool, false, ◌||◌, nat_eq, nat_lt, if◌then◌else◌, List, length, map, position, Option, Some}
 use Rattle.std.specs.Option.{option_map}
+use Rattle.rw_ring.specs.declared.ring.TheConstants.{MOST_CAPACITY}
 use Rattle.rw_broadcast.specs.Record.{opened as opened_broadcast}
 use Rattle.rw_broadcast.specs.Shown.{shown as shown_broadcast}
 use Rattle.rw_watch.specs.Record.{opened as opened_watch}
 use Rattle.rw_watch.specs.Shown.{shown as shown_watch}
+use Rattle.rw_world.specs.declared.opening.TheConstants.{MOST_CHANNELS}
 use Rattle.rw_world.specs.declared.opening.Spec.{Spec}
 use Rattle.rw_world.specs.declared.opening.Spec.TheVariants.{Broadcast, Watch}
 use Rattle.rw_world.specs.declared.opening.OpenFault.{OpenFault}
@@ -27,14 +29,14 @@ module _ {V : Type 0} where
   kind_of_spec (Broadcast capacity) = broadcast
   kind_of_spec (Watch init) = watch
 
-  -- a capacity of 0 or above 65,536
+  -- a capacity of 0, or above the greatest
   abbrev pub has_bad_capacity : Spec V → Bool
-  has_bad_capacity (Broadcast capacity) = nat_eq capacity 0 || nat_lt 65536 capacity
+  has_bad_capacity (Broadcast capacity) = nat_eq capacity 0 || nat_lt MOST_CAPACITY capacity
   has_bad_capacity (Watch init) = false
 
-  -- why no world is opened: no channel, more than 64, or the first bad capacity
+  -- why no world is opened: no channel, too many, or the first bad capacity
   abbrev pub refusal : List (Spec V) → Option OpenFault
   refusal specs =
       if nat_eq (length specs) 0 then Some NoChannels
-      else if nat_lt 64 (length specs) then Some TooManyChannels
+      else if nat_lt MOST_CHANNELS (length specs) then Some TooManyChannels
       else option_map (λ i. BadCapacity i) (position has_bad_capacity specs)

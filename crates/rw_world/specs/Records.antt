@@ -1,7 +1,8 @@
 -- The documented world: each channel as all that ever happened to it, so with all that was ever sent.
-use Rattle.std.specs.Prelude.{◌≡◌, List, map, slice_get}
+use Rattle.std.specs.Prelude.{◌≡◌, ℕ, ◌+◌, true, List, map, take, slice_get, Some}
 use Rattle.std.specs.List.{fold}
 use Rattle.std.specs.Option.{option_map_or}
+use Rattle.rw_law.specs.Journal.{IsLegal, after}
 use Rattle.rw_broadcast.specs.Record as broadcast
 use Rattle.rw_broadcast.specs.Shown.{shown as shown_broadcast}
 use Rattle.rw_watch.specs.Record as watch
@@ -15,6 +16,7 @@ use Rattle.rw_world.specs.Kinds.{broadcast_shown, watch_shown}
 use Rattle.rw_world.specs.Lists.{modified}
 use Rattle.rw_world.specs.Machines.{ChanCall, ChanReply, ChanShown, of_world}
 use Rattle.rw_world.specs.Openings.{opened}
+use Rattle.rw_world.specs.Specified.{WorldEntry}
 
 -- the record of a channel of either kind
 pub data ChannelRecord (V : Type 0) : Type 0 where
@@ -64,6 +66,30 @@ module _ {V : Type 0} where
   abbrev pub shown_after : List (ChanShown V) → List (RowCall (ChanCall V)) → List (ChanShown V)
   shown_after xs calls = fold (of_world {V = V}).next xs calls
 
+  -- what a world of these specs shows after these calls: what the records of all that was ever sent show
+  abbrev pub documented_after : List (Spec V) → List (RowCall (ChanCall V)) → List (ChanShown V)
+  documented_after specs calls = shown_records (records_after (opened_records specs) calls)
+
+  -- ---- at the places of a journal
+
+  -- the calls of the first n entries
+  abbrev pub calls_before : List (WorldEntry V) → ℕ → List (RowCall (ChanCall V))
+  calls_before es n = map (λ e. e.call) (take n es)
+
+  -- the records of a world of these specs after the first n entries of its journal
+  abbrev pub records_at : List (Spec V) → List (WorldEntry V) → ℕ → List (ChannelRecord V)
+  records_at specs es n = records_after (opened_records specs) (calls_before es n)
+
+  -- what the world shows there
+  abbrev pub documented_at : List (Spec V) → List (WorldEntry V) → ℕ → List (ChanShown V)
+  documented_at specs es n = documented_after specs (calls_before es n)
+
+  -- each entry has the documented reply, that of the records after the entries before it; and one whose reply refuses has
+  -- changed nothing
+  pub record IsDocumented (specs : List (Spec V)) (es : List (WorldEntry V)) : Type 0 where
+    pub reply : (n : ℕ) (e : WorldEntry V) → slice_get es n ≡ Some e → e.reply ≡ reply_from (records_at specs es n) e.call
+    pub refused : (n : ℕ) (e : WorldEntry V) → slice_get es n ≡ Some e → (of_world {V = V}).refuses e.reply ≡ true → documented_at specs es (n + 1) ≡ documented_at specs es n
+
 -- after any calls a world shows what its documented records show
 abbrev pub ShowsItsRecords : Type 0 → Type 0
 ShowsItsRecords V = (specs : List (Spec V)) (calls : List (RowCall (ChanCall V)))
@@ -73,3 +99,17 @@ ShowsItsRecords V = (specs : List (Spec V)) (calls : List (RowCall (ChanCall V))
 abbrev pub RepliesByRecords : Type 0 → Type 0
 RepliesByRecords V = (specs : List (Spec V)) (calls : List (RowCall (ChanCall V))) (c : RowCall (ChanCall V))
     → (of_world {V = V}).reply_of (shown_after (opened specs) calls) c ≡ reply_from (records_after (opened_records specs) calls) c
+
+-- after the first n entries of a journal a world shows what its documented records show there
+abbrev pub ShowsAtPlaces : Type 0 → Type 0
+ShowsAtPlaces V = (specs : List (Spec V)) (es : List (WorldEntry V)) (n : ℕ) → after of_world (opened specs) es n ≡ documented_at specs es n
+
+-- a journal that is legal from the specs has the documented replies
+abbrev pub RecordsAsDocumented : Type 0 → Type 0
+RecordsAsDocumented V = (specs : List (Spec V)) (es : List (WorldEntry V)) → IsLegal of_world (opened specs) es → IsDocumented specs es
+
+-- a step on what records show, where that is allowed, is their documented step: its reply is theirs, and what is shown after it
+-- is what the records after it show
+abbrev pub ShowsItsSteps : Type 0 → Type 0
+ShowsItsSteps V = (rs : List (ChannelRecord V)) (c : RowCall (ChanCall V)) → (of_world {V = V}).allowed (shown_records rs) →
+    ((of_world {V = V}).reply_of (shown_records rs) c ≡ reply_from rs c) × ((of_world {V = V}).next (shown_records rs) c ≡ shown_records (next_records rs c))

@@ -6,7 +6,7 @@ ghost use Rattle.rw_world.specs.Channel.{no_channel, strays_at};
 ghost use Rattle.rw_world.specs.Commuting.{Commutes};
 ghost use Rattle.rw_world.specs.Shapes.{KeepsShape, KeepsShapeThroughout, StraysByShape};
 ghost use Rattle.rw_world.specs.Parts.{IsLegalExactlyByParts};
-ghost use Rattle.rw_world.specs.Records.{RepliesByRecords, ShowsItsRecords};
+ghost use Rattle.rw_world.specs.Records.{RecordsAsDocumented, RepliesByRecords, ShowsAtPlaces, ShowsItsRecords, ShowsItsSteps};
 ghost use Rattle.rw_world.specs.Specified.{AreLegalOfChannels, AreLegalOfWorlds, IsAfterOfWorlds, IsLegalExactlyBySpecs, OpensAsSpecified, StraysBySpecs};
 
 use crate::channels::Channel;
@@ -48,9 +48,14 @@ pub fn machines<V: Copy>()
     ensures after { IsAfterOfWorlds (after_all ⟦<World<V> as Reversible>⟧) }
 {}
 
-/// The documented world: a world is what the records of its channels say, of all that was ever sent. After any calls it shows
-/// what they show, and replies to a call as they do.
+/// The documented world: a world is what the records of its channels say, of all that was ever sent.
 pub fn documented<V: Copy>()
+    // After any calls it shows what they show, and replies to a call as they do.
     ensures shows { ShowsItsRecords V }
     ensures replies { RepliesByRecords V }
+    // The same at the places of a journal: what is shown after n entries, and the reply of each.
+    ensures places { ShowsAtPlaces V }
+    ensures recorded { RecordsAsDocumented V }
+    // Step by step, from all records whose shown state is allowed.
+    ensures steps { ShowsItsSteps V }
 {}

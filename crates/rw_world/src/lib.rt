@@ -19,5 +19,8 @@ mod tests;
 pub use channels::{Channel, ChannelCall, ChannelPatch, ChannelReply};
 pub use laws::{commutes, documented, legal_by_parts, machines, shape, specified};
 pub use members::Member;
-pub use opening::{Chan, ChanCall, ChanReply, OpenFault, Spec, World, open, open_channel};
+pub use opening::{
+    Chan, ChanCall, ChanReply, MOST_CHANNELS, OpenFault, Spec, World, open, open_channel,
+};
 pub use rows::{Row, RowCall};
+pub use rw_broadcast::MOST_CAPACITY;

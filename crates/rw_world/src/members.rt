@@ -1,11 +1,12 @@
 //! The machines in a row: what makes them one, their steps and their room.
 
-ghost use Rattle.std.specs.Prelude.{◌≡◌, ◌≤◌, ◌<◌, ◌^◌, false, true, length, map, slice_get, Some, MatchOption, OnOk, IsOk};
+ghost use Rattle.std.specs.Prelude.{◌≡◌, ◌≤◌, ◌<◌, false, true, length, map, slice_get, Some, MatchOption, OnOk, IsOk};
 ghost use Rattle.std.specs.Option.{option_map};
+ghost use Rattle.rw_law.specs.declared.limits.TheConstants.{MOST_WEIGHT};
 ghost use Rattle.rw_world.specs.Lists.{modified, Each, greatest, least};
 ghost use Rattle.rw_world.specs.Row.{Missing};
 
-use rw_law::{NoMemory, Reversible};
+use rw_law::{MOST_WEIGHT, NoMemory, Reversible};
 
 /// A machine that can stand in a row. It names what a call gets whose channel isn't in the row, so that a row's replies and
 /// patches need no form of their own, and no memory for it.
@@ -49,7 +50,7 @@ pub fn undo_at<M: Reversible>(members: &mut [M], i: usize, call: &M::Call, patch
 /// Makes room in a machine for a total weight.
 fn ready_one<M: Reversible>(machine: &mut M, wanted: u64) -> Result<(), NoMemory>
     requires weight { M.weigh (M.shown machine.old) ≤ wanted }
-    requires bound { wanted ≤ 2 ^ 62 }
+    requires bound { wanted ≤ MOST_WEIGHT }
     ensures view { M.shown machine.new ≡ M.shown machine.old }
     ensures room { OnOk result (wanted ≤ M.reserved machine.new) }
     ensures kept { M.reserved machine.old ≤ M.reserved machine.new }
@@ -62,7 +63,7 @@ fn ready_one<M: Reversible>(machine: &mut M, wanted: u64) -> Result<(), NoMemory
 /// Makes room in each member for a total weight.
 pub fn ready_all<M: Reversible>(members: &mut [M], wanted: u64) -> Result<(), NoMemory>
     requires weight { greatest M.weigh (map M.shown members.old) ≤ wanted }
-    requires bound { wanted ≤ 2 ^ 62 }
+    requires bound { wanted ≤ MOST_WEIGHT }
     ensures view { map M.shown members.new ≡ map M.shown members.old }
     ensures room { OnOk result (wanted ≤ least M.reserved members.new) }
     ensures kept { least M.reserved members.old ≤ least M.reserved members.new }
@@ -89,9 +90,9 @@ pub fn greatest_weight<M: Reversible>(members: &[M]) -> u64
 /// The least limit of a member, or the greatest limit that a machine may have where there is none.
 pub fn least_limit<M: Reversible>(members: &[M]) -> u64
     ensures limit { result ≡ least M.reserved members.now }
-    ensures bound { result ≤ 2 ^ 62 }
+    ensures bound { result ≤ MOST_WEIGHT }
 {
-    let mut least = 1 << 62;
+    let mut least = MOST_WEIGHT;
     for i in (0..members.len()).rev() {
         least = members[i].limit().min(least);
     }

@@ -5,7 +5,7 @@ ghost use Rattle.rw_world.specs.Openings.{has_bad_capacity, opened, opened_chann
 
 use crate::channels::{Channel, ChannelCall, ChannelReply};
 use crate::rows::Row;
-use rw_broadcast::{BCall, BReply, Broadcast};
+use rw_broadcast::{BCall, BReply, Broadcast, MOST_CAPACITY};
 use rw_law::{NoMemory, Reversible};
 use rw_watch::{WCall, WReply, Watch};
 use std::alloc::Global;
@@ -24,10 +24,7 @@ pub type ChanReply<V> = ChannelReply<BReply<V>, WReply<V>>;
 pub type World<V> = Row<Chan<V>>;
 
 /// The most channels of a world.
-const MOST_CHANNELS: usize = 64;
-
-/// The greatest capacity of a broadcast.
-const MOST_CAPACITY: u32 = 65_536;
+pub const MOST_CHANNELS: usize = 64;
 
 /// What a channel is opened as.
 #[derive(Clone, Copy, Debug, PartialEq, Eq)]

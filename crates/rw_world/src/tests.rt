@@ -1,6 +1,7 @@
 //! Openings of worlds, and steps of a world of both kinds.
 
-ghost use Rattle.std.specs.Prelude.{◌+◌, ◌≤◌, ◌^◌};
+ghost use Rattle.std.specs.Prelude.{◌+◌, ◌≤◌};
+ghost use Rattle.rw_law.specs.declared.limits.TheConstants.{MOST_WEIGHT};
 
 use super::{ChanCall, ChanReply, Channel, OpenFault, RowCall, Spec, open};
 use rw_broadcast::{BCall, BReply};
@@ -13,7 +14,7 @@ fn made_twice<M: Reversible>(
     machine: &mut M,
     call: &M::Call,
 ) -> Result<(M::Reply, M::Reply), NoMemory>
-    requires { M.weigh (M.shown machine.old) + 1 ≤ 2 ^ 62 }
+    requires { M.weigh (M.shown machine.old) + 1 ≤ MOST_WEIGHT }
 {
     let _ = machine.weight();
     machine.ready(1)?;

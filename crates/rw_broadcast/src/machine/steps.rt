@@ -3,7 +3,8 @@ ghost use Rattle.std.specs.Prelude.{◌≡◌, ◌-◌, ◌<◌, ◌≤◌, leng
 ghost use Rattle.rw_handles.specs.declared.kinds.Kind.TheVariants.{Receiver};
 ghost use Rattle.rw_handles.specs.declared.kinds.Slot.TheVariants.{Live};
 ghost use Rattle.rw_handles.specs.declared.kinds.Found.TheVariants.{Handle};
-ghost use Rattle.rw_handles.specs.Slots.{HANDLES, found};
+ghost use Rattle.rw_handles.specs.Slots.{found};
+ghost use Rattle.rw_handles.specs.declared.table.TheConstants.{MOST_HANDLES};
 ghost use Rattle.rw_broadcast.specs.Channel.{Keep, Make, Move, Leave, send, read, receive, effect, effect_with, handle_of, wanted, makes, oldest, receivers};
 ghost use Rattle.rw_broadcast.specs.Shown.{CanUnsend, IsPlaced, channel_of, weight};
 ghost use Rattle.rw_ring.specs.Windows.{unput};
@@ -30,7 +31,7 @@ impl<V: Copy> Broadcast<V> {
 
     /// Makes the handle of the next number.
     fn make(&mut self, kind: Kind, position: u64) -> (BReply<V>, BPatch<V>)
-        requires few { length self.old.shown.slots < HANDLES }
+        requires few { length self.old.shown.slots < MOST_HANDLES }
         requires room { weight self.old.shown < self.old.limit }
         requires placed { IsPlaced self.old.shown.sent (Live kind position) }
         ensures { Takes self.old self.new result (Make kind position, BReply.New (length self.old.shown.slots)) }
@@ -112,7 +113,7 @@ impl<V: Copy> Broadcast<V> {
     fn perform(&mut self, call: &BCall<V>, kind: Kind, position: u64) -> (BReply<V>, BPatch<V>)
         requires room { weight self.old.shown < self.old.limit }
         requires found { found (wanted call.now) self.old.shown.slots (handle_of call.now) ≡ Handle kind position }
-        requires few { IsTrue (makes call.now) → length self.old.shown.slots < HANDLES }
+        requires few { IsTrue (makes call.now) → length self.old.shown.slots < MOST_HANDLES }
         ensures { Takes self.old self.new result (effect_with (channel_of self.old.shown) call.now kind position) }
     {
         let sent = self.values.count();

@@ -61,7 +61,7 @@ fn play_at(rt: &impl Abort, alloc: Global, capacity: u32, steps: &[Row]) -> Resu
 type Row = Step<BCall<u64>, BReply<u64>, Place>;
 
 /// What a channel of this capacity shows at its opening.
-fn opening(capacity: u64) -> Place {
+pub fn opening(capacity: u64) -> Place {
     Place {
         capacity,
         sent: 0,

@@ -52,7 +52,7 @@ fn play_at(rt: &impl Abort, alloc: Global, init: u64, steps: &[Row]) -> Result<(
 type Row = Step<WCall<u64>, WReply<u64>, Place>;
 
 /// What a channel of this value shows at its opening.
-fn opening(value: u64) -> Place {
+pub fn opening(value: u64) -> Place {
     Place {
         version: 0,
         value,

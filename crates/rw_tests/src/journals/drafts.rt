@@ -2,6 +2,7 @@
 
 use rw_broadcast::{BCall, BReply};
 use rw_journal::{PushFault, RunDraft};
+use rw_navigator::{Move, Navigator};
 use rw_watch::{WCall, WReply};
 use rw_world::{ChanCall, ChanReply, OpenFault, RowCall, Spec};
 use std::test::Fail;
@@ -79,7 +80,13 @@ fn a_channel_is_full(rt: HostRuntime) -> Result<(), Fail> {
     for (channel, answer) in [(0, Err(PushFault::Limit)), (1, Ok(()))] {
         assert_eq!(rt; push(&mut draft, 0, 1_048_577, channel, count, one), answer);
     }
-    assert_eq!(rt; draft.finish().len(), 1_048_577);
+    let run = draft.finish();
+    assert_eq!(rt; run.len(), 1_048_577);
+    let mut navigator = Navigator::open(rt.alloc(), run.start(rt.alloc())?, run.entries())?;
+    for (to, place) in [(Move::End, 1_048_577), (Move::Start, 0)] {
+        assert_eq!(rt; navigator.step(to), Ok(()));
+        assert_eq!(rt; navigator.place(), place);
+    }
     Ok(())
 }
 

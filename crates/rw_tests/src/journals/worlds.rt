@@ -2,12 +2,16 @@
 
 ghost use Rattle.std.specs.Prelude.{◌≡◌};
 
+use crate::channels::playing::Shows;
+use crate::channels::{broadcasts, watches};
+use crate::texts::rows::{SCRIPTS, run_of};
 use rw_broadcast::{BCall, BReply};
 use rw_journal::{Book, Run, TakeFault};
 use rw_law::NoMemory;
 use rw_navigator::{Move, Navigator, OutOfRange};
 use rw_world::{Chan, ChanCall, ChanReply, OpenFault, RowCall, Spec, World, open};
 use std::alloc::Global;
+use std::process::Abort;
 use std::test::Fail;
 
 /// A call on a channel by actor 0.
@@ -107,17 +111,37 @@ fn shown(world: &World<u64>) -> Option<(u64, Option<u64>, Option<u64>, Option<u6
     }
 }
 
+/// Whether each reader of each channel answers what the documentation says of its opening.
+fn shows_openings(rt: &impl Abort, world: &World<u64>, specs: &[Spec<u64>], name: &str) {
+    assert_eq!(rt; world.len(), specs.len(), "{name}");
+    for (i, spec) in specs.iter().enumerate() {
+        match (spec, world.channel(i)) {
+            (Spec::Broadcast(_), Some(Chan::Broadcast(machine))) => {
+                let opening = broadcasts::opening(machine.capacity());
+                assert_eq!(rt; machine.place(), opening, "{name}");
+            }
+            (Spec::Watch(init), Some(Chan::Watch(machine))) => {
+                assert_eq!(rt; machine.place(), watches::opening(*init), "{name}");
+            }
+            _ => assert!(rt; false, "{name}"),
+        }
+    }
+}
+
 #[test]
 fn a_run_starts_as_its_place_0(rt: HostRuntime) -> Result<(), Fail> {
-    let run = overrun(rt.alloc())?.expect(&rt, "each call is taken");
-    assert_eq!(rt; (run.specs().len(), run.len()), (1, 7));
-    let start = run.start(rt.alloc())?;
-    let navigator = navigator_of(rt.alloc(), &run)?;
-    let nothing = Some((0, None, None, Some(0)));
-    assert_eq!(rt;
-        (shown(&start), shown(navigator.state())),
-        (nothing, nothing)
-    );
+    for (name, script, entries) in SCRIPTS {
+        let run = run_of(rt.alloc(), script)?;
+        let start = run.start(rt.alloc())?;
+        shows_openings(&rt, &start, run.specs(), name);
+        let mut navigator = navigator_of(rt.alloc(), &run)?;
+        shows_openings(&rt, navigator.state(), run.specs(), name);
+        for (to, place) in [(Move::End, entries), (Move::Start, 0)] {
+            assert_eq!(rt; navigator.step(to), Ok(()), "{name}");
+            assert_eq!(rt; navigator.place(), place, "{name}");
+        }
+        shows_openings(&rt, navigator.state(), run.specs(), name);
+    }
     Ok(())
 }
 

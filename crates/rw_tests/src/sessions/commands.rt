@@ -72,7 +72,7 @@ fn names_and_channels(rt: HostRuntime) {
 fn a_call_that_would_wait(rt: HostRuntime) {
     let cases: [(&[u8], &[u8]); 3] = [
         (
-            b"broadcast 2\n0 0 recv 1\n0 0 send 0 1\n---\nlist\nback\n",
+            b"broadcast 2\n0 0 recv 1\n0 0 send 0 1\n---\nlist\nback",
             b"would wait 2\nout of range, place 0 of 0\n",
         ),
         (
@@ -86,6 +86,6 @@ fn a_call_that_would_wait(rt: HostRuntime) {
         let mut writer = FailingWriter::new(rt.alloc(), 4096, None);
         let ended = session(rt.alloc(), &mut reader, &mut writer);
         assert_eq!(rt; ended, Ok(Outcome::Waited(2)));
-        assert_eq!(rt; writer.written(), report);
+        assert_eq!(rt; writer.handed_on(), report);
     }
 }

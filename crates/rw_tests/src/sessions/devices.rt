@@ -18,7 +18,7 @@ fn each_read_fails(rt: HostRuntime) {
         let ended = session(rt.alloc(), &mut reader, &mut writer);
         if ended == Ok(Outcome::Waited(4)) {
             done = true;
-            assert_eq!(rt; writer.written(), REPORT);
+            assert_eq!(rt; writer.handed_on(), REPORT);
         } else {
             assert_eq!(rt; ended, Err(SessionFault::Read), "{k}");
             assert!(rt; !done && REPORT.starts_with(writer.written()), "{k}");
@@ -36,7 +36,7 @@ fn each_write_fails(rt: HostRuntime) {
         let ended = session(rt.alloc(), &mut reader, &mut writer);
         if ended == Ok(Outcome::Waited(4)) {
             done = true;
-            assert_eq!(rt; writer.written(), REPORT);
+            assert_eq!(rt; writer.handed_on(), REPORT);
             // Once for the line that would wait, and once for each command.
             assert_eq!(rt; writer.flushes(), 10);
         } else {

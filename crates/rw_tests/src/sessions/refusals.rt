@@ -37,7 +37,7 @@ fn refused_scripts(rt: HostRuntime) -> Result<(), Fail> {
         let mut writer = FailingWriter::new(rt.alloc(), 5, None);
         let ended = session(rt.alloc(), &mut reader, &mut writer);
         assert!(rt; matches!(ended, Ok(Outcome::Refused(_))), "{fault}");
-        assert_eq!(rt; writer.written(), text.as_bytes());
+        assert_eq!(rt; writer.handed_on(), text.as_bytes());
     }
     Ok(())
 }

@@ -2,78 +2,122 @@
 
 use rw_devices::FailingWriter;
 use rw_journal::Run;
+use rw_law::Entry;
 use rw_script::{Script, run_one};
 use rw_text::{read, write};
+use rw_world::World;
 use std::alloc::Global;
+use std::process::Abort;
 use std::test::Fail;
 
-/// A script for each row: what it is about, and its lines.
-const SCRIPTS: [(&str, &[u8]); 16] = [
-    ("empty_session", b"broadcast 4\n"),
+/// A script for each row: what it is about, its lines, and how many entries its run has. That of the handle limit is
+/// `handle_limit`.
+pub const SCRIPTS: [(&str, &[u8], u64); 19] = [
+    ("empty_session", b"broadcast 4\n", 0),
     (
         "overrun_walked_back",
         b"broadcast 2\n0 0 send 0 1\n0 0 send 0 2\n0 0 send 0 3\n0 0 try-recv 1\n0 0 try-recv 1\n0 0 try-recv 1\n0 0 try-recv 1\n",
+        7,
     ),
     (
         "capacity_is_rounded_up",
         b"broadcast 3\n0 0 send 0 1\n0 0 send 0 2\n0 0 send 0 3\n0 0 send 0 4\n0 0 send 0 5\n0 0 try-recv 1\n",
+        6,
     ),
     (
         "lagged_then_closed",
         b"broadcast 1\n0 0 send 0 1\n0 0 send 0 2\n0 0 drop 0\n0 0 try-recv 1\n0 0 try-recv 1\n0 0 try-recv 1\n",
+        6,
     ),
     (
         "send_without_receivers",
         b"broadcast 4\n0 0 drop 1\n0 0 send 0 9\n0 0 subscribe 0\n0 0 send 0 9\n0 0 recv 2\n",
+        5,
     ),
     (
         "drop_reads_the_rest",
         b"broadcast 4\n0 0 send 0 5\n0 0 send 0 6\n0 0 drop 1\n",
+        3,
     ),
     (
         "resubscribe_skips_the_backlog",
         b"broadcast 2\n0 0 send 0 1\n0 0 send 0 2\n0 0 send 0 3\n0 0 send 0 4\n0 0 send 0 5\n0 0 resubscribe 1\n0 0 send 0 6\n0 0 receiver-len 1\n0 0 receiver-len 2\n",
+        9,
     ),
     (
         "sender_len_counts_the_slowest",
         b"broadcast 16\n0 0 subscribe 0\n0 0 send 0 10\n0 0 send 0 20\n0 0 send 0 30\n0 0 sender-len 0\n0 0 recv 1\n0 0 sender-len 0\n0 0 recv 2\n0 0 sender-len 0\n",
+        9,
     ),
     (
         "same_value_is_a_change",
         b"watch 7\n0 0 has-changed 1\n0 0 send 0 7\n0 0 has-changed 1\n0 0 changed 1\n0 0 has-changed 1\n",
+        5,
     ),
     (
         "last_change_of_a_closed_watch",
         b"watch 7\n0 0 send 0 8\n0 0 drop 0\n0 0 has-changed 1\n0 0 changed 1\n0 0 changed 1\n0 0 borrow 1\n",
+        6,
     ),
     (
         "watch_without_receivers",
         b"watch 1\n0 0 drop 1\n0 0 is-closed 0\n0 0 closed 0\n0 0 receiver-count 0\n0 0 send 0 2\n0 0 borrow 0\n0 0 send-replace 0 3\n0 0 subscribe 0\n0 0 has-changed 2\n0 0 borrow 2\n",
+        10,
     ),
     (
         "silent_modification",
         b"watch 1\n0 0 modify 0 5 no\n0 0 borrow 1\n0 0 has-changed 1\n",
+        3,
     ),
     (
         "marks_are_cloned",
         b"watch 4\n0 0 mark-changed 1\n0 0 mark-changed 1\n0 0 clone-receiver 1\n0 0 mark-unchanged 1\n0 0 has-changed 1\n0 0 has-changed 2\n0 0 changed 2\n",
+        7,
     ),
     (
         "searches_on_unread",
         b"broadcast 4\n0 0 send 0 1\n0 0 send 0 2\n0 0 send 0 3\n0 0 recv 1\n0 0 send 0 4\n0 0 recv 1\n",
+        6,
+    ),
+    (
+        "small_journal",
+        b"broadcast 4\n0 0 send 0 7\n0 0 try-recv 1\n0 0 drop 0\n",
+        3,
+    ),
+    (
+        "a_call_that_would_wait",
+        b"broadcast 2\n0 0 recv 1\n0 0 send 0 1\n",
+        0,
     ),
     (
         "refused_handles",
         b"broadcast 2\n0 0 send 5 1\n0 0 send 1 1\n0 0 recv 0\n0 0 drop 1\n0 0 recv 1\n",
+        5,
     ),
     (
-        "names_and_two_channels",
-        b"broadcast 2\nwatch 5\nactors 2\n0 0 subscribe 0 as r\n0 0 send 0 3\n0 0 try-recv r\n1 1 send 0 6\n",
+        "names_in_scripts",
+        b"broadcast 2\n0 0 subscribe 0 as r\n0 0 send 0 3\n0 0 try-recv r\n",
+        3,
+    ),
+    (
+        "two_channels",
+        b"broadcast 2\nwatch 5\nactors 2\n0 0 send 0 1\n1 1 send 0 6\n",
+        2,
     ),
 ];
 
-/// The run of a script. Without a contract the test's proof stays short.
-fn run_of(alloc: Global, script: &[u8]) -> Result<Run<u64>, Fail> {
+/// All the senders that a channel makes, two that it doesn't, and a drop in between.
+pub fn handle_limit(alloc: Global) -> Result<Vec<u8>, Fail> {
+    let mut script = Vec::from_slice(alloc, b"broadcast 1\n")?;
+    for _ in 0..65_535u32 {
+        script.extend_from_slice(b"0 0 clone-sender 0\n")?;
+    }
+    script.extend_from_slice(b"0 0 drop 2\n0 0 clone-sender 0\n")?;
+    Ok(script)
+}
+
+/// The run of a script. Without a contract the tests' proofs stay short.
+pub fn run_of(alloc: Global, script: &[u8]) -> Result<Run<u64>, Fail> {
     let script = Script::read(alloc, script)?;
     let (run, _) = run_one(alloc, &script)?;
     Ok(run)
@@ -84,17 +128,47 @@ fn run_in(alloc: Global, bytes: &[u8]) -> Result<Run<u64>, Fail> {
     Ok(read(alloc, bytes)?)
 }
 
+/// Compares two entries in all that they hold.
+fn compare(rt: &impl Abort, name: &str, entry: &Entry<World<u64>>, again: &Entry<World<u64>>) {
+    assert_eq!(rt;
+        (again.actor, again.stamp),
+        (entry.actor, entry.stamp),
+        "{name}"
+    );
+    assert_eq!(rt; again.call, entry.call, "{name}");
+    assert_eq!(rt; again.reply, entry.reply, "{name}");
+    assert_eq!(rt; again.patch, entry.patch, "{name}");
+}
+
+/// Writes the run of a script and reads it again.
+fn write_and_read(
+    rt: &impl Abort,
+    alloc: Global,
+    name: &str,
+    script: &[u8],
+    entries: u64,
+) -> Result<(), Fail> {
+    let run = run_of(alloc, script)?;
+    assert_eq!(rt; run.len(), entries, "{name}");
+    let mut first = FailingWriter::new(alloc, 4096, None);
+    assert!(rt; write(&run, &mut first).is_ok(), "{name}");
+    let again = run_in(alloc, first.written())?;
+    assert!(rt; run.specs() == again.specs(), "{name}");
+    assert_eq!(rt; again.len(), entries, "{name}");
+    for (entry, other) in run.entries().iter().zip(again.entries()) {
+        compare(rt, name, entry, other);
+    }
+    let mut second = FailingWriter::new(alloc, 4096, None);
+    assert!(rt; write(&again, &mut second).is_ok(), "{name}");
+    assert!(rt; second.written() == first.written(), "{name}");
+    Ok(())
+}
+
 #[test]
 fn each_run_is_written_and_read_again(rt: HostRuntime) -> Result<(), Fail> {
-    for (name, script) in SCRIPTS {
-        let run = run_of(rt.alloc(), script)?;
-        let mut first = FailingWriter::new(rt.alloc(), 4096, None);
-        assert!(rt; write(&run, &mut first).is_ok(), "{name}");
-        let again = run_in(rt.alloc(), first.written())?;
-        let mut second = FailingWriter::new(rt.alloc(), 4096, None);
-        assert!(rt; write(&again, &mut second).is_ok(), "{name}");
-        assert_eq!(rt; again.len(), run.len(), "{name}");
-        assert_eq!(rt; second.written(), first.written(), "{name}");
+    for (name, script, entries) in SCRIPTS {
+        write_and_read(&rt, rt.alloc(), name, script, entries)?;
     }
-    Ok(())
+    let script = handle_limit(rt.alloc())?;
+    write_and_read(&rt, rt.alloc(), "handle_limit", &script, 65_537)
 }

@@ -3,7 +3,8 @@ ghost use Rattle.std.specs.Prelude.{◌≡◌, ◌<◌, ◌≤◌, length, slice
 ghost use Rattle.rw_handles.specs.declared.kinds.Kind.TheVariants.{Receiver};
 ghost use Rattle.rw_handles.specs.declared.kinds.Slot.TheVariants.{Live};
 ghost use Rattle.rw_handles.specs.declared.kinds.Found.TheVariants.{Handle};
-ghost use Rattle.rw_handles.specs.Slots.{HANDLES, found};
+ghost use Rattle.rw_handles.specs.Slots.{found};
+ghost use Rattle.rw_handles.specs.declared.table.TheConstants.{MOST_HANDLES};
 ghost use Rattle.rw_watch.specs.Channel.{Keep, Write, Make, Mark, Leave, receivers, has_no_receiver, is_unseen, send, see, has_changed, changed, await_closed, effect, effect_with, handle_of, wanted, makes};
 ghost use Rattle.rw_watch.specs.Shown.{CanUntell, IsAllowed, IsMark, IsMarked, weight, lowered};
 ghost use Rattle.rw_watch.specs.Machine.{Takes};
@@ -59,7 +60,7 @@ impl<V: Copy> Watch<V> {
 
     /// Makes the handle of the next number.
     fn make(&mut self, kind: Kind, mark: Option<u64>) -> (WReply<V>, WPatch<V>)
-        requires few { length self.old.shown.slots < HANDLES }
+        requires few { length self.old.shown.slots < MOST_HANDLES }
         requires room { weight self.old.shown < self.old.limit }
         requires marked { IsAllowed self.old.shown → IsMarked self.old.shown.version (Live kind mark) }
         ensures { Takes self.old self.new result (Make kind mark, WReply.New (length self.old.shown.slots)) }
@@ -152,7 +153,7 @@ impl<V: Copy> Watch<V> {
     fn perform(&mut self, call: &WCall<V>, kind: Kind, mark: Option<u64>) -> (WReply<V>, WPatch<V>)
         requires room { weight self.old.shown < self.old.limit }
         requires found { found (wanted call.now) self.old.shown.slots (handle_of call.now) ≡ Handle kind mark }
-        requires few { IsTrue (makes call.now) → length self.old.shown.slots < HANDLES }
+        requires few { IsTrue (makes call.now) → length self.old.shown.slots < MOST_HANDLES }
         ensures { Takes self.old self.new result (effect_with self.old.shown call.now kind mark) }
     {
         match *call {

@@ -1,7 +1,5 @@
-use Rattle.std.proofs.Common.{sym, ap, ◌∙◌}
 use Rattle.std.proofs.lemmas.Result.{err_from_is_err_and}
-use Rattle.rw_console.specs.Places.{last_place}
-use Rattle.rw_console.proofs.SessionEnds.{done, stops, stops_at_walk, stops_at_begin, stops_in_script, ended, ended_stops, refused, refused_stops}
+use Rattle.rw_console.proofs.SessionEnds.{done, stops, stops_at_begin, stops_in_script, ended, ended_stops, refused, refused_stops}
 use Rattle.rw_console.proofs.sessions.session.Goals as goal
 
 pub returns-in_err-fault-clause-err : goal.returns-in_err-fault-clause-err
@@ -27,24 +25,19 @@ returns-in_ok-waits-in-Ended-clause-ok g c =
     let run = c.in_ok-waits-in-Ended.ensures in
     rw c.outcome_at.ensures (ended (rw c.in-Ended.is at c.in_ok-fault.ensures.ok) run.ok _ run.waits)
 
-pub returns-in_err-run-in-Script-clause-err : goal.returns-in_err-run-in-Script-clause-err
-returns-in_err-run-in-Script-clause-err g c =
-    let p = err_from_is_err_and c.from_residual-in_err-run-in-Script.result c.from_residual-in_err-run-in-Script.ensures.1 in
-    rw (p.1, p.2) (stops_at_begin (rw c.in-Script.is at c.in_ok-fault.ensures.ok) _ c.in_err-run-in-Script.ensures.err)
-
-pub returns-in_default-clause-err : goal.returns-in_default-clause-err
-returns-in_default-clause-err g c = stops_at_walk (rw c.in-Script.is at c.in_ok-fault.ensures.ok) c.in_ok-run-in-Script.ensures.ok
+pub returns-in_err-walk-in-Script-clause-err : goal.returns-in_err-walk-in-Script-clause-err
+returns-in_err-walk-in-Script-clause-err g c =
+    let p = err_from_is_err_and c.from_residual-in_err-walk-in-Script.result c.from_residual-in_err-walk-in-Script.ensures.1 in
+    rw (p.1, p.2) (stops_at_begin (rw c.in-Script.is at c.in_ok-fault.ensures.ok) _ c.in_err-walk-in-Script.ensures.err)
 
 pub returns-in_err-commands-in-Script-clause-err : goal.returns-in_err-commands-in-Script-clause-err
 returns-in_err-commands-in-Script-clause-err g c =
     let p = err_from_is_err_and c.from_residual-in_err-commands-in-Script.result c.from_residual-in_err-commands-in-Script.ensures.1 in
-    let run = c.in_ok-run-in-Script.ensures in
-    let walk = c.in-Ok.ensures in
-    rw (p.1, p.2) (stops (rw c.in-Script.is at c.in_ok-fault.ensures.ok) run.ok _ (walk.run ∙ run.run) _ (walk.place ∙ ap last_place (sym walk.run)) _ c.in_err-commands-in-Script.ensures.err)
+    let run = c.in_ok-walk-in-Script.ensures in
+    rw (p.1, p.2) (stops (rw c.in-Script.is at c.in_ok-fault.ensures.ok) run.ok _ run.run _ run.place _ c.in_err-commands-in-Script.ensures.err)
 
 pub returns-in_ok-commands-in-Script-clause-ok : goal.returns-in_ok-commands-in-Script-clause-ok
 returns-in_ok-commands-in-Script-clause-ok g c =
-    let run = c.in_ok-run-in-Script.ensures in
-    let walk = c.in-Ok.ensures in
+    let run = c.in_ok-walk-in-Script.ensures in
     rw c.outcome_at-in-Script.ensures
-    (done (rw c.in-Script.is at c.in_ok-fault.ensures.ok) run.ok _ (walk.run ∙ run.run) _ (walk.place ∙ ap last_place (sym walk.run)) _ run.waits c.in_ok-commands-in-Script.ensures.ok)
+    (done (rw c.in-Script.is at c.in_ok-fault.ensures.ok) run.ok _ run.run _ run.place _ run.waits c.in_ok-commands-in-Script.ensures.ok)

@@ -4,14 +4,12 @@ use Rattle.rw_law.specs.Numbers.{numbers}
 use Rattle.rw_text.specs.Texts.{text}
 use Rattle.rw_ttd.proofs.files.write_journal.Goals as goal
 
-pub returns-in-Err-clause-err : goal.returns-in-Err-clause-err
-returns-in-Err-clause-err g c =
-    let front = c.in-Err.ensures.err in (
-      tt,
-      record {
-        text = _;
-        rest = drop front.n (text numbers c.args.run.now);
-        written = front.written;
-        front = take-append-drop front.n (text numbers c.args.run.now);
-      },
-    )
+pub returns-in-Err-clause-front : goal.returns-in-Err-clause-front
+returns-in-Err-clause-front g c =
+    let front = c.in-Err.ensures.err in
+    record {
+      text = _;
+      rest = drop front.n (text numbers c.args.run.now);
+      written = front.written;
+      front = take-append-drop front.n (text numbers c.args.run.now);
+    }

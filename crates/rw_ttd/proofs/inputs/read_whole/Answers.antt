@@ -13,8 +13,10 @@ returns-then-len-taken-gt-MOST_BYTES-clause-fault g c =
     )
 
 pub returns-then-is_err-clause-fault : goal.returns-then-is_err-clause-fault
-returns-then-is_err-clause-fault g c = (
-  c.each_piece.bytes.items ++ take c.in-Ok.taken c.read.new.buf,
-  Consumes-then _ _ _ _ _ c.each_piece.invariant.read c.in-Ok.ensures.bytes.0,
-  tt,
-)
+returns-then-is_err-clause-fault g c =
+    let piece = take c.in-Ok.taken c.read.new.buf in
+    let count : length piece ≡ c.in-Ok.taken = sym c.in-Ok.ensures.bound.1 in (
+      c.each_piece.bytes.items ++ piece,
+      Consumes-then _ _ _ _ _ c.each_piece.invariant.read c.in-Ok.ensures.bytes.0,
+      omega (arith, length-append c.each_piece.bytes.items piece, count, c.len.ensures, c.if-len-taken-gt-MOST_BYTES.false),
+    )

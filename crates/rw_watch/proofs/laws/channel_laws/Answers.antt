@@ -1,8 +1,14 @@
-use Rattle.rw_watch.proofs.Showing.{is_shown_by_some, shows_allowed, shows_its_steps}
+use Rattle.rw_watch.proofs.Showing.{is_shown_by_some, replies_by_record, shows_allowed, shows_its_record, shows_its_steps}
 use Rattle.rw_watch.proofs.laws.channel_laws.Goals as goal
 
 pub returns-clause-steps : goal.returns-clause-steps
 returns-clause-steps g c = shows_its_steps _
+
+pub returns-clause-record : goal.returns-clause-record
+returns-clause-record g c = shows_its_record _
+
+pub returns-clause-replies : goal.returns-clause-replies
+returns-clause-replies g c = replies_by_record _
 
 pub returns-clause-allowed : goal.returns-clause-allowed
 returns-clause-allowed g c = shows_allowed _

@@ -6,7 +6,7 @@ pub apply-requires : goal.apply-requires
 apply-requires g c =
     let v = c.self.inside in
     let h : v.place < length v.entries.items = rw (← c.self.view_is) at c.requires in
-    room_at g.R.Reversible g.met.R.Reversible.laws (visit g.R.Reversible v.machine v.entries.items v.place) c.self.invariant h
+    room_at g.R.Reversible (visit g.R.Reversible v.machine v.entries.items v.place) c.self.invariant h
 
 pub invariant_of-self : goal.invariant_of-self
 invariant_of-self g c =

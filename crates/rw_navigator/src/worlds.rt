@@ -1,0 +1,7 @@
+//! Conditions on the runs of worlds, and the debugger that walks over such a run.
+
+mod condition;
+mod debugger;
+
+pub use condition::Cond;
+pub use debugger::Debugger;

@@ -1,0 +1,183 @@
+//! The debugger of a run.
+
+ghost use Rattle.std.specs.Prelude.{[], ◌≡◌, ◌<◌, ◌≤◌, ◌↔◌, ℕ, Bool, false, IsTrue, IfOk, IfSome, List, None, OnErr, OnOk, length, slice_get, unwrap_or};
+ghost use Rattle.rw_journal.specs.Book.{opening_of};
+ghost use Rattle.rw_navigator.specs.Debugger.{as_run, FoundAt, StandsAt, WentAlong, WentBy, WentTo};
+ghost use Rattle.rw_navigator.specs.Hits.{hit_above, hit_below};
+ghost use Rattle.rw_navigator.specs.Moves.{answer_to, answers_to, distance_between};
+ghost use Rattle.rw_navigator.specs.Places.{last_place, shown_at};
+ghost use Rattle.rw_navigator.specs.Search.{first_above, last_below, most_above, most_below, step_hit, TestsView};
+ghost use Rattle.rw_world.specs.Machines.{ChanShown};
+ghost use Rattle.rw_world.specs.Openings.{opened, refusal};
+ghost use Rattle.rw_world.specs.Records.{IsDocumented};
+
+use crate::conditions::Probe;
+use crate::moves::{Move, OutOfRange};
+use crate::places::Navigator;
+use rw_journal::{Book, Run};
+use rw_law::{Entry, NoMemory, Reversible};
+use rw_world::{Spec, World, documented, machines};
+use std::alloc::Global;
+use std::marker::Model;
+
+/// A run, and a world that stands at one of its places, 0 to `len`. At place n it shows what the documentation says of the
+/// run's first n calls: what the records of all that was ever sent show after them.
+#[derive(Drop)]
+pub struct Debugger<V: Copy> {
+    specs: Vec<Spec<V>>,
+    visit: Navigator<World<V>>,
+}
+
+impl<V: Copy> Model for Debugger<V> {
+    ghost use Rattle.rw_navigator.specs.Debugger.{Debugger as Seen, IsDebugger, seen};
+
+    ghost Value = { Seen V };
+
+    ghost view = { λ a. seen a.specs.items a.visit };
+
+    ghost invariant = { λ a. IsDebugger a.specs.items a.visit };
+}
+
+impl<V: Copy> Debugger<V> {
+    /// Stands at place 0 of a run, with a copy of it. All memory that the moves will need is taken here.
+    pub fn open(alloc: Global, run: &Run<V>) -> Result<Debugger<V>, NoMemory>
+        ensures { IfOk result (λ debugger. StandsAt debugger run.now 0) }
+    {
+        let Ok(specs) = Vec::from_slice(alloc, run.specs()) else {
+            return Err(NoMemory);
+        };
+        let start = run.start(alloc)?;
+        let visit = Navigator::open(alloc, start, run.entries())?;
+        machines::<V>();
+        documented::<V>();
+        Ok(Debugger { specs, visit })
+    }
+
+    /// Stands at the last place of the run of a book that was opened from these specs, with the book's machine and entries: no
+    /// call is made again. It takes no memory.
+    pub fn of_book(specs: Vec<Spec<V>>, book: Book<World<V>>) -> Debugger<V>
+        requires opens { refusal specs.items ≡ None }
+        requires opened { opening_of ⟦<World<V> as Reversible>⟧ book ≡ opened specs.items }
+        ensures { StandsAt result (as_run specs.items book.entries) (length book.entries) }
+    {
+        let (start, machine, entries) = book.into_whole();
+        let visit = Navigator::at_end(start, machine, entries);
+        machines::<V>();
+        documented::<V>();
+        Debugger { specs, visit }
+    }
+
+    /// What the channels are opened as.
+    pub fn specs(&self) -> &[Spec<V>]
+        ensures { result.now ≡ self.now.run.specs }
+    {
+        self.specs.as_slice()
+    }
+
+    /// The number of entries, which is the last place.
+    pub fn len(&self) -> u64
+        ensures { result ≡ last_place self.now.run }
+    {
+        self.visit.len()
+    }
+
+    /// Whether there is no entry, and so no place but 0.
+    pub fn is_empty(&self) -> bool
+        ensures { IsTrue result ↔ (self.now.run.entries ≡ []) }
+    {
+        self.visit.is_empty()
+    }
+
+    /// The entry that leads from place i to the next, or `None` where there is none. Its reply is the documented one.
+    pub fn entry(&self, i: u64) -> Option<Entry<World<V>>>
+        ensures entry { result ≡ slice_get self.now.run.entries i }
+        ensures documented { IsDocumented self.now.run.specs self.now.run.entries }
+        ensures recorded { IfSome result (λ e. ⟦<World<V> as Reversible>⟧.is_waiting e.reply ≡ false) }
+        ensures sent { IfSome result (λ e. ⟦<World<V> as Reversible>⟧.is_straying e.reply ≡ false) }
+    {
+        // The proof takes from here that the entries are a legal journal.
+        let _place = self.visit.place();
+        self.visit.entry(i)
+    }
+
+    /// The place where it stands.
+    pub fn place(&self) -> u64
+        ensures place { result ≡ self.now.place }
+        ensures inside { result ≤ last_place self.now.run }
+    {
+        self.visit.place()
+    }
+
+    /// How many calls of `apply` and `undo` the machine has had. The count stops at the greatest `u64`.
+    pub fn turns(&self) -> u64
+        ensures { result ≡ self.now.turns }
+    {
+        self.visit.turns()
+    }
+
+    /// The world at the place.
+    pub fn state(&self) -> &World<V>
+        ensures state { ⟦<World<V> as Reversible>⟧.shown result.now ≡ self.now.shown }
+        ensures documented { ⟦<World<V> as Reversible>⟧.shown result.now ≡ shown_at self.now.run self.now.place }
+    {
+        self.visit.state()
+    }
+
+    /// Makes a move, by one undone or redone entry per place. A move that leads to no place is refused, and changes nothing.
+    pub fn step(&mut self, to: Move) -> Result<(), OutOfRange>
+        ensures answer { result ≡ answer_to (last_place self.old.run) self.old.place to }
+        ensures moved { WentBy self.old self.new to }
+        ensures refused { OnErr result (self.new ≡ self.old) }
+    {
+        self.visit.step(to)
+    }
+
+    /// Time travel is exact: makes the moves in order, answers each by the place that it names, and ends at the place that they
+    /// name, n, showing what is documented after the first n calls. Each recorded reply is the documented one, and an entry
+    /// whose reply refuses changes nothing in either direction. The list of answers is grown before the first move.
+    pub fn walk(
+        &mut self,
+        alloc: Global,
+        moves: &[Move],
+    ) -> Result<Vec<Result<(), OutOfRange>>, NoMemory>
+        ensures answers { IfOk result (λ answers. answers.items ≡ answers_to (last_place self.old.run) self.old.place moves.now) }
+        ensures moved { OnOk result (WentAlong self.old self.new moves.now) }
+        ensures documented { IsDocumented self.old.run.specs self.old.run.entries }
+        ensures refused { OnErr result (self.new ≡ self.old) }
+    {
+        self.visit.walk(alloc, moves)
+    }
+
+    /// Goes to the nearest hit below the place, and answers it: a place whose entry meets the condition, or where what is
+    /// documented does, and didn't at the place before. With no hit there the place stays.
+    pub fn back_to<P: Probe<World<V>>>(&mut self, probe: &P) -> Option<u64>
+        ensures found { (f : List (ChanShown V) → Bool) → TestsView ⟦<World<V> as Reversible>⟧ f (P.holds_of_state probe.now) →
+            result ≡ hit_below self.old.run (P.asks_step probe.now) (P.holds_of_step probe.now) f self.old.place }
+        ensures moved { FoundAt self.old self.new result (most_below self.old.place result) }
+        ensures below { IfSome result (λ place. (0 < place) × (place < self.old.place)) }
+
+        // A condition on entries needs no premise, and no call but those of the way.
+        ensures found_step { IsTrue (P.asks_step probe.now) →
+            result ≡ last_below (step_hit (P.holds_of_step probe.now) self.old.run.entries) self.old.place }
+        ensures moved_step { IsTrue (P.asks_step probe.now) →
+            WentTo self.old self.new (unwrap_or result self.old.place) (distance_between self.old.place (unwrap_or result self.old.place)) }
+    {
+        self.visit.back_to(probe)
+    }
+
+    /// Goes to the nearest hit above the place, and answers it, as `back_to` does. With no hit there the place stays.
+    pub fn forward_to<P: Probe<World<V>>>(&mut self, probe: &P) -> Option<u64>
+        ensures found { (f : List (ChanShown V) → Bool) → TestsView ⟦<World<V> as Reversible>⟧ f (P.holds_of_state probe.now) →
+            result ≡ hit_above self.old.run (P.asks_step probe.now) (P.holds_of_step probe.now) f self.old.place }
+        ensures moved { FoundAt self.old self.new result (most_above self.old.place (last_place self.old.run) result) }
+        ensures above { IfSome result (λ place. (self.old.place < place) × (place ≤ last_place self.old.run)) }
+
+        // A condition on entries needs no premise, and no call but those of the way.
+        ensures found_step { IsTrue (P.asks_step probe.now) →
+            result ≡ first_above (step_hit (P.holds_of_step probe.now) self.old.run.entries) self.old.place (last_place self.old.run) }
+        ensures moved_step { IsTrue (P.asks_step probe.now) →
+            WentTo self.old self.new (unwrap_or result self.old.place) (distance_between self.old.place (unwrap_or result self.old.place)) }
+    {
+        self.visit.forward_to(probe)
+    }
+}

@@ -1,0 +1,26 @@
+//! Runs that are written into memory and read again.
+
+use rw_text::{read, round_trip};
+use std::alloc::Global;
+use std::test::Fail;
+
+/// How many entries the run has that is read back. Without a contract the test's proof stays short.
+fn entries_read_back(alloc: Global, text: &[u8]) -> Result<u64, Fail> {
+    let run = read::<u64>(alloc, text)?;
+    let again = round_trip(alloc, &run)?;
+    Ok(again.len())
+}
+
+#[test]
+fn a_run_is_read_back(rt: HostRuntime) -> Result<(), Fail> {
+    for (text, entries) in [
+        (b"ttd-journal 1\nwatch 7\nsteps\nend\n".as_slice(), 0),
+        (
+            b"ttd-journal 1\nbroadcast 4\nsteps\n1 0 0 send 0 7 = sent 1\n2 0 0 try-recv 1 = value 7\n3 0 0 drop 0 = dropped\nend\n",
+            3,
+        ),
+    ] {
+        assert_eq!(rt; entries_read_back(rt.alloc(), text)?, entries);
+    }
+    Ok(())
+}
