@@ -18,6 +18,3 @@ pub use machine::{Broadcast, OpenFault};
 pub use results::TryRecvError;
 pub use rw_handles::{Refusal, SendError};
 pub use rw_ring::MOST_CAPACITY;
-
-#[cfg(test)]
-mod tests;

@@ -26,12 +26,12 @@ items_more f start out out' xs i x so here more =
     let at : take (i + 1) xs ≡ take i xs ++ x ∷ [] = take_more xs i 0 (slice_get_within xs i x here) ∙ ap (λ (y : ℕ). take i xs ++ y ∷ []) (get_or_from_slice_get xs i x 0 here) in
     more ∙ ap (λ (o : List ℕ). o ++ f x) so ∙ flat_map_more f start (take i xs) x ∙ ap (λ (ys : List ℕ). start ++ flat_map f ys) (sym at)
 
-past_end : (xs : List ℕ) (i : ℕ) → slice_get xs i ≡ None → length xs ≤ i
-past_end xs i none =
-    elim (cases_lt i (length xs)) [
-      | inl lt ↦ let some = slice_get-get_or xs i 0 lt in absurd cc
-      | inr le ↦ le
-    ]
+past_end : {A : Type 0} (xs : List A) (i : ℕ) → slice_get xs i ≡ None → length xs ≤ i
+past_end [] i none = omega arith
+past_end (x ∷ xs) zero none = absurd cc
+past_end (x ∷ xs) (suc i) none =
+    let h : length xs ≤ i = past_end xs i none in
+    omega arith
 
 pub items_all : (f : ℕ → List ℕ) (start out xs : List ℕ) (i : ℕ) → out ≡ start ++ flat_map f (take i xs) → slice_get xs i ≡ None → out ≡ start ++ flat_map f xs
 items_all f start out xs i so none = so ∙ ap (λ (ys : List ℕ). start ++ flat_map f ys) (take_all i xs (past_end xs i none))

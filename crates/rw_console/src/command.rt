@@ -8,7 +8,7 @@ use rw_lines::{LONGEST_LINE, cut, is_skipped, numeral};
 use rw_navigator::{Cond, Move};
 
 /// What a line of the console asks for.
-#[derive(Clone, Copy, Debug)]
+#[derive(Clone, Copy)]
 pub enum Command {
     /// Nothing: the line is empty or a comment.
     Skip,

@@ -7,6 +7,7 @@ ghost use Rattle.rw_broadcast.specs.Machine.{position_at};
 ghost use Rattle.rw_watch.specs.Machine.{mark_at};
 ghost use Rattle.std.specs.Prelude.{slice_get};
 
+use crate::channels::channel_at;
 use rw_broadcast::Broadcast;
 use rw_handles::Kind;
 use rw_law::Reversible;
@@ -52,9 +53,9 @@ fn world_value(alloc: Global, world: &World<u64>, len: u64, place: u64) -> Resul
 fn channel_values(alloc: Global, world: &World<u64>) -> Result<Vec<Value>, AllocError>
     ensures { IfOk result (λ list. map view list.items ≡ map channel_json (⟦<World<u64> as Reversible>⟧.shown world.now)) }
 {
-    let mut list = Vec::with_capacity(alloc, world.len())?;
+    let mut list = Vec::new(alloc);
     let mut i = 0;
-    'each_channel: while let Some(channel) = world.channel(i) {
+    'each_channel: while let Some(channel) = channel_at(world, i) {
         list.push(channel_value(alloc, channel)?)?;
         i += 1;
     }

@@ -8,6 +8,7 @@
 
 mod blocks;
 mod broadcast_block;
+mod channels;
 mod command;
 mod condition_words;
 mod console;
@@ -16,14 +17,10 @@ mod entries;
 mod handles;
 mod json;
 mod reading;
-#[cfg(test)]
-mod search_tests;
 mod sessions;
 mod text;
 mod walk;
 mod watch_block;
 
-pub use console::commands;
 pub use debugging::debug;
 pub use sessions::{MOST_BYTES, Outcome, SessionFault, session};
-pub use walk::Walk;

@@ -10,7 +10,7 @@ use std::alloc::Global;
 use std::io::Read;
 
 /// Where the reading of a script stops.
-#[derive(Clone, Copy, Debug, PartialEq, Eq)]
+#[derive(Clone, Copy)]
 pub enum ScriptEnd {
     /// Behind the line `---`.
     Mark,

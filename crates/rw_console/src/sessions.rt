@@ -14,7 +14,7 @@ use crate::reading::{Head, read_script};
 use crate::walk::Walk;
 pub use rw_lines::StreamFault as SessionFault;
 use rw_lines::put_whole;
-use rw_script::{Played, Script, ScriptFault, play};
+use rw_script::{Script, ScriptFault};
 use std::alloc::Global;
 use std::io::{Read, Write};
 
@@ -74,11 +74,9 @@ fn begin<W: Write>(
     ensures ok { OnOk result (Appends (W.contents writer.old) (W.contents writer.new) (waiting_line (run_of script).waits)) }
     ensures err { IfErr result (StopsWriting (W.contents writer.old) (W.contents writer.new) (waiting_line (run_of script).waits)) }
 {
-    let Ok(played) = play(alloc, &script) else {
+    let Ok((walk, waits)) = Walk::of_script(alloc, &script) else {
         return Err(SessionFault::NoMemory);
     };
-    let Played { specs, book, waits } = played;
-    let walk = Walk::of_book(alloc, specs, book);
     say_waiting(alloc, writer, waits)?;
     Ok((walk, waits))
 }

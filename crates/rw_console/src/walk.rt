@@ -1,21 +1,21 @@
 //! A walk over the places of a run.
 
-ghost use Rattle.std.specs.Prelude.{◌≡◌, ◌++◌, ◌≢◌, None, false, IfOk, IfSome, OnOk};
+ghost use Rattle.std.specs.Prelude.{◌≡◌, ◌++◌, ◌≢◌, false, IfOk, IfSome, OnOk};
 ghost use Rattle.rw_console.specs.Report.{output_of, place_of};
-ghost use Rattle.rw_journal.specs.Book.{opening_of};
-ghost use Rattle.rw_navigator.specs.Debugger.{as_run};
+ghost use Rattle.rw_console.specs.SessionReport.{recording_of};
 ghost use Rattle.rw_navigator.specs.Places.{entry_to, last_place};
-ghost use Rattle.rw_world.specs.Openings.{opened, refusal};
+ghost use Rattle.rw_script.specs.Running.{run_of};
 
 use crate::blocks::push_world;
 use crate::command::Command;
 use crate::entries::push_entry;
 use crate::json::push_json;
 use crate::text::{push_hit, push_place, push_refusal};
-use rw_journal::{Book, Run};
+use rw_journal::Run;
 use rw_law::{Entry, NoMemory, Reversible};
 use rw_navigator::{Cond, Debugger, Move};
-use rw_world::{Spec, World};
+use rw_script::{Played, Script, play};
+use rw_world::World;
 use std::alloc::{AllocError, Global};
 use std::marker::Model;
 
@@ -45,15 +45,19 @@ impl Walk {
         Ok(Walk { alloc, debugger })
     }
 
-    /// Begins at the last place of the run of a book that was opened from these specs, with the book's machine and entries.
-    pub fn of_book(alloc: Global, specs: Vec<Spec<u64>>, book: Book<World<u64>>) -> Walk
-        requires opens { refusal specs.items ≡ None }
-        requires opened { opening_of ⟦<World<u64> as Reversible>⟧ book ≡ opened specs.items }
-        ensures run { result.run ≡ as_run specs.items book.entries }
-        ensures place { result.place ≡ last_place result.run }
+    /// Runs a script, and begins at the last place of its run, with the machine and the entries of its book. Beside the walk stands
+    /// the line that would wait, if one would.
+    pub fn of_script(alloc: Global, script: &Script) -> Result<(Walk, Option<u64>), NoMemory>
+        ensures run { IfOk result (λ p. p.0.run ≡ recording_of script.now) }
+        ensures place { IfOk result (λ p. p.0.place ≡ last_place p.0.run) }
+        ensures waits { IfOk result (λ p. p.1 ≡ (run_of script.now).waits) }
     {
+        let Ok(played) = play(alloc, script) else {
+            return Err(NoMemory);
+        };
+        let Played { specs, book, waits } = played;
         let debugger = Debugger::of_book(specs, book);
-        Walk { alloc, debugger }
+        Ok((Walk { alloc, debugger }, waits))
     }
 
     /// How many entries the run has.

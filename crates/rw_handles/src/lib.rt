@@ -16,6 +16,3 @@ pub use kinds::{Found, HandleFault, Kind, Slot};
 pub use laws::undoings;
 pub use refusals::{Refusal, SendError};
 pub use table::{MOST_HANDLES, Table};
-
-#[cfg(test)]
-mod tests;

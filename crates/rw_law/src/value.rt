@@ -48,21 +48,3 @@ impl Payload for u64 {
         Some(w)
     }
 }
-
-#[cfg(test)]
-mod tests {
-    use super::Payload;
-
-    /// The value that the word of a value gives.
-    fn there_and_back<V: Payload>(value: &V) -> Option<V> {
-        V::from_word(value.word())
-    }
-
-    #[test]
-    fn a_number_is_its_own_word(rt: HostRuntime) {
-        for value in [0, 7, 18_446_744_073_709_551_615] {
-            assert_eq!(rt; value.word(), value);
-            assert_eq!(rt; there_and_back(&value), Some(value), "at {value}");
-        }
-    }
-}

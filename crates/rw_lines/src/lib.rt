@@ -4,13 +4,15 @@
 //! `next_line` says which bytes it took from the reader and which line they make, also where it stops in the midst of
 //! one, and `put` says which bytes the writer holds, also where it stops before the last.
 //! Start reading at `specs/Lines.antt`, which says what the lines of bytes are, and then at `lines.rt`.
-//! The crate `rw_devices` above has the tests, over readers and writers that fail.
+//! Readers and writers that fail are in `rw_devices`; the tests over them are in `rw_tests`.
 #![tactic(auto)]
 
 mod bytes;
 mod lines;
 mod numerals;
 mod streams;
+#[cfg(test)]
+mod tests;
 mod tokens;
 
 pub use bytes::{put_bytes, put_number, put_small_number};

@@ -1,6 +1,6 @@
 -- A debugger goes as its visit goes.
-use Rattle.std.proofs.Common.{◌≡◌, ◌≤◌, ◌+◌, ◌-◌, ℕ, zero, suc, List, [], ◌∷◌, Bool, true, false, Option, Some, None, length, take, refl, sym, ap, ◌∙◌, subst}
-use Rattle.std.specs.Prelude.{not, ◌&&◌, nat_lt, slice_get, if◌then◌else◌, IfSome, OnOk, OnErr, Result, Ok, Err}
+use Rattle.std.proofs.Common.{◌≡◌, ◌+◌, ◌-◌, ℕ, zero, suc, List, [], ◌∷◌, Bool, true, false, Some, length, refl, sym, ap, ◌∙◌, subst}
+use Rattle.std.specs.Prelude.{slice_get, IfSome, OnOk, OnErr, Result, Ok, Err}
 use Rattle.std.proofs.Math.Seq.{take-length}
 use Rattle.rw_journal.specs.Run.{Run}
 use Rattle.rw_law.specs.declared.machine.Reversible.{Ghosts}
@@ -9,13 +9,13 @@ use Rattle.rw_law.specs.Journal.{after_all, after, IsLegal}
 use Rattle.rw_world.specs.declared.opening.Spec.{Spec}
 use Rattle.rw_world.specs.Machines.{ChanShown, of_world}
 use Rattle.rw_world.specs.Openings.{opened}
-use Rattle.rw_world.specs.Records.{documented_at, IsDocumented, ShowsAtPlaces, RecordsAsDocumented}
+use Rattle.rw_world.specs.Records.{IsDocumented, ShowsAtPlaces, RecordsAsDocumented}
 use Rattle.rw_world.specs.Specified.{WorldEntry}
-use Rattle.rw_navigator.specs.Debugger.{Visit, as_run, seen, IsDebugger, StandsAt, WentTo, FoundAt}
+use Rattle.rw_navigator.specs.Debugger.{Visit, as_run, seen, IsDebugger, StandsAt, WentTo}
 use Rattle.rw_navigator.specs.Hits.{is_hit, hit_below, hit_above}
-use Rattle.rw_navigator.specs.Navigator.{Navigator, IsNavigator, MovedTo, start_of}
-use Rattle.rw_navigator.specs.Places.{last_place, shown_at}
-use Rattle.rw_navigator.specs.Search.{hit, step_hit, state_hit, last_below, first_of_next, first_above, SearchedTo}
+use Rattle.rw_navigator.specs.Navigator.{IsNavigator, MovedTo, start_of}
+use Rattle.rw_navigator.specs.Places.{last_place}
+use Rattle.rw_navigator.specs.Search.{hit, last_below, first_of_next, first_above}
 
 -- the same tests find the same
 last_below-same : (t u : ℕ → Bool) → ((p : ℕ) → t p ≡ u p) → (n : ℕ) → last_below t n ≡ last_below u n
@@ -107,14 +107,6 @@ module _ {M C R P : Type 0} (m : Ghosts M C R P) where
   recorded_at x (e ∷ es) zero legal = record { no_wait = legal.0.no_wait; no_stray = legal.0.no_stray }
   recorded_at x (e ∷ es) (suc i) legal = recorded_at (m.next x e.call) es i legal.1
 
--- the entries of a visit are recorded
-pub visited : {M C R P : Type 0} {m : Ghosts M C R P} {v : Navigator M C R P} → IsNavigator m v → (i : ℕ) (o : Option (Entry M C R P)) → o ≡ slice_get v.entries i → IfSome o (IsRecorded m)
-visited {m = m} {v = v} is i o e = rw e (recorded_at m (start_of m v) v.entries i is.legal)
-
-pub no_wait : {M C R P : Type 0} (m : Ghosts M C R P) (o : Option (Entry M C R P)) → IfSome o (IsRecorded m) → IfSome o (λ e. m.is_waiting e.reply ≡ false)
-no_wait m None h = tt
-no_wait m (Some e) h = h.no_wait
-
-pub no_stray : {M C R P : Type 0} (m : Ghosts M C R P) (o : Option (Entry M C R P)) → IfSome o (IsRecorded m) → IfSome o (λ e. m.is_straying e.reply ≡ false)
-no_stray m None h = tt
-no_stray m (Some e) h = h.no_stray
+-- an entry of a visit is recorded
+pub recorded : {V : Type 0} {v : Visit V} → IsNavigator of_world v → (i : ℕ) (e : WorldEntry V) → Some e ≡ slice_get v.entries i → IsRecorded of_world e
+recorded {v = v} is i e found = subst (λ o. IfSome o (IsRecorded of_world)) (sym found) (recorded_at of_world (start_of of_world v) v.entries i is.legal)

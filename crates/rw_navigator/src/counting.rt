@@ -8,12 +8,12 @@ use std::marker::Model;
 
 /// A machine, and the number of its calls. It never gives the machine out, so no call goes uncounted.
 #[derive(Drop)]
-pub struct Counted<R: Reversible> {
+pub struct Counted<R> {
     machine: R,
     count: u64,
 }
 
-impl<R: Reversible> Model for Counted<R> {
+impl<R> Model for Counted<R> {
     ghost use Rattle.rw_navigator.specs.Counted.{Counted as Seen};
 
     ghost Value = { Seen R };
@@ -21,7 +21,7 @@ impl<R: Reversible> Model for Counted<R> {
     ghost view = { λ a. record { state = a.machine; turns = a.count } };
 }
 
-impl<R: Reversible> Counted<R> {
+impl<R> Counted<R> {
     /// Takes a machine, with no call counted yet.
     pub fn new(machine: R) -> Counted<R>
         ensures machine { result.state ≡ machine }
@@ -43,7 +43,9 @@ impl<R: Reversible> Counted<R> {
     {
         self.count
     }
+}
 
+impl<R: Reversible> Counted<R> {
     /// The machine's own `apply`, counted as one call.
     pub fn apply(&mut self, call: &R::Call) -> (R::Reply, R::Patch)
         requires { R.weigh (R.shown self.old.state) < R.reserved self.old.state }

@@ -21,8 +21,5 @@ mod worlds;
 pub use conditions::Probe;
 pub use counting::Counted;
 pub use moves::{Move, OutOfRange};
-pub use places::Navigator;
+pub use places::{MOST_PLACES, Navigator};
 pub use worlds::{Cond, Debugger};
-
-#[cfg(test)]
-mod tests;

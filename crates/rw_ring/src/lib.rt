@@ -10,6 +10,3 @@ mod ring;
 
 pub use laws::window_laws;
 pub use ring::{MOST_CAPACITY, Ring};
-
-#[cfg(test)]
-mod tests;

@@ -14,8 +14,6 @@ mod reader;
 mod running;
 mod said;
 mod script;
-#[cfg(test)]
-mod script_tests;
 mod steps;
 
 pub use faults::{ScriptFault, ScriptFaultKind};

@@ -129,6 +129,18 @@ pub struct Played {
     pub waits: Option<u64>,
 }
 
+/// A book without entries, on the world that a script opens.
+fn book_of(alloc: Global, script: &Script) -> Result<Book<World<u64>>, RunFault>
+    ensures opened { IfOk result (λ book. opening_of of_world book ≡ opened script.now.specs) }
+    ensures fresh { IfOk result (λ book. book.entries ≡ []) }
+{
+    match open(alloc, script.specs()) {
+        Ok(world) => Book::open(alloc, world).map_err(|_| RunFault::NoMemory),
+        Err(OpenFault::NoMemory) => Err(RunFault::NoMemory),
+        Err(_) => unreachable!(),
+    }
+}
+
 /// Runs a script on a book: its calls in the order of its lines, with the stamps 1, 2, 3, .. . It stops at the first call that
 /// would wait, and gives the number of that line.
 pub fn play(alloc: Global, script: &Script) -> Result<Played, RunFault>
@@ -138,18 +150,17 @@ pub fn play(alloc: Global, script: &Script) -> Result<Played, RunFault>
     ensures entries { IfOk result (λ played. played.book.entries ≡ journal_of of_world (opened script.now.specs) 0 (run_of script.now).calls) }
     ensures waits { IfOk result (λ played. played.waits ≡ (run_of script.now).waits) }
 {
-    let world = match open(alloc, script.specs()) {
-        Ok(world) => world,
-        Err(OpenFault::NoMemory) => return Err(RunFault::NoMemory),
-        Err(_) => unreachable!(),
-    };
     let Ok(specs) = script.specs().to_vec(alloc) else {
         return Err(RunFault::NoMemory);
     };
-    let Ok(mut book) = Book::open(alloc, world) else {
-        return Err(RunFault::NoMemory);
+    let mut book = book_of(alloc, script)?;
+    let waits = match run_steps(alloc, &mut book, script) {
+        Ok(waits) => waits,
+        Err(fault) => {
+            drop(book);
+            return Err(fault);
+        }
     };
-    let waits = run_steps(alloc, &mut book, script)?;
     book.kept();
     journal_of_an_interleaving::<World<u64>>();
     Ok(Played { specs, book, waits })

@@ -1,5 +1,6 @@
-//! Tests that cross crates: worked rows of the channels, of books and runs, of sessions, and of journal texts.
+//! Tests: worked rows of the channels, of books and runs, of sessions and of journal texts, and each library's own small cases.
 //!
+//! They stand here and not beside what they test, since a crate that holds tests is proved twice.
 //! The one contract is the rows themselves: what is called, read or typed, and what is answered, shown or written, from the
 //! channels' documentation and not from the code. Start reading at `channels/playing.rt`, which plays a row of calls, and at
 //! `sessions/playing.rt`, which plays a session.
@@ -9,8 +10,28 @@ pub mod cell;
 #[cfg(test)]
 mod channels;
 #[cfg(test)]
+mod desks;
+#[cfg(test)]
+mod handles;
+#[cfg(test)]
 mod journals;
+#[cfg(test)]
+mod lines;
+#[cfg(test)]
+mod plain;
+#[cfg(test)]
+mod rings;
+#[cfg(test)]
+mod scripts;
 #[cfg(test)]
 mod sessions;
 #[cfg(test)]
 mod texts;
+#[cfg(test)]
+mod values;
+#[cfg(test)]
+mod walks;
+#[cfg(test)]
+mod words;
+#[cfg(test)]
+mod worlds;

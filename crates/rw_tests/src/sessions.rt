@@ -2,6 +2,7 @@
 
 mod broadcasts;
 mod commands;
+mod conditions;
 mod devices;
 mod handle_limit;
 mod limits;

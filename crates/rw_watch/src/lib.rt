@@ -16,6 +16,3 @@ pub use laws::channel_laws;
 pub use machine::Watch;
 pub use results::RecvError;
 pub use rw_handles::{Refusal, SendError};
-
-#[cfg(test)]
-mod tests;

@@ -11,8 +11,6 @@ mod broadcast;
 mod entries;
 mod reading;
 mod reply_word;
-#[cfg(test)]
-mod tests;
 mod watch;
 mod writing;
 

@@ -13,8 +13,6 @@ mod laws;
 mod members;
 mod opening;
 mod rows;
-#[cfg(test)]
-mod tests;
 
 pub use channels::{Channel, ChannelCall, ChannelPatch, ChannelReply};
 pub use laws::{commutes, documented, legal_by_parts, machines, shape, specified};

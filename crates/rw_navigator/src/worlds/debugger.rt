@@ -78,14 +78,14 @@ impl<V: Copy> Debugger<V> {
     pub fn len(&self) -> u64
         ensures { result ≡ last_place self.now.run }
     {
-        self.visit.len()
+        self.visit.entries.len() as u64
     }
 
     /// Whether there is no entry, and so no place but 0.
     pub fn is_empty(&self) -> bool
         ensures { IsTrue result ↔ (self.now.run.entries ≡ []) }
     {
-        self.visit.is_empty()
+        self.visit.entries.is_empty()
     }
 
     /// The entry that leads from place i to the next, or `None` where there is none. Its reply is the documented one.
@@ -95,9 +95,14 @@ impl<V: Copy> Debugger<V> {
         ensures recorded { IfSome result (λ e. ⟦<World<V> as Reversible>⟧.is_waiting e.reply ≡ false) }
         ensures sent { IfSome result (λ e. ⟦<World<V> as Reversible>⟧.is_straying e.reply ≡ false) }
     {
-        // The proof takes from here that the entries are a legal journal.
-        let _place = self.visit.place();
-        self.visit.entry(i)
+        let entry = self.visit.entries.get(i as usize)?;
+        Some(Entry {
+            actor: entry.actor,
+            stamp: entry.stamp,
+            call: entry.call,
+            reply: entry.reply,
+            patch: entry.patch,
+        })
     }
 
     /// The place where it stands.
@@ -105,14 +110,14 @@ impl<V: Copy> Debugger<V> {
         ensures place { result ≡ self.now.place }
         ensures inside { result ≤ last_place self.now.run }
     {
-        self.visit.place()
+        self.visit.place
     }
 
     /// How many calls of `apply` and `undo` the machine has had. The count stops at the greatest `u64`.
     pub fn turns(&self) -> u64
         ensures { result ≡ self.now.turns }
     {
-        self.visit.turns()
+        self.visit.machine.turns()
     }
 
     /// The world at the place.
@@ -120,7 +125,7 @@ impl<V: Copy> Debugger<V> {
         ensures state { ⟦<World<V> as Reversible>⟧.shown result.now ≡ self.now.shown }
         ensures documented { ⟦<World<V> as Reversible>⟧.shown result.now ≡ shown_at self.now.run self.now.place }
     {
-        self.visit.state()
+        self.visit.machine.state()
     }
 
     /// Makes a move, by one undone or redone entry per place. A move that leads to no place is refused, and changes nothing.

@@ -79,13 +79,27 @@ where
 {
     let mut book = Book::open(alloc, start)?;
     for step in steps {
-        match book.take(0, 0, step.call) {
-            Ok(receipt) => assert_eq!(rt; receipt.reply, step.reply),
-            Err(TakeFault::Waits) => assert!(rt; M::waits(&step.reply)),
-            Err(_) => return Err(NoMemory),
-        }
+        take(rt, &mut book, step)?;
     }
     Ok(book)
+}
+
+/// Takes the call of a step, and compares the replies. A call that would wait is no entry.
+fn take<M: Reversible + Shows>(
+    rt: &impl Abort,
+    book: &mut Book<M>,
+    step: &Step<M::Call, M::Reply, M::Place>,
+) -> Result<(), NoMemory>
+where
+    M::Reply: PartialEq + Debug,
+    ensures { book.new.opening ≡ book.old.opening }
+{
+    match book.take(0, 0, step.call) {
+        Ok(receipt) => assert_eq!(rt; receipt.reply, step.reply),
+        Err(TakeFault::Waits) => assert!(rt; M::waits(&step.reply)),
+        Err(_) => return Err(NoMemory),
+    }
+    Ok(())
 }
 
 /// Plays a row on one machine and records it there, and walks it back and on again on another in the same state.

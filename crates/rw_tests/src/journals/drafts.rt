@@ -1,30 +1,19 @@
 //! Drafts of runs.
 
+use crate::plain::{draft_of, entries_of, finish, navigator_of, push, specs_of, step};
 use rw_broadcast::{BCall, BReply};
-use rw_journal::{PushFault, RunDraft};
-use rw_navigator::{Move, Navigator};
+use rw_journal::PushFault;
+use rw_navigator::Move;
 use rw_watch::{WCall, WReply};
-use rw_world::{ChanCall, ChanReply, OpenFault, RowCall, Spec};
+use rw_world::{ChanCall, ChanReply, OpenFault, Spec};
 use std::test::Fail;
 
 /// The stamp after the greatest.
 const TOO_LATE: u64 = (1 << 62) + 1;
 
-/// Without a contract the tests' proofs stay short.
-fn push(
-    draft: &mut RunDraft<u64>,
-    actor: u32,
-    stamp: u64,
-    channel: u32,
-    call: ChanCall<u64>,
-    reply: ChanReply<u64>,
-) -> Result<(), PushFault> {
-    draft.push(actor, stamp, RowCall { channel, call }, reply)
-}
-
 #[test]
 fn pushes_what_comes_next(rt: HostRuntime) -> Result<(), Fail> {
-    let mut draft = RunDraft::open(rt.alloc(), &[Spec::Broadcast(2), Spec::Watch(5)])?;
+    let mut draft = draft_of(rt.alloc(), &[Spec::Broadcast(2), Spec::Watch(5)])?;
     let (send, sent) = (
         ChanCall::B(BCall::Send(0, 1)),
         ChanReply::B(BReply::Sent(1)),
@@ -59,11 +48,11 @@ fn pushes_what_comes_next(rt: HostRuntime) -> Result<(), Fail> {
     ] {
         assert_eq!(rt; push(&mut draft, actor, stamp, channel, call, told), answer);
     }
-    let run = draft.finish();
-    assert_eq!(rt; run.specs().len(), 2);
+    let run = finish(draft);
+    assert_eq!(rt; specs_of(&run).len(), 2);
     let pushed = [(0, 1), (1, 1), (0, 2), (0, 3), (63, 1 << 62)];
-    assert_eq!(rt; run.entries().len(), pushed.len());
-    for (entry, want) in run.entries().iter().zip(pushed) {
+    assert_eq!(rt; entries_of(&run).len(), pushed.len());
+    for (entry, want) in entries_of(&run).iter().zip(pushed) {
         assert_eq!(rt; (entry.actor, entry.stamp), want);
     }
     Ok(())
@@ -71,7 +60,7 @@ fn pushes_what_comes_next(rt: HostRuntime) -> Result<(), Fail> {
 
 #[test]
 fn a_channel_is_full(rt: HostRuntime) -> Result<(), Fail> {
-    let mut draft = RunDraft::open(rt.alloc(), &[Spec::Broadcast(1), Spec::Broadcast(1)])?;
+    let mut draft = draft_of::<u64>(rt.alloc(), &[Spec::Broadcast(1), Spec::Broadcast(1)])?;
     let count = ChanCall::B(BCall::ReceiverCount(0));
     let one = ChanReply::B(BReply::Count(1));
     for stamp in 1..=1_048_576 {
@@ -80,12 +69,11 @@ fn a_channel_is_full(rt: HostRuntime) -> Result<(), Fail> {
     for (channel, answer) in [(0, Err(PushFault::Limit)), (1, Ok(()))] {
         assert_eq!(rt; push(&mut draft, 0, 1_048_577, channel, count, one), answer);
     }
-    let run = draft.finish();
-    assert_eq!(rt; run.len(), 1_048_577);
-    let mut navigator = Navigator::open(rt.alloc(), run.start(rt.alloc())?, run.entries())?;
+    let run = finish(draft);
+    assert_eq!(rt; entries_of(&run).len(), 1_048_577);
+    let mut navigator = navigator_of(rt.alloc(), &run)?;
     for (to, place) in [(Move::End, 1_048_577), (Move::Start, 0)] {
-        assert_eq!(rt; navigator.step(to), Ok(()));
-        assert_eq!(rt; navigator.place(), place);
+        assert_eq!(rt; step(&mut navigator, to), Ok(place));
     }
     Ok(())
 }
@@ -98,7 +86,7 @@ fn opens_as_a_world_does(rt: HostRuntime) -> Result<(), Fail> {
         (none.as_slice(), OpenFault::NoChannels),
         (&bad, OpenFault::BadCapacity(1)),
     ] {
-        match RunDraft::open(rt.alloc(), specs) {
+        match draft_of::<u64>(rt.alloc(), specs) {
             Ok(_) => assert!(rt; false),
             Err(found) => assert_eq!(rt; found, fault),
         }

@@ -6,10 +6,10 @@ use std::alloc::Global;
 use std::process::Abort;
 
 /// A session's name, its input and its report.
-pub type Session = (&'static str, &'static [u8], &'static [u8]);
+pub type Session<'a> = (&'a str, &'a [u8], &'a [u8]);
 
 /// Plays each session, whose script is run to its end.
-pub fn play(rt: &impl Abort, alloc: Global, sessions: &[Session]) {
+pub fn play(rt: &impl Abort, alloc: Global, sessions: &[Session<'_>]) {
     for (name, input, report) in sessions {
         let mut reader = FailingReader::new(input, 64, None);
         let mut writer = FailingWriter::new(alloc, 4096, None);

@@ -1,13 +1,14 @@
 //! Texts of runs and of none.
 
-use rw_text::{TextFault, read};
+use crate::plain::{entries_of, run_in};
+use rw_text::TextFault;
 use std::alloc::Global;
 use std::test::Fail;
 
-/// How many entries the run has. Without a contract the tests' proofs stay short.
-fn length(alloc: Global, bytes: &[u8]) -> Result<u64, TextFault> {
-    let run = read::<u64>(alloc, bytes)?;
-    Ok(run.len())
+/// How many entries the run has.
+fn length(alloc: Global, bytes: &[u8]) -> Result<usize, TextFault> {
+    let run = run_in::<u64>(alloc, bytes)?;
+    Ok(entries_of(&run).len())
 }
 
 #[test]

@@ -1,14 +1,14 @@
 //! Runs that are written into memory and read again.
 
-use rw_text::{read, round_trip};
+use crate::plain::{entries_of, run_again, run_in};
 use std::alloc::Global;
 use std::test::Fail;
 
-/// How many entries the run has that is read back. Without a contract the test's proof stays short.
-fn entries_read_back(alloc: Global, text: &[u8]) -> Result<u64, Fail> {
-    let run = read::<u64>(alloc, text)?;
-    let again = round_trip(alloc, &run)?;
-    Ok(again.len())
+/// How many entries the run has that is read back.
+fn entries_read_back(alloc: Global, text: &[u8]) -> Result<usize, Fail> {
+    let run = run_in::<u64>(alloc, text)?;
+    let again = run_again(alloc, &run)?;
+    Ok(entries_of(&again).len())
 }
 
 #[test]

@@ -1,24 +1,24 @@
 //! The runs of scripts, written as text, read again, and the same.
 
+use crate::plain::{entries_of, run_in, specs_of, write_run};
 use rw_devices::FailingWriter;
 use rw_journal::Run;
 use rw_law::Entry;
 use rw_script::{Script, run_one};
-use rw_text::{read, write};
 use rw_world::World;
 use std::alloc::Global;
 use std::process::Abort;
 use std::test::Fail;
 
+/// Three values go through a channel that retains two, and one receiver receives four times.
+pub const OVERRUN: &[u8] =
+    b"broadcast 2\n0 0 send 0 1\n0 0 send 0 2\n0 0 send 0 3\n0 0 try-recv 1\n0 0 try-recv 1\n0 0 try-recv 1\n0 0 try-recv 1\n";
+
 /// A script for each row: what it is about, its lines, and how many entries its run has. That of the handle limit is
 /// `handle_limit`.
 pub const SCRIPTS: [(&str, &[u8], u64); 19] = [
     ("empty_session", b"broadcast 4\n", 0),
-    (
-        "overrun_walked_back",
-        b"broadcast 2\n0 0 send 0 1\n0 0 send 0 2\n0 0 send 0 3\n0 0 try-recv 1\n0 0 try-recv 1\n0 0 try-recv 1\n0 0 try-recv 1\n",
-        7,
-    ),
+    ("overrun_walked_back", OVERRUN, 7),
     (
         "capacity_is_rounded_up",
         b"broadcast 3\n0 0 send 0 1\n0 0 send 0 2\n0 0 send 0 3\n0 0 send 0 4\n0 0 send 0 5\n0 0 try-recv 1\n",
@@ -123,11 +123,6 @@ pub fn run_of(alloc: Global, script: &[u8]) -> Result<Run<u64>, Fail> {
     Ok(run)
 }
 
-/// The run that is read from bytes.
-fn run_in(alloc: Global, bytes: &[u8]) -> Result<Run<u64>, Fail> {
-    Ok(read(alloc, bytes)?)
-}
-
 /// Compares two entries in all that they hold.
 fn compare(rt: &impl Abort, name: &str, entry: &Entry<World<u64>>, again: &Entry<World<u64>>) {
     assert_eq!(rt;
@@ -149,17 +144,17 @@ fn write_and_read(
     entries: u64,
 ) -> Result<(), Fail> {
     let run = run_of(alloc, script)?;
-    assert_eq!(rt; run.len(), entries, "{name}");
+    assert_eq!(rt; entries_of(&run).len() as u64, entries, "{name}");
     let mut first = FailingWriter::new(alloc, 4096, None);
-    assert!(rt; write(&run, &mut first).is_ok(), "{name}");
+    assert!(rt; write_run(&run, &mut first).is_ok(), "{name}");
     let again = run_in(alloc, first.written())?;
-    assert!(rt; run.specs() == again.specs(), "{name}");
-    assert_eq!(rt; again.len(), entries, "{name}");
-    for (entry, other) in run.entries().iter().zip(again.entries()) {
+    assert!(rt; specs_of(&run) == specs_of(&again), "{name}");
+    assert_eq!(rt; entries_of(&again).len() as u64, entries, "{name}");
+    for (entry, other) in entries_of(&run).iter().zip(entries_of(&again)) {
         compare(rt, name, entry, other);
     }
     let mut second = FailingWriter::new(alloc, 4096, None);
-    assert!(rt; write(&again, &mut second).is_ok(), "{name}");
+    assert!(rt; write_run(&again, &mut second).is_ok(), "{name}");
     assert!(rt; second.written() == first.written(), "{name}");
     Ok(())
 }

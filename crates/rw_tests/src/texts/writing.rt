@@ -1,9 +1,8 @@
 //! Runs that are written, and writers that fail.
 
+use crate::plain::{run_in, write_run};
 use rw_devices::FailingWriter;
-use rw_journal::Run;
-use rw_text::{TextFault, WriteFault, read, write};
-use std::alloc::Global;
+use rw_text::WriteFault;
 use std::test::Fail;
 
 const SMALL: &[u8] =
@@ -13,16 +12,12 @@ const SMALL: &[u8] =
 const LARGE: &[u8] =
     b"ttd-journal 1\nbroadcast 3\nwatch 1\nsteps\n1 0 0 send 0 1 = sent 1\n1 1 1 drop 1 = dropped\n2 0 0 send 0 2 = sent 1\n3 0 0 send 0 3 = sent 1\n4 0 0 send 0 4 = sent 1\n5 0 0 send 0 5 = sent 1\n6 0 0 try-recv 1 = lagged 1\n6 1 1 is-closed 0 = flag yes\n7 0 0 sender-len 0 = count 4\n7 1 1 closed 0 = done\n8 1 1 send 0 2 = no-receivers 2\n9 1 1 send-replace 0 3 = old 1\n10 1 1 modify 0 5 no = told no\n11 1 1 subscribe 0 = new 2\n12 1 1 borrow 2 = value 5\n13 63 0 subscribe 9 = unknown\nend\n";
 
-fn run_of(alloc: Global, bytes: &[u8]) -> Result<Run<u64>, TextFault> {
-    read(alloc, bytes)
-}
-
 #[test]
 fn what_is_read_is_written_again(rt: HostRuntime) -> Result<(), Fail> {
     for text in [SMALL, LARGE] {
-        let run = run_of(rt.alloc(), text)?;
+        let run = run_in::<u64>(rt.alloc(), text)?;
         let mut writer = FailingWriter::new(rt.alloc(), 100, None);
-        assert_eq!(rt; write(&run, &mut writer), Ok(text.len() as u64));
+        assert_eq!(rt; write_run(&run, &mut writer), Ok(text.len() as u64));
         assert!(rt; writer.written() == text);
     }
     Ok(())
@@ -30,13 +25,13 @@ fn what_is_read_is_written_again(rt: HostRuntime) -> Result<(), Fail> {
 
 #[test]
 fn a_writer_fails_at_each_byte(rt: HostRuntime) -> Result<(), Fail> {
-    let run = run_of(rt.alloc(), SMALL)?;
+    let run = run_in::<u64>(rt.alloc(), SMALL)?;
     for n in 0..110 {
         let mut writer = FailingWriter::new(rt.alloc(), 1, Some(n));
-        assert_eq!(rt; write(&run, &mut writer), Err(WriteFault(n)));
+        assert_eq!(rt; write_run(&run, &mut writer), Err(WriteFault(n)));
         assert!(rt; writer.written() == &SMALL[..n as usize]);
     }
     let mut lazy = FailingWriter::new(rt.alloc(), 0, None);
-    assert_eq!(rt; write(&run, &mut lazy), Err(WriteFault(0)));
+    assert_eq!(rt; write_run(&run, &mut lazy), Err(WriteFault(0)));
     Ok(())
 }

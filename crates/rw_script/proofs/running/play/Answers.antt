@@ -8,5 +8,5 @@ use Rattle.rw_script.proofs.running.play.Goals as goal
 pub returns-clause-entries : goal.returns-clause-entries
 returns-clause-entries c =
     let es = c.run_steps.new.book.entries in
-    c.journal_of_an_interleaving.ensures.one (opened c.args.script.now.specs) 0 es (subst (λ x. IsLegal of_world x es) c.in_ok-waits.ensures.opened c.kept.ensures.legal) c.in_ok-waits.ensures.stamps
-    ∙ ap (journal_of of_world (opened c.args.script.now.specs) 0) c.in_ok-waits.ensures.calls
+    c.journal_of_an_interleaving.ensures.one (opened c.args.script.now.specs) 0 es (subst (λ x. IsLegal of_world x es) c.in-Ok-run_steps.ensures.opened c.kept.ensures.legal) c.in-Ok-run_steps.ensures.stamps
+    ∙ ap (journal_of of_world (opened c.args.script.now.specs) 0) c.in-Ok-run_steps.ensures.calls

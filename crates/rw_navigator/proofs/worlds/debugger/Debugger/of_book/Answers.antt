@@ -1,7 +1,6 @@
 use Rattle.std.proofs.Common.{◌∙◌, ap, length, refl, subst, sym}
 use Rattle.rw_law.specs.Journal.{after_all, IsLegal}
 use Rattle.rw_world.specs.Machines.{of_world}
-use Rattle.rw_world.specs.Openings.{opened}
 use Rattle.rw_navigator.specs.Debugger.{as_run}
 use Rattle.rw_navigator.proofs.Debugging.{begun, stands, at_last_place}
 use Rattle.rw_navigator.proofs.worlds.debugger.Debugger.of_book.Goals as goal

@@ -3,7 +3,9 @@ use Rattle.rw_world.specs.Machines.{of_world}
 use Rattle.rw_navigator.proofs.worlds.debugger.Debugger.state.Goals as goal
 
 pub returns-clause-state : goal.returns-clause-state
-returns-clause-state g c = rw (← c.self.view_is) (ap of_world.shown c.state.ensures.state)
+returns-clause-state g c = rw (← c.self.view_is, ← c.self-inside.view_is) (ap of_world.shown c.state.ensures)
 
 pub returns-clause-documented : goal.returns-clause-documented
-returns-clause-documented g c = rw (← c.self.view_is) (c.state.ensures.shows ∙ c.self.invariant.shows c.self.inside.visit.place)
+returns-clause-documented g c =
+    let is = rw (← c.self-inside.view_is) at c.self.invariant in
+    rw (← c.self.view_is, ← c.self-inside.view_is) (ap of_world.shown c.state.ensures ∙ c.self-inside.invariant.shows ∙ is.shows _)

@@ -1,0 +1,3 @@
+//! Passes, desks, and what they are closed into.
+
+mod passes;

@@ -1,0 +1,142 @@
+//! Calls of books, runs, drafts, walks, texts and lines without their contracts, over any machine, type of values or stream.
+//!
+//! A test says what comes back and needs no clause of what it calls. A proof that meets the contracts of a world's calls at the
+//! values of a test takes minutes; over a type parameter, once for all tests, it takes seconds.
+
+ghost use Rattle.std.specs.Prelude.{◌<◌, All};
+
+use rw_journal::{Book, PushFault, Run, RunDraft, TakeFault};
+use rw_law::{Entry, NoMemory, Payload, Reversible};
+use rw_lines::{Next, StreamFault, next_line};
+use rw_navigator::{Move, Navigator, OutOfRange};
+use rw_text::{TextFault, WriteFault, read, round_trip, write};
+use rw_world::{ChanCall, ChanReply, OpenFault, RowCall, Spec, World, open};
+use std::alloc::Global;
+use std::io::{Read, Write};
+
+/// A book of a world that is opened from these specs.
+pub fn book_of<V: Copy>(alloc: Global, specs: &[Spec<V>]) -> Result<Book<World<V>>, OpenFault> {
+    Ok(Book::open(alloc, open(alloc, specs)?)?)
+}
+
+/// A call by actor 0: the stamp of its receipt, and its reply.
+pub fn take<M: Reversible>(
+    book: &mut Book<M>,
+    clock: u64,
+    call: M::Call,
+) -> Result<(u64, M::Reply), TakeFault> {
+    let receipt = book.take(0, clock, call)?;
+    Ok((receipt.stamp, receipt.reply))
+}
+
+/// Makes room for the next call of an actor with this clock.
+pub fn ready<M: Reversible>(book: &mut Book<M>, clock: u64) -> Result<(), TakeFault> {
+    book.ready(clock)
+}
+
+/// The stamp of the entry that is taken back, and the number of those that are left.
+pub fn rewind<M: Reversible>(book: &mut Book<M>) -> Option<(u64, u64)> {
+    let entry = book.rewind()?;
+    Some((entry.stamp, book.len()))
+}
+
+/// Runs the calls on a book.
+pub fn run_on<M: Reversible>(
+    book: &mut Book<M>,
+    calls: &[(u32, M::Call)],
+) -> Result<(), (u64, TakeFault)>
+    requires { All (λ call. call.0 < 64) calls.now }
+{
+    book.run(calls)
+}
+
+/// A draft of a run of these specs.
+pub fn draft_of<V: Payload>(alloc: Global, specs: &[Spec<V>]) -> Result<RunDraft<V>, OpenFault> {
+    RunDraft::open(alloc, specs)
+}
+
+/// Pushes a step.
+pub fn push<V: Payload>(
+    draft: &mut RunDraft<V>,
+    actor: u32,
+    stamp: u64,
+    channel: u32,
+    call: ChanCall<V>,
+    reply: ChanReply<V>,
+) -> Result<(), PushFault> {
+    draft.push(actor, stamp, RowCall { channel, call }, reply)
+}
+
+/// The run of a draft.
+pub fn finish<V: Payload>(draft: RunDraft<V>) -> Run<V> {
+    draft.finish()
+}
+
+/// The specs of a run.
+pub fn specs_of<V: Copy>(run: &Run<V>) -> &[Spec<V>] {
+    run.specs()
+}
+
+/// The entries of a run.
+pub fn entries_of<V: Copy>(run: &Run<V>) -> &[Entry<World<V>>] {
+    run.entries()
+}
+
+/// The world in which a run starts.
+pub fn start_of<V: Copy>(alloc: Global, run: &Run<V>) -> Result<World<V>, NoMemory> {
+    run.start(alloc)
+}
+
+/// A navigator of a run, at place 0.
+pub fn navigator_of<V: Copy>(alloc: Global, run: &Run<V>) -> Result<Navigator<World<V>>, NoMemory> {
+    Navigator::open(alloc, run.start(alloc)?, run.entries())
+}
+
+/// Makes a move, and answers the place where the navigator then stands.
+pub fn step<R: Reversible>(navigator: &mut Navigator<R>, to: Move) -> Result<u64, OutOfRange> {
+    navigator.step(to)?;
+    Ok(navigator.place())
+}
+
+/// Makes moves.
+pub fn walk<R: Reversible>(
+    alloc: Global,
+    navigator: &mut Navigator<R>,
+    moves: &[Move],
+) -> Result<Vec<Result<(), OutOfRange>>, NoMemory> {
+    navigator.walk(alloc, moves)
+}
+
+/// Where a navigator stands, and how many calls its machine had.
+pub fn place_and_turns<R: Reversible>(navigator: &Navigator<R>) -> (u64, u64) {
+    (navigator.place(), navigator.turns())
+}
+
+/// What a navigator's machine is at its place.
+pub fn state<R: Reversible>(navigator: &Navigator<R>) -> &R {
+    navigator.state()
+}
+
+/// The run that is read from a journal text.
+pub fn run_in<V: Payload>(alloc: Global, bytes: &[u8]) -> Result<Run<V>, TextFault> {
+    read(alloc, bytes)
+}
+
+/// Writes the journal text of a run.
+pub fn write_run<V: Payload, W: Write>(run: &Run<V>, writer: &mut W) -> Result<u64, WriteFault> {
+    write(run, writer)
+}
+
+/// The run that is written and read back.
+pub fn run_again<V: Payload>(alloc: Global, run: &Run<V>) -> Result<Run<V>, NoMemory> {
+    round_trip(alloc, run)
+}
+
+/// The next line of a reader.
+pub fn line_of<R: Read>(
+    reader: &mut R,
+    allowed: &mut u64,
+    line: &mut Vec<u8>,
+) -> Result<Next, StreamFault> {
+    next_line(reader, allowed, line)
+}

@@ -1,0 +1,98 @@
+//! A small ring, and rings beside a plain list of the last values.
+ghost use Rattle.std.specs.Prelude.{◌<◌};
+
+use rw_law::NoMemory;
+use rw_ring::Ring;
+use std::test::Fail;
+
+#[test]
+fn ring_of_two(rt: HostRuntime) -> Result<(), Fail> {
+    let mut ring: Ring<u64> = Ring::new(rt.alloc(), 2)?;
+    assert_eq!(rt; ring.put(1), None);
+    assert_eq!(rt; ring.put(2), None);
+    assert_eq!(rt; ring.put(3), Some(1));
+    assert_eq!(rt; ring.at(0), None);
+    assert_eq!(rt; ring.at(1), Some(2));
+    assert_eq!(rt; ring.oldest(), 1);
+    ring.unput(Some(1));
+    assert_eq!(rt; ring.count(), 2);
+    assert_eq!(rt; ring.at(0), Some(1));
+    assert_eq!(rt; ring.at(2), None);
+    Ok(())
+}
+
+/// The plain body: the values in a list, all of which move by one place where one is evicted.
+#[derive(Drop)]
+struct Plain {
+    values: Vec<u64>,
+    capacity: usize,
+    count: u64,
+}
+
+impl Plain {
+    fn put(&mut self, v: u64) -> Result<Option<u64>, NoMemory>
+        requires { self.old.count < 1000 }
+    {
+        let evicted = if self.values.len() < self.capacity || self.values.is_empty() {
+            None
+        } else {
+            Some(self.values.remove(0))
+        };
+        self.values.push(v)?;
+        self.count += 1;
+        Ok(evicted)
+    }
+
+    fn unput(&mut self, evicted: Option<u64>) -> Result<(), NoMemory> {
+        self.values.pop();
+        self.count = self.count.saturating_sub(1);
+        if let Some(v) = evicted {
+            self.values.insert(0, v)?;
+        }
+        Ok(())
+    }
+
+    fn at(&self, position: u64) -> Option<u64> {
+        let oldest = self.count.saturating_sub(self.values.len() as u64);
+        if position < oldest {
+            return None;
+        }
+        self.values.get((position - oldest) as usize).copied()
+    }
+}
+
+fn agree(ring: &Ring<u64>, plain: &Plain) -> bool {
+    (0..14).all(|position| ring.at(position) == plain.at(position))
+}
+
+// Two puts and one taken back, again and again, and then all taken back.
+#[test]
+fn rings_keep_what_a_plain_list_keeps(rt: HostRuntime) -> Result<(), Fail> {
+    for capacity in [1, 2, 4] {
+        let mut ring: Ring<u64> = Ring::new(rt.alloc(), capacity)?;
+        let mut plain = Plain {
+            values: Vec::new(rt.alloc()),
+            capacity: capacity as usize,
+            count: 0,
+        };
+        let mut evictions = Vec::new(rt.alloc());
+        for step in 0..24 {
+            assert!(rt; agree(&ring, &plain));
+            assert_eq!(rt; ring.count(), plain.count);
+            if step % 3 < 2 && step < 18 {
+                assert!(rt; plain.count < 1000);
+                let evicted = ring.put(100 + step);
+                assert_eq!(rt; plain.put(100 + step)?, evicted);
+                evictions.push(evicted)?;
+            } else if let Some(evicted) = evictions.pop() {
+                assert!(rt; 0 < ring.count());
+                assert_eq!(rt; evicted.is_some(), ring.capacity() < ring.count());
+                ring.unput(evicted);
+                plain.unput(evicted)?;
+            }
+        }
+        assert!(rt; agree(&ring, &plain));
+        assert_eq!(rt; ring.count(), 0);
+    }
+    Ok(())
+}

@@ -1,0 +1,255 @@
+//! Every word of the two tables, read and written, and the faults in their order.
+
+use rw_broadcast::{BCall, BReply};
+use rw_law::{Entry, Reversible};
+use rw_watch::{WCall, WReply};
+use rw_words::{WordFault, read_call, read_reply, write_entry};
+use rw_world::{ChanCall, ChanReply, ChannelCall, ChannelPatch, ChannelReply, RowCall, World};
+use std::alloc::Global;
+use std::process::Abort;
+use std::test::Fail;
+
+const BROADCAST_CALLS: [(&[u8], BCall<u64>); 10] = [
+    (b"send 0 7", BCall::Send(0, 7)),
+    (b"subscribe 0", BCall::Subscribe(0)),
+    (b"clone-sender 0", BCall::CloneSender(0)),
+    (b"resubscribe 1", BCall::Resubscribe(1)),
+    (b"try-recv 1", BCall::TryRecv(1)),
+    (b"recv 1", BCall::Recv(1)),
+    (b"drop 4294967295", BCall::DropHandle(4_294_967_295)),
+    (b"sender-len 0", BCall::SenderLen(0)),
+    (b"receiver-count 0", BCall::ReceiverCount(0)),
+    (b"receiver-len 1", BCall::ReceiverLen(1)),
+];
+
+const WATCH_CALLS: [(&[u8], WCall<u64>); 17] = [
+    (b"send 0 7", WCall::Send(0, 7)),
+    (
+        b"send-replace 0 18446744073709551615",
+        WCall::SendReplace(0, u64::MAX),
+    ),
+    (
+        b"modify 0 5 yes",
+        WCall::Modify {
+            told: true,
+            handle: 0,
+            value: 5,
+        },
+    ),
+    (
+        b"modify 0 5 no",
+        WCall::Modify {
+            told: false,
+            handle: 0,
+            value: 5,
+        },
+    ),
+    (b"subscribe 0", WCall::Subscribe(0)),
+    (b"clone-sender 0", WCall::CloneSender(0)),
+    (b"clone-receiver 1", WCall::CloneReceiver(1)),
+    (b"borrow 0", WCall::Borrow(0)),
+    (b"update 1", WCall::Update(1)),
+    (b"has-changed 1", WCall::HasChanged(1)),
+    (b"changed 1", WCall::Changed(1)),
+    (b"mark-changed 1", WCall::MarkChanged(1)),
+    (b"mark-unchanged 1", WCall::MarkUnchanged(1)),
+    (b"drop 1", WCall::DropHandle(1)),
+    (b"receiver-count 0", WCall::ReceiverCount(0)),
+    (b"is-closed 0", WCall::IsClosed(0)),
+    (b"closed 0", WCall::AwaitClosed(0)),
+];
+
+const BROADCAST_REPLIES: [(&[u8], BReply<u64>); 13] = [
+    (b"sent 2", BReply::Sent(2)),
+    (b"no-receivers 9", BReply::NoReceivers(9)),
+    (b"value 7", BReply::Value(7)),
+    (b"lagged 18446744073709551615", BReply::Lagged(u64::MAX)),
+    (b"empty", BReply::Empty),
+    (b"closed", BReply::Closed),
+    (b"new 4294967295", BReply::New(4_294_967_295)),
+    (b"dropped", BReply::Dropped),
+    (b"count 4294967296", BReply::Count(4_294_967_296)),
+    (b"unknown", BReply::Unknown),
+    (b"gone", BReply::Gone),
+    (b"wrong-kind", BReply::WrongKind),
+    (b"too-many-handles", BReply::TooManyHandles),
+];
+
+const WATCH_REPLIES: [(&[u8], WReply<u64>); 17] = [
+    (b"stored", WReply::Stored),
+    (b"no-receivers 2", WReply::NoReceivers(2)),
+    (b"old 1", WReply::Old(1)),
+    (b"told yes", WReply::Told(true)),
+    (b"told no", WReply::Told(false)),
+    (b"new 2", WReply::New(2)),
+    (b"value 8", WReply::Value(8)),
+    (b"flag yes", WReply::Flag(true)),
+    (b"flag no", WReply::Flag(false)),
+    (b"closed", WReply::Closed),
+    (b"done", WReply::Done),
+    (b"count 0", WReply::Count(0)),
+    (b"dropped", WReply::Dropped),
+    (b"unknown", WReply::Unknown),
+    (b"gone", WReply::Gone),
+    (b"wrong-kind", WReply::WrongKind),
+    (b"too-many-handles", WReply::TooManyHandles),
+];
+
+/// The entry of actor 2 on channel 3 with stamp 1.
+fn entry_of(call: ChanCall<u64>, reply: ChanReply<u64>) -> Entry<World<u64>> {
+    Entry {
+        actor: 2,
+        stamp: 1,
+        call: RowCall { channel: 3, call },
+        reply,
+        patch: ChannelPatch::NoChannel,
+    }
+}
+
+/// Writes an entry whose reply is one that is recorded.
+fn is_written(rt: &impl Abort, entry: &Entry<World<u64>>, want: &[u8]) {
+    let mut out = [0u8; 256];
+    let recorded = !World::<u64>::waits(&entry.reply) && !World::<u64>::strays(&entry.reply);
+    assert!(rt; recorded);
+    if recorded {
+        let length = write_entry(entry, &mut out);
+        assert_eq!(rt; &out[..length], want);
+    }
+}
+
+/// The call is written so, and what is written is read as a call that is written so.
+fn is_call(
+    rt: &impl Abort,
+    alloc: Global,
+    broadcast: bool,
+    text: &[u8],
+    call: ChanCall<u64>,
+) -> Result<(), Fail> {
+    let mut line = Vec::new(alloc);
+    line.extend_from_slice(b"1 2 3 ")?;
+    line.extend_from_slice(text)?;
+    line.extend_from_slice(b" = done")?;
+    let reply = ChannelReply::W(WReply::Done);
+    is_written(rt, &entry_of(call, reply), &line);
+    match read_call::<u64>(broadcast, text) {
+        Ok(read) => is_written(rt, &entry_of(read, reply), &line),
+        Err(fault) => assert_eq!(rt; Some(fault), None),
+    }
+    Ok(())
+}
+
+#[test]
+fn reads_and_writes_every_call(rt: HostRuntime) -> Result<(), Fail> {
+    for (text, call) in BROADCAST_CALLS {
+        is_call(&rt, rt.alloc(), true, text, ChannelCall::B(call))?;
+    }
+    for (text, call) in WATCH_CALLS {
+        is_call(&rt, rt.alloc(), false, text, ChannelCall::W(call))?;
+    }
+    Ok(())
+}
+
+/// The reply is read, and is written so.
+fn is_reply(
+    rt: &impl Abort,
+    alloc: Global,
+    broadcast: bool,
+    text: &[u8],
+    reply: ChanReply<u64>,
+) -> Result<(), Fail> {
+    assert_eq!(rt; read_reply::<u64>(broadcast, text), Ok(reply));
+    let mut line = Vec::new(alloc);
+    line.extend_from_slice(b"1 2 3 recv 1 = ")?;
+    line.extend_from_slice(text)?;
+    is_written(rt, &entry_of(ChannelCall::B(BCall::Recv(1)), reply), &line);
+    Ok(())
+}
+
+#[test]
+fn reads_and_writes_every_reply(rt: HostRuntime) -> Result<(), Fail> {
+    for (text, reply) in BROADCAST_REPLIES {
+        is_reply(&rt, rt.alloc(), true, text, ChannelReply::B(reply))?;
+    }
+    for (text, reply) in WATCH_REPLIES {
+        is_reply(&rt, rt.alloc(), false, text, ChannelReply::W(reply))?;
+    }
+    Ok(())
+}
+
+#[test]
+fn longest_line_has_123_bytes(rt: HostRuntime) {
+    let entry = Entry {
+        actor: u32::MAX,
+        stamp: u64::MAX,
+        call: RowCall {
+            channel: u32::MAX,
+            call: ChannelCall::W(WCall::SendReplace(u32::MAX, u64::MAX)),
+        },
+        reply: ChannelReply::W(WReply::NoReceivers(u64::MAX)),
+        patch: ChannelPatch::NoChannel,
+    };
+    let want =
+        b"18446744073709551615 4294967295 4294967295 send-replace 4294967295 18446744073709551615 = no-receivers 18446744073709551615";
+    assert_eq!(rt; want.len(), 123);
+    is_written(&rt, &entry, want);
+}
+
+#[test]
+fn names_the_first_fault_of_a_call(rt: HostRuntime) {
+    let cases: [(bool, &[u8], WordFault); 22] = [
+        (true, b"", WordFault::WrongWord),
+        (true, b" send 0 1", WordFault::WrongWord),
+        (true, b"sends 0 07", WordFault::WrongWord),
+        (true, b"changed 1", WordFault::WrongWord),
+        (true, b"downgrade 0", WordFault::WrongWord),
+        (false, b"recv 1", WordFault::WrongWord),
+        (false, b"recv 4294967296 x", WordFault::WrongWord),
+        (true, b"send", WordFault::BadArguments),
+        (true, b"send ", WordFault::BadArguments),
+        (true, b"send 0", WordFault::BadArguments),
+        (true, b"send 0 07", WordFault::BadArguments),
+        (true, b"send 00 7", WordFault::BadArguments),
+        (true, b"send 0  7", WordFault::BadArguments),
+        (true, b"send 0 7 ", WordFault::BadArguments),
+        (true, b"recv 1 1", WordFault::BadArguments),
+        (true, b"recv r", WordFault::BadArguments),
+        (
+            true,
+            b"send 4294967296 18446744073709551616",
+            WordFault::BadArguments,
+        ),
+        (false, b"modify 4294967296 7 maybe", WordFault::BadArguments),
+        (false, b"modify 0 7", WordFault::BadArguments),
+        (true, b"recv 4294967296", WordFault::HandleTooLarge),
+        (
+            true,
+            b"send 18446744073709551615 7",
+            WordFault::HandleTooLarge,
+        ),
+        (false, b"modify 4294967296 7 no", WordFault::HandleTooLarge),
+    ];
+    for (broadcast, text, fault) in cases {
+        assert_eq!(rt; read_call::<u64>(broadcast, text).err(), Some(fault));
+    }
+}
+
+#[test]
+fn names_the_first_fault_of_a_reply(rt: HostRuntime) {
+    let cases: [(bool, &[u8], WordFault); 12] = [
+        (true, b"", WordFault::WrongWord),
+        (true, b"waits", WordFault::WrongWord),
+        (false, b"waits", WordFault::WrongWord),
+        (true, b"stored", WordFault::WrongWord),
+        (false, b"sent 1", WordFault::WrongWord),
+        (true, b"no-sender", WordFault::WrongWord),
+        (true, b"dropped ", WordFault::BadArguments),
+        (true, b"sent", WordFault::BadArguments),
+        (true, b"value 07", WordFault::BadArguments),
+        (false, b"flag maybe", WordFault::BadArguments),
+        (true, b"new 4294967296 ", WordFault::BadArguments),
+        (true, b"new 4294967296", WordFault::HandleTooLarge),
+    ];
+    for (broadcast, text, fault) in cases {
+        assert_eq!(rt; read_reply::<u64>(broadcast, text), Err(fault));
+    }
+}
