@@ -1,1 +1,6 @@
+pub mod Answers
+pub mod CallWords
+pub mod Desks
+pub mod Locked
 pub mod Passes
+pub mod Settling

@@ -1,5 +1,6 @@
 //! Why a desk refuses.
 
+use rw_world::OpenFault;
 use thiserror::Error;
 
 /// Why a call isn't made. The first that holds is answered, in this order, and nothing has changed.
@@ -17,4 +18,15 @@ pub enum DeskFault {
     /// The call would wait.
     #[error("would wait")]
     Waits,
+}
+
+/// Why a desk isn't opened. The first that holds is answered, in this order.
+#[derive(Clone, Copy, Debug, PartialEq, Eq, Error)]
+pub enum DeskOpenFault {
+    /// There is no actor, or there are more than 64.
+    #[error("bad number of actors")]
+    BadActors,
+    /// No world is opened from the specs.
+    #[error("{0}")]
+    World(OpenFault),
 }

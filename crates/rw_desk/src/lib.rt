@@ -1,17 +1,27 @@
 //! Desks: channels that threads call, each under a lock of its own, with all calls recorded.
 //!
-//! The one contract: every call that an actor's pass has a receipt of was one step of its channel's book, under that channel's
-//! lock, and closing the desk gives one legal run of all of them.
+//! The one contract: a call adds the receipt of its own entry to its actor's pass, or names the first fault and leaves the pass.
 //! Start reading at `specs/Passes.antt`, which says what a recorded call adds to a pass, and go on with `pass.rt`, whose
 //! `record` makes each step.
 #![tactic(auto)]
 
+mod broadcast_calls;
+mod desk;
 mod faults;
 mod handles;
 mod kept;
+mod locked;
+mod made;
 mod pass;
+mod place;
+mod same_calls;
+mod settling;
+mod watch_calls;
 
-pub use faults::DeskFault;
+pub use desk::Desk;
+pub use faults::{DeskFault, DeskOpenFault};
 pub use handles::{BRx, BTx, Ends, WRx, WTx};
 pub use kept::Kept;
+pub use made::Made;
 pub use pass::Pass;
+pub use settling::compare;

@@ -19,6 +19,7 @@ pub use laws::{commutes, documented, legal_by_parts, machines, shape, specified}
 pub use members::Member;
 pub use opening::{
     Chan, ChanCall, ChanReply, MOST_CHANNELS, OpenFault, Spec, World, open, open_channel,
+    refusal_of,
 };
 pub use rows::{Row, RowCall};
 pub use rw_broadcast::MOST_CAPACITY;

@@ -98,8 +98,8 @@ fn first_bad_capacity<V: Copy>(specs: &[Spec<V>]) -> Option<usize>
     specs.iter().position(|spec| spec.has_bad_capacity())
 }
 
-/// Why no world is opened from these specs, if there is such a cause.
-fn refusal_of<V: Copy>(specs: &[Spec<V>]) -> Option<OpenFault>
+/// Why no world is opened from these specs, if there is such a cause. It takes no memory.
+pub fn refusal_of<V: Copy>(specs: &[Spec<V>]) -> Option<OpenFault>
     ensures refusal { result ≡ refusal specs.now }
     ensures good { IsNone result → All (λ spec. has_bad_capacity spec ≡ false) specs.now }
 {

@@ -1,0 +1,69 @@
+-- The kind of a channel stays, and says which calls stray and of which kind a reply is.
+use Rattle.std.proofs.Common.{◌≡◌, ℕ, false, List, [], ◌∷◌, Result, Ok, Err, IfOk, OnErr, refl, sym, ◌∙◌, ap, subst, arith}
+use Rattle.rw_law.specs.Journal.{after_all}
+use Rattle.rw_world.specs.declared.opening.Spec.{Spec}
+use Rattle.rw_world.specs.declared.opening.Spec.TheVariants.{Broadcast, Watch}
+use Rattle.rw_world.specs.declared.channels.ChannelCall.TheVariants as call
+use Rattle.rw_world.specs.Channel.{strays_at}
+use Rattle.rw_world.specs.ChannelLaws.{kind_stays, strays_by_kind}
+use Rattle.rw_world.specs.Kinds.{broadcast_shown, watch_shown, kind_of}
+use Rattle.rw_world.specs.Machines.{Chan, ChanCall, ChanReply, ChanPatch, ChanShown, of_broadcast, of_watch, of_chan}
+use Rattle.rw_world.specs.Openings.{opened_channel, kind_of_spec}
+use Rattle.rw_world.specs.Specified.{ChanEntry}
+use Rattle.rw_journal.specs.Book.{Book, IsUnchanged, reply_to}
+use Rattle.rw_desk.specs.declared.faults.DeskFault.{DeskFault}
+use Rattle.rw_desk.specs.Locked.{IsOpenedFrom}
+use Rattle.rw_desk.specs.Passes.{HasReceipt, IsOfKind, IsRecorded, Pass}
+
+-- what callers see of a channel's book
+abbrev Books : Type 0 → Type 0
+Books V = Book (Chan V) (ChanCall V) (ChanReply V) (ChanPatch V)
+
+module _ {V : Type 0} where
+  kind_after : (x : ChanShown V) (es : List (ChanEntry V)) → kind_of (after_all of_chan x es) ≡ kind_of x
+  kind_after x [] = refl
+  kind_after x (e ∷ es) = kind_after ((of_chan {V = V}).next x e.call) es ∙ kind_stays of_broadcast of_watch x e.call
+
+  kind_opened : (spec : Spec V) → kind_of (opened_channel spec) ≡ kind_of_spec spec
+  kind_opened (Broadcast capacity) = refl
+  kind_opened (Watch init) = refl
+
+  -- a call strays at a book exactly by the spec that the book was opened from
+  pub strays_by_spec : (spec : Spec V) (book : Books V) (c : ChanCall V) → IsOpenedFrom spec book → (of_chan {V = V}).is_straying (reply_to of_chan book c) ≡ strays_at (kind_of_spec spec) c
+  strays_by_spec spec book c opened =
+      let x : ChanShown V = (of_chan {V = V}).shown book.opening in
+      strays_by_kind of_broadcast of_watch (after_all of_chan x book.entries) c
+      ∙ ap (λ k. strays_at k c) (kind_after x book.entries ∙ (ap kind_of opened ∙ kind_opened spec))
+
+  kind_of_reply : (x : ChanShown V) (c : ChanCall V) → (of_chan {V = V}).is_straying ((of_chan {V = V}).reply_of x c) ≡ false → IsOfKind c ((of_chan {V = V}).reply_of x c)
+  kind_of_reply (broadcast_shown x) (call.B c) stays = tt
+  kind_of_reply (broadcast_shown x) (call.W c) stays = absurd (cc)
+  kind_of_reply (watch_shown x) (call.B c) stays = absurd (cc)
+  kind_of_reply (watch_shown x) (call.W c) stays = tt
+
+  -- a recorded call left its receipt
+  pub has_receipt : (old new : Pass V) (before now : Books V) (channel : ℕ) (c : ChanCall V) (r : ChanReply V) → IsRecorded of_chan old new before now channel c r → HasReceipt old new channel c r
+  has_receipt old new before now channel c r recorded =
+      let taken = recorded.taken in
+      let x : ChanShown V = after_all of_chan ((of_chan {V = V}).shown before.opening) before.entries in
+      let stays : (of_chan {V = V}).is_straying ((of_chan {V = V}).reply_of x c) ≡ false = subst (λ s. (of_chan {V = V}).is_straying s ≡ false) taken.reply_is taken.no_stray in
+      record {
+        stamp = recorded.stamp;
+        above = omega (arith, taken.stamp_is);
+        kind = subst (IsOfKind c) (sym taken.reply_is) (kind_of_reply x c stays);
+        pass = recorded.pass;
+      }
+
+  -- no call changes what the book was opened from
+  pub opened_still : (spec : Spec V) (old new : Pass V) (before now : Books V) (channel : ℕ) (c : ChanCall V) (answer : Result (ChanReply V) DeskFault)
+      → IsOpenedFrom spec before → IfOk answer (λ r. IsRecorded of_chan old new before now channel c r) → OnErr answer (IsUnchanged before now) → IsOpenedFrom spec now
+  opened_still spec old new before now channel c (Ok r) opened recorded unchanged = ap (of_chan {V = V}).shown recorded.taken.opening ∙ opened
+  opened_still spec old new before now channel c (Err fault) opened recorded unchanged = ap (of_chan {V = V}).shown unchanged.opening ∙ opened
+
+  pub receipt_given : (old new : Pass V) (before now : Books V) (channel : ℕ) (c : ChanCall V) (answer : Result (ChanReply V) DeskFault) → IfOk answer (λ r. IsRecorded of_chan old new before now channel c r) → IfOk answer (λ r. HasReceipt old new channel c r)
+  receipt_given old new before now channel c (Ok r) recorded = has_receipt old new before now channel c r recorded
+  receipt_given old new before now channel c (Err fault) recorded = tt
+
+  -- a call that isn't stray by the spec isn't stray at the book
+  pub never_strays : (spec own : Spec V) (book : Books V) (c : ChanCall V) → IsOpenedFrom own book → own ≡ spec → strays_at (kind_of_spec spec) c ≡ false → (of_chan {V = V}).is_straying (reply_to of_chan book c) ≡ false
+  never_strays spec own book c opened same stays = strays_by_spec own book c opened ∙ (ap (λ s. strays_at (kind_of_spec s) c) same ∙ stays)

@@ -1,0 +1,9 @@
+use Rattle.std.proofs.Common.{◌++◌, ◌∷◌, [], ◌∙◌, ap}
+use Rattle.rw_desk.specs.Passes.{fresh_pass}
+use Rattle.rw_desk.proofs.Opened.{one_more}
+use Rattle.rw_desk.proofs.desk.fresh_passes.Goals as goal
+
+pub loop-actor-preserved : goal.loop-actor-preserved
+loop-actor-preserved g c =
+    let inv = c.loop-actor.invariant in
+    one_more (fresh_pass {V = g.row.V.Denot}) c.loop-actor.passes.items c.push.new.self.items c.loop-actor.actor inv.0 inv.1 (c.in_ok-push.ensures.items ∙ ap (λ p. c.loop-actor.passes.items ++ p ∷ []) c.new.ensures)

@@ -1,0 +1,216 @@
+//! The calls of broadcast channels, by handles.
+
+ghost use Rattle.std.specs.Prelude.{IsErrOf};
+ghost use Rattle.rw_desk.specs.Answers.{IsAnsweredB, IsDropping, MakesBRx, MakesBTx};
+
+use crate::desk::Desk;
+use crate::faults::DeskFault;
+use crate::handles::{BRx, BTx};
+use crate::made::Made;
+use crate::pass::Pass;
+use rw_broadcast::{BCall, BReply};
+use rw_law::Payload;
+use rw_world::{ChannelCall, ChannelReply};
+use std::sync::Wait;
+
+impl<V: Payload> Desk<V> {
+    /// A call of a broadcast channel.
+    pub(crate) fn b_call<R: Wait>(
+        &self,
+        rt: &R,
+        pass: &mut Pass<V>,
+        channel: u32,
+        call: BCall<V>,
+    ) -> Result<BReply<V>, DeskFault>
+        ensures { IsAnsweredB self.now.specs pass.old pass.new channel call result }
+    {
+        match self.call(rt, pass, channel, ChannelCall::B(call))? {
+            ChannelReply::B(reply) => Ok(reply),
+            _ => unreachable!(),
+        }
+    }
+
+    /// A call of a broadcast channel, which waits where the answer would be `Waits`.
+    pub(crate) fn b_wait<R: Wait>(
+        &self,
+        rt: &R,
+        pass: &mut Pass<V>,
+        channel: u32,
+        call: BCall<V>,
+    ) -> Result<BReply<V>, DeskFault>
+        ensures answered { IsAnsweredB self.now.specs pass.old pass.new channel call result }
+        ensures waited { ¬ IsErrOf result DeskFault.Waits }
+    {
+        match self.wait_call(rt, pass, channel, ChannelCall::B(call))? {
+            ChannelReply::B(reply) => Ok(reply),
+            _ => unreachable!(),
+        }
+    }
+
+    /// Sends a value to all live receivers.
+    pub fn b_send<R: Wait>(
+        &self,
+        rt: &R,
+        pass: &mut Pass<V>,
+        sender: &BTx,
+        value: V,
+    ) -> Result<BReply<V>, DeskFault>
+        ensures { IsAnsweredB self.now.specs pass.old pass.new sender.now.channel (BCall.Send sender.now.number value) result }
+    {
+        self.b_call(rt, pass, sender.channel, BCall::Send(sender.number, value))
+    }
+
+    /// Makes a receiver that gets the values sent from now on.
+    pub fn b_subscribe<R: Wait>(
+        &self,
+        rt: &R,
+        pass: &mut Pass<V>,
+        sender: &BTx,
+    ) -> Result<Made<BRx, BReply<V>>, DeskFault>
+        ensures { MakesBRx self.now.specs pass.old pass.new sender.now.channel (BCall.Subscribe sender.now.number) result }
+    {
+        let channel = sender.channel;
+        match self.b_call(rt, pass, channel, BCall::Subscribe(sender.number))? {
+            BReply::New(number) => Ok(Made::New(BRx { channel, number })),
+            reply => Ok(Made::Refused(reply)),
+        }
+    }
+
+    /// Makes another sender.
+    pub fn b_clone_sender<R: Wait>(
+        &self,
+        rt: &R,
+        pass: &mut Pass<V>,
+        sender: &BTx,
+    ) -> Result<Made<BTx, BReply<V>>, DeskFault>
+        ensures { MakesBTx self.now.specs pass.old pass.new sender.now.channel (BCall.CloneSender sender.now.number) result }
+    {
+        let channel = sender.channel;
+        match self.b_call(rt, pass, channel, BCall::CloneSender(sender.number))? {
+            BReply::New(number) => Ok(Made::New(BTx { channel, number })),
+            reply => Ok(Made::Refused(reply)),
+        }
+    }
+
+    /// Makes a receiver out of another; it gets the values sent from now on.
+    pub fn b_resubscribe<R: Wait>(
+        &self,
+        rt: &R,
+        pass: &mut Pass<V>,
+        receiver: &BRx,
+    ) -> Result<Made<BRx, BReply<V>>, DeskFault>
+        ensures { MakesBRx self.now.specs pass.old pass.new receiver.now.channel (BCall.Resubscribe receiver.now.number) result }
+    {
+        let channel = receiver.channel;
+        match self.b_call(rt, pass, channel, BCall::Resubscribe(receiver.number))? {
+            BReply::New(number) => Ok(Made::New(BRx { channel, number })),
+            reply => Ok(Made::Refused(reply)),
+        }
+    }
+
+    /// Receives a value, if there is one.
+    pub fn b_try_recv<R: Wait>(
+        &self,
+        rt: &R,
+        pass: &mut Pass<V>,
+        receiver: &BRx,
+    ) -> Result<BReply<V>, DeskFault>
+        ensures { IsAnsweredB self.now.specs pass.old pass.new receiver.now.channel (BCall.TryRecv receiver.now.number) result }
+    {
+        self.b_call(rt, pass, receiver.channel, BCall::TryRecv(receiver.number))
+    }
+
+    /// Receives a value, and waits for one where there is none yet.
+    pub fn b_recv<R: Wait>(
+        &self,
+        rt: &R,
+        pass: &mut Pass<V>,
+        receiver: &BRx,
+    ) -> Result<BReply<V>, DeskFault>
+        ensures answered { IsAnsweredB self.now.specs pass.old pass.new receiver.now.channel (BCall.Recv receiver.now.number) result }
+        ensures waited { ¬ IsErrOf result DeskFault.Waits }
+    {
+        self.b_wait(rt, pass, receiver.channel, BCall::Recv(receiver.number))
+    }
+
+    /// Drops a sender. Beside a fault it comes back.
+    pub fn b_drop_sender<R: Wait>(
+        &self,
+        rt: &R,
+        pass: &mut Pass<V>,
+        sender: BTx,
+    ) -> Result<BReply<V>, (DeskFault, BTx)>
+        ensures { IsDropping self.now.specs pass.old pass.new sender.channel (ChannelCall.B (BCall.DropHandle sender.number)) (λ r. ChannelReply.B r) sender result }
+    {
+        match self.b_call(rt, pass, sender.channel, BCall::DropHandle(sender.number)) {
+            Ok(reply) => Ok(reply),
+            Err(fault) => Err((fault, sender)),
+        }
+    }
+
+    /// Drops a receiver. Beside a fault it comes back.
+    pub fn b_drop_receiver<R: Wait>(
+        &self,
+        rt: &R,
+        pass: &mut Pass<V>,
+        receiver: BRx,
+    ) -> Result<BReply<V>, (DeskFault, BRx)>
+        ensures { IsDropping self.now.specs pass.old pass.new receiver.channel (ChannelCall.B (BCall.DropHandle receiver.number)) (λ r. ChannelReply.B r) receiver result }
+    {
+        match self.b_call(
+            rt,
+            pass,
+            receiver.channel,
+            BCall::DropHandle(receiver.number),
+        ) {
+            Ok(reply) => Ok(reply),
+            Err(fault) => Err((fault, receiver)),
+        }
+    }
+
+    /// Asks how many values are queued.
+    pub fn b_sender_len<R: Wait>(
+        &self,
+        rt: &R,
+        pass: &mut Pass<V>,
+        sender: &BTx,
+    ) -> Result<BReply<V>, DeskFault>
+        ensures { IsAnsweredB self.now.specs pass.old pass.new sender.now.channel (BCall.SenderLen sender.now.number) result }
+    {
+        self.b_call(rt, pass, sender.channel, BCall::SenderLen(sender.number))
+    }
+
+    /// Asks how many receivers are alive.
+    pub fn b_receiver_count<R: Wait>(
+        &self,
+        rt: &R,
+        pass: &mut Pass<V>,
+        sender: &BTx,
+    ) -> Result<BReply<V>, DeskFault>
+        ensures { IsAnsweredB self.now.specs pass.old pass.new sender.now.channel (BCall.ReceiverCount sender.now.number) result }
+    {
+        self.b_call(
+            rt,
+            pass,
+            sender.channel,
+            BCall::ReceiverCount(sender.number),
+        )
+    }
+
+    /// Asks how many values the receiver has yet to receive.
+    pub fn b_receiver_len<R: Wait>(
+        &self,
+        rt: &R,
+        pass: &mut Pass<V>,
+        receiver: &BRx,
+    ) -> Result<BReply<V>, DeskFault>
+        ensures { IsAnsweredB self.now.specs pass.old pass.new receiver.now.channel (BCall.ReceiverLen receiver.now.number) result }
+    {
+        self.b_call(
+            rt,
+            pass,
+            receiver.channel,
+            BCall::ReceiverLen(receiver.number),
+        )
+    }
+}

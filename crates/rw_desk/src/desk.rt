@@ -1,0 +1,208 @@
+//! Desks: channels that threads call, each under a lock of its own.
+
+ghost use Rattle.std.specs.Prelude.{◌≡◌, ◌↔◌, ◌<◌, ◌≤◌, ℕ, false, None, Some, All, length, map, slice_get, IfNone, IfOk, IfSome, IsErrOf, IsNone, IsTrue, MatchResult};
+ghost use Rattle.rw_law.specs.declared.limits.TheConstants.{MOST_ACTORS};
+ghost use Rattle.rw_world.specs.Channel.{strays_at};
+ghost use Rattle.rw_world.specs.Openings.{has_bad_capacity, kind_of_spec, refusal};
+ghost use Rattle.rw_world.specs.Shapes.{stray_of};
+ghost use Rattle.rw_desk.specs.Desks.{HasOpened, IsAnswered, ends_at, refusal_to_open, row_call};
+ghost use Rattle.rw_desk.specs.Passes.{fresh_pass};
+
+use crate::faults::{DeskFault, DeskOpenFault};
+use crate::handles::{BRx, BTx, Ends, WRx, WTx};
+use crate::locked::Locked;
+use crate::pass::Pass;
+use crate::place::Place;
+use rw_law::{MOST_ACTORS, NoMemory, Payload};
+use rw_world::{ChanCall, ChanReply, ChannelCall, OpenFault, Spec, refusal_of};
+use std::alloc::Global;
+use std::marker::Model;
+use std::sync::Wait;
+
+/// Channels that threads share by reference, each under a lock of its own, and how many actors there are.
+#[derive(Drop)]
+pub struct Desk<V: Payload> {
+    specs: Vec<Spec<V>>,
+    actors: u32,
+    places: Vec<Place<V>>,
+}
+
+impl<V: Payload> Model for Desk<V> {
+    ghost use Rattle.std.specs.Prelude.{length};
+    ghost use Rattle.rw_desk.specs.Desks.{Desk as Seen, IsDesk};
+
+    ghost Value = { Seen V };
+
+    ghost view = { λ d. record { specs = d.specs.items; actors = d.actors } };
+
+    ghost invariant = { λ d. IsDesk d.specs.items d.actors (length d.places.items) };
+}
+
+impl<V: Payload> Desk<V> {
+    /// A desk with a channel for each spec, under the numbers 0, 1, 2, .., with a pass for each actor and the two handles that
+    /// each channel has from the beginning.
+    pub fn open(
+        alloc: Global,
+        specs: &[Spec<V>],
+        actors: u32,
+    ) -> Result<(Desk<V>, Vec<Pass<V>>, Vec<Ends>), DeskOpenFault>
+        ensures refused { IfSome (refusal_to_open specs.now actors) (λ fault. result ≡ Err fault) }
+        ensures opened { IfNone (refusal_to_open specs.now actors) (MatchResult result (λ r. HasOpened specs.now actors r.0 r.1.items r.2.items) (λ fault. fault ≡ DeskOpenFault.World OpenFault.NoMemory)) }
+    {
+        if let Some(fault) = refusal_to_open(specs, actors) {
+            return Err(fault);
+        }
+        match Desk::open_all(alloc, specs, actors) {
+            Ok(opened) => Ok(opened),
+            Err(NoMemory) => Err(DeskOpenFault::World(OpenFault::NoMemory)),
+        }
+    }
+
+    /// The same of specs that open, and of a good number of actors.
+    fn open_all(
+        alloc: Global,
+        specs: &[Spec<V>],
+        actors: u32,
+    ) -> Result<(Desk<V>, Vec<Pass<V>>, Vec<Ends>), NoMemory>
+        requires opens { refusal specs.now ≡ None }
+        requires good { All (λ spec. has_bad_capacity spec ≡ false) specs.now }
+        requires some { 0 < actors }
+        requires few { actors ≤ MOST_ACTORS }
+        ensures { IfOk result (λ r. HasOpened specs.now actors r.0 r.1.items r.2.items) }
+    {
+        let passes = fresh_passes(alloc, actors)?;
+        let ends = first_ends(alloc, specs)?;
+        let places = open_places(alloc, specs)?;
+        let Ok(specs) = Vec::from_slice(alloc, specs) else {
+            return Err(NoMemory);
+        };
+        let desk = Desk {
+            specs,
+            actors,
+            places,
+        };
+        Ok((desk, passes, ends))
+    }
+
+    /// One call, under the lock of its channel alone.
+    pub fn call<R: Wait>(
+        &self,
+        rt: &R,
+        pass: &mut Pass<V>,
+        channel: u32,
+        call: ChanCall<V>,
+    ) -> Result<ChanReply<V>, DeskFault>
+        ensures { IsAnswered self.now.specs pass.old pass.new channel call (λ reply. reply) result }
+    {
+        match self.place(channel, &call) {
+            Some((spec, place)) => place.call(rt, spec, pass, channel, call),
+            None => Err(DeskFault::NoChannel),
+        }
+    }
+
+    /// One call, which waits where the answer would be `Waits`, until a call of another thread changes that.
+    pub fn wait_call<R: Wait>(
+        &self,
+        rt: &R,
+        pass: &mut Pass<V>,
+        channel: u32,
+        call: ChanCall<V>,
+    ) -> Result<ChanReply<V>, DeskFault>
+        ensures answered { IsAnswered self.now.specs pass.old pass.new channel call (λ reply. reply) result }
+        ensures waited { ¬ IsErrOf result DeskFault.Waits }
+    {
+        match self.place(channel, &call) {
+            Some((spec, place)) => place.wait_call(rt, spec, pass, channel, call),
+            None => Err(DeskFault::NoChannel),
+        }
+    }
+
+    /// The spec and the lock of a channel, if there is one for this call.
+    fn place(&self, channel: u32, call: &ChanCall<V>) -> Option<(&Spec<V>, &Place<V>)>
+        ensures none { IsNone result ↔ IsTrue (stray_of strays_at (map kind_of_spec self.now.specs) (row_call channel call.now)) }
+        ensures some { IfSome result (λ r. strays_at (kind_of_spec r.0.now) call.now ≡ false) }
+    {
+        let at = channel as usize;
+        let spec = self.specs.get(at)?;
+        if strays(spec, call) {
+            return None;
+        }
+        Some((spec, &self.places[at]))
+    }
+}
+
+/// Whether a call is of the other kind than the channel of this spec.
+fn strays<V: Copy>(spec: &Spec<V>, call: &ChanCall<V>) -> bool
+    ensures { result ≡ strays_at (kind_of_spec spec.now) call.now }
+{
+    match (spec, call) {
+        (Spec::Broadcast(_), ChannelCall::B(_)) => false,
+        (Spec::Watch(_), ChannelCall::W(_)) => false,
+        _ => true,
+    }
+}
+
+/// Why no desk of these specs and so many actors is opened, if there is such a cause.
+fn refusal_to_open<V: Copy>(specs: &[Spec<V>], actors: u32) -> Option<DeskOpenFault>
+    ensures refusal { result ≡ refusal_to_open specs.now actors }
+    ensures opens { IsNone result → refusal specs.now ≡ None }
+    ensures good { IsNone result → All (λ spec. has_bad_capacity spec ≡ false) specs.now }
+    ensures some { IsNone result → 0 < actors }
+    ensures few { IsNone result → actors ≤ MOST_ACTORS }
+{
+    if actors == 0 || actors > MOST_ACTORS {
+        return Some(DeskOpenFault::BadActors);
+    }
+    match refusal_of(specs) {
+        Some(fault) => Some(DeskOpenFault::World(fault)),
+        None => None,
+    }
+}
+
+/// A pass for each actor, without receipts.
+fn fresh_passes<V: Copy>(alloc: Global, actors: u32) -> Result<Vec<Pass<V>>, NoMemory>
+    requires { actors ≤ MOST_ACTORS }
+    ensures { IfOk result (λ passes. (length passes.items ≡ actors) × ((a : ℕ) → a < actors → slice_get passes.items a ≡ Some (fresh_pass a))) }
+{
+    let mut passes = Vec::new(alloc);
+    for actor in 0..actors {
+        passes.push(Pass::new(alloc, actor))?;
+    }
+    Ok(passes)
+}
+
+/// The handles that each channel has from the beginning.
+fn first_ends<V: Copy>(alloc: Global, specs: &[Spec<V>]) -> Result<Vec<Ends>, NoMemory>
+    requires { length specs.now ≤ 64 }
+    ensures { IfOk result (λ ends. (length ends.items ≡ length specs.now) × ((c : ℕ) → c < length specs.now → slice_get ends.items c ≡ ends_at c (slice_get specs.now c))) }
+{
+    let mut ends = Vec::new(alloc);
+    for channel in 0..specs.len() {
+        ends.push(ends_of(channel as u32, &specs[channel]))?;
+    }
+    Ok(ends)
+}
+
+/// The sender 0 and the receiver 1 of a channel.
+fn ends_of<V: Copy>(channel: u32, spec: &Spec<V>) -> Ends
+    ensures { Some result ≡ ends_at channel (Some spec.now) }
+{
+    match spec {
+        Spec::Broadcast(_) => {
+            Ends::Broadcast(BTx { channel, number: 0 }, BRx { channel, number: 1 })
+        }
+        Spec::Watch(_) => Ends::Watch(WTx { channel, number: 0 }, WRx { channel, number: 1 }),
+    }
+}
+
+/// Opens the channels.
+fn open_places<V: Payload>(alloc: Global, specs: &[Spec<V>]) -> Result<Vec<Place<V>>, NoMemory>
+    requires { All (λ spec. has_bad_capacity spec ≡ false) specs.now }
+    ensures { IfOk result (λ places. length places.items ≡ length specs.now) }
+{
+    let mut places = Vec::new(alloc);
+    for spec in specs {
+        places.push(Place::new(Locked::open(alloc, spec)?))?;
+    }
+    Ok(places)
+}

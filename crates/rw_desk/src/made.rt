@@ -1,0 +1,8 @@
+//! What a call answers that makes a handle.
+
+/// A new handle, or the reply that refuses it.
+#[derive(Debug, Drop, PartialEq)]
+pub enum Made<H, R> {
+    New(H),
+    Refused(R),
+}

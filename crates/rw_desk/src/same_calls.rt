@@ -1,0 +1,86 @@
+//! Calls that are compared by the words of their values.
+
+ghost use Rattle.std.specs.Prelude.{◌≡◌, ◌↔◌, IsTrue};
+ghost use Rattle.rw_desk.specs.CallWords as words;
+
+use rw_broadcast::BCall;
+use rw_law::Payload;
+use rw_watch::WCall;
+use rw_world::{ChanCall, ChannelCall};
+
+/// A broadcast's call with a word in its value's place.
+fn broadcast_in_words<V: Payload>(call: &BCall<V>) -> BCall<u64>
+    ensures words { result ≡ words.of_broadcast V.word_of call.now }
+    ensures known { words.OfBroadcastValue V.is_value call.now }
+{
+    match call {
+        BCall::Send(handle, value) => BCall::Send(*handle, value.word()),
+        BCall::Subscribe(handle) => BCall::Subscribe(*handle),
+        BCall::CloneSender(handle) => BCall::CloneSender(*handle),
+        BCall::Resubscribe(handle) => BCall::Resubscribe(*handle),
+        BCall::TryRecv(handle) => BCall::TryRecv(*handle),
+        BCall::Recv(handle) => BCall::Recv(*handle),
+        BCall::DropHandle(handle) => BCall::DropHandle(*handle),
+        BCall::SenderLen(handle) => BCall::SenderLen(*handle),
+        BCall::ReceiverCount(handle) => BCall::ReceiverCount(*handle),
+        BCall::ReceiverLen(handle) => BCall::ReceiverLen(*handle),
+    }
+}
+
+/// A watch's call with a word in its value's place.
+fn watch_in_words<V: Payload>(call: &WCall<V>) -> WCall<u64>
+    ensures words { result ≡ words.of_watch V.word_of call.now }
+    ensures known { words.OfWatchValue V.is_value call.now }
+{
+    match call {
+        WCall::Send(handle, value) => WCall::Send(*handle, value.word()),
+        WCall::SendReplace(handle, value) => WCall::SendReplace(*handle, value.word()),
+        WCall::Modify {
+            told,
+            handle,
+            value,
+        } => WCall::Modify {
+            told: *told,
+            handle: *handle,
+            value: value.word(),
+        },
+        WCall::Subscribe(handle) => WCall::Subscribe(*handle),
+        WCall::CloneSender(handle) => WCall::CloneSender(*handle),
+        WCall::CloneReceiver(handle) => WCall::CloneReceiver(*handle),
+        WCall::Borrow(handle) => WCall::Borrow(*handle),
+        WCall::Update(handle) => WCall::Update(*handle),
+        WCall::HasChanged(handle) => WCall::HasChanged(*handle),
+        WCall::Changed(handle) => WCall::Changed(*handle),
+        WCall::MarkChanged(handle) => WCall::MarkChanged(*handle),
+        WCall::MarkUnchanged(handle) => WCall::MarkUnchanged(*handle),
+        WCall::DropHandle(handle) => WCall::DropHandle(*handle),
+        WCall::ReceiverCount(handle) => WCall::ReceiverCount(*handle),
+        WCall::IsClosed(handle) => WCall::IsClosed(*handle),
+        WCall::AwaitClosed(handle) => WCall::AwaitClosed(*handle),
+    }
+}
+
+/// Whether two calls of broadcasts are the same.
+fn is_same_broadcast<V: Payload>(a: &BCall<V>, b: &BCall<V>) -> bool
+    ensures { IsTrue result ↔ (a.now ≡ b.now) }
+{
+    broadcast_in_words(a) == broadcast_in_words(b)
+}
+
+/// Whether two calls of watches are the same.
+fn is_same_watch<V: Payload>(a: &WCall<V>, b: &WCall<V>) -> bool
+    ensures { IsTrue result ↔ (a.now ≡ b.now) }
+{
+    watch_in_words(a) == watch_in_words(b)
+}
+
+/// Whether two calls are the same.
+pub(crate) fn is_same_call<V: Payload>(a: &ChanCall<V>, b: &ChanCall<V>) -> bool
+    ensures { IsTrue result ↔ (a.now ≡ b.now) }
+{
+    match (a, b) {
+        (ChannelCall::B(a), ChannelCall::B(b)) => is_same_broadcast(a, b),
+        (ChannelCall::W(a), ChannelCall::W(b)) => is_same_watch(a, b),
+        _ => false,
+    }
+}

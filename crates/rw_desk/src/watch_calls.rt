@@ -1,0 +1,305 @@
+//! The calls of watch channels, by handles.
+
+ghost use Rattle.std.specs.Prelude.{IsErrOf};
+ghost use Rattle.rw_desk.specs.Answers.{IsAnsweredW, IsDropping, MakesWRx, MakesWTx};
+
+use crate::desk::Desk;
+use crate::faults::DeskFault;
+use crate::handles::{WRx, WTx};
+use crate::made::Made;
+use crate::pass::Pass;
+use rw_law::Payload;
+use rw_watch::{WCall, WReply};
+use rw_world::{ChannelCall, ChannelReply};
+use std::sync::Wait;
+
+impl<V: Payload> Desk<V> {
+    /// A call of a watch channel.
+    pub(crate) fn w_call<R: Wait>(
+        &self,
+        rt: &R,
+        pass: &mut Pass<V>,
+        channel: u32,
+        call: WCall<V>,
+    ) -> Result<WReply<V>, DeskFault>
+        ensures { IsAnsweredW self.now.specs pass.old pass.new channel call result }
+    {
+        match self.call(rt, pass, channel, ChannelCall::W(call))? {
+            ChannelReply::W(reply) => Ok(reply),
+            _ => unreachable!(),
+        }
+    }
+
+    /// A call of a watch channel, which waits where the answer would be `Waits`.
+    pub(crate) fn w_wait<R: Wait>(
+        &self,
+        rt: &R,
+        pass: &mut Pass<V>,
+        channel: u32,
+        call: WCall<V>,
+    ) -> Result<WReply<V>, DeskFault>
+        ensures answered { IsAnsweredW self.now.specs pass.old pass.new channel call result }
+        ensures waited { ¬ IsErrOf result DeskFault.Waits }
+    {
+        match self.wait_call(rt, pass, channel, ChannelCall::W(call))? {
+            ChannelReply::W(reply) => Ok(reply),
+            _ => unreachable!(),
+        }
+    }
+
+    /// Writes a value and tells the receivers, if there are any.
+    pub fn w_send<R: Wait>(
+        &self,
+        rt: &R,
+        pass: &mut Pass<V>,
+        sender: &WTx,
+        value: V,
+    ) -> Result<WReply<V>, DeskFault>
+        ensures { IsAnsweredW self.now.specs pass.old pass.new sender.now.channel (WCall.Send sender.now.number value) result }
+    {
+        self.w_call(rt, pass, sender.channel, WCall::Send(sender.number, value))
+    }
+
+    /// Writes a value and tells the receivers, and gets the value from before.
+    pub fn w_send_replace<R: Wait>(
+        &self,
+        rt: &R,
+        pass: &mut Pass<V>,
+        sender: &WTx,
+        value: V,
+    ) -> Result<WReply<V>, DeskFault>
+        ensures { IsAnsweredW self.now.specs pass.old pass.new sender.now.channel (WCall.SendReplace sender.now.number value) result }
+    {
+        self.w_call(
+            rt,
+            pass,
+            sender.channel,
+            WCall::SendReplace(sender.number, value),
+        )
+    }
+
+    /// Makes a receiver that has seen the value.
+    pub fn w_subscribe<R: Wait>(
+        &self,
+        rt: &R,
+        pass: &mut Pass<V>,
+        sender: &WTx,
+    ) -> Result<Made<WRx, WReply<V>>, DeskFault>
+        ensures { MakesWRx self.now.specs pass.old pass.new sender.now.channel (WCall.Subscribe sender.now.number) result }
+    {
+        let channel = sender.channel;
+        match self.w_call(rt, pass, channel, WCall::Subscribe(sender.number))? {
+            WReply::New(number) => Ok(Made::New(WRx { channel, number })),
+            reply => Ok(Made::Refused(reply)),
+        }
+    }
+
+    /// Makes another sender.
+    pub fn w_clone_sender<R: Wait>(
+        &self,
+        rt: &R,
+        pass: &mut Pass<V>,
+        sender: &WTx,
+    ) -> Result<Made<WTx, WReply<V>>, DeskFault>
+        ensures { MakesWTx self.now.specs pass.old pass.new sender.now.channel (WCall.CloneSender sender.now.number) result }
+    {
+        let channel = sender.channel;
+        match self.w_call(rt, pass, channel, WCall::CloneSender(sender.number))? {
+            WReply::New(number) => Ok(Made::New(WTx { channel, number })),
+            reply => Ok(Made::Refused(reply)),
+        }
+    }
+
+    /// Makes a receiver that has seen what this one has.
+    pub fn w_clone_receiver<R: Wait>(
+        &self,
+        rt: &R,
+        pass: &mut Pass<V>,
+        receiver: &WRx,
+    ) -> Result<Made<WRx, WReply<V>>, DeskFault>
+        ensures { MakesWRx self.now.specs pass.old pass.new receiver.now.channel (WCall.CloneReceiver receiver.now.number) result }
+    {
+        let channel = receiver.channel;
+        match self.w_call(rt, pass, channel, WCall::CloneReceiver(receiver.number))? {
+            WReply::New(number) => Ok(Made::New(WRx { channel, number })),
+            reply => Ok(Made::Refused(reply)),
+        }
+    }
+
+    /// Reads the value.
+    pub fn w_borrow<R: Wait>(
+        &self,
+        rt: &R,
+        pass: &mut Pass<V>,
+        receiver: &WRx,
+    ) -> Result<WReply<V>, DeskFault>
+        ensures { IsAnsweredW self.now.specs pass.old pass.new receiver.now.channel (WCall.Borrow receiver.now.number) result }
+    {
+        self.w_call(rt, pass, receiver.channel, WCall::Borrow(receiver.number))
+    }
+
+    /// Reads the value, as a sender.
+    pub fn w_peek<R: Wait>(
+        &self,
+        rt: &R,
+        pass: &mut Pass<V>,
+        sender: &WTx,
+    ) -> Result<WReply<V>, DeskFault>
+        ensures { IsAnsweredW self.now.specs pass.old pass.new sender.now.channel (WCall.Borrow sender.now.number) result }
+    {
+        self.w_call(rt, pass, sender.channel, WCall::Borrow(sender.number))
+    }
+
+    /// Reads the value, which the receiver then has seen.
+    pub fn w_update<R: Wait>(
+        &self,
+        rt: &R,
+        pass: &mut Pass<V>,
+        receiver: &WRx,
+    ) -> Result<WReply<V>, DeskFault>
+        ensures { IsAnsweredW self.now.specs pass.old pass.new receiver.now.channel (WCall.Update receiver.now.number) result }
+    {
+        self.w_call(rt, pass, receiver.channel, WCall::Update(receiver.number))
+    }
+
+    /// Asks whether the receiver has not seen the value.
+    pub fn w_has_changed<R: Wait>(
+        &self,
+        rt: &R,
+        pass: &mut Pass<V>,
+        receiver: &WRx,
+    ) -> Result<WReply<V>, DeskFault>
+        ensures { IsAnsweredW self.now.specs pass.old pass.new receiver.now.channel (WCall.HasChanged receiver.now.number) result }
+    {
+        self.w_call(
+            rt,
+            pass,
+            receiver.channel,
+            WCall::HasChanged(receiver.number),
+        )
+    }
+
+    /// Waits for a value that the receiver has not seen, and marks it as seen.
+    pub fn w_changed<R: Wait>(
+        &self,
+        rt: &R,
+        pass: &mut Pass<V>,
+        receiver: &WRx,
+    ) -> Result<WReply<V>, DeskFault>
+        ensures answered { IsAnsweredW self.now.specs pass.old pass.new receiver.now.channel (WCall.Changed receiver.now.number) result }
+        ensures waited { ¬ IsErrOf result DeskFault.Waits }
+    {
+        self.w_wait(rt, pass, receiver.channel, WCall::Changed(receiver.number))
+    }
+
+    /// Lets the receiver not have seen the value.
+    pub fn w_mark_changed<R: Wait>(
+        &self,
+        rt: &R,
+        pass: &mut Pass<V>,
+        receiver: &WRx,
+    ) -> Result<WReply<V>, DeskFault>
+        ensures { IsAnsweredW self.now.specs pass.old pass.new receiver.now.channel (WCall.MarkChanged receiver.now.number) result }
+    {
+        self.w_call(
+            rt,
+            pass,
+            receiver.channel,
+            WCall::MarkChanged(receiver.number),
+        )
+    }
+
+    /// Lets the receiver have seen the value.
+    pub fn w_mark_unchanged<R: Wait>(
+        &self,
+        rt: &R,
+        pass: &mut Pass<V>,
+        receiver: &WRx,
+    ) -> Result<WReply<V>, DeskFault>
+        ensures { IsAnsweredW self.now.specs pass.old pass.new receiver.now.channel (WCall.MarkUnchanged receiver.now.number) result }
+    {
+        self.w_call(
+            rt,
+            pass,
+            receiver.channel,
+            WCall::MarkUnchanged(receiver.number),
+        )
+    }
+
+    /// Drops a sender. Beside a fault it comes back.
+    pub fn w_drop_sender<R: Wait>(
+        &self,
+        rt: &R,
+        pass: &mut Pass<V>,
+        sender: WTx,
+    ) -> Result<WReply<V>, (DeskFault, WTx)>
+        ensures { IsDropping self.now.specs pass.old pass.new sender.channel (ChannelCall.W (WCall.DropHandle sender.number)) (λ r. ChannelReply.W r) sender result }
+    {
+        match self.w_call(rt, pass, sender.channel, WCall::DropHandle(sender.number)) {
+            Ok(reply) => Ok(reply),
+            Err(fault) => Err((fault, sender)),
+        }
+    }
+
+    /// Drops a receiver. Beside a fault it comes back.
+    pub fn w_drop_receiver<R: Wait>(
+        &self,
+        rt: &R,
+        pass: &mut Pass<V>,
+        receiver: WRx,
+    ) -> Result<WReply<V>, (DeskFault, WRx)>
+        ensures { IsDropping self.now.specs pass.old pass.new receiver.channel (ChannelCall.W (WCall.DropHandle receiver.number)) (λ r. ChannelReply.W r) receiver result }
+    {
+        match self.w_call(
+            rt,
+            pass,
+            receiver.channel,
+            WCall::DropHandle(receiver.number),
+        ) {
+            Ok(reply) => Ok(reply),
+            Err(fault) => Err((fault, receiver)),
+        }
+    }
+
+    /// Asks how many receivers are alive.
+    pub fn w_receiver_count<R: Wait>(
+        &self,
+        rt: &R,
+        pass: &mut Pass<V>,
+        sender: &WTx,
+    ) -> Result<WReply<V>, DeskFault>
+        ensures { IsAnsweredW self.now.specs pass.old pass.new sender.now.channel (WCall.ReceiverCount sender.now.number) result }
+    {
+        self.w_call(
+            rt,
+            pass,
+            sender.channel,
+            WCall::ReceiverCount(sender.number),
+        )
+    }
+
+    /// Asks whether no receiver is alive.
+    pub fn w_is_closed<R: Wait>(
+        &self,
+        rt: &R,
+        pass: &mut Pass<V>,
+        sender: &WTx,
+    ) -> Result<WReply<V>, DeskFault>
+        ensures { IsAnsweredW self.now.specs pass.old pass.new sender.now.channel (WCall.IsClosed sender.now.number) result }
+    {
+        self.w_call(rt, pass, sender.channel, WCall::IsClosed(sender.number))
+    }
+
+    /// Waits until no receiver is alive.
+    pub fn w_closed<R: Wait>(
+        &self,
+        rt: &R,
+        pass: &mut Pass<V>,
+        sender: &WTx,
+    ) -> Result<WReply<V>, DeskFault>
+        ensures answered { IsAnsweredW self.now.specs pass.old pass.new sender.now.channel (WCall.AwaitClosed sender.now.number) result }
+        ensures waited { ¬ IsErrOf result DeskFault.Waits }
+    {
+        self.w_wait(rt, pass, sender.channel, WCall::AwaitClosed(sender.number))
+    }
+}
