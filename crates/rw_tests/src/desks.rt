@@ -1,3 +1,3 @@
-//! Passes, desks, and what they are closed into.
+//! Passes, which record calls.
 
 mod passes;
