@@ -7,7 +7,7 @@ use crate::broadcast_block::push_broadcast;
 use crate::channels::channel_at;
 use crate::watch_block::push_watch;
 use rw_law::Reversible;
-use rw_world::{Chan, Channel, World};
+use rw_world::{Chan, World};
 use std::alloc::AllocError;
 
 /// Appends the lines of a channel that has number i.
@@ -15,8 +15,8 @@ fn push_channel(out: &mut Vec<u8>, i: u64, channel: &Chan<u64>) -> Result<(), Al
     ensures { OnOk result (out.new.items ≡ out.old.items ++ channel_block i (⟦<Chan<u64> as Reversible>⟧.shown channel.now)) }
 {
     match channel {
-        Channel::Broadcast(machine) => push_broadcast(out, i, machine),
-        Channel::Watch(machine) => push_watch(out, i, machine),
+        Chan::Broadcast(machine) => push_broadcast(out, i, machine),
+        Chan::Watch(machine) => push_watch(out, i, machine),
     }
 }
 

@@ -3,11 +3,15 @@ use Rattle.std.proofs.Common.{◌≡◌, ℕ, false, List, [], ◌∷◌, Result
 use Rattle.rw_law.specs.Journal.{after_all}
 use Rattle.rw_world.specs.declared.opening.Spec.{Spec}
 use Rattle.rw_world.specs.declared.opening.Spec.TheVariants.{Broadcast, Watch}
-use Rattle.rw_world.specs.declared.channels.ChannelCall.TheVariants as call
+use Rattle.rw_world.specs.declared.channels.ChanCall.TheVariants as call
 use Rattle.rw_world.specs.Channel.{strays_at}
 use Rattle.rw_world.specs.ChannelLaws.{kind_stays, strays_by_kind}
 use Rattle.rw_world.specs.Kinds.{broadcast_shown, watch_shown, kind_of}
-use Rattle.rw_world.specs.Machines.{Chan, ChanCall, ChanReply, ChanPatch, ChanShown, of_broadcast, of_watch, of_chan}
+use Rattle.rw_world.specs.declared.channels.Chan.{Chan}
+use Rattle.rw_world.specs.declared.channels.ChanCall.{ChanCall}
+use Rattle.rw_world.specs.declared.channels.ChanReply.{ChanReply}
+use Rattle.rw_world.specs.declared.channels.ChanPatch.{ChanPatch}
+use Rattle.rw_world.specs.Machines.{ChanShown, of_broadcast, of_watch, of_chan}
 use Rattle.rw_world.specs.Openings.{opened_channel, kind_of_spec}
 use Rattle.rw_world.specs.Specified.{ChanEntry}
 use Rattle.rw_journal.specs.Book.{Book, IsUnchanged, reply_to}

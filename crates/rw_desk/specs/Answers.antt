@@ -6,10 +6,11 @@ use Rattle.rw_broadcast.specs.declared.calls.BReply.TheVariants as b
 use Rattle.rw_watch.specs.declared.calls.WCall.{WCall}
 use Rattle.rw_watch.specs.declared.calls.WReply.{WReply}
 use Rattle.rw_watch.specs.declared.calls.WReply.TheVariants as w
-use Rattle.rw_world.specs.declared.channels.ChannelCall.TheVariants as call
-use Rattle.rw_world.specs.declared.channels.ChannelReply.TheVariants as reply
+use Rattle.rw_world.specs.declared.channels.ChanCall.TheVariants as call
+use Rattle.rw_world.specs.declared.channels.ChanReply.TheVariants as reply
 use Rattle.rw_world.specs.declared.opening.Spec.{Spec}
-use Rattle.rw_world.specs.Machines.{ChanCall, ChanReply}
+use Rattle.rw_world.specs.declared.channels.ChanCall.{ChanCall}
+use Rattle.rw_world.specs.declared.channels.ChanReply.{ChanReply}
 use Rattle.rw_desk.specs.declared.faults.DeskFault.{DeskFault}
 use Rattle.rw_desk.specs.declared.handles.BTx.{BTx}
 use Rattle.rw_desk.specs.declared.handles.BRx.{BRx}

@@ -6,7 +6,8 @@ use Rattle.rw_world.specs.declared.opening.Spec.{Spec}
 use Rattle.rw_world.specs.declared.opening.Spec.TheVariants as spec
 use Rattle.rw_world.specs.declared.rows.RowCall.{RowCall}
 use Rattle.rw_world.specs.Channel.{strays_at}
-use Rattle.rw_world.specs.Machines.{ChanCall, ChanReply}
+use Rattle.rw_world.specs.declared.channels.ChanCall.{ChanCall}
+use Rattle.rw_world.specs.declared.channels.ChanReply.{ChanReply}
 use Rattle.rw_world.specs.Openings.{kind_of_spec, refusal}
 use Rattle.rw_world.specs.Shapes.{stray_of}
 use Rattle.rw_desk.specs.declared.faults.DeskFault.{DeskFault}

@@ -10,7 +10,7 @@ use crate::made::Made;
 use crate::pass::Pass;
 use rw_broadcast::{BCall, BReply};
 use rw_law::Payload;
-use rw_world::{ChannelCall, ChannelReply};
+use rw_world::{ChanCall, ChanReply};
 use std::sync::Wait;
 
 impl<V: Payload> Desk<V> {
@@ -24,8 +24,8 @@ impl<V: Payload> Desk<V> {
     ) -> Result<BReply<V>, DeskFault>
         ensures { IsAnsweredB self.now.specs pass.old pass.new channel call result }
     {
-        match self.call(rt, pass, channel, ChannelCall::B(call))? {
-            ChannelReply::B(reply) => Ok(reply),
+        match self.call(rt, pass, channel, ChanCall::B(call))? {
+            ChanReply::B(reply) => Ok(reply),
             _ => unreachable!(),
         }
     }
@@ -41,8 +41,8 @@ impl<V: Payload> Desk<V> {
         ensures answered { IsAnsweredB self.now.specs pass.old pass.new channel call result }
         ensures waited { ¬ IsErrOf result DeskFault.Waits }
     {
-        match self.wait_call(rt, pass, channel, ChannelCall::B(call))? {
-            ChannelReply::B(reply) => Ok(reply),
+        match self.wait_call(rt, pass, channel, ChanCall::B(call))? {
+            ChanReply::B(reply) => Ok(reply),
             _ => unreachable!(),
         }
     }
@@ -140,7 +140,7 @@ impl<V: Payload> Desk<V> {
         pass: &mut Pass<V>,
         sender: BTx,
     ) -> Result<BReply<V>, (DeskFault, BTx)>
-        ensures { IsDropping self.now.specs pass.old pass.new sender.channel (ChannelCall.B (BCall.DropHandle sender.number)) (λ r. ChannelReply.B r) sender result }
+        ensures { IsDropping self.now.specs pass.old pass.new sender.channel (ChanCall.B (BCall.DropHandle sender.number)) (λ r. ChanReply.B r) sender result }
     {
         match self.b_call(rt, pass, sender.channel, BCall::DropHandle(sender.number)) {
             Ok(reply) => Ok(reply),
@@ -155,7 +155,7 @@ impl<V: Payload> Desk<V> {
         pass: &mut Pass<V>,
         receiver: BRx,
     ) -> Result<BReply<V>, (DeskFault, BRx)>
-        ensures { IsDropping self.now.specs pass.old pass.new receiver.channel (ChannelCall.B (BCall.DropHandle receiver.number)) (λ r. ChannelReply.B r) receiver result }
+        ensures { IsDropping self.now.specs pass.old pass.new receiver.channel (ChanCall.B (BCall.DropHandle receiver.number)) (λ r. ChanReply.B r) receiver result }
     {
         match self.b_call(
             rt,

@@ -14,7 +14,7 @@ use crate::locked::Locked;
 use crate::pass::Pass;
 use crate::place::Place;
 use rw_law::{MOST_ACTORS, NoMemory, Payload};
-use rw_world::{ChanCall, ChanReply, ChannelCall, OpenFault, Spec, refusal_of};
+use rw_world::{ChanCall, ChanReply, OpenFault, Spec, refusal_of};
 use std::alloc::Global;
 use std::marker::Model;
 use std::sync::Wait;
@@ -136,8 +136,8 @@ fn strays<V: Copy>(spec: &Spec<V>, call: &ChanCall<V>) -> bool
     ensures { result ≡ strays_at (kind_of_spec spec.now) call.now }
 {
     match (spec, call) {
-        (Spec::Broadcast(_), ChannelCall::B(_)) => false,
-        (Spec::Watch(_), ChannelCall::W(_)) => false,
+        (Spec::Broadcast(_), ChanCall::B(_)) => false,
+        (Spec::Watch(_), ChanCall::W(_)) => false,
         _ => true,
     }
 }

@@ -6,7 +6,7 @@ ghost use Rattle.rw_desk.specs.CallWords as words;
 use rw_broadcast::BCall;
 use rw_law::Payload;
 use rw_watch::WCall;
-use rw_world::{ChanCall, ChannelCall};
+use rw_world::ChanCall;
 
 /// A broadcast's call with a word in its value's place.
 fn broadcast_in_words<V: Payload>(call: &BCall<V>) -> BCall<u64>
@@ -79,8 +79,8 @@ pub(crate) fn is_same_call<V: Payload>(a: &ChanCall<V>, b: &ChanCall<V>) -> bool
     ensures { IsTrue result ↔ (a.now ≡ b.now) }
 {
     match (a, b) {
-        (ChannelCall::B(a), ChannelCall::B(b)) => is_same_broadcast(a, b),
-        (ChannelCall::W(a), ChannelCall::W(b)) => is_same_watch(a, b),
+        (ChanCall::B(a), ChanCall::B(b)) => is_same_broadcast(a, b),
+        (ChanCall::W(a), ChanCall::W(b)) => is_same_watch(a, b),
         _ => false,
     }
 }

@@ -10,7 +10,7 @@ use crate::made::Made;
 use crate::pass::Pass;
 use rw_law::Payload;
 use rw_watch::{WCall, WReply};
-use rw_world::{ChannelCall, ChannelReply};
+use rw_world::{ChanCall, ChanReply};
 use std::sync::Wait;
 
 impl<V: Payload> Desk<V> {
@@ -24,8 +24,8 @@ impl<V: Payload> Desk<V> {
     ) -> Result<WReply<V>, DeskFault>
         ensures { IsAnsweredW self.now.specs pass.old pass.new channel call result }
     {
-        match self.call(rt, pass, channel, ChannelCall::W(call))? {
-            ChannelReply::W(reply) => Ok(reply),
+        match self.call(rt, pass, channel, ChanCall::W(call))? {
+            ChanReply::W(reply) => Ok(reply),
             _ => unreachable!(),
         }
     }
@@ -41,8 +41,8 @@ impl<V: Payload> Desk<V> {
         ensures answered { IsAnsweredW self.now.specs pass.old pass.new channel call result }
         ensures waited { ¬ IsErrOf result DeskFault.Waits }
     {
-        match self.wait_call(rt, pass, channel, ChannelCall::W(call))? {
-            ChannelReply::W(reply) => Ok(reply),
+        match self.wait_call(rt, pass, channel, ChanCall::W(call))? {
+            ChanReply::W(reply) => Ok(reply),
             _ => unreachable!(),
         }
     }
@@ -233,7 +233,7 @@ impl<V: Payload> Desk<V> {
         pass: &mut Pass<V>,
         sender: WTx,
     ) -> Result<WReply<V>, (DeskFault, WTx)>
-        ensures { IsDropping self.now.specs pass.old pass.new sender.channel (ChannelCall.W (WCall.DropHandle sender.number)) (λ r. ChannelReply.W r) sender result }
+        ensures { IsDropping self.now.specs pass.old pass.new sender.channel (ChanCall.W (WCall.DropHandle sender.number)) (λ r. ChanReply.W r) sender result }
     {
         match self.w_call(rt, pass, sender.channel, WCall::DropHandle(sender.number)) {
             Ok(reply) => Ok(reply),
@@ -248,7 +248,7 @@ impl<V: Payload> Desk<V> {
         pass: &mut Pass<V>,
         receiver: WRx,
     ) -> Result<WReply<V>, (DeskFault, WRx)>
-        ensures { IsDropping self.now.specs pass.old pass.new receiver.channel (ChannelCall.W (WCall.DropHandle receiver.number)) (λ r. ChannelReply.W r) receiver result }
+        ensures { IsDropping self.now.specs pass.old pass.new receiver.channel (ChanCall.W (WCall.DropHandle receiver.number)) (λ r. ChanReply.W r) receiver result }
     {
         match self.w_call(
             rt,

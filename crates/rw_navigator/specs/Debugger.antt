@@ -4,7 +4,11 @@ use Rattle.rw_journal.specs.Run.{Run}
 use Rattle.rw_law.specs.Journal.{after}
 use Rattle.rw_world.specs.declared.opening.Spec.{Spec}
 use Rattle.rw_world.specs.declared.rows.RowCall.{RowCall}
-use Rattle.rw_world.specs.Machines.{Chan, ChanCall, ChanReply, ChanPatch, ChanShown, of_world}
+use Rattle.rw_world.specs.declared.channels.Chan.{Chan}
+use Rattle.rw_world.specs.declared.channels.ChanCall.{ChanCall}
+use Rattle.rw_world.specs.declared.channels.ChanReply.{ChanReply}
+use Rattle.rw_world.specs.declared.channels.ChanPatch.{ChanPatch}
+use Rattle.rw_world.specs.Machines.{ChanShown, of_world}
 use Rattle.rw_world.specs.Records.{documented_at, IsDocumented}
 use Rattle.rw_world.specs.Specified.{WorldEntry}
 use Rattle.rw_navigator.specs.declared.moves.Move.{Move}

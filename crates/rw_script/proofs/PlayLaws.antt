@@ -8,11 +8,15 @@ use Rattle.std.proofs.lemmas.List.Sums.{fold_push}
 use Rattle.rw_law.specs.declared.journal.Entry.{Entry}
 use Rattle.rw_law.specs.Journal.{after_all}
 use Rattle.rw_world.specs.declared.opening.Spec.{Spec}
-use Rattle.rw_world.specs.declared.channels.ChannelCall.TheVariants as call
+use Rattle.rw_world.specs.declared.channels.ChanCall.TheVariants as call
 use Rattle.rw_world.specs.declared.rows.RowCall.{RowCall}
 use Rattle.rw_world.specs.Channel.{strays_at}
 use Rattle.rw_world.specs.Kinds.{Kind, broadcast, watch}
-use Rattle.rw_world.specs.Machines.{Chan, ChanCall, ChanReply, ChanPatch, ChanShown, of_chan, of_world}
+use Rattle.rw_world.specs.declared.channels.Chan.{Chan}
+use Rattle.rw_world.specs.declared.channels.ChanCall.{ChanCall}
+use Rattle.rw_world.specs.declared.channels.ChanReply.{ChanReply}
+use Rattle.rw_world.specs.declared.channels.ChanPatch.{ChanPatch}
+use Rattle.rw_world.specs.Machines.{ChanShown, of_chan, of_world}
 use Rattle.rw_world.specs.Openings.{opened, kind_of_spec}
 use Rattle.rw_world.specs.Records.{ChannelRecord, opened_records, next_records, reply_from, records_after, shown_after, RepliesByRecords}
 use Rattle.rw_world.specs.Specified.{WorldEntry, StraysBySpecs}

@@ -8,10 +8,12 @@ use Rattle.rw_broadcast.specs.Channel as broadcast
 use Rattle.rw_watch.specs.declared.calls.WReply.{WReply}
 use Rattle.rw_watch.specs.declared.calls.WReply.TheVariants as w
 use Rattle.rw_watch.specs.Channel as watch
-use Rattle.rw_world.specs.declared.channels.ChannelCall.TheVariants as call
-use Rattle.rw_world.specs.declared.channels.ChannelReply.TheVariants as reply
+use Rattle.rw_world.specs.declared.channels.ChanCall.TheVariants as call
+use Rattle.rw_world.specs.declared.channels.ChanReply.TheVariants as reply
 use Rattle.rw_world.specs.declared.rows.RowCall.{RowCall}
-use Rattle.rw_world.specs.Machines.{ChanCall, ChanReply, of_chan}
+use Rattle.rw_world.specs.declared.channels.ChanCall.{ChanCall}
+use Rattle.rw_world.specs.declared.channels.ChanReply.{ChanReply}
+use Rattle.rw_world.specs.Machines.{of_chan}
 use Rattle.rw_world.specs.Records.{ChannelRecord, opened_records, next_records, reply_from}
 use Rattle.rw_script.specs.declared.steps.Step.{Step}
 use Rattle.rw_script.specs.Script.{Script}

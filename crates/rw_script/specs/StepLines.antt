@@ -7,10 +7,10 @@ use Rattle.std.specs.Str.{bytes_eq}
 use Rattle.rw_law.specs.Numbers.{numbers}
 use Rattle.rw_broadcast.specs.Channel as broadcast
 use Rattle.rw_watch.specs.Channel as watch
-use Rattle.rw_world.specs.declared.channels.ChannelCall.TheVariants as call
+use Rattle.rw_world.specs.declared.channels.ChanCall.TheVariants as call
 use Rattle.rw_world.specs.Kinds.{Kind}
 use Rattle.rw_world.specs.Kinds as kinds
-use Rattle.rw_world.specs.Machines.{ChanCall}
+use Rattle.rw_world.specs.declared.channels.ChanCall.{ChanCall}
 use Rattle.rw_words.specs.declared.arguments.WordFault.{WordFault}
 use Rattle.rw_script.specs.declared.faults.ScriptFaultKind.{ScriptFaultKind}
 use Rattle.rw_script.specs.declared.faults.ScriptFaultKind.TheVariants.{BadArguments, UnknownName}

@@ -13,10 +13,7 @@ use rw_broadcast::BReply;
 use rw_journal::laws::journal_of_an_interleaving;
 use rw_journal::{Book, Run, TakeFault};
 use rw_watch::WReply;
-use rw_world::{
-    ChanCall, ChanReply, ChannelCall, ChannelReply, OpenFault, RowCall, Spec, World, documented,
-    open, specified,
-};
+use rw_world::{ChanCall, ChanReply, OpenFault, RowCall, Spec, World, documented, open, specified};
 use std::alloc::Global;
 use thiserror::Error;
 
@@ -36,8 +33,8 @@ fn with_handle(call: ChanCall<u64>, handle: u32) -> ChanCall<u64>
     ensures { result ≡ with_handle call handle }
 {
     match call {
-        ChannelCall::B(call) => ChannelCall::B(call.with_handle(handle)),
-        ChannelCall::W(call) => ChannelCall::W(call.with_handle(handle)),
+        ChanCall::B(call) => ChanCall::B(call.with_handle(handle)),
+        ChanCall::W(call) => ChanCall::W(call.with_handle(handle)),
     }
 }
 
@@ -59,8 +56,8 @@ fn made_by(reply: &ChanReply<u64>) -> u32
     ensures { result ≡ made_by reply.now }
 {
     match reply {
-        ChannelReply::B(BReply::New(handle)) => *handle,
-        ChannelReply::W(WReply::New(handle)) => *handle,
+        ChanReply::B(BReply::New(handle)) => *handle,
+        ChanReply::W(WReply::New(handle)) => *handle,
         _ => NEVER_MADE,
     }
 }

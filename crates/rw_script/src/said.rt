@@ -12,7 +12,7 @@ ghost use Rattle.rw_words.specs.Words.{map_ok};
 use crate::faults::ScriptFaultKind;
 use rw_lines::{cut, is_name, put_bytes};
 use rw_words::{WordFault, first_word, read_call};
-use rw_world::{ChanCall, ChannelCall};
+use rw_world::ChanCall;
 
 /// A call that may name its handle, and may bind a name.
 #[derive(Clone, Copy)]
@@ -30,8 +30,8 @@ fn makes(call: &ChanCall<u64>) -> bool
     ensures { result ≡ makes call.now }
 {
     match call {
-        ChannelCall::B(call) => call.makes(),
-        ChannelCall::W(call) => call.makes(),
+        ChanCall::B(call) => call.makes(),
+        ChanCall::W(call) => call.makes(),
     }
 }
 

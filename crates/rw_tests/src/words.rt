@@ -4,7 +4,7 @@ use rw_broadcast::{BCall, BReply};
 use rw_law::{Entry, Reversible};
 use rw_watch::{WCall, WReply};
 use rw_words::{WordFault, read_call, read_reply, write_entry};
-use rw_world::{ChanCall, ChanReply, ChannelCall, ChannelPatch, ChannelReply, RowCall, World};
+use rw_world::{ChanCall, ChanPatch, ChanReply, RowCall, World};
 use std::alloc::Global;
 use std::process::Abort;
 use std::test::Fail;
@@ -102,7 +102,7 @@ fn entry_of(call: ChanCall<u64>, reply: ChanReply<u64>) -> Entry<World<u64>> {
         stamp: 1,
         call: RowCall { channel: 3, call },
         reply,
-        patch: ChannelPatch::NoChannel,
+        patch: ChanPatch::NoChannel,
     }
 }
 
@@ -129,7 +129,7 @@ fn is_call(
     line.extend_from_slice(b"1 2 3 ")?;
     line.extend_from_slice(text)?;
     line.extend_from_slice(b" = done")?;
-    let reply = ChannelReply::W(WReply::Done);
+    let reply = ChanReply::W(WReply::Done);
     is_written(rt, &entry_of(call, reply), &line);
     match read_call::<u64>(broadcast, text) {
         Ok(read) => is_written(rt, &entry_of(read, reply), &line),
@@ -141,10 +141,10 @@ fn is_call(
 #[test]
 fn reads_and_writes_every_call(rt: HostRuntime) -> Result<(), Fail> {
     for (text, call) in BROADCAST_CALLS {
-        is_call(&rt, rt.alloc(), true, text, ChannelCall::B(call))?;
+        is_call(&rt, rt.alloc(), true, text, ChanCall::B(call))?;
     }
     for (text, call) in WATCH_CALLS {
-        is_call(&rt, rt.alloc(), false, text, ChannelCall::W(call))?;
+        is_call(&rt, rt.alloc(), false, text, ChanCall::W(call))?;
     }
     Ok(())
 }
@@ -161,17 +161,17 @@ fn is_reply(
     let mut line = Vec::new(alloc);
     line.extend_from_slice(b"1 2 3 recv 1 = ")?;
     line.extend_from_slice(text)?;
-    is_written(rt, &entry_of(ChannelCall::B(BCall::Recv(1)), reply), &line);
+    is_written(rt, &entry_of(ChanCall::B(BCall::Recv(1)), reply), &line);
     Ok(())
 }
 
 #[test]
 fn reads_and_writes_every_reply(rt: HostRuntime) -> Result<(), Fail> {
     for (text, reply) in BROADCAST_REPLIES {
-        is_reply(&rt, rt.alloc(), true, text, ChannelReply::B(reply))?;
+        is_reply(&rt, rt.alloc(), true, text, ChanReply::B(reply))?;
     }
     for (text, reply) in WATCH_REPLIES {
-        is_reply(&rt, rt.alloc(), false, text, ChannelReply::W(reply))?;
+        is_reply(&rt, rt.alloc(), false, text, ChanReply::W(reply))?;
     }
     Ok(())
 }
@@ -183,10 +183,10 @@ fn longest_line_has_123_bytes(rt: HostRuntime) {
         stamp: u64::MAX,
         call: RowCall {
             channel: u32::MAX,
-            call: ChannelCall::W(WCall::SendReplace(u32::MAX, u64::MAX)),
+            call: ChanCall::W(WCall::SendReplace(u32::MAX, u64::MAX)),
         },
-        reply: ChannelReply::W(WReply::NoReceivers(u64::MAX)),
-        patch: ChannelPatch::NoChannel,
+        reply: ChanReply::W(WReply::NoReceivers(u64::MAX)),
+        patch: ChanPatch::NoChannel,
     };
     let want =
         b"18446744073709551615 4294967295 4294967295 send-replace 4294967295 18446744073709551615 = no-receivers 18446744073709551615";

@@ -6,7 +6,7 @@ ghost use Rattle.rw_law.specs.declared.limits.TheConstants.{MOST_WEIGHT};
 use rw_broadcast::{BCall, BReply};
 use rw_law::{NoMemory, Reversible};
 use rw_watch::{WCall, WReply};
-use rw_world::{ChanCall, ChanReply, Channel, OpenFault, RowCall, Spec, open};
+use rw_world::{Chan, ChanCall, ChanReply, OpenFault, RowCall, Spec, open};
 use std::test::Fail;
 
 /// Makes a call, undoes it and makes it again, and gives both replies.
@@ -77,7 +77,7 @@ fn calls_both_kinds(rt: HostRuntime) -> Result<(), Fail> {
         assert_eq!(rt; replies, (reply, reply));
     }
     match world.channel(1) {
-        Some(Channel::Watch(watch)) => assert_eq!(rt; watch.value(), 6),
+        Some(Chan::Watch(watch)) => assert_eq!(rt; watch.value(), 6),
         _ => panic!(&rt; "channel 1 is no watch"),
     }
     Ok(())

@@ -6,7 +6,7 @@ use Rattle.std.specs.Str.{bytes_eq}
 use Rattle.std.proofs.lemmas.Slice.Eq.{bytes_eq-Decides}
 use Rattle.std.proofs.lemmas.List.{append-nil}
 use Rattle.rw_law.specs.declared.value.Payload.{Ghosts}
-use Rattle.rw_world.specs.declared.channels.ChannelReply.TheVariants as reply
+use Rattle.rw_world.specs.declared.channels.ChanReply.TheVariants as reply
 use Rattle.rw_lines.specs.Cut.{lacks}
 use Rattle.rw_lines.proofs.CutLaws.{cut_joined, cut_lacks}
 use Rattle.rw_words.specs.declared.arguments.Args.{Args}

@@ -3,7 +3,7 @@ use Rattle.std.specs.Prelude.{ℕ, List, Option, None, find, option_map}
 use Rattle.std.specs.Option.{option_or}
 use Rattle.std.specs.Str.{bytes_eq}
 use Rattle.rw_lines.specs.Cut.{cut}
-use Rattle.rw_world.specs.declared.channels.ChannelReply.TheVariants as reply
+use Rattle.rw_world.specs.declared.channels.ChanReply.TheVariants as reply
 use Rattle.rw_words.specs.declared.reply_word.ReplyWord.{ReplyWord}
 use Rattle.rw_words.specs.declared.reply_word.ReplyWord.TheVariants.{Broadcast, Watch}
 use Rattle.rw_words.specs.BroadcastWords as broadcast

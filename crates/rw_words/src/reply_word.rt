@@ -8,7 +8,7 @@ ghost use Rattle.rw_words.specs.ReplyWords.{first_word, reply_word_in, reply_wor
 use crate::broadcast::{self, BroadcastReplyWord};
 use crate::watch::{self, WatchReplyWord};
 use rw_law::Payload;
-use rw_world::{ChanReply, ChannelReply};
+use rw_world::ChanReply;
 
 /// The first word of a reply. One that both tables have may stand here as either's: what counts is its text.
 #[derive(Clone, Copy, Debug)]
@@ -32,15 +32,15 @@ fn word_of<V: Copy>(reply: &ChanReply<V>) -> Option<ReplyWord>
     ensures { result ≡ reply_word_of reply.now }
 {
     match reply {
-        ChannelReply::B(reply) => {
+        ChanReply::B(reply) => {
             let (word, _) = broadcast::reply_parts(reply)?;
             Some(ReplyWord::Broadcast(word))
         }
-        ChannelReply::W(reply) => {
+        ChanReply::W(reply) => {
             let (word, _) = watch::reply_parts(reply)?;
             Some(ReplyWord::Watch(word))
         }
-        ChannelReply::NoChannel => None,
+        ChanReply::NoChannel => None,
     }
 }
 

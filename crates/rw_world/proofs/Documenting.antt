@@ -7,8 +7,8 @@ use Rattle.rw_broadcast.specs.Soundness.{broadcast_laws}
 use Rattle.rw_broadcast.proofs.Showing as broadcast
 use Rattle.rw_watch.specs.Soundness.{watch_laws}
 use Rattle.rw_watch.proofs.Showing as watch
-use Rattle.rw_world.specs.declared.channels.ChannelCall.TheVariants as call
-use Rattle.rw_world.specs.declared.channels.ChannelReply.TheVariants as reply
+use Rattle.rw_world.specs.declared.channels.ChanCall.TheVariants as call
+use Rattle.rw_world.specs.declared.channels.ChanReply.TheVariants as reply
 use Rattle.rw_world.specs.declared.opening.Spec.{Spec}
 use Rattle.rw_world.specs.declared.opening.Spec.TheVariants.{Broadcast, Watch}
 use Rattle.rw_world.specs.declared.rows.RowCall.{RowCall}
@@ -16,7 +16,8 @@ use Rattle.rw_world.specs.Channel.{no_channel}
 use Rattle.rw_world.specs.ChannelLaws.{channel_laws}
 use Rattle.rw_world.specs.Kinds.{broadcast_shown, watch_shown}
 use Rattle.rw_world.specs.Lists.{modified, Each}
-use Rattle.rw_world.specs.Machines.{ChanCall, ChanShown, of_broadcast, of_watch, of_chan, of_world}
+use Rattle.rw_world.specs.declared.channels.ChanCall.{ChanCall}
+use Rattle.rw_world.specs.Machines.{ChanShown, of_broadcast, of_watch, of_chan, of_world}
 use Rattle.rw_world.specs.Openings.{opened_channel, opened}
 use Rattle.rw_world.specs.Records.{ChannelRecord, broadcast_record, watch_record, opened_records, step_of, next_records, records_after, shown_record, shown_records, shown_after, ShowsItsRecords, RepliesByRecords, ShowsItsSteps}
 use Rattle.rw_world.specs.RowLaws.{row_laws}

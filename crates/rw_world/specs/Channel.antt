@@ -2,33 +2,48 @@
 use Rattle.std.specs.Prelude.{ℕ, Bool, true, false}
 use Rattle.rw_law.specs.declared.machine.Reversible.{Ghosts}
 use Rattle.rw_world.specs.Kinds.{Kind, broadcast, watch, Shown, broadcast_shown, watch_shown}
-use Rattle.rw_world.specs.declared.channels.Channel.{Channel}
-use Rattle.rw_world.specs.declared.channels.Channel.TheVariants as machine
-use Rattle.rw_world.specs.declared.channels.ChannelCall.{ChannelCall}
-use Rattle.rw_world.specs.declared.channels.ChannelCall.TheVariants as call
-use Rattle.rw_world.specs.declared.channels.ChannelReply.{ChannelReply}
-use Rattle.rw_world.specs.declared.channels.ChannelReply.TheVariants as reply
-use Rattle.rw_world.specs.declared.channels.ChannelPatch.{ChannelPatch}
-use Rattle.rw_world.specs.declared.channels.ChannelPatch.TheVariants as patch
+use Rattle.rw_world.specs.declared.channels.Chan.{Chan}
+use Rattle.rw_world.specs.declared.channels.Chan.TheVariants as machine
+use Rattle.rw_world.specs.declared.channels.ChanCall.{ChanCall}
+use Rattle.rw_world.specs.declared.channels.ChanCall.TheVariants as call
+use Rattle.rw_world.specs.declared.channels.ChanReply.{ChanReply}
+use Rattle.rw_world.specs.declared.channels.ChanReply.TheVariants as reply
+use Rattle.rw_world.specs.declared.channels.ChanPatch.{ChanPatch}
+use Rattle.rw_world.specs.declared.channels.ChanPatch.TheVariants as patch
 use Rattle.rw_world.specs.Row.{Missing}
+use Rattle.rw_broadcast.specs.declared.calls.BCall.{BCall}
+use Rattle.rw_broadcast.specs.declared.calls.BReply.{BReply}
+use Rattle.rw_broadcast.specs.declared.calls.BPatch.{BPatch}
+use Rattle.rw_broadcast.specs.Machine.{Machine as BroadcastMachine}
+use Rattle.rw_watch.specs.declared.calls.WCall.{WCall}
+use Rattle.rw_watch.specs.declared.calls.WReply.{WReply}
+use Rattle.rw_watch.specs.declared.calls.WPatch.{WPatch}
+use Rattle.rw_watch.specs.Machine.{Machine as WatchMachine}
+
+-- the machine of a broadcast, and that of a watch
+abbrev pub OfBroadcast : Type 0 → Type 1
+OfBroadcast V = Ghosts (BroadcastMachine V) (BCall V) (BReply V) (BPatch V)
+
+abbrev pub OfWatch : Type 0 → Type 1
+OfWatch V = Ghosts (WatchMachine V) (WCall V) (WReply V) (WPatch V)
 
 -- what a call gets whose channel isn't there
-abbrev pub no_channel : {R P S Q : Type 0} → Missing (ChannelReply R S) (ChannelPatch P Q)
+abbrev pub no_channel : {V : Type 0} → Missing (ChanReply V) (ChanPatch V)
 no_channel = record { reply = reply.NoChannel; patch = patch.NoChannel }
 
 -- whether a call is of the other kind
-abbrev pub strays_at : {C D : Type 0} → Kind → ChannelCall C D → Bool
+abbrev pub strays_at : {V : Type 0} → Kind → ChanCall V → Bool
 strays_at broadcast (call.B c) = false
 strays_at broadcast (call.W d) = true
 strays_at watch (call.B c) = true
 strays_at watch (call.W d) = false
 
-module _ {B C R P : Type 0} {W D S Q : Type 0} (b : Ghosts B C R P) (w : Ghosts W D S Q) where
-  abbrev pub shown : Channel B W → Shown b.View w.View
+module _ {V : Type 0} (b : OfBroadcast V) (w : OfWatch V) where
+  abbrev pub shown : Chan V → Shown b.View w.View
   shown (machine.Broadcast x) = broadcast_shown (b.shown x)
   shown (machine.Watch y) = watch_shown (w.shown y)
 
-  abbrev pub reserved : Channel B W → ℕ
+  abbrev pub reserved : Chan V → ℕ
   reserved (machine.Broadcast x) = b.reserved x
   reserved (machine.Watch y) = w.reserved y
 
@@ -40,54 +55,54 @@ module _ {B C R P : Type 0} {W D S Q : Type 0} (b : Ghosts B C R P) (w : Ghosts 
   weigh (broadcast_shown x) = b.weigh x
   weigh (watch_shown y) = w.weigh y
 
-  abbrev pub next : Shown b.View w.View → ChannelCall C D → Shown b.View w.View
+  abbrev pub next : Shown b.View w.View → ChanCall V → Shown b.View w.View
   next (broadcast_shown x) (call.B c) = broadcast_shown (b.next x c)
   next (broadcast_shown x) (call.W d) = broadcast_shown x
   next (watch_shown y) (call.B c) = watch_shown y
   next (watch_shown y) (call.W d) = watch_shown (w.next y d)
 
-  abbrev pub reply_of : Shown b.View w.View → ChannelCall C D → ChannelReply R S
+  abbrev pub reply_of : Shown b.View w.View → ChanCall V → ChanReply V
   reply_of (broadcast_shown x) (call.B c) = reply.B (b.reply_of x c)
   reply_of (broadcast_shown x) (call.W d) = reply.NoChannel
   reply_of (watch_shown y) (call.B c) = reply.NoChannel
   reply_of (watch_shown y) (call.W d) = reply.W (w.reply_of y d)
 
-  abbrev pub patch_of : Shown b.View w.View → ChannelCall C D → ChannelPatch P Q
+  abbrev pub patch_of : Shown b.View w.View → ChanCall V → ChanPatch V
   patch_of (broadcast_shown x) (call.B c) = patch.B (b.patch_of x c)
   patch_of (broadcast_shown x) (call.W d) = patch.NoChannel
   patch_of (watch_shown y) (call.B c) = patch.NoChannel
   patch_of (watch_shown y) (call.W d) = patch.W (w.patch_of y d)
 
-  abbrev pub back : Shown b.View w.View → ChannelCall C D → ChannelPatch P Q → Shown b.View w.View
+  abbrev pub back : Shown b.View w.View → ChanCall V → ChanPatch V → Shown b.View w.View
   back (broadcast_shown x) (call.B c) (patch.B p) = broadcast_shown (b.back x c p)
   back (watch_shown y) (call.W d) (patch.W q) = watch_shown (w.back y d q)
   back x c p = x
 
   -- a patch fits a call of the channel's kind where it fits its machine, and a call that strays has no patch
-  abbrev pub Fits : Shown b.View w.View → ChannelCall C D → ChannelPatch P Q → Type 0
+  abbrev pub Fits : Shown b.View w.View → ChanCall V → ChanPatch V → Type 0
   Fits (broadcast_shown x) (call.B c) (patch.B p) = b.fits x c p
   Fits (broadcast_shown x) (call.W d) patch.NoChannel = Unit {0}
   Fits (watch_shown y) (call.B c) patch.NoChannel = Unit {0}
   Fits (watch_shown y) (call.W d) (patch.W q) = w.fits y d q
   Fits x c p = ⊥
 
-  abbrev pub refuses : ChannelReply R S → Bool
+  abbrev pub refuses : ChanReply V → Bool
   refuses (reply.B r) = b.refuses r
   refuses (reply.W s) = w.refuses s
   refuses reply.NoChannel = true
 
-  abbrev pub waits : ChannelReply R S → Bool
+  abbrev pub waits : ChanReply V → Bool
   waits (reply.B r) = b.is_waiting r
   waits (reply.W s) = w.is_waiting s
   waits reply.NoChannel = false
 
-  abbrev pub strays : ChannelReply R S → Bool
+  abbrev pub strays : ChanReply V → Bool
   strays (reply.B r) = false
   strays (reply.W s) = false
   strays reply.NoChannel = true
 
   -- the channel of either kind, as one machine
-  abbrev pub of_channel : Ghosts (Channel B W) (ChannelCall C D) (ChannelReply R S) (ChannelPatch P Q)
+  abbrev pub of_channel : Ghosts (Chan V) (ChanCall V) (ChanReply V) (ChanPatch V)
   of_channel = record {
     View = Shown b.View w.View;
     shown = shown;

@@ -1,66 +1,65 @@
 -- A channel of either kind keeps the laws that the machines of both kinds keep.
 use Rattle.std.proofs.Common.{◌≡◌, ◌+◌, ◌≤◌, true, refl, ap, arith}
-use Rattle.rw_law.specs.declared.machine.Reversible.{Ghosts}
 use Rattle.rw_law.specs.Journal.{LawsOf}
 use Rattle.rw_law.specs.Laws.{Laws}
 use Rattle.rw_world.specs.Kinds.{Shown, broadcast_shown, watch_shown, kind_of}
-use Rattle.rw_world.specs.Channel.{strays_at, IsAllowed, weigh, next, reply_of, patch_of, back, Fits, refuses, waits, strays}
-use Rattle.rw_world.specs.declared.channels.ChannelCall.{ChannelCall}
-use Rattle.rw_world.specs.declared.channels.ChannelCall.TheVariants as call
-use Rattle.rw_world.specs.declared.channels.ChannelReply.{ChannelReply}
-use Rattle.rw_world.specs.declared.channels.ChannelReply.TheVariants as reply
+use Rattle.rw_world.specs.Channel.{OfBroadcast, OfWatch, strays_at, IsAllowed, weigh, next, reply_of, patch_of, back, Fits, refuses, waits, strays}
+use Rattle.rw_world.specs.declared.channels.ChanCall.{ChanCall}
+use Rattle.rw_world.specs.declared.channels.ChanCall.TheVariants as call
+use Rattle.rw_world.specs.declared.channels.ChanReply.{ChanReply}
+use Rattle.rw_world.specs.declared.channels.ChanReply.TheVariants as reply
 
-module _ {B C R P : Type 0} {W D S Q : Type 0} (b : Ghosts B C R P) (w : Ghosts W D S Q) where
+module _ {V : Type 0} (b : OfBroadcast V) (w : OfWatch V) where
   -- a call doesn't change the kind
-  pub kind_stays : (x : Shown b.View w.View) (c : ChannelCall C D) → kind_of (next b w x c) ≡ kind_of x
+  pub kind_stays : (x : Shown b.View w.View) (c : ChanCall V) → kind_of (next b w x c) ≡ kind_of x
   kind_stays (broadcast_shown x) (call.B c) = refl
   kind_stays (broadcast_shown x) (call.W d) = refl
   kind_stays (watch_shown y) (call.B c) = refl
   kind_stays (watch_shown y) (call.W d) = refl
 
   -- a call strays exactly where it is of the other kind
-  pub strays_by_kind : (x : Shown b.View w.View) (c : ChannelCall C D) → strays b w (reply_of b w x c) ≡ strays_at (kind_of x) c
+  pub strays_by_kind : (x : Shown b.View w.View) (c : ChanCall V) → strays b w (reply_of b w x c) ≡ strays_at (kind_of x) c
   strays_by_kind (broadcast_shown x) (call.B c) = refl
   strays_by_kind (broadcast_shown x) (call.W d) = refl
   strays_by_kind (watch_shown y) (call.B c) = refl
   strays_by_kind (watch_shown y) (call.W d) = refl
 
   module _ (of_b : LawsOf b) (of_w : LawsOf w) where
-    undone_at : (x : Shown b.View w.View) (c : ChannelCall C D) → IsAllowed b w x → back b w (next b w x c) c (patch_of b w x c) ≡ x
+    undone_at : (x : Shown b.View w.View) (c : ChanCall V) → IsAllowed b w x → back b w (next b w x c) c (patch_of b w x c) ≡ x
     undone_at (broadcast_shown x) (call.B c) allowed = ap broadcast_shown (of_b.undone x c allowed)
     undone_at (broadcast_shown x) (call.W d) allowed = refl
     undone_at (watch_shown y) (call.B c) allowed = refl
     undone_at (watch_shown y) (call.W d) allowed = ap watch_shown (of_w.undone y d allowed)
 
-    allowed_at : (x : Shown b.View w.View) (c : ChannelCall C D) → IsAllowed b w x → IsAllowed b w (next b w x c)
+    allowed_at : (x : Shown b.View w.View) (c : ChanCall V) → IsAllowed b w x → IsAllowed b w (next b w x c)
     allowed_at (broadcast_shown x) (call.B c) allowed = of_b.next_allowed x c allowed
     allowed_at (broadcast_shown x) (call.W d) allowed = allowed
     allowed_at (watch_shown y) (call.B c) allowed = allowed
     allowed_at (watch_shown y) (call.W d) allowed = of_w.next_allowed y d allowed
 
-    fits_at : (x : Shown b.View w.View) (c : ChannelCall C D) → IsAllowed b w x → Fits b w (next b w x c) c (patch_of b w x c)
+    fits_at : (x : Shown b.View w.View) (c : ChanCall V) → IsAllowed b w x → Fits b w (next b w x c) c (patch_of b w x c)
     fits_at (broadcast_shown x) (call.B c) allowed = of_b.patch_fits x c allowed
     fits_at (broadcast_shown x) (call.W d) allowed = tt
     fits_at (watch_shown y) (call.B c) allowed = tt
     fits_at (watch_shown y) (call.W d) allowed = of_w.patch_fits y d allowed
 
-    refused_at : (x : Shown b.View w.View) (c : ChannelCall C D) → IsAllowed b w x → refuses b w (reply_of b w x c) ≡ true → next b w x c ≡ x
+    refused_at : (x : Shown b.View w.View) (c : ChanCall V) → IsAllowed b w x → refuses b w (reply_of b w x c) ≡ true → next b w x c ≡ x
     refused_at (broadcast_shown x) (call.B c) allowed refuses = ap broadcast_shown (of_b.refused x c allowed refuses)
     refused_at (broadcast_shown x) (call.W d) allowed refuses = refl
     refused_at (watch_shown y) (call.B c) allowed refuses = refl
     refused_at (watch_shown y) (call.W d) allowed refuses = ap watch_shown (of_w.refused y d allowed refuses)
 
-    waiting_at : (r : ChannelReply R S) → waits b w r ≡ true → refuses b w r ≡ true
+    waiting_at : (r : ChanReply V) → waits b w r ≡ true → refuses b w r ≡ true
     waiting_at (reply.B r) waits = of_b.waiting_refuses r waits
     waiting_at (reply.W s) waits = of_w.waiting_refuses s waits
     waiting_at reply.NoChannel waits = refl
 
-    straying_at : (r : ChannelReply R S) → strays b w r ≡ true → refuses b w r ≡ true
+    straying_at : (r : ChanReply V) → strays b w r ≡ true → refuses b w r ≡ true
     straying_at (reply.B r) strays = cc
     straying_at (reply.W s) strays = cc
     straying_at reply.NoChannel strays = refl
 
-    rises_at : (x : Shown b.View w.View) (c : ChannelCall C D) → IsAllowed b w x → weigh b w (next b w x c) ≤ weigh b w x + 1
+    rises_at : (x : Shown b.View w.View) (c : ChanCall V) → IsAllowed b w x → weigh b w (next b w x c) ≤ weigh b w x + 1
     rises_at (broadcast_shown x) (call.B c) allowed = of_b.weight_rises x c allowed
     rises_at (broadcast_shown x) (call.W d) allowed = omega arith
     rises_at (watch_shown y) (call.B c) allowed = omega arith

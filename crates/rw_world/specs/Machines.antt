@@ -11,28 +11,16 @@ use Rattle.rw_watch.specs.declared.calls.WPatch.{WPatch}
 use Rattle.rw_watch.specs.Machine.{Machine as WatchMachine}
 use Rattle.rw_watch.specs.Shown as w
 use Rattle.std.specs.Prelude.{List}
-use Rattle.rw_world.specs.declared.channels.Channel.{Channel}
-use Rattle.rw_world.specs.declared.channels.ChannelCall.{ChannelCall}
-use Rattle.rw_world.specs.declared.channels.ChannelReply.{ChannelReply}
-use Rattle.rw_world.specs.declared.channels.ChannelPatch.{ChannelPatch}
+use Rattle.rw_world.specs.declared.channels.Chan.{Chan}
+use Rattle.rw_world.specs.declared.channels.ChanCall.{ChanCall}
+use Rattle.rw_world.specs.declared.channels.ChanReply.{ChanReply}
+use Rattle.rw_world.specs.declared.channels.ChanPatch.{ChanPatch}
 use Rattle.rw_world.specs.declared.rows.RowCall.{RowCall}
 use Rattle.rw_world.specs.Channel.{no_channel, of_channel}
 use Rattle.rw_world.specs.Row.{of_row}
 use Rattle.rw_world.specs.Kinds.{Shown}
 
--- a channel, its calls, replies and patches, and what it shows
-abbrev pub Chan : Type 0 → Type 0
-Chan V = Channel (BroadcastMachine V) (WatchMachine V)
-
-abbrev pub ChanCall : Type 0 → Type 0
-ChanCall V = ChannelCall (BCall V) (WCall V)
-
-abbrev pub ChanReply : Type 0 → Type 0
-ChanReply V = ChannelReply (BReply V) (WReply V)
-
-abbrev pub ChanPatch : Type 0 → Type 0
-ChanPatch V = ChannelPatch (BPatch V) (WPatch V)
-
+-- what a channel shows
 abbrev pub ChanShown : Type 0 → Type 0
 ChanShown V = Shown (b.Shown V) (w.Shown V)
 

@@ -7,14 +7,16 @@ use Rattle.rw_broadcast.specs.Record as broadcast
 use Rattle.rw_broadcast.specs.Shown.{shown as shown_broadcast}
 use Rattle.rw_watch.specs.Record as watch
 use Rattle.rw_watch.specs.Shown.{shown as shown_watch}
-use Rattle.rw_world.specs.declared.channels.ChannelCall.TheVariants as call
-use Rattle.rw_world.specs.declared.channels.ChannelReply.TheVariants as reply
+use Rattle.rw_world.specs.declared.channels.ChanCall.TheVariants as call
+use Rattle.rw_world.specs.declared.channels.ChanReply.TheVariants as reply
 use Rattle.rw_world.specs.declared.opening.Spec.{Spec}
 use Rattle.rw_world.specs.declared.opening.Spec.TheVariants.{Broadcast, Watch}
 use Rattle.rw_world.specs.declared.rows.RowCall.{RowCall}
 use Rattle.rw_world.specs.Kinds.{broadcast_shown, watch_shown}
 use Rattle.rw_world.specs.Lists.{modified}
-use Rattle.rw_world.specs.Machines.{ChanCall, ChanReply, ChanShown, of_world}
+use Rattle.rw_world.specs.declared.channels.ChanCall.{ChanCall}
+use Rattle.rw_world.specs.declared.channels.ChanReply.{ChanReply}
+use Rattle.rw_world.specs.Machines.{ChanShown, of_world}
 use Rattle.rw_world.specs.Openings.{opened}
 use Rattle.rw_world.specs.Specified.{WorldEntry}
 

@@ -1,150 +1,143 @@
 //! Channels of either kind.
 
 use crate::members::Member;
+use rw_broadcast::{BCall, BPatch, BReply, Broadcast};
 use rw_law::{NoMemory, Reversible};
+use rw_watch::{WCall, WPatch, WReply, Watch};
 
-/// A channel: a machine of one of two kinds.
+/// A channel of this library: a broadcast or a watch.
 ///
 /// A call of its own kind goes to the machine. A call of the other kind answers `NoChannel` and changes nothing.
 #[derive(Drop)]
-pub enum Channel<B, W> {
-    Broadcast(B),
-    Watch(W),
+pub enum Chan<V: Copy> {
+    Broadcast(Broadcast<V>),
+    Watch(Watch<V>),
 }
 
 /// A call to a channel of either kind.
-#[derive(Clone, Copy, Debug, PartialEq, Eq)]
-pub enum ChannelCall<B, W> {
-    B(B),
-    W(W),
+#[derive(Clone, Copy, Debug, PartialEq)]
+pub enum ChanCall<V> {
+    B(BCall<V>),
+    W(WCall<V>),
 }
 
 /// The answer of a channel's machine, or that the call was of the other kind, or on a channel that isn't there.
-#[derive(Clone, Copy, Debug, PartialEq, Eq)]
-pub enum ChannelReply<B, W> {
-    B(B),
-    W(W),
+#[derive(Clone, Copy, Debug, PartialEq)]
+pub enum ChanReply<V> {
+    B(BReply<V>),
+    W(WReply<V>),
     NoChannel,
 }
 
 /// What undoes a call to a channel.
-#[derive(Clone, Copy, Debug, PartialEq, Eq)]
-pub enum ChannelPatch<B, W> {
-    B(B),
-    W(W),
+#[derive(Clone, Copy, Debug, PartialEq)]
+pub enum ChanPatch<V> {
+    B(BPatch<V>),
+    W(WPatch<V>),
     NoChannel,
 }
 
-impl<B: Reversible, W: Reversible> Reversible for Channel<B, W> {
-    ghost use Rattle.rw_world.specs.Kinds.{Shown};
-    ghost use Rattle.rw_world.specs.Channel as channel;
+impl<V: Copy> Reversible for Chan<V> {
+    ghost use Rattle.rw_broadcast.specs.Soundness.{broadcast_laws};
+    ghost use Rattle.rw_watch.specs.Soundness.{watch_laws};
     ghost use Rattle.rw_world.specs.ChannelLaws.{channel_laws};
+    ghost use Rattle.rw_world.specs.Machines.{ChanShown, of_broadcast, of_watch, of_chan};
 
-    type Call = ChannelCall<B::Call, W::Call>;
+    type Call = ChanCall<V>;
 
-    type Reply = ChannelReply<B::Reply, W::Reply>;
+    type Reply = ChanReply<V>;
 
-    type Patch = ChannelPatch<B::Patch, W::Patch>;
+    type Patch = ChanPatch<V>;
 
-    ghost View = { Shown B.View W.View };
+    ghost View = { ChanShown V };
 
-    ghost shown = { channel.shown B.Reversible W.Reversible };
+    ghost shown = { (of_chan {V = V}).shown };
 
-    ghost reserved = { channel.reserved B.Reversible W.Reversible };
+    ghost reserved = { (of_chan {V = V}).reserved };
 
-    ghost allowed = { channel.IsAllowed B.Reversible W.Reversible };
+    ghost allowed = { (of_chan {V = V}).allowed };
 
-    ghost weigh = { channel.weigh B.Reversible W.Reversible };
+    ghost weigh = { (of_chan {V = V}).weigh };
 
-    ghost next = { channel.next B.Reversible W.Reversible };
+    ghost next = { (of_chan {V = V}).next };
 
-    ghost reply_of = { channel.reply_of B.Reversible W.Reversible };
+    ghost reply_of = { (of_chan {V = V}).reply_of };
 
-    ghost patch_of = { channel.patch_of B.Reversible W.Reversible };
+    ghost patch_of = { (of_chan {V = V}).patch_of };
 
-    ghost back = { channel.back B.Reversible W.Reversible };
+    ghost back = { (of_chan {V = V}).back };
 
-    ghost fits = { channel.Fits B.Reversible W.Reversible };
+    ghost fits = { (of_chan {V = V}).fits };
 
-    ghost refuses = { channel.refuses B.Reversible W.Reversible };
+    ghost refuses = { (of_chan {V = V}).refuses };
 
-    ghost is_waiting = { channel.waits B.Reversible W.Reversible };
+    ghost is_waiting = { (of_chan {V = V}).is_waiting };
 
-    ghost is_straying = { channel.strays B.Reversible W.Reversible };
+    ghost is_straying = { (of_chan {V = V}).is_straying };
 
-    ghost laws = { channel_laws ⟦<B as Reversible>⟧ ⟦<W as Reversible>⟧ B.laws W.laws };
+    ghost laws = { channel_laws of_broadcast of_watch broadcast_laws watch_laws };
 
     fn weight(&self) -> u64 {
         match self {
-            Channel::Broadcast(machine) => machine.weight(),
-            Channel::Watch(machine) => machine.weight(),
+            Chan::Broadcast(machine) => machine.weight(),
+            Chan::Watch(machine) => machine.weight(),
         }
     }
 
     fn limit(&self) -> u64 {
         match self {
-            Channel::Broadcast(machine) => machine.limit(),
-            Channel::Watch(machine) => machine.limit(),
+            Chan::Broadcast(machine) => machine.limit(),
+            Chan::Watch(machine) => machine.limit(),
         }
     }
 
     fn ready(&mut self, n: u64) -> Result<(), NoMemory> {
         match self {
-            Channel::Broadcast(machine) => machine.ready(n),
-            Channel::Watch(machine) => machine.ready(n),
+            Chan::Broadcast(machine) => machine.ready(n),
+            Chan::Watch(machine) => machine.ready(n),
         }
     }
 
-    fn apply(
-        &mut self,
-        call: &ChannelCall<B::Call, W::Call>,
-    ) -> (
-        ChannelReply<B::Reply, W::Reply>,
-        ChannelPatch<B::Patch, W::Patch>,
-    ) {
+    fn apply(&mut self, call: &ChanCall<V>) -> (ChanReply<V>, ChanPatch<V>) {
         match (self, call) {
-            (Channel::Broadcast(machine), ChannelCall::B(call)) => {
+            (Chan::Broadcast(machine), ChanCall::B(call)) => {
                 let (reply, patch) = machine.apply(call);
-                (ChannelReply::B(reply), ChannelPatch::B(patch))
+                (ChanReply::B(reply), ChanPatch::B(patch))
             }
-            (Channel::Watch(machine), ChannelCall::W(call)) => {
+            (Chan::Watch(machine), ChanCall::W(call)) => {
                 let (reply, patch) = machine.apply(call);
-                (ChannelReply::W(reply), ChannelPatch::W(patch))
+                (ChanReply::W(reply), ChanPatch::W(patch))
             }
-            _ => (ChannelReply::NoChannel, ChannelPatch::NoChannel),
+            _ => (ChanReply::NoChannel, ChanPatch::NoChannel),
         }
     }
 
-    fn undo(
-        &mut self,
-        call: &ChannelCall<B::Call, W::Call>,
-        patch: &ChannelPatch<B::Patch, W::Patch>,
-    ) {
+    fn undo(&mut self, call: &ChanCall<V>, patch: &ChanPatch<V>) {
         match (self, call, patch) {
-            (Channel::Broadcast(machine), ChannelCall::B(call), ChannelPatch::B(patch)) => {
+            (Chan::Broadcast(machine), ChanCall::B(call), ChanPatch::B(patch)) => {
                 machine.undo(call, patch);
             }
-            (Channel::Watch(machine), ChannelCall::W(call), ChannelPatch::W(patch)) => {
+            (Chan::Watch(machine), ChanCall::W(call), ChanPatch::W(patch)) => {
                 machine.undo(call, patch);
             }
             _ => {}
         }
     }
 
-    fn waits(reply: &ChannelReply<B::Reply, W::Reply>) -> bool {
+    fn waits(reply: &ChanReply<V>) -> bool {
         match reply {
-            ChannelReply::B(reply) => B::waits(reply),
-            ChannelReply::W(reply) => W::waits(reply),
-            ChannelReply::NoChannel => false,
+            ChanReply::B(reply) => Broadcast::<V>::waits(reply),
+            ChanReply::W(reply) => Watch::<V>::waits(reply),
+            ChanReply::NoChannel => false,
         }
     }
 
-    fn strays(reply: &ChannelReply<B::Reply, W::Reply>) -> bool {
-        matches!(reply, ChannelReply::NoChannel)
+    fn strays(reply: &ChanReply<V>) -> bool {
+        matches!(reply, ChanReply::NoChannel)
     }
 }
 
-impl<B: Reversible, W: Reversible> Member for Channel<B, W> {
+impl<V: Copy> Member for Chan<V> {
     ghost use Rattle.std.specs.Prelude.{refl};
     ghost use Rattle.rw_world.specs.Channel.{no_channel};
 
@@ -154,10 +147,7 @@ impl<B: Reversible, W: Reversible> Member for Channel<B, W> {
 
     ghost missing_goes_on = { refl };
 
-    fn missing() -> (
-        ChannelReply<B::Reply, W::Reply>,
-        ChannelPatch<B::Patch, W::Patch>,
-    ) {
-        (ChannelReply::NoChannel, ChannelPatch::NoChannel)
+    fn missing() -> (ChanReply<V>, ChanPatch<V>) {
+        (ChanReply::NoChannel, ChanPatch::NoChannel)
     }
 }

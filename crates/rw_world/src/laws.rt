@@ -9,9 +9,9 @@ ghost use Rattle.rw_world.specs.Parts.{IsLegalExactlyByParts};
 ghost use Rattle.rw_world.specs.Records.{RecordsAsDocumented, RepliesByRecords, ShowsAtPlaces, ShowsItsRecords, ShowsItsSteps};
 ghost use Rattle.rw_world.specs.Specified.{AreLegalOfChannels, AreLegalOfWorlds, IsAfterOfWorlds, IsLegalExactlyBySpecs, OpensAsSpecified, StraysBySpecs};
 
-use crate::channels::Channel;
+use crate::channels::Chan;
 use crate::members::Member;
-use crate::opening::{Chan, World};
+use crate::opening::World;
 use rw_law::Reversible;
 
 /// Calls on two different channels lead to the same row in either order, and get the same replies and patches.
@@ -26,10 +26,10 @@ pub fn legal_by_parts<M: Member>()
 {}
 
 /// No step changes which kind of channel stands at which number, and a call gets `NoChannel` exactly by that.
-pub fn shape<B: Reversible, W: Reversible>()
-    ensures keeps { KeepsShape ⟦<Channel<B, W> as Reversible>⟧ kind_of strays_at }
-    ensures throughout { KeepsShapeThroughout ⟦<Channel<B, W> as Reversible>⟧ kind_of strays_at no_channel }
-    ensures strays { StraysByShape ⟦<Channel<B, W> as Reversible>⟧ kind_of strays_at no_channel }
+pub fn shape<V: Copy>()
+    ensures keeps { KeepsShape ⟦<Chan<V> as Reversible>⟧ kind_of strays_at }
+    ensures throughout { KeepsShapeThroughout ⟦<Chan<V> as Reversible>⟧ kind_of strays_at no_channel }
+    ensures strays { StraysByShape ⟦<Chan<V> as Reversible>⟧ kind_of strays_at no_channel }
 {}
 
 /// A world opens with the kinds of channels that its specs name. After any journal a call gets `NoChannel` exactly by the

@@ -1,8 +1,7 @@
 //! Worlds: channels of both kinds in a row, which are one machine whose steps can be undone.
 //!
 //! The one contract: whatever machines are put in a row, the row keeps the laws of `rw_law` that they keep (`Row` in
-//! `rows.rt`, `Member` in `members.rt`); so does a channel that is a machine of one kind or of another (`Channel` in
-//! `channels.rt`).
+//! `rows.rt`, `Member` in `members.rt`); so does a channel of either kind (`Chan` in `channels.rt`).
 //! Start reading at `specs/Row.antt`, which says what a call to a row does, and go on with `opening.rt`, which opens the worlds
 //! of this library, rows of broadcasts and watches. `laws.rt` has what the layers above build on: calls on two channels
 //! commute, a journal is legal exactly where each channel's part of it is, and no step changes which channels there are.
@@ -14,12 +13,9 @@ mod members;
 mod opening;
 mod rows;
 
-pub use channels::{Channel, ChannelCall, ChannelPatch, ChannelReply};
+pub use channels::{Chan, ChanCall, ChanPatch, ChanReply};
 pub use laws::{commutes, documented, legal_by_parts, machines, shape, specified};
 pub use members::Member;
-pub use opening::{
-    Chan, ChanCall, ChanReply, MOST_CHANNELS, OpenFault, Spec, World, open, open_channel,
-    refusal_of,
-};
+pub use opening::{MOST_CHANNELS, OpenFault, Spec, World, open, open_channel, refusal_of};
 pub use rows::{Row, RowCall};
 pub use rw_broadcast::MOST_CAPACITY;

@@ -3,22 +3,13 @@
 ghost use Rattle.std.specs.Prelude.{◌≡◌, ◌≤◌, ◌<◌, false, length, map, position, All, IfOk, IfSome, IfNone, IsNone, MatchResult};
 ghost use Rattle.rw_world.specs.Openings.{has_bad_capacity, opened, opened_channel, refusal};
 
-use crate::channels::{Channel, ChannelCall, ChannelReply};
+use crate::channels::Chan;
 use crate::rows::Row;
-use rw_broadcast::{BCall, BReply, Broadcast, MOST_CAPACITY};
+use rw_broadcast::{Broadcast, MOST_CAPACITY};
 use rw_law::{NoMemory, Reversible};
-use rw_watch::{WCall, WReply, Watch};
+use rw_watch::Watch;
 use std::alloc::Global;
 use thiserror::Error;
-
-/// A channel of this library: a broadcast or a watch.
-pub type Chan<V> = Channel<Broadcast<V>, Watch<V>>;
-
-/// A call to a channel.
-pub type ChanCall<V> = ChannelCall<BCall<V>, WCall<V>>;
-
-/// The answer to a call to a channel.
-pub type ChanReply<V> = ChannelReply<BReply<V>, WReply<V>>;
 
 /// Channels of both kinds, up to 64, each under its number.
 pub type World<V> = Row<Chan<V>>;
@@ -83,9 +74,9 @@ pub fn open_channel<V: Copy>(alloc: Global, spec: &Spec<V>) -> Result<Chan<V>, N
     match spec {
         Spec::Broadcast(capacity) => {
             let machine = Broadcast::open(alloc, *capacity).map_err(|_| NoMemory)?;
-            Ok(Channel::Broadcast(machine))
+            Ok(Chan::Broadcast(machine))
         }
-        Spec::Watch(init) => Ok(Channel::Watch(Watch::open(alloc, *init)?)),
+        Spec::Watch(init) => Ok(Chan::Watch(Watch::open(alloc, *init)?)),
     }
 }
 

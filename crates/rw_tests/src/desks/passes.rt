@@ -5,7 +5,7 @@ use rw_desk::{DeskFault, Pass};
 use rw_journal::Book;
 use rw_law::NoMemory;
 use rw_watch::{WCall, WReply};
-use rw_world::{Chan, ChannelCall, ChannelReply, Spec, open_channel};
+use rw_world::{Chan, ChanCall, ChanReply, Spec, open_channel};
 use std::alloc::Global;
 use std::test::Fail;
 
@@ -20,15 +20,15 @@ fn a_pass_keeps_what_it_recorded(rt: HostRuntime) -> Result<(), Fail> {
     let mut pass = Pass::<u64>::new(rt.alloc(), 5);
     for (call, answer) in [
         (
-            ChannelCall::B(BCall::Send(0, 4)),
-            Ok(ChannelReply::B(BReply::Sent(1))),
+            ChanCall::B(BCall::Send(0, 4)),
+            Ok(ChanReply::B(BReply::Sent(1))),
         ),
         (
-            ChannelCall::B(BCall::TryRecv(1)),
-            Ok(ChannelReply::B(BReply::Value(4))),
+            ChanCall::B(BCall::TryRecv(1)),
+            Ok(ChanReply::B(BReply::Value(4))),
         ),
-        (ChannelCall::W(WCall::Borrow(1)), Err(DeskFault::NoChannel)),
-        (ChannelCall::B(BCall::Recv(1)), Err(DeskFault::Waits)),
+        (ChanCall::W(WCall::Borrow(1)), Err(DeskFault::NoChannel)),
+        (ChanCall::B(BCall::Recv(1)), Err(DeskFault::Waits)),
     ] {
         assert_eq!(rt; pass.record(&mut book, 7, call), answer);
     }
@@ -46,8 +46,8 @@ fn a_pass_keeps_what_it_recorded(rt: HostRuntime) -> Result<(), Fail> {
 
 #[test]
 fn the_clock_ends_at_two_to_the_62(rt: HostRuntime) -> Result<(), Fail> {
-    let receiver_count = ChannelCall::B(BCall::ReceiverCount(0));
-    let one = ChannelReply::B(BReply::Count(1));
+    let receiver_count = ChanCall::B(BCall::ReceiverCount(0));
+    let one = ChanReply::B(BReply::Count(1));
     let mut book = broadcast_book(rt.alloc())?;
     let mut pass = Pass::<u64>::new(rt.alloc(), 0);
     pass.heed((1 << 62) - 1);
@@ -62,7 +62,7 @@ fn the_clock_ends_at_two_to_the_62(rt: HostRuntime) -> Result<(), Fail> {
             Err(DeskFault::JournalFull)
         );
         // A stray call isn't one for a full journal.
-        let stray = ChannelCall::W(WCall::Borrow(1));
+        let stray = ChanCall::W(WCall::Borrow(1));
         assert_eq!(rt; pass.record(&mut book, 0, stray), Err(DeskFault::NoChannel));
         assert_eq!(rt;
             (pass.stamp(), pass.kept().len(), book.len()),
@@ -78,8 +78,8 @@ fn a_refused_call_is_recorded(rt: HostRuntime) -> Result<(), Fail> {
     let alloc = rt.alloc();
     let mut book = Book::open(alloc, open_channel(alloc, &Spec::Watch(7u64))?)?;
     let mut pass = Pass::new(alloc, 63);
-    let closed = ChannelReply::W(WReply::Unknown);
-    let call = ChannelCall::W(WCall::Borrow(9));
+    let closed = ChanReply::W(WReply::Unknown);
+    let call = ChanCall::W(WCall::Borrow(9));
     assert_eq!(rt; pass.record(&mut book, 0, call), Ok(closed));
     assert_eq!(rt; pass.stamp(), 1);
     Ok(())
