@@ -20,6 +20,7 @@ pub fn on_broadcast(
     calls: &[BCall<u64>],
 ) -> Result<Measured<BReply<u64>>>
     requires { length calls.now ≤ 2 ^ 32 }
+    ensures { IfOk result (λ measured. measured.steps ≡ length calls.now) }
 {
     let Ok(played) = Broadcast::open(alloc, capacity) else {
         bail!("the channel is not opened");
@@ -40,6 +41,7 @@ pub fn on_watch(
     calls: &[WCall<u64>],
 ) -> Result<Measured<WReply<u64>>>
     requires { length calls.now ≤ 2 ^ 32 }
+    ensures { IfOk result (λ measured. measured.steps ≡ length calls.now) }
 {
     let Ok(played) = Watch::open(alloc, 0) else {
         bail!("the channel is not opened");
@@ -61,6 +63,7 @@ pub fn on_world(
     calls: &[RowCall<ChanCall<u64>>],
 ) -> Result<Measured<ChanReply<u64>>>
     requires { length calls.now ≤ 2 ^ 32 }
+    ensures { IfOk result (λ measured. measured.steps ≡ length calls.now) }
 {
     let played = world_of(alloc, spec)?;
     let recorded = world_of(alloc, spec)?;

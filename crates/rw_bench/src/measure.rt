@@ -1,6 +1,6 @@
 //! How long the steps of a list of calls take.
 
-ghost use Rattle.std.specs.Prelude.{◌≡◌, ◌^◌, ◌≤◌, length, OnOk};
+ghost use Rattle.std.specs.Prelude.{◌≡◌, ◌^◌, ◌≤◌, length, OnOk, IfOk};
 ghost use Rattle.rw_journal.specs.Book.{opening_of};
 ghost use Rattle.rw_navigator.specs.Moves.{MovedBy};
 
@@ -44,6 +44,7 @@ pub fn measure<M: Reversible + Drop>(
     requires light { M.weigh (M.shown recorded) ≤ 2 ^ 32 }
     requires light_played { M.weigh (M.shown played) ≤ 2 ^ 32 }
     requires few { length calls.now ≤ 2 ^ 32 }
+    ensures { IfOk result (λ measured. measured.steps ≡ length calls.now) }
 {
     let apply = time_playing(clock, played, calls)?;
     let Ok(mut book) = Book::open(alloc, recorded) else {
@@ -85,7 +86,7 @@ fn time_playing<M: Reversible + Drop>(
         bail!("no memory for a machine");
     }
     let begin = Instant::now(clock)?;
-    play(&mut machine, calls);
+    let _last = play(&mut machine, calls);
     Ok(begin.elapsed(clock)?)
 }
 

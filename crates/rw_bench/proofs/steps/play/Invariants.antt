@@ -1,11 +1,13 @@
-use Rattle.std.proofs.Common.{◌≤◌, ◌+◌, ◌-◌, length}
+use Rattle.std.proofs.Common.{◌≡◌, take}
+use Rattle.rw_bench.specs.Calls.{after_calls, last_reply}
 use Rattle.rw_bench.proofs.steps.play.Given as goal
 
--- there is room for the calls that are left
+-- the calls so far were made, and the room is as before
 abbrev pub invariant-loop-call : goal.invariant-loop-call
 invariant-loop-call g l =
     let m = g.M.Reversible in
     record {
-      known : m.allowed (m.shown l.machine);
-      room : m.weigh (m.shown l.machine) + (length l.calls - l.call-index) ≤ m.reserved l.machine;
+      shows : m.shown l.machine ≡ after_calls m (m.shown l.fn.machine) (take l.call-index l.calls);
+      last : l.last ≡ last_reply m (m.shown l.fn.machine) (take l.call-index l.calls);
+      room : m.reserved l.machine ≡ m.reserved l.fn.machine;
     }

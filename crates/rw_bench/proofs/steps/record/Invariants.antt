@@ -1,6 +1,11 @@
-use Rattle.std.proofs.Common.{◌≡◌}
+use Rattle.std.proofs.Common.{◌≡◌, ◌++◌, take}
+use Rattle.rw_bench.specs.Calls.{calls_of}
 use Rattle.rw_bench.proofs.steps.record.Given as goal
 
--- the opening is as before
+-- the calls so far were taken
 abbrev pub invariant-loop-call : goal.invariant-loop-call
-invariant-loop-call g l = l.book.opening ≡ l.fn.book.opening
+invariant-loop-call g l =
+    record {
+      calls : calls_of l.book.entries ≡ calls_of l.fn.book.entries ++ take l.call-index l.calls;
+      opening : l.book.opening ≡ l.fn.book.opening;
+    }
