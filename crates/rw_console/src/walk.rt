@@ -1,10 +1,12 @@
 //! A walk over the places of a run.
 
-ghost use Rattle.std.specs.Prelude.{◌≡◌, ◌++◌, ◌≢◌, ◌≤◌, false, IfOk, IfSome, OnOk, unwrap_or};
+ghost use Rattle.std.specs.Prelude.{◌≡◌, ◌++◌, ◌≢◌, ◌≤◌, ℕ, false, IfOk, IfSome, IsSome, IsTrue, OnOk, unwrap_or};
 ghost use Rattle.rw_console.specs.Hits.{hit_above, hit_below};
 ghost use Rattle.rw_console.specs.Report.{output_of, place_of};
 ghost use Rattle.rw_console.specs.SessionReport.{recording_of};
+ghost use Rattle.rw_navigator.specs.Conditions.{asks_step, holds_of_step};
 ghost use Rattle.rw_navigator.specs.Places.{entry_to, last_place};
+ghost use Rattle.rw_world.specs.Specified.{WorldEntry};
 ghost use Rattle.rw_script.specs.Running.{run_of};
 
 use crate::blocks::push_world;
@@ -15,7 +17,7 @@ use crate::json::push_json;
 use crate::text::{push_hit, push_place, push_refusal};
 use rw_journal::Run;
 use rw_law::{Entry, NoMemory, Reversible};
-use rw_navigator::{Cond, Debugger, Move, Probe};
+use rw_navigator::{Cond, Debugger, HitIndex, Move, Probe};
 use rw_script::{Played, Script, play};
 use rw_world::World;
 use std::alloc::{AllocError, Global};
@@ -128,50 +130,28 @@ impl Walk {
         )
     }
 
+    /// The index, if it is that of the condition.
+    fn index_of(&self, cond: Cond) -> Option<&HitIndex<World<u64>, Cond>>
+        ensures run { IfSome result (λ index. index.now.entries ≡ self.now.run.entries) }
+        ensures step { IsSome result → IsTrue (asks_step cond) }
+        ensures same { IfSome result (λ index. (e : WorldEntry ℕ) → holds_of_step index.now.probe e ≡ holds_of_step cond e) }
+    {
+        match &self.index {
+            Some(last) if asks_the_same(cond, last.cond) => Some(&last.index),
+            _ => None,
+        }
+    }
+
     /// Indexes a condition on entries, unless it is the one that is indexed.
     fn keep_index(&mut self, cond: Cond)
         ensures { self.new ≡ self.old }
     {
-        if self.is_indexed(cond) || !<Cond as Probe<World<u64>>>::on_step(&cond) {
+        if self.index_of(cond).is_some() || !<Cond as Probe<World<u64>>>::on_step(&cond) {
             return;
         }
         // The memory of the last index is given back before more is asked for.
         self.index = None;
         self.index = LastIndex::build(self.alloc, &self.debugger, cond);
-    }
-
-    /// Whether the index is that of the condition.
-    fn is_indexed(&self, cond: Cond) -> bool {
-        match &self.index {
-            Some(last) => asks_the_same(cond, last.cond),
-            None => false,
-        }
-    }
-
-    /// The nearest hit below the place, if the condition is indexed.
-    fn indexed_below(&self, cond: Cond) -> Option<Option<u64>>
-        ensures found { IfSome result (λ found. found ≡ hit_below self.now.run cond self.now.place) }
-        ensures inside { IfSome result (λ found. IfSome found (λ hit. hit ≤ last_place self.now.run)) }
-    {
-        match &self.index {
-            Some(last) if asks_the_same(cond, last.cond) => {
-                Some(last.index.before(self.debugger.place()))
-            }
-            _ => None,
-        }
-    }
-
-    /// The nearest hit above the place, if the condition is indexed.
-    fn indexed_above(&self, cond: Cond) -> Option<Option<u64>>
-        ensures found { IfSome result (λ found. found ≡ hit_above self.now.run cond self.now.place) }
-        ensures inside { IfSome result (λ found. IfSome found (λ hit. hit ≤ last_place self.now.run)) }
-    {
-        match &self.index {
-            Some(last) if asks_the_same(cond, last.cond) => {
-                Some(last.index.after(self.debugger.place()))
-            }
-            _ => None,
-        }
     }
 
     /// Goes to a hit by one move. With none the place stays.
@@ -192,13 +172,12 @@ impl Walk {
         ensures run { self.new.run ≡ self.old.run }
     {
         self.keep_index(cond);
-        match self.indexed_below(cond) {
-            Some(found) => {
-                self.go_to(found);
-                found
-            }
-            None => self.debugger.back_to(&cond),
-        }
+        let Some(index) = self.index_of(cond) else {
+            return self.debugger.back_to(&cond);
+        };
+        let found = index.before(self.debugger.place());
+        self.go_to(found);
+        found
     }
 
     /// Goes to the nearest hit above the place.
@@ -208,13 +187,12 @@ impl Walk {
         ensures run { self.new.run ≡ self.old.run }
     {
         self.keep_index(cond);
-        match self.indexed_above(cond) {
-            Some(found) => {
-                self.go_to(found);
-                found
-            }
-            None => self.debugger.forward_to(&cond),
-        }
+        let Some(index) = self.index_of(cond) else {
+            return self.debugger.forward_to(&cond);
+        };
+        let found = index.after(self.debugger.place());
+        self.go_to(found);
+        found
     }
 
     /// Goes to the nearest hit below the place, and appends what that says.
