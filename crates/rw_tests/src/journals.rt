@@ -3,4 +3,5 @@
 mod books;
 mod debuggers;
 mod drafts;
+mod indexes;
 mod worlds;

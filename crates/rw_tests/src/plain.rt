@@ -8,7 +8,7 @@ ghost use Rattle.std.specs.Prelude.{◌<◌, All};
 use rw_journal::{Book, PushFault, Run, RunDraft, TakeFault};
 use rw_law::{Entry, NoMemory, Payload, Reversible};
 use rw_lines::{Next, StreamFault, next_line};
-use rw_navigator::{Move, Navigator, OutOfRange};
+use rw_navigator::{HitIndex, Move, Navigator, OutOfRange, Probe};
 use rw_text::{TextFault, WriteFault, read, round_trip, write};
 use rw_world::{ChanCall, ChanReply, OpenFault, RowCall, Spec, World, open};
 use std::alloc::Global;
@@ -115,6 +115,38 @@ pub fn place_and_turns<R: Reversible>(navigator: &Navigator<R>) -> (u64, u64) {
 /// What a navigator's machine is at its place.
 pub fn state<R: Reversible>(navigator: &Navigator<R>) -> &R {
     navigator.state()
+}
+
+/// The index of a condition on entries. Of one on states there is none.
+pub fn index_of<R: Reversible, P: Probe<R>>(
+    alloc: Global,
+    navigator: &Navigator<R>,
+    probe: &P,
+) -> Result<Option<HitIndex<R, P>>, NoMemory> {
+    if !probe.on_step() {
+        return Ok(None);
+    }
+    Ok(Some(HitIndex::build(alloc, navigator, probe)?))
+}
+
+/// What an index finds below a place, and above it.
+pub fn looked_up<R: Reversible, P: Probe<R>>(
+    index: &HitIndex<R, P>,
+    place: u64,
+) -> (Option<u64>, Option<u64>) {
+    (index.before(place), index.after(place))
+}
+
+/// What the searches find from a place, below it and above it.
+pub fn searched<R: Reversible, P: Probe<R>>(
+    navigator: &mut Navigator<R>,
+    probe: &P,
+    place: u64,
+) -> Result<(Option<u64>, Option<u64>), OutOfRange> {
+    navigator.step(Move::Goto(place))?;
+    let below = navigator.back_to(probe);
+    navigator.step(Move::Goto(place))?;
+    Ok((below, navigator.forward_to(probe)))
 }
 
 /// The run that is read from a journal text.

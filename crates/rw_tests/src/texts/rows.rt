@@ -14,6 +14,13 @@ use std::test::Fail;
 pub const OVERRUN: &[u8] =
     b"broadcast 2\n0 0 send 0 1\n0 0 send 0 2\n0 0 send 0 3\n0 0 try-recv 1\n0 0 try-recv 1\n0 0 try-recv 1\n0 0 try-recv 1\n";
 
+/// Values are sent, and received in between.
+pub const UNREAD: &[u8] =
+    b"broadcast 4\n0 0 send 0 1\n0 0 send 0 2\n0 0 send 0 3\n0 0 recv 1\n0 0 send 0 4\n0 0 recv 1\n";
+
+/// Two actors, each on a channel.
+pub const TWO_CHANNELS: &[u8] = b"broadcast 2\nwatch 5\nactors 2\n0 0 send 0 1\n1 1 send 0 6\n";
+
 /// A script for each row: what it is about, its lines, and how many entries its run has. That of the handle limit is
 /// `handle_limit`.
 pub const SCRIPTS: [(&str, &[u8], u64); 19] = [
@@ -74,11 +81,7 @@ pub const SCRIPTS: [(&str, &[u8], u64); 19] = [
         b"watch 4\n0 0 mark-changed 1\n0 0 mark-changed 1\n0 0 clone-receiver 1\n0 0 mark-unchanged 1\n0 0 has-changed 1\n0 0 has-changed 2\n0 0 changed 2\n",
         7,
     ),
-    (
-        "searches_on_unread",
-        b"broadcast 4\n0 0 send 0 1\n0 0 send 0 2\n0 0 send 0 3\n0 0 recv 1\n0 0 send 0 4\n0 0 recv 1\n",
-        6,
-    ),
+    ("searches_on_unread", UNREAD, 6),
     (
         "small_journal",
         b"broadcast 4\n0 0 send 0 7\n0 0 try-recv 1\n0 0 drop 0\n",
@@ -99,11 +102,7 @@ pub const SCRIPTS: [(&str, &[u8], u64); 19] = [
         b"broadcast 2\n0 0 subscribe 0 as r\n0 0 send 0 3\n0 0 try-recv r\n",
         3,
     ),
-    (
-        "two_channels",
-        b"broadcast 2\nwatch 5\nactors 2\n0 0 send 0 1\n1 1 send 0 6\n",
-        2,
-    ),
+    ("two_channels", TWO_CHANNELS, 2),
 ];
 
 /// All the senders that a channel makes, two that it doesn't, and a drop in between.

@@ -1,0 +1,84 @@
+//! Indexes of conditions on entries, over the runs of rows.
+
+use crate::plain::{index_of, looked_up, navigator_of, searched};
+use crate::texts::rows::{OVERRUN, TWO_CHANNELS, UNREAD, run_of};
+use rw_navigator::Cond;
+use rw_words::ReplyWord;
+use std::process::Abort;
+use std::test::Fail;
+
+/// The condition that a reply begins with this word.
+fn replies_with(rt: &impl Abort, word: &[u8]) -> Cond {
+    Cond::ReplyKind(ReplyWord::of(word).expect(rt, "a reply has this word"))
+}
+
+#[test]
+fn an_index_has_the_hits_below_and_above_a_place(rt: HostRuntime) -> Result<(), Fail> {
+    let run = run_of(rt.alloc(), OVERRUN)?;
+    let navigator = navigator_of(rt.alloc(), &run)?;
+    let index = index_of(rt.alloc(), &navigator, &replies_with(&rt, b"value"))?.expect(
+        &rt,
+        "it is a condition on entries",
+    );
+    for (place, below, above) in [
+        (0, None, Some(5)),
+        (5, None, Some(6)),
+        (6, Some(5), None),
+        (7, Some(6), None),
+    ] {
+        assert_eq!(rt; looked_up(&index, place), (below, above), "at {place}");
+    }
+    Ok(())
+}
+
+#[test]
+fn an_index_finds_what_searches_find(rt: HostRuntime) -> Result<(), Fail> {
+    let on_overrun = [
+        Cond::Actor(0),
+        Cond::Channel(0),
+        replies_with(&rt, b"sent"),
+        replies_with(&rt, b"lagged"),
+        replies_with(&rt, b"value"),
+        replies_with(&rt, b"empty"),
+    ];
+    let on_unread = [
+        Cond::Actor(0),
+        Cond::Channel(0),
+        replies_with(&rt, b"sent"),
+        replies_with(&rt, b"value"),
+    ];
+    let on_two_channels = [
+        Cond::Actor(0),
+        Cond::Actor(1),
+        Cond::Channel(0),
+        Cond::Channel(1),
+        replies_with(&rt, b"sent"),
+        replies_with(&rt, b"stored"),
+    ];
+    for (script, conditions) in [
+        (OVERRUN, on_overrun.as_slice()),
+        (UNREAD, &on_unread),
+        (TWO_CHANNELS, &on_two_channels),
+    ] {
+        let run = run_of(rt.alloc(), script)?;
+        let mut navigator = navigator_of(rt.alloc(), &run)?;
+        let last = run.len();
+        for condition in conditions {
+            let index = index_of(rt.alloc(), &navigator, condition)?.expect(
+                &rt,
+                "it is a condition on entries",
+            );
+            let (greatest, _) = looked_up(&index, last + 1);
+            assert!(rt; greatest.is_some(), "{condition:?} has no hit");
+            for place in 0..last + 1 {
+                let found = searched(&mut navigator, condition, place);
+                assert_eq!(rt;
+                    found,
+                    Ok(looked_up(&index, place)),
+                    "{condition:?} at {place}"
+                );
+            }
+        }
+    }
+    Ok(())
+}
