@@ -1,11 +1,10 @@
 -- Lists that are written an item at a time.
-use Rattle.std.proofs.Common.{◌≡◌, ◌++◌, ◌∷◌, [], ◌+◌, ◌≤◌, ℕ, zero, suc, List, Option, Some, None, refl, sym, ap, ◌∙◌, length, take, add-one, arith, inl, inr, append_assoc}
+use Rattle.std.proofs.Common.{◌≡◌, ◌++◌, ◌∷◌, [], ◌+◌, ◌≤◌, ℕ, zero, suc, List, Option, Some, None, refl, sym, ap, ◌∙◌, length, take, add-one, arith, append_assoc}
 use Rattle.std.specs.Prelude.{map, option_map, slice_get}
 use Rattle.std.specs.List.{flat_map, range_with_len}
-use Rattle.std.proofs.lemmas.Bool.{cases_lt}
 use Rattle.std.proofs.lemmas.Grind.{common_steps}
 use Rattle.std.proofs.lemmas.List.{append-nil, flat_map_more, length-map, take_all, take_more}
-use Rattle.std.proofs.lemmas.Option.{slice_get_within, get_or_from_slice_get, slice_get-get_or, slice_get-map}
+use Rattle.std.proofs.lemmas.Option.{slice_get_within, get_or_from_slice_get, slice_get-map}
 use Rattle.rw_handles.specs.declared.kinds.Slot.{Slot}
 use Rattle.rw_handles.specs.Slots.{kind_at}
 use Rattle.rw_broadcast.specs.Machine.{position_at}

@@ -15,6 +15,7 @@ mod console;
 mod debugging;
 mod entries;
 mod handles;
+mod index;
 mod json;
 mod reading;
 mod sessions;

@@ -1,19 +1,23 @@
 //! A walk over the places of a run.
 
-ghost use Rattle.std.specs.Prelude.{◌≡◌, ◌++◌, ◌≢◌, false, IfOk, IfSome, OnOk};
+ghost use Rattle.std.specs.Prelude.{◌≡◌, ◌++◌, ◌≢◌, ◌≤◌, ℕ, false, IfOk, IfSome, IsSome, IsTrue, OnOk, unwrap_or};
+ghost use Rattle.rw_console.specs.Hits.{hit_above, hit_below};
 ghost use Rattle.rw_console.specs.Report.{output_of, place_of};
 ghost use Rattle.rw_console.specs.SessionReport.{recording_of};
+ghost use Rattle.rw_navigator.specs.Conditions.{asks_step, holds_of_step};
 ghost use Rattle.rw_navigator.specs.Places.{entry_to, last_place};
+ghost use Rattle.rw_world.specs.Specified.{WorldEntry};
 ghost use Rattle.rw_script.specs.Running.{run_of};
 
 use crate::blocks::push_world;
 use crate::command::Command;
 use crate::entries::push_entry;
+use crate::index::{LastIndex, asks_the_same};
 use crate::json::push_json;
 use crate::text::{push_hit, push_place, push_refusal};
 use rw_journal::Run;
 use rw_law::{Entry, NoMemory, Reversible};
-use rw_navigator::{Cond, Debugger, Move};
+use rw_navigator::{Cond, Debugger, HitIndex, Move, Probe};
 use rw_script::{Played, Script, play};
 use rw_world::World;
 use std::alloc::{AllocError, Global};
@@ -24,14 +28,19 @@ use std::marker::Model;
 pub struct Walk {
     alloc: Global,
     debugger: Debugger<u64>,
+    // Of the last condition on entries that was asked for, if there was memory for it.
+    index: Option<LastIndex>,
 }
 
 impl Model for Walk {
+    ghost use Rattle.std.specs.Prelude.{◌≡◌, IfSome};
     ghost use Rattle.rw_console.specs.Walk.{Walk as Seen};
 
     ghost Value = { Seen };
 
     ghost view = { λ a. record { run = a.debugger.run; place = a.debugger.place } };
+
+    ghost invariant = { λ a. IfSome a.index (λ last. last.index.entries ≡ a.debugger.run.entries) };
 }
 
 impl Walk {
@@ -42,7 +51,11 @@ impl Walk {
     {
         let mut debugger = Debugger::open(alloc, run)?;
         let _ = debugger.step(Move::End);
-        Ok(Walk { alloc, debugger })
+        Ok(Walk {
+            alloc,
+            debugger,
+            index: None,
+        })
     }
 
     /// Runs a script, and begins at the last place of its run, with the machine and the entries of its book. Beside the walk stands
@@ -57,7 +70,12 @@ impl Walk {
         };
         let Played { specs, book, waits } = played;
         let debugger = Debugger::of_book(specs, book);
-        Ok((Walk { alloc, debugger }, waits))
+        let walk = Walk {
+            alloc,
+            debugger,
+            index: None,
+        };
+        Ok((walk, waits))
     }
 
     /// How many entries the run has.
@@ -112,6 +130,71 @@ impl Walk {
         )
     }
 
+    /// The index, if it is that of the condition.
+    fn index_of(&self, cond: Cond) -> Option<&HitIndex<World<u64>, Cond>>
+        ensures run { IfSome result (λ index. index.now.entries ≡ self.now.run.entries) }
+        ensures step { IsSome result → IsTrue (asks_step cond) }
+        ensures same { IfSome result (λ index. (e : WorldEntry ℕ) → holds_of_step index.now.probe e ≡ holds_of_step cond e) }
+    {
+        match &self.index {
+            Some(last) if asks_the_same(cond, last.cond) => Some(&last.index),
+            _ => None,
+        }
+    }
+
+    /// Indexes a condition on entries, unless it is the one that is indexed.
+    fn keep_index(&mut self, cond: Cond)
+        ensures { self.new ≡ self.old }
+    {
+        if self.index_of(cond).is_some() || !<Cond as Probe<World<u64>>>::on_step(&cond) {
+            return;
+        }
+        // The memory of the last index is given back before more is asked for.
+        self.index = None;
+        self.index = LastIndex::build(self.alloc, &self.debugger, cond);
+    }
+
+    /// Goes to a hit by one move. With none the place stays.
+    fn go_to(&mut self, found: Option<u64>)
+        requires { IfSome found (λ hit. hit ≤ last_place self.old.run) }
+        ensures place { self.new.place ≡ unwrap_or found self.old.place }
+        ensures run { self.new.run ≡ self.old.run }
+    {
+        if let Some(hit) = found {
+            let _ = self.debugger.step(Move::Goto(hit));
+        }
+    }
+
+    /// Goes to the nearest hit below the place.
+    fn back_to(&mut self, cond: Cond) -> Option<u64>
+        ensures found { result ≡ hit_below self.old.run cond self.old.place }
+        ensures place { self.new.place ≡ unwrap_or result self.old.place }
+        ensures run { self.new.run ≡ self.old.run }
+    {
+        self.keep_index(cond);
+        let Some(index) = self.index_of(cond) else {
+            return self.debugger.back_to(&cond);
+        };
+        let found = index.before(self.debugger.place());
+        self.go_to(found);
+        found
+    }
+
+    /// Goes to the nearest hit above the place.
+    fn forward_to(&mut self, cond: Cond) -> Option<u64>
+        ensures found { result ≡ hit_above self.old.run cond self.old.place }
+        ensures place { self.new.place ≡ unwrap_or result self.old.place }
+        ensures run { self.new.run ≡ self.old.run }
+    {
+        self.keep_index(cond);
+        let Some(index) = self.index_of(cond) else {
+            return self.debugger.forward_to(&cond);
+        };
+        let found = index.after(self.debugger.place());
+        self.go_to(found);
+        found
+    }
+
     /// Goes to the nearest hit below the place, and appends what that says.
     fn search_back(&mut self, cond: Cond, out: &mut Vec<u8>) -> Result<(), AllocError>
         ensures output { OnOk result (out.new.items ≡ out.old.items ++ output_of self.old.run self.old.place (Command.SearchBack cond)) }
@@ -119,7 +202,7 @@ impl Walk {
         ensures run { self.new.run ≡ self.old.run }
     {
         let from = self.debugger.place();
-        let found = self.debugger.back_to(&cond);
+        let found = self.back_to(cond);
         push_hit(out, self.debugger.len(), from, found)
     }
 
@@ -130,7 +213,7 @@ impl Walk {
         ensures run { self.new.run ≡ self.old.run }
     {
         let from = self.debugger.place();
-        let found = self.debugger.forward_to(&cond);
+        let found = self.forward_to(cond);
         push_hit(out, self.debugger.len(), from, found)
     }
 

@@ -1,4 +1,5 @@
 pub mod Debugging
+pub mod Indexing
 pub mod MoveLists
 pub mod MovesMade
 pub mod Searches

@@ -1,7 +1,9 @@
 -- One place of a search.
-use Rattle.std.proofs.Common.{◌≡◌, ℕ, ◌+◌, ◌-◌, ◌<◌, Bool, true, false, Some, List, sym, ◌∙◌, ap, arith, add-one, cond}
+use Rattle.std.proofs.Common.{◌≡◌, ℕ, zero, suc, ◌+◌, ◌-◌, ◌<◌, ◌≤◌, Bool, true, false, Some, None, List, length, inl, inr, refl, sym, ◌∙◌, ap, arith, add-one, cond}
 use Rattle.std.specs.Prelude.{not, ◌&&◌, nat_lt, slice_get}
 use Rattle.std.specs.Option.{option_map_or}
+use Rattle.std.proofs.lemmas.Bool.{cases_lt}
+use Rattle.std.proofs.lemmas.Option.{slice_get_past}
 use Rattle.std.proofs.lemmas.Bool.Decides.{nat_tests}
 use Rattle.rw_law.specs.declared.machine.Reversible.{Ghosts}
 use Rattle.rw_law.specs.Journal.{after}
@@ -14,6 +16,17 @@ above_zero p h = grind (arith, nat_tests)
 -- whether place p is a hit, by the entry that leads there
 pub step_hit-is : {E : Type 0} (holds : E → Bool) (es : List E) (p : ℕ) (e : E) → 0 < p → slice_get es (p - 1) ≡ Some e → step_hit holds es p ≡ holds e
 step_hit-is holds es p e above read = rw (above_zero p above) (ap (λ o. option_map_or holds o false) read)
+
+-- a hit is a place that an entry leads to
+pub step_hit-inside : {E : Type 0} (holds : E → Bool) (es : List E) (p : ℕ) → step_hit holds es p ≡ true → (0 < p) × (p ≤ length es)
+step_hit-inside holds es zero hit = absurd cc
+step_hit-inside holds es (suc p) hit =
+    elim (cases_lt p (length es)) [
+      | inl inside ↦ (omega arith, omega (arith, inside))
+      | inr past ↦ let none : slice_get es (suc p - 1) ≡ None = slice_get_past es (suc p - 1) (omega (arith, past)) in
+          let fails : step_hit holds es (suc p) ≡ false = rw (above_zero (suc p) (omega arith), none) refl in
+          let no : false ≡ true = sym fails ∙ hit in absurd cc
+    ]
 
 -- whether place p is a hit, by the machine's states there and at the place before
 pub state_hit-is : {M C R P : Type 0} (m : Ghosts M C R P) (f : m.View → Bool) (holds : M → Bool) (o v w : Navigator M C R P) (p q n k : ℕ) (a b : Bool)

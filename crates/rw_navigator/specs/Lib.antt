@@ -1,6 +1,7 @@
 pub mod Counted
 pub mod Moves
 pub mod Search
+pub mod HitIndex
 pub mod Navigator
 pub mod Conditions
 pub mod Places

@@ -12,6 +12,7 @@ ghost use Rattle.rw_world.specs.Openings.{opened, refusal};
 ghost use Rattle.rw_world.specs.Records.{IsDocumented};
 
 use crate::conditions::Probe;
+use crate::hit_index::HitIndex;
 use crate::moves::{Move, OutOfRange};
 use crate::places::Navigator;
 use rw_journal::{Book, Run};
@@ -184,5 +185,18 @@ impl<V: Copy> Debugger<V> {
             WentTo self.old self.new (unwrap_or result self.old.place) (distance_between self.old.place (unwrap_or result self.old.place)) }
     {
         self.visit.forward_to(probe)
+    }
+
+    /// The index of a condition on entries over the run.
+    pub fn hit_index<P: Probe<World<V>>>(
+        &self,
+        alloc: Global,
+        probe: &P,
+    ) -> Result<HitIndex<World<V>, P>, NoMemory>
+        requires { IsTrue (P.asks_step probe.now) }
+        ensures probe { IfOk result (λ index. index.probe ≡ probe.now) }
+        ensures entries { IfOk result (λ index. index.entries ≡ self.now.run.entries) }
+    {
+        HitIndex::build(alloc, &self.visit, probe)
     }
 }

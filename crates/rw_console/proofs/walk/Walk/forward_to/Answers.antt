@@ -1,0 +1,7 @@
+use Rattle.std.proofs.Common.{refl}
+use Rattle.rw_navigator.specs.Conditions.{holds_of_shown}
+use Rattle.rw_console.proofs.walk.Walk.forward_to.Goals as goal
+
+-- what the debugger finds is the run's hit
+pub returns-in_default-clause-found : goal.returns-in_default-clause-found
+returns-in_default-clause-found c = rw (← c.keep_index.ensures, ← c.self.view_is) (c.forward_to.ensures.found (holds_of_shown c.args.cond) (λ x. refl))

@@ -1,0 +1,41 @@
+//! The index of the last condition on entries that was asked for.
+
+ghost use Rattle.std.specs.Prelude.{◌≡◌, ℕ, IfSome, IsTrue};
+ghost use Rattle.rw_navigator.specs.Conditions.{asks_step, holds_of_step};
+ghost use Rattle.rw_world.specs.Specified.{WorldEntry};
+
+use rw_navigator::{Cond, Debugger, HitIndex};
+use rw_world::World;
+use std::alloc::Global;
+
+/// A condition on entries, and the places where it is met.
+#[derive(Drop)]
+pub struct LastIndex {
+    pub cond: Cond,
+    pub index: HitIndex<World<u64>, Cond>,
+    ghost of_cond: { index.probe ≡ cond },
+}
+
+impl LastIndex {
+    /// The index of a condition on entries, or `None` where memory for it is refused.
+    pub fn build(alloc: Global, debugger: &Debugger<u64>, cond: Cond) -> Option<LastIndex>
+        requires { IsTrue (asks_step cond) }
+        ensures { IfSome result (λ last. last.index.entries ≡ debugger.now.run.entries) }
+    {
+        let index = debugger.hit_index(alloc, &cond).ok()?;
+        Some(LastIndex { cond, index })
+    }
+}
+
+/// Whether both are the same condition on entries.
+pub fn asks_the_same(cond: Cond, other: Cond) -> bool
+    ensures step { IsTrue result → IsTrue (asks_step cond) }
+    ensures same { IsTrue result → (e : WorldEntry ℕ) → holds_of_step other e ≡ holds_of_step cond e }
+{
+    match (cond, other) {
+        (Cond::Actor(actor), Cond::Actor(other)) => actor == other,
+        (Cond::Channel(channel), Cond::Channel(other)) => channel == other,
+        (Cond::ReplyKind(word), Cond::ReplyKind(other)) => word.text() == other.text(),
+        _ => false,
+    }
+}

@@ -1,0 +1,106 @@
+//! The hits of a condition on entries, found once for many searches.
+
+ghost use Rattle.std.specs.Prelude.{◌≡◌, ◌<◌, ◌≤◌, IsTrue, IfOk, IfSome, length, vec_capacity};
+ghost use Rattle.rw_navigator.specs.HitIndex.{hits_of};
+ghost use Rattle.rw_navigator.specs.Search.{first_above, last_below, step_hit};
+
+use crate::conditions::Probe;
+use crate::places::Navigator;
+use rw_law::{Entry, NoMemory, Reversible};
+use std::alloc::Global;
+use std::marker::Model;
+use std::snapshot::Snapshot;
+
+/// The places of the entries that meet a condition, in order. It finds by halves what a search finds entry by entry.
+#[derive(Drop)]
+pub struct HitIndex<R: Reversible, P: Probe<R>> {
+    // Both are of no bytes: contracts see the condition and the journal.
+    probe: Snapshot<P>,
+    entries: Snapshot<Vec<Entry<R>>>,
+    places: Vec<u64>,
+}
+
+impl<R: Reversible, P: Probe<R>> Model for HitIndex<R, P> {
+    ghost use Rattle.std.specs.Prelude.{◌≡◌};
+    ghost use Rattle.rw_navigator.specs.HitIndex.{HitIndex as Seen, hits_of};
+
+    ghost Value = { Seen R R.Call R.Reply R.Patch P };
+
+    ghost view = { λ a. record { probe = a.probe.value; entries = a.entries.value.items } };
+
+    ghost invariant = { λ a. a.places.items ≡ hits_of (P.holds_of_step a.probe.value) a.entries.value.items };
+}
+
+impl<R: Reversible, P: Probe<R>> HitIndex<R, P> {
+    /// The index of a condition on entries over a navigator's journal. The hits are counted first, so that it takes 8 bytes for
+    /// each hit, and never more.
+    pub fn build(
+        alloc: Global,
+        navigator: &Navigator<R>,
+        probe: &P,
+    ) -> Result<HitIndex<R, P>, NoMemory>
+        requires { IsTrue (P.asks_step probe.now) }
+        ensures probe { IfOk result (λ index. index.probe ≡ probe.now) }
+        ensures entries { IfOk result (λ index. index.entries ≡ navigator.now.entries) }
+    {
+        let places = navigator.step_hits(alloc, probe)?;
+        Ok(HitIndex {
+            probe: Snapshot::of(probe),
+            entries: Snapshot::of(&navigator.entries),
+            places,
+        })
+    }
+
+    /// The greatest place below this one whose entry meets the condition.
+    pub fn before(&self, place: u64) -> Option<u64>
+        ensures found { result ≡ last_below (step_hit (P.holds_of_step self.now.probe) self.now.entries) place }
+        ensures below { IfSome result (λ hit. (0 < hit) × (hit < place) × (hit ≤ length self.now.entries)) }
+    {
+        let below = self.places.as_slice().partition_point(|hit| *hit < place);
+        if below == 0 {
+            return None;
+        }
+        Some(self.places[below - 1])
+    }
+
+    /// The least place above this one whose entry meets the condition.
+    pub fn after(&self, place: u64) -> Option<u64>
+        ensures found { result ≡ first_above (step_hit (P.holds_of_step self.now.probe) self.now.entries) place (length self.now.entries) }
+        ensures above { IfSome result (λ hit. (place < hit) × (hit ≤ length self.now.entries)) }
+    {
+        let passed = self.places.as_slice().partition_point(|hit| *hit <= place);
+        if passed == self.places.len() {
+            return None;
+        }
+        Some(self.places[passed])
+    }
+}
+
+impl<R: Reversible> Navigator<R> {
+    /// How many entries meet a condition.
+    fn count_step_hits<P: Probe<R>>(&self, probe: &P) -> usize
+        ensures { result ≡ length (hits_of (P.holds_of_step probe.now) self.now.entries) }
+    {
+        let mut count = 0;
+        for i in 0..self.len() {
+            if probe.step(self.entry_before(i + 1)) {
+                count += 1;
+            }
+        }
+        count
+    }
+
+    /// The places of these entries, in room for no more.
+    fn step_hits<P: Probe<R>>(&self, alloc: Global, probe: &P) -> Result<Vec<u64>, NoMemory>
+        ensures hits { IfOk result (λ places. places.items ≡ hits_of (P.holds_of_step probe.now) self.now.entries) }
+        ensures exact { IfOk result (λ places. vec_capacity places ≡ length places.items) }
+    {
+        let mut places = Vec::with_capacity(alloc, self.count_step_hits(probe))?;
+        for i in 0..self.len() {
+            if probe.step(self.entry_before(i + 1)) {
+                places.push_reserved(i + 1);
+            }
+        }
+        Ok(places)
+    }
+}
