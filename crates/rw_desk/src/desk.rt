@@ -22,9 +22,9 @@ use std::sync::Wait;
 /// Channels that threads share by reference, each under a lock of its own, and how many actors there are.
 #[derive(Drop)]
 pub struct Desk<V: Payload> {
-    specs: Vec<Spec<V>>,
-    actors: u32,
-    places: Vec<Place<V>>,
+    pub(crate) specs: Vec<Spec<V>>,
+    pub(crate) actors: u32,
+    pub(crate) places: Vec<Place<V>>,
 }
 
 impl<V: Payload> Model for Desk<V> {

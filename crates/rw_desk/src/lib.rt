@@ -6,6 +6,7 @@
 #![tactic(auto)]
 
 mod broadcast_calls;
+mod closing;
 mod desk;
 mod faults;
 mod handles;
@@ -16,10 +17,13 @@ mod pass;
 mod place;
 mod same_calls;
 mod settling;
+mod strangers;
+mod straying;
 mod watch_calls;
 
+pub use closing::settle;
 pub use desk::Desk;
-pub use faults::{DeskFault, DeskOpenFault};
+pub use faults::{CloseFault, DeskFault, DeskOpenFault};
 pub use handles::{BRx, BTx, Ends, WRx, WTx};
 pub use kept::Kept;
 pub use made::Made;
