@@ -1,0 +1,79 @@
+// Where the rows of the picture stand: one for each actor, and for each channel a band with a row for each handle in view. Where
+// that would be very many rows, handles that live one after the other share one.
+
+const TOP = 8;
+const ACTOR_ROW = 18;
+const HEAD = 24;
+const AXIS = 22;
+const SENDER_ROW = 38;
+const SHARED_SENDER_ROW = 24;
+const LEAST_RECEIVER_ROW = 36;
+const MOST_RECEIVER_ROW = 58;
+const MANY_HANDLES = 14;
+const MOST_ROWS = 48;
+const LABEL_WIDTH = 34;
+
+const KIND_ORDER = ["sender", "weak sender", "receiver"];
+
+// The lives in view, each as what the picture says of it.
+function livesInView(lives, view) {
+  return lives.filter(life => life.from <= view.to && life.to >= view.from);
+}
+
+function inOrder(lives, shared) {
+  if (!shared) return lives.toSorted((a, b) => a.handle - b.handle);
+  const rank = life => KIND_ORDER.indexOf(life.kind);
+  return lives.toSorted((a, b) => rank(a) - rank(b) || a.from - b.from || a.handle - b.handle);
+}
+
+// Puts lives into rows: each into its own, or into the first of its kind that is free again.
+function rowsOf(lives, shared, gap) {
+  const rows = [];
+  for (const life of inOrder(lives, shared)) {
+    const free = shared && rows.find(row => row.kind === life.kind && row.lives.at(-1).to + gap < life.from);
+    if (free) free.lives.push(life);
+    else rows.push({ kind: life.kind, lives: [life] });
+  }
+  return rows;
+}
+
+// Stands rows under each other, and gives where the band ends.
+function stand(band, heightOf) {
+  band.rowOf = new Map();
+  let y = band.y + HEAD;
+  for (const row of band.rows) {
+    row.y = y;
+    row.height = heightOf(row);
+    row.base = y + row.height - 6;
+    for (const life of row.lives) band.rowOf.set(life.handle, row);
+    y += row.height;
+  }
+  band.height = y - band.y + (band.left ? ACTOR_ROW : 0);
+  return band.y + band.height + 12;
+}
+
+function receiverHeight(room, bands) {
+  const count = bands.reduce((sum, band) => sum + band.rows.length, 0);
+  return Math.max(LEAST_RECEIVER_ROW, Math.min(MOST_RECEIVER_ROW, Math.floor(room / Math.max(1, count))));
+}
+
+// `room` is the height that the picture should have, if its rows leave it the choice.
+export function layOut(run, view, frame, room) {
+  const seen = run.lives.map(lives => livesInView(lives, view));
+  const shared = seen.reduce((sum, lives) => sum + lives.length, 0) > MANY_HANDLES;
+  const gap = Math.ceil(LABEL_WIDTH / frame.column);
+  const bands = seen.map((lives, channel) => {
+    const rows = rowsOf(lives, shared, gap);
+    return { channel, rows: rows.slice(0, MOST_ROWS), left: Math.max(0, rows.length - MOST_ROWS) };
+  });
+  const actorY = actor => TOP + actor * ACTOR_ROW + ACTOR_ROW / 2;
+  let y = TOP + run.actorCount * ACTOR_ROW + 10;
+  const receiverRow = receiverHeight(room - y, bands);
+  const senderRow = shared ? SHARED_SENDER_ROW : SENDER_ROW;
+  for (const band of bands) {
+    band.y = y;
+    band.head = y + HEAD / 2;
+    y = stand(band, row => (row.kind === "receiver" ? receiverRow : senderRow));
+  }
+  return { bands, shared, actorY, height: y + AXIS, axis: y + AXIS / 2, foot: y };
+}
