@@ -69,7 +69,7 @@ function drawRowNames({ pen, frame, band, palette }) {
     if (isAlone) continue;
     pen.font = SMALL_BOLD;
     pen.textAlign = "left";
-    for (const life of row.lives) pen.fillText(life.handle, Math.max(frame.left, frame.x(life.from)) + 2, row.base - 6);
+    for (const life of row.lives) pen.fillText(life.handle, Math.max(frame.left, frame.x(life.from)), row.base + 9);
   }
   if (band.left === 0) return;
   pen.textAlign = "left";

@@ -1,7 +1,7 @@
 // Draws the calls on a channel, each in its handle's row.
 
 import { fitted, flag } from "./canvas.js";
-import { MARK_NAMES } from "./marks.js";
+import { LAGGED, MARK_NAMES } from "./marks.js";
 import { NUMBERS } from "./palette.js";
 import { SHAPES } from "./shapes.js";
 
@@ -17,8 +17,9 @@ function heightOf(mark, row) {
 }
 
 // A lag is told: a red flag that says how many values are lost.
-function drawLag({ pen, frame, palette }, entry, row, x) {
-  flag(pen, `lost ${entry.answer}`, {
+function drawLag({ pen, run, frame, palette }, place, row) {
+  const x = frame.middle(place);
+  flag(pen, `lost ${run.entry(place).answer}`, {
     x: x - 22, y: row.y - 1, colour: palette.lag, ink: palette["on-dark"], least: frame.left, most: frame.right,
   });
   pen.fillStyle = palette.lag;
@@ -29,8 +30,9 @@ function drawLag({ pen, frame, palette }, entry, row, x) {
   pen.fill();
 }
 
-function drawSentValue({ pen, run, frame }, entry, x, y) {
-  if (frame.column < VALUE_COLUMN) return;
+// A watch's values stand above its rows.
+function drawSentValue({ pen, run, frame, band }, entry, x, y) {
+  if (frame.column < VALUE_COLUMN || run.channels[band.channel].kind === "watch") return;
   const value = run.names.value(entry.channel, entry.rest.split(" ")[0]);
   pen.save();
   pen.translate(x, y - 7);
@@ -54,10 +56,10 @@ function drawMaking({ pen, band }, entry, x, y) {
 }
 
 function drawNear(drawing, place, mark, row) {
+  if (mark === "lagged") return;
   const { pen, run, frame, palette } = drawing;
   const entry = run.entry(place);
   const x = frame.middle(place);
-  if (mark === "lagged") return drawLag(drawing, entry, row, x);
   const y = heightOf(mark, row);
   pen.fillStyle = pen.strokeStyle = mark === "closed" ? palette.closed : palette.actor(entry.actor);
   pen.lineWidth = 1.6;
@@ -78,13 +80,19 @@ function drawFar({ pen, frame, palette }, place, mark, row) {
   }
 }
 
-export function drawBandCalls(drawing) {
-  const { run, view, frame, band } = drawing;
+// Shows each call in view whose handle has a row in the band, with what it came to.
+function eachCall({ run, view, band }, show) {
   const { channels, handles, marks } = run.columns;
-  const draw = frame.isNear ? drawNear : drawFar;
   for (let place = Math.max(1, view.from); place <= Math.min(view.to, run.lastPlace); place++) {
     if (channels[place] !== band.channel) continue;
     const row = band.rowOf.get(handles[place]);
-    if (row) draw(drawing, place, MARK_NAMES[marks[place]], row);
+    if (row) show(place, marks[place], row);
   }
+}
+
+// Lags come last, so that nothing lies over them.
+export function drawBandCalls(drawing) {
+  if (!drawing.frame.isNear) return eachCall(drawing, (place, mark, row) => drawFar(drawing, place, MARK_NAMES[mark], row));
+  eachCall(drawing, (place, mark, row) => drawNear(drawing, place, MARK_NAMES[mark], row));
+  eachCall(drawing, (place, mark, row) => mark === LAGGED && drawLag(drawing, place, row));
 }

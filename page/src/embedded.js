@@ -21,10 +21,10 @@ export function exampleRun() {
   return { name: "an example", bytes: new TextEncoder().encode(byId("example").textContent) };
 }
 
-// A run's file name, its bytes, and those of its file of names, if it has one; or nothing.
+// A run's file name, its bytes, and those of its file of names, if it has one; or nothing. Each stands in a line of its own.
 export function embeddedRun() {
-  const parts = byId("run").textContent.trim().split("\n");
-  if (parts.length < 2) return null;
+  const parts = byId("run").textContent.split("\n").slice(1, -1);
+  if (parts.length === 0) return null;
   const [name, bytes, names] = parts.map(fromBase64);
   return { name: new TextDecoder().decode(name), bytes, names };
 }

@@ -5,8 +5,10 @@ const TOP = 8;
 const ACTOR_ROW = 18;
 const HEAD = 24;
 const AXIS = 22;
+const FOOT = 6;
+const SHARED_FOOT = 14;
 const SENDER_ROW = 38;
-const SHARED_SENDER_ROW = 24;
+const SHARED_SENDER_ROW = 26;
 const LEAST_RECEIVER_ROW = 36;
 const MOST_RECEIVER_ROW = 58;
 const MANY_HANDLES = 14;
@@ -38,13 +40,13 @@ function rowsOf(lives, shared, gap) {
 }
 
 // Stands rows under each other, and gives where the band ends.
-function stand(band, heightOf) {
+function stand(band, foot, heightOf) {
   band.rowOf = new Map();
   let y = band.y + HEAD;
   for (const row of band.rows) {
     row.y = y;
     row.height = heightOf(row);
-    row.base = y + row.height - 6;
+    row.base = y + row.height - foot;
     for (const life of row.lives) band.rowOf.set(life.handle, row);
     y += row.height;
   }
@@ -73,7 +75,7 @@ export function layOut(run, view, frame, room) {
   for (const band of bands) {
     band.y = y;
     band.head = y + HEAD / 2;
-    y = stand(band, row => (row.kind === "receiver" ? receiverRow : senderRow));
+    y = stand(band, shared ? SHARED_FOOT : FOOT, row => (row.kind === "receiver" ? receiverRow : senderRow));
   }
   return { bands, shared, actorY, height: y + AXIS, axis: y + AXIS / 2, foot: y };
 }

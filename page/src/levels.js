@@ -52,8 +52,8 @@ export function drawLevels(drawing) {
   eachStretch(places, view.stride, place => run.state(place).channels[band.channel].receivers, ({ receiver, from, end }) => {
     const row = band.rowOf.get(receiver.handle);
     if (row === undefined) return;
-    const x = frame.x(from);
-    const width = Math.min(frame.right, frame.x(Math.min(end, run.lastPlace + 1))) - x;
+    const x = Math.round(frame.x(from));
+    const width = Math.round(Math.min(frame.right, frame.x(Math.min(end, run.lastPlace + 1)))) - x;
     if (kind === "broadcast") drawUnread(drawing, row, receiver, capacity, x, width);
     else if (!receiver.seen) drawUnseen(drawing, row, x, width);
   });

@@ -8,7 +8,7 @@ const KIND_MADE_BY = {
 export class Lives {
   // `opening` is the state at place 0. A handle that is never dropped lives past the last place.
   constructor(opening, lastPlace) {
-    this.end = lastPlace + 1;
+    this.past = lastPlace + 1;
     this.channels = opening.channels.map(channel => {
       const lives = new Map();
       for (const handle of channel.senders) this.add(lives, handle, "sender", 0);
@@ -18,12 +18,14 @@ export class Lives {
   }
 
   add(lives, handle, kind, from) {
-    lives.set(handle, { handle, kind, from, to: this.end });
+    lives.set(handle, { handle, kind, from, to: this.past });
   }
 
-  take(entry) {
-    const lives = this.channels[entry.channel];
-    if (entry.reply === "new") this.add(lives, Number(entry.answer), KIND_MADE_BY[entry.word], entry.number);
-    if (entry.reply === "dropped") lives.get(entry.handle).to = entry.number;
+  begin(channel, handle, word, place) {
+    this.add(this.channels[channel], handle, KIND_MADE_BY[word], place);
+  }
+
+  end(channel, handle, place) {
+    this.channels[channel].get(handle).to = place;
   }
 }

@@ -2,6 +2,8 @@
 
 export const MARK_NAMES = ["asked", "sent", "unsent", "received", "made", "dropped", "lagged", "closed", "refused"];
 
+export const LAGGED = MARK_NAMES.indexOf("lagged");
+
 const MARK_OF_REPLY = {
   sent: "sent", stored: "sent", old: "sent", told: "sent",
   "no-receivers": "unsent",
@@ -10,7 +12,7 @@ const MARK_OF_REPLY = {
   unknown: "refused", gone: "refused", "wrong-kind": "refused", "too-many-handles": "refused", "no-sender": "refused",
 };
 
-export function markOf(entry) {
-  if (entry.word === "borrow" && entry.reply === "value") return "asked";
-  return MARK_OF_REPLY[entry.reply] ?? "asked";
+export function markOf(word, reply) {
+  if (word === "borrow" && reply === "value") return "asked";
+  return MARK_OF_REPLY[reply] ?? "asked";
 }

@@ -1,7 +1,7 @@
 // The state at the place, channel by channel, as text.
 
 import { kindOf } from "./band.js";
-import { countOf, element } from "./dom.js";
+import { element } from "./dom.js";
 
 const MOST_VALUES = 16;
 
@@ -34,9 +34,9 @@ function standing(channel, receiver) {
     return receiver.seen ? ["has seen it"] : [element("strong", { class: "unseen" }, "has not seen it")];
   }
   if (receiver.unread === 0) return ["up to date"];
-  const readable = countOf(receiver.unread - receiver.lag, "value", "values");
-  if (receiver.lag === 0) return [`${readable} to read`];
-  return [`${readable} to read, `, element("strong", { class: "lag" }, `${receiver.lag} overwritten`)];
+  const readable = `${receiver.unread - receiver.lag} to read`;
+  if (receiver.lag === 0) return [readable];
+  return [`${readable}, `, element("strong", { class: "lag" }, `${receiver.lag} overwritten`)];
 }
 
 function row(name, ...children) {

@@ -1,6 +1,6 @@
 // An opened run: its entries, and the states at those places that were asked for.
 
-import { entryAt } from "./entries.js";
+import { readEntry } from "./entries.js";
 
 const MOST_STATES = 12000;
 
@@ -19,10 +19,10 @@ export class Run {
   }
 
   entry(number) {
-    return entryAt(this.listing, this.columns, number);
+    return readEntry(this.line(number));
   }
 
-  // The text of an entry, as `step` writes it.
+  // An entry's line, as the console writes it.
   line(number) {
     return this.listing.slice(this.columns.starts[number], this.columns.starts[number + 1] - 1);
   }

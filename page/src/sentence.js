@@ -7,12 +7,12 @@ import { actorColour } from "./palette.js";
 function meaning(entry, names) {
   if (entry.reply === "lagged") {
     const lost = countOf(Number(entry.answer), "value was", "values were");
-    return element("strong", { class: "lag" }, ` ${lost} overwritten before handle ${entry.handle} read them`);
+    return element("strong", { class: "lag" }, ` (${lost} overwritten before handle ${entry.handle} read them)`);
   }
-  if (entry.reply === "closed") return element("span", { class: "unseen" }, " no sender is left and nothing more will come");
+  if (entry.reply === "closed") return element("span", { class: "unseen" }, " (no sender is left and nothing more will come)");
   if (entry.reply !== "value") return "";
   const text = names.value(entry.channel, entry.answer);
-  return text === entry.answer ? "" : ` ${text}`;
+  return text === entry.answer ? "" : ` (${text})`;
 }
 
 function callText(entry) {

@@ -1,14 +1,13 @@
 // The strip of the whole run: where each channel's receivers fell behind and lost values, and which part is in view.
 
 import { fitted, hatched } from "./canvas.js";
-import { MARK_NAMES } from "./marks.js";
+import { LAGGED } from "./marks.js";
 import { SMALL } from "./palette.js";
 
 const MOST_SAMPLES = 600;
 const ROW = 24;
 const BAR = 20;
 const TOP = 10;
-const LAGGED = MARK_NAMES.indexOf("lagged");
 const MANY_PLACES = 2000;
 
 export function stripHeight(run) {

@@ -116,6 +116,7 @@ export class Walk {
     const state = run.state(view.place);
     if (state === undefined) return;
     byId("state").replaceChildren(...statePanel(state, run.names));
+    byId("state").dataset.place = view.place;
     const offers = conditionsAt(state, run);
     byId("chips").replaceChildren(...offers.slice(0, MOST_CHIPS).map(([condition, meaning]) =>
       element("button", { type: "button", "data-condition": condition, title: meaning }, condition)));

@@ -16,7 +16,7 @@ const requests = {
   },
   open(bytes) {
     ask = questions(engine, bytes);
-    const opened = openRun(commands => text(ask(commands)));
+    const opened = openRun(ask);
     heading = opened.heading;
     return opened;
   },

@@ -1,10 +1,15 @@
 """A headless Chromium, driven by the DevTools protocol over a pair of pipes."""
+import base64
 import itertools
 import json
 import os
+import select
 import shutil
 import subprocess
 import tempfile
+
+
+PATIENCE = 60
 
 
 class BrowserFault(Exception):
@@ -35,6 +40,8 @@ class Browser:
     def message(self):
         """The next message, each of which ends with a zero byte."""
         while b"\0" not in self.rest:
+            if not select.select([self.reads], [], [], PATIENCE)[0]:
+                raise BrowserFault(f"the browser said nothing for {PATIENCE} seconds")
             more = os.read(self.reads, 1 << 20)
             if not more:
                 raise BrowserFault("the browser is gone")
@@ -167,9 +174,12 @@ class Tab:
             self.call("Input.dispatchDragEvent", type=kind, x=400, y=300, data=data)
 
     def picture(self, path):
-        import base64
         with open(path, "wb") as file:
             file.write(base64.b64decode(self.call("Page.captureScreenshot", format="png")["data"]))
+
+    def forget(self):
+        """Forgets what the page has told until now."""
+        self.browser.events.clear()
 
     def faults(self):
         """What the page told its console as an error, or threw."""
