@@ -57,8 +57,21 @@ function drawRows({ pen, run, frame, band, palette }) {
   }
 }
 
-// A row's handle is named on the left. Where a row has several, each is named where it begins.
-function drawRowNames({ pen, frame, band, palette }) {
+// Names each handle of a row where it begins, unless the name is wider than it.
+function drawSharedNames({ pen, frame, palette }, row) {
+  pen.font = SMALL_BOLD;
+  pen.textAlign = "left";
+  pen.fillStyle = palette.mute;
+  for (const life of row.lives) {
+    const x = Math.max(frame.left, frame.x(life.from));
+    const room = Math.min(frame.right, frame.x(life.to)) - x;
+    if (frame.isNear || pen.measureText(life.handle).width <= room) pen.fillText(life.handle, x, row.base + 9);
+  }
+}
+
+// A row's handle is named on the left. Where a row has several, each is named in it.
+function drawRowNames(drawing) {
+  const { pen, frame, band, palette } = drawing;
   for (const row of band.rows) {
     const [first] = row.lives;
     const isAlone = row.lives.length === 1;
@@ -66,10 +79,7 @@ function drawRowNames({ pen, frame, band, palette }) {
     pen.fillStyle = palette.mute;
     pen.textAlign = "right";
     pen.fillText(isAlone ? `${row.kind} ${first.handle}` : `${row.kind}s`, frame.left - 10, row.base - 4);
-    if (isAlone) continue;
-    pen.font = SMALL_BOLD;
-    pen.textAlign = "left";
-    for (const life of row.lives) pen.fillText(life.handle, Math.max(frame.left, frame.x(life.from)), row.base + 9);
+    if (!isAlone) drawSharedNames(drawing, row);
   }
   if (band.left === 0) return;
   pen.textAlign = "left";

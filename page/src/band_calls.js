@@ -20,7 +20,7 @@ function heightOf(mark, row) {
 function drawLag({ pen, run, frame, palette }, place, row) {
   const x = frame.middle(place);
   flag(pen, `lost ${run.entry(place).answer}`, {
-    x: x - 22, y: row.y - 1, colour: palette.lag, ink: palette["on-dark"], least: frame.left, most: frame.right,
+    x, y: row.y - 1, colour: palette.lag, ink: palette["on-dark"], least: frame.left, most: frame.right,
   });
   pen.fillStyle = palette.lag;
   pen.beginPath();

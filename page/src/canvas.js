@@ -4,14 +4,21 @@ import { SMALL_BOLD } from "./palette.js";
 
 const MOST_PIXELS = 16000;
 
-// Makes a canvas this large, empty, and gives what draws on it. On a sharp screen it has more pixels, as far as a canvas may.
+// Gives a canvas this many points, unless it has them.
+function resize(canvas, width, height) {
+  if (canvas.width === width && canvas.height === height) return;
+  canvas.width = width;
+  canvas.height = height;
+}
+
+// Makes a canvas this large, empty, and gives what draws on it. On a sharp screen it has more points, as far as a canvas may.
 export function cleared(canvas, width, height) {
   const scale = Math.min(window.devicePixelRatio || 1, MOST_PIXELS / Math.max(width, height));
-  canvas.width = Math.round(width * scale);
-  canvas.height = Math.round(height * scale);
+  resize(canvas, Math.round(width * scale), Math.round(height * scale));
   canvas.style.height = `${height}px`;
   const pen = canvas.getContext("2d");
-  pen.scale(scale, scale);
+  pen.setTransform(scale, 0, 0, scale, 0, 0);
+  pen.clearRect(0, 0, width, height);
   pen.textBaseline = "middle";
   return pen;
 }
@@ -52,11 +59,11 @@ export function hatched(pen, palette, x, y, width, height) {
   pen.restore();
 }
 
-// A small flag with a text in it, kept between two edges. Gives where it begins.
+// A small flag with a text in it, above a point and between two edges.
 export function flag(pen, text, { x, y, colour, ink, least, most }) {
   pen.font = SMALL_BOLD;
   const width = pen.measureText(text).width + 10;
-  const left = Math.min(Math.max(least, x), most - width);
+  const left = Math.min(Math.max(least, x - width / 2), most - width);
   pen.fillStyle = colour;
   pen.beginPath();
   pen.roundRect(left, y, width, 15, 4);
@@ -64,5 +71,4 @@ export function flag(pen, text, { x, y, colour, ink, least, most }) {
   pen.fillStyle = ink;
   pen.textAlign = "left";
   pen.fillText(text, left + 5, y + 8);
-  return left;
 }

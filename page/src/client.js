@@ -6,6 +6,7 @@ export class Client {
     this.count = 0;
     this.worker = new Worker(URL.createObjectURL(new Blob([workerText], { type: "text/javascript" })));
     this.worker.onmessage = ({ data }) => this.settle(data);
+    this.worker.onerror = ({ message }) => this.waiting.forEach(({ reject }) => reject(new Error(message)));
     this.started = this.request("start", moduleBytes);
   }
 

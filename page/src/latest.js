@@ -6,13 +6,19 @@ export class Latest {
     this.onFault = onFault;
     this.isWanted = false;
     this.isRunning = false;
+    this.isStopped = false;
+  }
+
+  // No job begins any more.
+  stop() {
+    this.isStopped = true;
   }
 
   async ask() {
     this.isWanted = true;
     if (this.isRunning) return;
     this.isRunning = true;
-    while (this.isWanted) {
+    while (this.isWanted && !this.isStopped) {
       this.isWanted = false;
       try {
         await this.job();

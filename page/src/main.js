@@ -8,6 +8,7 @@ import { faultPanel } from "./faults.js";
 import { readFiles } from "./files.js";
 import { listenToHands } from "./hands.js";
 import { keyRows, listenToKeys } from "./keys.js";
+import { Latest } from "./latest.js";
 import { legend } from "./legend.js";
 import { Names, readNames } from "./names.js";
 import { Run } from "./run.js";
@@ -22,6 +23,10 @@ const page = { walk: null };
 function tell(text) {
   byId("notice").textContent = text;
   byId("notice").hidden = text === "";
+}
+
+function tellFault(fault) {
+  tell(`The debugger failed: ${fault.message}.`);
 }
 
 // Shows one of the page's parts: what there is before a run, a run, or why a text is refused.
@@ -46,8 +51,8 @@ function factsOf(name, run) {
 }
 
 async function showRun(client, opened, { name, bytes, names }) {
-  if (opened.waitingLine) opened.waiting = waitingCall(bytes, opened.waitingLine);
   const run = new Run(client, opened, namesOf(names));
+  if (opened.waitingLine) run.waiting = waitingCall(bytes, opened.waitingLine, run);
   byId("facts").textContent = factsOf(name, run);
   document.title = `${name} · Yovanelum`;
   const samples = await sample(run);
@@ -55,18 +60,29 @@ async function showRun(client, opened, { name, bytes, names }) {
   const view = new View(run.lastPlace, run.lastPlace + (run.waiting ? 1 : 0), columnsThatFit(byId("picture-box").clientWidth));
   const screen = new Screen(run, view, samples);
   byId("legend").replaceChildren(...legend(run, screen.palette));
-  page.walk = new Walk(run, view, screen, fault => tell(`The debugger failed: ${fault.message}.`));
+  page.walk = new Walk(run, view, screen, tellFault);
   page.walk.to(placeInAddress() ?? 0);
 }
 
 async function open(client, source) {
   tell("");
+  page.walk?.leave();
   page.walk = null;
   byId("facts").textContent = source.name;
   const opened = await client.request("open", source.bytes);
   if (opened.fault === undefined) return showRun(client, opened, source);
   byId("refusal").replaceChildren(...faultPanel(opened.fault, source.bytes));
   showPart("refusal");
+}
+
+// Opens what it is given, one after the other: of those that wait only the last.
+function opener(client) {
+  let next = null;
+  const opening = new Latest(() => open(client, next), tellFault);
+  return source => {
+    next = source;
+    return opening.ask();
+  };
 }
 
 function redraw() {
@@ -104,7 +120,7 @@ async function start() {
   }
   const client = new Client(workerText(), module);
   await client.started;
-  const openSource = source => open(client, source).catch(fault => tell(`The debugger failed: ${fault.message}.`));
+  const openSource = opener(client);
   listen(openSource);
   window.ttd = {
     ask: commands => client.request("ask", commands),

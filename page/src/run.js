@@ -12,7 +12,7 @@ export class Run {
     this.columns = opened.columns;
     this.lives = opened.lives;
     this.channels = opened.opening.channels;
-    this.waiting = opened.waiting;
+    this.waiting = null;
     this.names = names;
     this.actorCount = this.columns.actors.reduce((most, actor) => Math.max(most, actor + 1), 1);
     this.states = new Map([[0, opened.opening]]);

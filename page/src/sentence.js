@@ -30,6 +30,10 @@ export function sentence(entry, names) {
   ];
 }
 
+export function atTheStart() {
+  return [element("span", { class: "mute" }, "the start: no call has been made")];
+}
+
 // The same in one short line, for a list.
 export function shortLine(entry) {
   return `${entry.channel}: ${callText(entry)} → ${replyText(entry)}`;

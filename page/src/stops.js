@@ -13,7 +13,10 @@ export async function seek(run, place, word, condition) {
 // Conditions that a state offers, each with what it asks for in words.
 export function conditionsAt(state, run) {
   const { names } = run;
-  const offers = [["reply lagged", "a receiver is told that it has lost values"], ["reply closed", "a receiver is told that the channel is closed"]];
+  const offers = [
+    ["reply lagged", "a receiver is told that it has lost values"],
+    ["reply closed", "a receiver is told that the channel is closed"],
+  ];
   state.channels.forEach((channel, index) => {
     const name = names.channel(index);
     for (const { handle } of channel.receivers) {

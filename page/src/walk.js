@@ -5,7 +5,7 @@ import { callsAround } from "./around.js";
 import { byId, element } from "./dom.js";
 import { Latest } from "./latest.js";
 import { statePanel } from "./panel.js";
-import { sentence } from "./sentence.js";
+import { atTheStart, sentence } from "./sentence.js";
 import { conditionsAt, seek } from "./stops.js";
 
 const NEIGHBOURS = 24;
@@ -19,8 +19,16 @@ export class Walk {
     this.screen = screen;
     this.drawing = new Latest(() => this.draw(), onFault);
     this.telling = new Latest(() => this.tell(), onFault);
+    this.isLeft = false;
     byId("slider").max = run.lastPlace;
     byId("found").textContent = "";
+  }
+
+  // Another run is opened: what is asked for and not answered yet is shown no more.
+  leave() {
+    this.isLeft = true;
+    this.drawing.stop();
+    this.telling.stop();
   }
 
   to(place) {
@@ -73,6 +81,7 @@ export class Walk {
 
   async seek(word, condition) {
     const found = await seek(this.run, this.view.place, word, condition);
+    if (this.isLeft) return;
     byId("found").textContent = found.answer;
     byId("found").classList.toggle("lag", found.place === null);
     if (found.place !== null) this.to(found.place);
@@ -82,10 +91,9 @@ export class Walk {
   show() {
     const { run, view } = this;
     const { place } = view;
-    const said = place === 0 ? [element("span", { class: "mute" }, "the start: no call has been made")] : sentence(run.entry(place), run.names);
-    byId("sentence").replaceChildren(...said);
+    byId("sentence").replaceChildren(...(place === 0 ? atTheStart() : sentence(run.entry(place), run.names)));
     byId("slider").value = place;
-    byId("slider").setAttribute("aria-valuetext", `place ${place} of ${run.lastPlace}: ${byId("sentence").textContent}`);
+    byId("slider").setAttribute("aria-valuetext", `place ${place} of ${run.lastPlace}: ${byId("sentence").textContent.replace("● ", "")}`);
     byId("place").textContent = `place ${place.toLocaleString("en")} of ${run.lastPlace.toLocaleString("en")}`;
     byId("calls").replaceChildren(...callsAround(run, place));
     putIntoAddress(place);
@@ -106,6 +114,7 @@ export class Walk {
   async draw() {
     const places = this.neededPlaces();
     if (this.run.missing(places).length > 0) await this.run.load(places);
+    if (this.isLeft) return;
     this.screen.drawView();
     this.screen.drawPlace();
     this.describe();
@@ -117,15 +126,23 @@ export class Walk {
     if (state === undefined) return;
     byId("state").replaceChildren(...statePanel(state, run.names));
     byId("state").dataset.place = view.place;
-    const offers = conditionsAt(state, run);
+    this.offer(conditionsAt(state, run));
+    byId("picture").setAttribute("aria-label", `The calls from place ${view.from} to ${Math.min(view.to, run.lastPlace)}, drawn.`);
+  }
+
+  // Conditions to choose from; most places offer those of the place before.
+  offer(offers) {
+    const offered = JSON.stringify(offers);
+    if (this.offered === offered) return;
+    this.offered = offered;
     byId("chips").replaceChildren(...offers.slice(0, MOST_CHIPS).map(([condition, meaning]) =>
       element("button", { type: "button", "data-condition": condition, title: meaning }, condition)));
     byId("conditions").replaceChildren(...offers.map(([condition, meaning]) => element("option", { value: condition }, meaning)));
-    byId("picture").setAttribute("aria-label", `The calls from place ${view.from} to ${Math.min(view.to, run.lastPlace)}, drawn.`);
   }
 
   // The step and the state as the console writes them.
   async tell() {
-    byId("told-text").textContent = await this.run.ask(`goto ${this.view.place}\nstep\nstate\n`);
+    const told = await this.run.ask(`goto ${this.view.place}\nstep\nstate\n`);
+    if (!this.isLeft) byId("told-text").textContent = told;
   }
 }

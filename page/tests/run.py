@@ -1,5 +1,4 @@
-"""Runs the page's tests in a browser, whose program is named. The last line counts them."""
-import os
+"""Runs the page's tests in a browser, whose program is named, all of them or those whose names follow. The last line counts them."""
 import sys
 import tempfile
 import time
@@ -8,18 +7,17 @@ import traceback
 import answers
 import hands
 import native
+import rebuilt
 import runs
 import shown
 import speed
 from browser import Browser, Tab
 
-PAGE = os.path.join(native.TOP, "page", "yovanelum.html")
-
 
 def bare(test):
     """A test of the debugger alone, in the page without a run."""
     def run(tab, folder, journals):
-        tab.load(PAGE)
+        tab.load(rebuilt.PAGE)
         tab.wait("window.ttd")
         answers.prepare(tab, journals)
         test(tab, journals)
@@ -28,39 +26,57 @@ def bare(test):
 
 
 TESTS = [
-    shown.pictures, shown.lagging_is_red, shown.hostile_names, shown.refused_markup, shown.wrong_names, shown.nothing_is_loaded,
-    hands.keys, hands.lag_keys, hands.stops, hands.buttons, hands.mouse, hands.drops, hands.waiting_script, hands.refusals, hands.addresses,
-    shown.large_runs, speed.figures, bare(answers.example_sessions), bare(answers.random_commands), bare(answers.spoiled_texts),
+    shown.pictures, shown.lagging_is_red, shown.hostile_names, shown.refused_markup, shown.wrong_names, shown.spoken,
+    shown.nothing_is_loaded, hands.keys, hands.lag_keys, hands.stops, hands.buttons, hands.mouse, hands.drops, hands.waiting_script,
+    hands.refusals, hands.addresses, shown.large_runs, speed.figures,
+    bare(answers.example_sessions), bare(answers.random_commands), bare(answers.spoiled_texts),
 ]
 
 
-def passes(test, browser, journals):
-    tab, start = Tab(browser), time.monotonic()
+def passes(name, run):
+    start = time.monotonic()
+    try:
+        run()
+    except Exception:
+        print(f"page {name}: failed\n{traceback.format_exc()}", flush=True)
+        return False
+    print(f"page {name}: passed, {time.monotonic() - start:.1f} s", flush=True)
+    return True
+
+
+def in_tab(test, browser, journals):
+    """Runs a test in a tab of its own, where the page may tell of no fault."""
+    tab = Tab(browser)
     try:
         with tempfile.TemporaryDirectory() as folder:
             test(tab, folder, journals)
         faults = tab.faults()
         assert not faults, f"the page told of {faults}"
-    except Exception:
-        print(f"page {test.__name__}: failed\n{test.__doc__}\n{traceback.format_exc()}", flush=True)
-        return False
     finally:
         tab.close()
-    print(f"page {test.__name__}: passed, {time.monotonic() - start:.1f} s", flush=True)
-    return True
+
+
+def run_all(program, wanted, folder):
+    """How many tests there were, and how many passed."""
+    built = None if wanted else rebuilt.Rebuilt(folder)
+    journals = runs.journals()
+    tests = [test for test in TESTS if not wanted or test.__name__ in wanted]
+    browser = Browser(program)
+    try:
+        passed = [passes(test.__name__, lambda: in_tab(test, browser, journals)) for test in tests]
+    finally:
+        browser.close()
+    if built:
+        passed.append(passes("is what its sources make", built.is_same))
+    return len(passed), sum(passed)
 
 
 def main():
     native.build()
-    journals = runs.journals()
-    wanted = [test for test in TESTS if not sys.argv[2:] or test.__name__ in sys.argv[2:]]
-    browser = Browser(sys.argv[1])
-    try:
-        passed = sum(passes(test, browser, journals) for test in wanted)
-    finally:
-        browser.close()
-    print(f"{passed} passed, {len(wanted) - passed} failed")
-    sys.exit(passed < len(wanted))
+    with tempfile.TemporaryDirectory() as folder:
+        count, passed = run_all(sys.argv[1], sys.argv[2:], folder)
+    print(f"{passed} passed, {count - passed} failed")
+    sys.exit(passed < count)
 
 
 main()

@@ -36,12 +36,13 @@ def pictures(tab, folder, journals):
     tab.resize(1440, 920)
 
 
-def colours_in(tab, script):
+def points_of(tab, colour):
     """How many points of the picture have a colour of the style sheet."""
     return tab.run(f"""(() => {{
         const canvas = document.getElementById('picture');
         const {{ data }} = canvas.getContext('2d').getImageData(0, 0, canvas.width, canvas.height);
-        const [, red, green, blue] = /#(..)(..)(..)/.exec(getComputedStyle(document.documentElement).getPropertyValue({json.dumps(script)})).map(it => parseInt(it, 16));
+        const colour = getComputedStyle(document.documentElement).getPropertyValue('{colour}');
+        const [red, green, blue] = colour.trim().match(/[0-9a-f]{{2}}/g).map(part => parseInt(part, 16));
         let count = 0;
         for (let i = 0; i < data.length; i += 4) if (data[i] === red && data[i + 1] === green && data[i + 2] === blue) count++;
         return count;
@@ -52,11 +53,11 @@ def lagging_is_red(tab, folder, journals):
     """The picture has the red of overwritten values where the program's states have a lag, and nowhere else."""
     quiet = native.record(b"broadcast 4\n" + b"0 0 send 0 1\n0 0 recv 1\n" * 20)
     opening.load(tab, opening.page_of(folder, "quiet.journal", quiet))
-    assert colours_in(tab, "--lag") == 0
-    assert colours_in(tab, "--unread") > 0
+    assert points_of(tab, "--lag") == 0
+    assert points_of(tab, "--unread") > 0
     late = native.record(b"broadcast 4\n" + b"0 0 send 0 1\n" * 20)
     opening.load(tab, opening.page_of(folder, "late.journal", late))
-    assert colours_in(tab, "--lag") > 100
+    assert points_of(tab, "--lag") > 100
 
 
 def hostile_names(tab, folder, journals):
@@ -94,6 +95,21 @@ def wrong_names(tab, folder, journals):
         opening.load(tab, opening.page_of(folder, "wrong.journal", journals[63]), 1)
         assert tab.text("notice").startswith("The file of names isn't read: "), tab.text("notice")
         check_place(tab, opening.asker(journals[63]), 1)
+
+
+def spoken(tab, folder, journals):
+    """What a screen reader is told: the place with its call on the slider, and the state as texts under headings."""
+    opening.load(tab, opening.page_of(folder, "spoken.journal", journals[63]), 22)
+    value = tab.run("document.getElementById('slider').getAttribute('aria-valuetext')")
+    assert value == "place 22 of 63: actor 1 on channel 0: recv 1 → value 107", value
+    nodes = tab.call("Accessibility.getFullAXTree")["nodes"]
+    told = [(it["role"]["value"], it.get("name", {}).get("value", "")) for it in nodes if not it["ignored"]]
+    headings = [name for role, name in told if role == "heading"]
+    wanted = {"Yovanelum", "channel 0 broadcast, capacity 4 open", "channel 1 watch open", "Calls around it"}
+    assert set(headings) == wanted, headings
+    texts = [name for role, name in told if role == "StaticText"]
+    assert "2 overwritten" in texts and "has not seen it" in texts
+    assert all(name for role, name in told if role in ("button", "textbox", "combobox", "slider")), "a control has no name"
 
 
 def nothing_is_loaded(tab, folder, journals):

@@ -70,7 +70,7 @@ def toolchain(kit, work):
             os.symlink(f"{kit}/toolchain/bin/{tool}", f"{folder}/bin/{tool}")
     script = os.path.join(os.path.dirname(os.path.realpath(__file__)), "retarget.py")
     with open(f"{folder}/bin/clang", "w", encoding="utf-8") as file:
-        file.write(f'#!/bin/sh\nexport PATH="{os.environ["PATH"]}"\nexec "{sys.executable}" "{script}" "{kit}" "$@"\n')
+        file.write(f'#!/bin/sh\nexport PATH="{os.environ["PATH"]}"\nexec "{sys.executable}" -B "{script}" "{kit}" "$@"\n')
     os.chmod(f"{folder}/bin/clang", 0o755)
     return folder
 

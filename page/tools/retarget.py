@@ -1,4 +1,4 @@
-#!/usr/bin/env python3
+#!/usr/bin/env -S python3 -B
 """retarget.py KIT WORD..: what stands for the kit's clang while rw_page is built. The words are those that Rattle gives it.
 
 The LLVM module was made for plain x86-64, which has what wasm64 has: little endian, pointers of 64 bits, and the same layout of
