@@ -3,6 +3,8 @@ pub mod CallWords
 pub mod Closing
 pub mod Desks
 pub mod Locked
+pub mod Modifying
 pub mod Passes
 pub mod Settling
 pub mod Straying
+pub mod Waiting

@@ -118,7 +118,7 @@ impl<V: Payload> Desk<V> {
     }
 
     /// The spec and the lock of a channel, if there is one for this call.
-    fn place(&self, channel: u32, call: &ChanCall<V>) -> Option<(&Spec<V>, &Place<V>)>
+    pub(crate) fn place(&self, channel: u32, call: &ChanCall<V>) -> Option<(&Spec<V>, &Place<V>)>
         ensures none { IsNone result ↔ IsTrue (stray_of strays_at (map kind_of_spec self.now.specs) (row_call channel call.now)) }
         ensures some { IfSome result (λ r. strays_at (kind_of_spec r.0.now) call.now ≡ false) }
     {

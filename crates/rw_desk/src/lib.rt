@@ -13,6 +13,7 @@ mod handles;
 mod kept;
 mod locked;
 mod made;
+mod modification;
 mod pass;
 mod place;
 mod same_calls;
@@ -20,6 +21,7 @@ mod settling;
 mod strangers;
 mod straying;
 mod watch_calls;
+mod watch_closures;
 
 pub use closing::settle;
 pub use desk::Desk;
