@@ -194,34 +194,6 @@ fn each_read_and_each_write_of_a_check_fails(rt: HostRuntime) -> Result<(), Fail
     Ok(())
 }
 
-#[test]
-fn each_read_and_each_write_of_a_salvage_fails(rt: HostRuntime) -> Result<(), Fail> {
-    let mut done = false;
-    for k in 0..100u64 {
-        let mut file = FailingReader::new(JOURNAL, 7, Some(k));
-        let mut out = FailingWriter::new(rt.alloc(), 3, Some(k.saturating_sub(17)));
-        let mut err = FailingWriter::new(rt.alloc(), 64, None);
-        let answered = salvage_file(rt.alloc(), &mut file, &mut out, &mut err);
-        if answered == 0 {
-            done = true;
-            assert_eq!(rt; out.handed_on(), JOURNAL);
-            assert_eq!(rt; err.written(), b"kept 110 bytes\n".as_slice());
-        } else {
-            // Sixteen reads give the journal, and one more its end.
-            let told: &[u8] = if k < 17 {
-                b"read fault\n"
-            } else {
-                b"write fault\n"
-            };
-            assert_eq!(rt; answered, 4, "{k}");
-            assert_eq!(rt; err.written(), told, "{k}");
-            assert!(rt; !done && JOURNAL.starts_with(out.written()), "{k}");
-        }
-    }
-    assert!(rt; done);
-    Ok(())
-}
-
 // A failed write on the stream for errors changes neither the status nor what is written.
 #[test]
 fn each_write_of_a_told_line_fails(rt: HostRuntime) -> Result<(), Fail> {
