@@ -4,6 +4,7 @@ import { putIntoAddress } from "./address.js";
 import { callsAround } from "./around.js";
 import { byId, element } from "./dom.js";
 import { Latest } from "./latest.js";
+import { grouped } from "./numbers.js";
 import { statePanel } from "./panel.js";
 import { atTheStart, sentence } from "./sentence.js";
 import { conditionsAt, seek } from "./stops.js";
@@ -94,7 +95,7 @@ export class Walk {
     byId("sentence").replaceChildren(...(place === 0 ? atTheStart() : sentence(run.entry(place), run.names)));
     byId("slider").value = place;
     byId("slider").setAttribute("aria-valuetext", `place ${place} of ${run.lastPlace}: ${byId("sentence").textContent.replace("● ", "")}`);
-    byId("place").textContent = `place ${place.toLocaleString("en")} of ${run.lastPlace.toLocaleString("en")}`;
+    byId("place").textContent = `place ${grouped(place)} of ${grouped(run.lastPlace)}`;
     byId("calls").replaceChildren(...callsAround(run, place));
     putIntoAddress(place);
     this.drawing.ask();
