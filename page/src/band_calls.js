@@ -7,7 +7,7 @@ import { SHAPES } from "./shapes.js";
 
 const LARGEST = 4.6;
 const VALUE_COLUMN = 9;
-const VALUE_WIDTH = 60;
+const VALUE_WIDTH = 48;
 const VALUE_SLANT = -Math.PI / 3.2;
 const POINTER = 5;
 

@@ -1,6 +1,6 @@
 // The page: opens what it is given, and shows it.
 
-import { placeInAddress } from "./address.js";
+import { placeIn } from "./address.js";
 import { Client } from "./client.js";
 import { byId } from "./dom.js";
 import { embeddedRun, exampleRun, moduleBytes, workerText } from "./embedded.js";
@@ -64,7 +64,7 @@ async function showRun(client, opened, { name, bytes, names }) {
   const screen = new Screen(run, view);
   byId("legend").replaceChildren(...legend(run, screen.palette));
   page.walk = new Walk(run, view, screen, tellFault);
-  page.walk.to(placeInAddress() ?? 0);
+  page.walk.to(placeIn(location.href));
   screen.addSamples(await sample(run));
 }
 
@@ -109,7 +109,7 @@ function listen(openSource) {
     event.preventDefault();
     openFiles(event.dataTransfer.files);
   });
-  window.addEventListener("hashchange", () => page.walk?.to(placeInAddress() ?? 0));
+  window.addEventListener("hashchange", event => page.walk?.to(placeIn(event.newURL)));
   window.addEventListener("resize", redraw);
   matchMedia("(prefers-color-scheme: dark)").addEventListener("change", redraw);
   listenToHands(page);

@@ -51,14 +51,20 @@ export class Walk {
     this.by(pages * this.view.width);
   }
 
-  // Brings a place and what lies round it into view.
-  goRound(place) {
+  toPointInPicture(x) {
+    this.to(this.screen.placeInPicture(x));
+  }
+
+  // What lies round the place comes into view with it.
+  toPointInStrip(x) {
+    const place = this.screen.placeInStrip(x);
     this.view.centre(place);
     this.to(place);
   }
 
-  scroll(columns) {
-    this.view.scroll(columns);
+  // Scrolls by a share of what is in view.
+  scrollShare(share) {
+    this.view.scroll(Math.sign(share) * Math.max(1, Math.round(this.view.width * Math.abs(share))));
     this.show();
   }
 
