@@ -5,9 +5,9 @@ const QUIET = 250;
 
 let timer = 0;
 
-export function placeInAddress() {
-  const found = PLACE.exec(location.hash);
-  return found ? Number(found[1]) : null;
+export function placeIn(address) {
+  const found = PLACE.exec(new URL(address).hash);
+  return found ? Number(found[1]) : 0;
 }
 
 // Browsers bear few changes of the address at a time, so it changes where walking pauses.

@@ -7,7 +7,7 @@ import { SHAPES } from "./shapes.js";
 
 const LARGEST = 4.6;
 const VALUE_COLUMN = 9;
-const VALUE_WIDTH = 60;
+const VALUE_WIDTH = 48;
 const VALUE_SLANT = -Math.PI / 3.2;
 const POINTER = 5;
 
@@ -73,7 +73,7 @@ function drawFar({ pen, frame, palette }, place, mark, row) {
   const x = frame.middle(place);
   if (mark === "lagged") {
     pen.fillStyle = palette.lag;
-    pen.fillRect(x - 0.75, row.y + 2, 1.5, row.height - 6);
+    pen.fillRect(x - 0.75, row.y + 2, 1.5, row.base - row.y - 2);
   } else if (mark === "closed" || mark === "dropped") {
     pen.fillStyle = palette.closed;
     pen.fillRect(x - 0.5, row.base - 8, 1, 12);

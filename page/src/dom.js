@@ -18,7 +18,3 @@ export function coloured(colour, text) {
   made.style.setProperty("color", colour);
   return made;
 }
-
-export function countOf(number, one, many = `${one}s`) {
-  return `${number.toLocaleString("en")} ${number === 1 ? one : many}`;
-}

@@ -2,7 +2,7 @@
 
 import { byId } from "./dom.js";
 
-export function fromBase64(text) {
+function fromBase64(text) {
   const decoded = atob(text);
   const bytes = new Uint8Array(decoded.length);
   for (let i = 0; i < bytes.length; i++) bytes[i] = decoded.charCodeAt(i);

@@ -1,6 +1,7 @@
 // A refused text: its fault as the debugger says it, what that means, and the lines around it.
 
 import { element } from "./dom.js";
+import { grouped } from "./numbers.js";
 
 const AROUND = 4;
 const MOST_SHOWN = 256;
@@ -52,7 +53,7 @@ export function faultPanel(fault, bytes) {
   return [
     element("h2", {}, `This ${fault.of} is refused`),
     element("p", {}, element("code", { class: "fault" }, `${fault.of} fault ${fault.text}`)),
-    element("p", {}, `Line ${line.toLocaleString("en")}: ${MEANINGS[kind]}.`),
+    element("p", {}, `Line ${grouped(line)}: ${MEANINGS[kind]}.`),
     element("ol", { class: "lines" }, ...shown),
   ];
 }

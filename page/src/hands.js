@@ -2,6 +2,9 @@
 
 import { byId } from "./dom.js";
 
+// How much of the view a turn of the wheel scrolls.
+const WHEEL_SHARE = 0.1;
+
 // `page.walk` is the walk over what is opened, if anything is.
 function press(page, id, move) {
   byId(id).addEventListener("click", () => page.walk && move(page.walk));
@@ -17,17 +20,17 @@ function listenToButtons(page) {
   press(page, "farther", walk => walk.zoom(2));
   press(page, "nearer", walk => walk.zoom(0.5));
   press(page, "whole", walk => walk.whole());
-  byId("slider").addEventListener("input", event => page.walk.to(Number(event.target.value)));
+  byId("slider").addEventListener("input", event => page.walk?.to(Number(event.target.value)));
   byId("calls").addEventListener("click", event => {
     const line = event.target.closest("[data-place]");
-    if (line) page.walk.to(Number(line.dataset.place));
+    if (line) page.walk?.to(Number(line.dataset.place));
   });
   byId("told").addEventListener("toggle", () => page.walk?.telling.ask());
 }
 
 function listenToStops(page) {
   const field = byId("condition");
-  const seek = word => field.value.trim() && page.walk.seek(word, field.value.trim());
+  const seek = word => field.value.trim() && page.walk?.seek(word, field.value.trim());
   byId("stops").addEventListener("submit", event => {
     event.preventDefault();
     seek(event.submitter.value);
@@ -65,16 +68,16 @@ function wheeled(page, box, isStrip) {
     if (!event.ctrlKey && !event.shiftKey && !isStrip && Math.abs(event.deltaX) <= Math.abs(event.deltaY)) return;
     event.preventDefault();
     const turned = event.deltaX + event.deltaY;
-    if (event.ctrlKey) page.walk.zoom(turned > 0 ? 1.25 : 0.8);
-    else page.walk.scroll(Math.sign(turned) * Math.max(1, Math.round(page.walk.view.width / 10)));
+    if (event.ctrlKey) page.walk?.zoom(turned > 0 ? 1.25 : 0.8);
+    else page.walk?.scrollShare(Math.sign(turned) * WHEEL_SHARE);
   }, { passive: false });
 }
 
 export function listenToHands(page) {
   listenToButtons(page);
   listenToStops(page);
-  dragged(byId("picture-box"), x => page.walk.to(page.walk.screen.placeInPicture(x)));
-  dragged(byId("strip-box"), x => page.walk.goRound(page.walk.screen.placeInStrip(x)));
+  dragged(byId("picture-box"), x => page.walk?.toPointInPicture(x));
+  dragged(byId("strip-box"), x => page.walk?.toPointInStrip(x));
   wheeled(page, byId("picture-box"), false);
   wheeled(page, byId("strip-box"), true);
 }

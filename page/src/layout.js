@@ -3,7 +3,7 @@
 
 const TOP = 8;
 const ACTOR_ROW = 18;
-const HEAD = 24;
+const HEAD = 28;
 const AXIS = 22;
 const FOOT = 6;
 const SHARED_FOOT = 14;
@@ -77,7 +77,7 @@ export function layOut(run, view, frame, room) {
   const senderRow = shared ? (frame.isNear ? SHARED_SENDER_ROW : FAR_SENDER_ROW) : SENDER_ROW;
   for (const band of bands) {
     band.y = y;
-    band.head = y + HEAD / 2;
+    band.head = y + HEAD / 2 - 2;
     y = stand(band, shared ? SHARED_FOOT : FOOT, row => (row.kind === "receiver" ? receiverRow : senderRow));
   }
   return { bands, shared, actorY, height: y + AXIS, axis: y + AXIS / 2, foot: y };

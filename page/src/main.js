@@ -1,8 +1,8 @@
 // The page: opens what it is given, and shows it.
 
-import { placeInAddress } from "./address.js";
+import { placeIn } from "./address.js";
 import { Client } from "./client.js";
-import { byId, countOf } from "./dom.js";
+import { byId } from "./dom.js";
 import { embeddedRun, exampleRun, moduleBytes, workerText } from "./embedded.js";
 import { faultPanel } from "./faults.js";
 import { readFiles } from "./files.js";
@@ -11,12 +11,16 @@ import { keyRows, listenToKeys } from "./keys.js";
 import { Latest } from "./latest.js";
 import { legend } from "./legend.js";
 import { Names, readNames } from "./names.js";
+import { countOf } from "./numbers.js";
 import { Run } from "./run.js";
 import { Screen } from "./screen.js";
 import { sample } from "./strip.js";
 import { View, columnsThatFit } from "./view.js";
 import { waitingCall } from "./waiting.js";
 import { Walk } from "./walk.js";
+
+// A module that has nothing but a memory of 64-bit addresses.
+const WIDE_MEMORY = Uint8Array.of(0, 97, 115, 109, 1, 0, 0, 0, 5, 3, 1, 4, 1);
 
 const page = { walk: null };
 
@@ -55,13 +59,13 @@ async function showRun(client, opened, { name, bytes, names }) {
   if (opened.waitingLine) run.waiting = waitingCall(bytes, opened.waitingLine, run);
   byId("facts").textContent = factsOf(name, run);
   document.title = `${name} · Yovanelum`;
-  const samples = await sample(run);
   showPart("walk");
   const view = new View(run.lastPlace, run.lastPlace + (run.waiting ? 1 : 0), columnsThatFit(byId("picture-box").clientWidth));
-  const screen = new Screen(run, view, samples);
+  const screen = new Screen(run, view);
   byId("legend").replaceChildren(...legend(run, screen.palette));
   page.walk = new Walk(run, view, screen, tellFault);
-  page.walk.to(placeInAddress() ?? 0);
+  page.walk.to(placeIn(location.href));
+  screen.addSamples(await sample(run));
 }
 
 async function open(client, source) {
@@ -105,30 +109,35 @@ function listen(openSource) {
     event.preventDefault();
     openFiles(event.dataTransfer.files);
   });
-  window.addEventListener("hashchange", () => page.walk?.to(placeInAddress() ?? 0));
+  window.addEventListener("hashchange", event => page.walk?.to(placeIn(event.newURL)));
   window.addEventListener("resize", redraw);
   matchMedia("(prefers-color-scheme: dark)").addEventListener("change", redraw);
   listenToHands(page);
   listenToKeys(page);
 }
 
-async function start() {
-  byId("key-list").replaceChildren(...keyRows());
-  const module = moduleBytes();
-  if (!WebAssembly.validate(module)) {
-    return tell("This browser has no WebAssembly with 64-bit memory. Chromium and Chrome have it from 133 on, Firefox from 134 on.");
-  }
-  const client = new Client(workerText(), module);
-  await client.started;
-  const openSource = opener(client);
-  listen(openSource);
-  window.ttd = {
+// What the page offers to the browser's own console: the debugger's answers to commands, as texts.
+function answersOf(client) {
+  return {
     ask: commands => client.request("ask", commands),
     debug: (journal, commands) => client.request("debug", journal, commands),
     session: input => client.request("session", input),
   };
+}
+
+function start() {
+  byId("key-list").replaceChildren(...keyRows());
+  if (!WebAssembly.validate(WIDE_MEMORY)) {
+    tell("This browser has no WebAssembly with 64-bit memory. Chromium and Chrome have it from 133 on, Firefox from 134 on.");
+    return;
+  }
+  const client = new Client(workerText(), moduleBytes());
+  client.started.catch(tellFault);
+  const openSource = opener(client);
+  listen(openSource);
+  window.ttd = answersOf(client);
   const embedded = embeddedRun();
-  if (embedded) await openSource(embedded);
+  if (embedded) openSource(embedded);
 }
 
 start();

@@ -2,6 +2,7 @@
 
 import { readListing } from "./listing.js";
 import { Lives } from "./lives.js";
+import { readState } from "./states.js";
 
 const LINE_END = 10;
 const FAULT = /^(journal|script) fault (.*)$/;
@@ -30,7 +31,7 @@ export function openRun(ask) {
   if (fault) return { fault: { of: fault[1], text: fault[2] }, heading: "" };
   const waits = WAITS.exec(first);
   const lastPlace = Number(PLACE.exec(waits ? front.line() : first)[1]);
-  const opening = JSON.parse(front.line());
+  const opening = readState(front.line());
   const lives = new Lives(opening, lastPlace);
   const listing = new TextDecoder().decode(front.rest);
   const columns = readListing(front.rest, listing, lastPlace, lives);

@@ -3,8 +3,6 @@
 import { kindOf } from "./band.js";
 import { element } from "./dom.js";
 
-const MOST_VALUES = 16;
-
 function heading(name, channel) {
   const word = channel.closed ? "closed" : "open";
   return element("h3", {}, name, element("small", {}, ` ${kindOf(channel)} `), element("span", { class: `tag ${word}` }, word));
@@ -16,11 +14,12 @@ function valueBox(text, readers) {
   return element("li", {}, element("span", { class: "box" }, text), ...marks);
 }
 
+// The newest of the retained values, and how many there are before them.
 function retained(channel, index, names) {
-  if (channel.window.length === 0) return element("p", { class: "mute" }, "nothing sent yet");
-  const oldest = channel.sent - channel.window.length;
-  const hidden = Math.max(0, channel.window.length - MOST_VALUES);
-  const boxes = channel.window.slice(hidden).map((value, i) => {
+  if (channel.retained === 0) return element("p", { class: "mute" }, "nothing sent yet");
+  const oldest = channel.sent - channel.retained;
+  const hidden = channel.retained - channel.window.length;
+  const boxes = channel.window.map((value, i) => {
     const position = oldest + hidden + i;
     const readers = channel.receivers.filter(receiver => receiver.unread > 0 && Math.max(receiver.position, oldest) === position);
     return valueBox(names.value(index, value), readers);

@@ -2,8 +2,9 @@
 
 import { drawBand } from "./band.js";
 import { line, fitted } from "./canvas.js";
-import { drawWaiting } from "./waiting.js";
+import { grouped } from "./numbers.js";
 import { FONT, SMALL } from "./palette.js";
+import { drawWaiting } from "./waiting.js";
 
 const DOT = 4.5;
 const LABEL_EVERY = 46;
@@ -50,7 +51,7 @@ function drawAxis({ pen, run, view, frame, layout, palette }) {
   pen.fillStyle = palette.mute;
   pen.textAlign = "center";
   for (let place = Math.ceil(view.from / step) * step; place <= Math.min(view.to, run.lastPlace); place += step) {
-    pen.fillText(place.toLocaleString("en"), frame.middle(place), layout.axis);
+    pen.fillText(grouped(place), frame.middle(place), layout.axis);
   }
 }
 

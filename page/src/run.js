@@ -1,6 +1,7 @@
 // An opened run: its entries, and the states at those places that were asked for.
 
 import { readEntry } from "./entries.js";
+import { commandsFor, placesAtATime, readStates } from "./states.js";
 
 const MOST_STATES = 12000;
 
@@ -40,20 +41,25 @@ export class Run {
   async load(places) {
     const wanted = this.missing(places);
     if (wanted.length === 0) return;
-    this.keep(await this.statesAt(wanted));
+    for (const state of await this.statesAt(wanted)) this.states.set(state.place, state);
+    this.forget(new Set(places));
+  }
+
+  // Forgets states that aren't needed, the oldest first, where there are too many.
+  forget(needed) {
     for (const place of this.states.keys()) {
-      if (this.states.size <= MOST_STATES) break;
-      if (!places.includes(place)) this.states.delete(place);
+      if (this.states.size <= MOST_STATES) return;
+      if (!needed.has(place)) this.states.delete(place);
     }
   }
 
-  keep(states) {
-    for (const state of states) this.states.set(state.place, state);
-  }
-
   async statesAt(places) {
-    const text = await this.ask(places.map(place => `goto ${place}\nstate json\n`).join(""));
-    return text.split("\n").filter(line => line.startsWith("{")).map(line => JSON.parse(line));
+    const states = [];
+    const count = placesAtATime(this.channels);
+    for (let i = 0; i < places.length; i += count) {
+      states.push(...readStates(await this.ask(commandsFor(places.slice(i, i + count)))));
+    }
+    return states;
   }
 
   // What these commands write, as they stand in the console.

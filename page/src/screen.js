@@ -12,11 +12,17 @@ import { drawStrip, drawStripCursor, stripHeight } from "./strip.js";
 const OTHER_ROWS = 330;
 
 export class Screen {
-  constructor(run, view, samples) {
+  constructor(run, view) {
     this.run = run;
     this.view = view;
-    this.samples = samples;
+    this.samples = null;
     this.resize();
+  }
+
+  // Draws the strip anew, with how the channels stand at samples of the run.
+  addSamples(samples) {
+    this.samples = samples;
+    this.drawStrip();
   }
 
   // After a change of the window's size, or between light and dark.
@@ -24,11 +30,15 @@ export class Screen {
     this.palette = readPalette();
     this.width = byId("picture-box").clientWidth;
     this.strip = {
-      run: this.run, view: this.view, palette: this.palette, samples: this.samples, height: stripHeight(this.run),
+      run: this.run, view: this.view, palette: this.palette, height: stripHeight(this.run),
       frame: new Frame(0, this.view.lastColumn, this.width),
     };
-    drawStrip({ ...this.strip, pen: this.pen("strip", this.strip.height) });
+    this.drawStrip();
     this.drawn = null;
+  }
+
+  drawStrip() {
+    drawStrip({ ...this.strip, samples: this.samples, pen: this.pen("strip", this.strip.height) });
   }
 
   pen(id, height) {

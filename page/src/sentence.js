@@ -1,6 +1,7 @@
 // The call that led to a place, in words.
 
-import { coloured, countOf, element } from "./dom.js";
+import { coloured, element } from "./dom.js";
+import { countOf } from "./numbers.js";
 import { actorColour } from "./palette.js";
 
 // What a reply means, where its word alone may not say it.

@@ -3,12 +3,12 @@
 const JOURNAL_BEGINS = "ttd-journal";
 const LINE_END = 10;
 
-export function isJournal(bytes) {
+function isJournal(bytes) {
   return new TextDecoder().decode(bytes.subarray(0, JOURNAL_BEGINS.length)) === JOURNAL_BEGINS;
 }
 
 // The script's bytes before its line `---`, with their last line ended.
-export function scriptPart(bytes) {
+function scriptPart(bytes) {
   let start = 0;
   while (start < bytes.length) {
     const found = bytes.indexOf(LINE_END, start);
@@ -19,7 +19,7 @@ export function scriptPart(bytes) {
   return start > bytes.length ? joined(bytes, Uint8Array.of(LINE_END)) : bytes;
 }
 
-export function joined(front, back) {
+function joined(front, back) {
   const whole = new Uint8Array(front.length + back.length);
   whole.set(front);
   whole.set(back, front.length);

@@ -60,10 +60,18 @@ function drawLags({ pen, run, frame, palette }, channel, y) {
   pen.globalAlpha = 1;
 }
 
-// `drawing` has the pen, the run, a frame over all of it, the palette, and the samples.
+function drawSamples(drawing, channel, y) {
+  const { frame, samples } = drawing;
+  const width = Math.max(1, samples.stride * frame.column) + 0.4;
+  for (const { place, channels } of samples.rows) {
+    const x = frame.x(place);
+    drawSummary(drawing, channels[channel], x, y, Math.min(width, frame.right - x));
+  }
+}
+
+// `drawing` has the pen, the run, a frame over all of it, the palette, and the samples, once they are there.
 export function drawStrip(drawing) {
   const { pen, run, frame, palette, samples } = drawing;
-  const width = Math.max(1, samples.stride * frame.column) + 0.4;
   pen.font = SMALL;
   run.channels.forEach((_, channel) => {
     const y = TOP + channel * ROW;
@@ -72,10 +80,7 @@ export function drawStrip(drawing) {
     pen.fillText(fitted(pen, run.names.channel(channel), frame.left - 20), frame.left - 10, y + BAR / 2);
     pen.fillStyle = palette.line;
     pen.fillRect(frame.left, y, frame.right - frame.left, BAR);
-    for (const { place, channels } of samples.rows) {
-      const x = frame.x(place);
-      drawSummary(drawing, channels[channel], x, y, Math.min(width, frame.right - x));
-    }
+    if (samples) drawSamples(drawing, channel, y);
     drawLags(drawing, channel, y);
   });
 }

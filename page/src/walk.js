@@ -4,6 +4,7 @@ import { putIntoAddress } from "./address.js";
 import { callsAround } from "./around.js";
 import { byId, element } from "./dom.js";
 import { Latest } from "./latest.js";
+import { grouped } from "./numbers.js";
 import { statePanel } from "./panel.js";
 import { atTheStart, sentence } from "./sentence.js";
 import { conditionsAt, seek } from "./stops.js";
@@ -50,14 +51,20 @@ export class Walk {
     this.by(pages * this.view.width);
   }
 
-  // Brings a place and what lies round it into view.
-  goRound(place) {
+  toPointInPicture(x) {
+    this.to(this.screen.placeInPicture(x));
+  }
+
+  // What lies round the place comes into view with it.
+  toPointInStrip(x) {
+    const place = this.screen.placeInStrip(x);
     this.view.centre(place);
     this.to(place);
   }
 
-  scroll(columns) {
-    this.view.scroll(columns);
+  // Scrolls by a share of what is in view.
+  scrollShare(share) {
+    this.view.scroll(Math.sign(share) * Math.max(1, Math.round(this.view.width * Math.abs(share))));
     this.show();
   }
 
@@ -94,7 +101,7 @@ export class Walk {
     byId("sentence").replaceChildren(...(place === 0 ? atTheStart() : sentence(run.entry(place), run.names)));
     byId("slider").value = place;
     byId("slider").setAttribute("aria-valuetext", `place ${place} of ${run.lastPlace}: ${byId("sentence").textContent.replace("● ", "")}`);
-    byId("place").textContent = `place ${place.toLocaleString("en")} of ${run.lastPlace.toLocaleString("en")}`;
+    byId("place").textContent = `place ${grouped(place)} of ${grouped(run.lastPlace)}`;
     byId("calls").replaceChildren(...callsAround(run, place));
     putIntoAddress(place);
     this.drawing.ask();

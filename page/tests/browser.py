@@ -173,9 +173,14 @@ class Tab:
         for kind in ("dragEnter", "dragOver", "drop"):
             self.call("Input.dispatchDragEvent", type=kind, x=400, y=300, data=data)
 
-    def picture(self, path):
+    def picture(self, path, name=None):
+        """Writes a picture of the window, or of one element of the page."""
+        cut = {}
+        if name:
+            left, top, width, height = self.box(name)
+            cut = {"clip": {"x": left, "y": top, "width": width, "height": height, "scale": 1}}
         with open(path, "wb") as file:
-            file.write(base64.b64decode(self.call("Page.captureScreenshot", format="png")["data"]))
+            file.write(base64.b64decode(self.call("Page.captureScreenshot", format="png", **cut)["data"]))
 
     def forget(self):
         """Forgets what the page has told until now."""

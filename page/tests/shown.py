@@ -5,11 +5,22 @@ import random
 
 import native
 import opening
+import runs
 from opening import check_place
 
 HOSTILE = ["<img src=x onerror=alert(1)>", "</script><script>alert(2)</script>", "\" onmouseover=\"alert(3)", "javascript:alert(4)", "__proto__",
            "a" * 400]
 ALERTED = "void (window.alert = () => { window.alerted = true; })"
+
+
+def lagging_picture(tab, folder, path):
+    """A receiver that lags, with names for actors and channels."""
+    names = {"actors": {"0": "exchange", "1": "quick trader", "2": "slow auditor"}, "channels": {"0": "prices", "1": "trading limit"}}
+    opening.put(folder, "price_feed.names", json.dumps(names).encode())
+    tab.resize(1280, 1100)
+    opening.load(tab, opening.page_of(folder, "price_feed.ttd", runs.example()), 22)
+    tab.picture(path, "#picture-box")
+    tab.resize(1440, 920)
 
 
 def pictures(tab, folder, journals):
@@ -24,6 +35,7 @@ def pictures(tab, folder, journals):
         tab.key("0")
         tab.wait(f"document.getElementById('picture').getAttribute('aria-label').includes('from place 0 to {calls}')")
         tab.picture(os.path.join(out, f"run_of_{calls}_whole.png"))
+    lagging_picture(tab, folder, os.path.join(out, "lagging.png"))
     opening.load(tab, opening.page_of(folder, "dark.journal", journals[63]), 33)
     tab.prefer("dark")
     tab.wait("getComputedStyle(document.body).backgroundColor === 'rgb(17, 23, 30)'")

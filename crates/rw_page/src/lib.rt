@@ -1,12 +1,10 @@
 //! What a page calls: the debugger over bytes in memory.
 //!
 //! The one contract: what an export leaves in its buffer is what the program would write of the same bytes. No state lives from
-//! one call to the next. Start reading at `specs/Pages.antt`.
+//! one call to the next. Start reading at `specs/Pages.antt`. The tests of the page (`page/test`) run both exports in a browser.
 #![tactic(auto)]
 
 mod pages;
-#[cfg(test)]
-mod tests;
 
 ghost use Rattle.std.specs.Prelude.{◌≡◌, ◌≤◌};
 ghost use Rattle.rw_console.specs.SessionReport.{report};
