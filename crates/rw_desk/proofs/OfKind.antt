@@ -14,13 +14,13 @@ use Rattle.rw_world.specs.declared.channels.ChanPatch.{ChanPatch}
 use Rattle.rw_world.specs.Machines.{ChanShown, of_broadcast, of_watch, of_chan}
 use Rattle.rw_world.specs.Openings.{opened_channel, kind_of_spec}
 use Rattle.rw_world.specs.Specified.{ChanEntry}
-use Rattle.rw_journal.specs.Book.{Book, IsUnchanged, reply_to}
+use Rattle.rw_journal.specs.Book.{Book, IsUnchanged, reply_to, state_of}
 use Rattle.rw_desk.specs.declared.faults.DeskFault.{DeskFault}
 use Rattle.rw_desk.specs.Locked.{IsOpenedFrom}
 use Rattle.rw_desk.specs.Passes.{HasReceipt, IsOfKind, IsRecorded, Pass}
 
 -- what callers see of a channel's book
-abbrev Books : Type 0 → Type 0
+abbrev pub Books : Type 0 → Type 0
 Books V = Book (Chan V) (ChanCall V) (ChanReply V) (ChanPatch V)
 
 module _ {V : Type 0} where
@@ -32,12 +32,14 @@ module _ {V : Type 0} where
   kind_opened (Broadcast capacity) = refl
   kind_opened (Watch init) = refl
 
+  -- a book's channel is of the kind of the spec that the book was opened from
+  pub kind_of_book : (spec : Spec V) (book : Books V) → IsOpenedFrom spec book → kind_of (state_of of_chan book) ≡ kind_of_spec spec
+  kind_of_book spec book opened = kind_after ((of_chan {V = V}).shown book.opening) book.entries ∙ (ap kind_of opened ∙ kind_opened spec)
+
   -- a call strays at a book exactly by the spec that the book was opened from
   pub strays_by_spec : (spec : Spec V) (book : Books V) (c : ChanCall V) → IsOpenedFrom spec book → (of_chan {V = V}).is_straying (reply_to of_chan book c) ≡ strays_at (kind_of_spec spec) c
   strays_by_spec spec book c opened =
-      let x : ChanShown V = (of_chan {V = V}).shown book.opening in
-      strays_by_kind of_broadcast of_watch (after_all of_chan x book.entries) c
-      ∙ ap (λ k. strays_at k c) (kind_after x book.entries ∙ (ap kind_of opened ∙ kind_opened spec))
+      strays_by_kind of_broadcast of_watch (state_of of_chan book) c ∙ ap (λ k. strays_at k c) (kind_of_book spec book opened)
 
   kind_of_reply : (x : ChanShown V) (c : ChanCall V) → (of_chan {V = V}).is_straying ((of_chan {V = V}).reply_of x c) ≡ false → IsOfKind c ((of_chan {V = V}).reply_of x c)
   kind_of_reply (broadcast_shown x) (call.B c) stays = tt
@@ -54,6 +56,9 @@ module _ {V : Type 0} where
       record {
         stamp = recorded.stamp;
         above = omega (arith, taken.stamp_is);
+        state = x;
+        replied = sym taken.reply_is;
+        no_wait = taken.no_wait;
         kind = subst (IsOfKind c) (sym taken.reply_is) (kind_of_reply x c stays);
         pass = recorded.pass;
       }

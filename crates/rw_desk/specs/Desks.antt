@@ -1,5 +1,5 @@
 -- Desks, and what they answer.
-use Rattle.std.specs.Prelude.{◌≡◌, ◌↔◌, ℕ, ◌<◌, ◌≤◌, ◌||◌, nat_eq, nat_lt, if◌then◌else◌, None, Some, Option, slice_get, List, length, map, IfOk, OnErr, IsErrOf, IsTrue, Result}
+use Rattle.std.specs.Prelude.{◌≡◌, ◌↔◌, Bool, true, false, ℕ, ◌<◌, ◌≤◌, ◌||◌, nat_eq, nat_lt, if◌then◌else◌, None, Some, Option, slice_get, List, length, map, IfOk, OnErr, IsErrOf, IsTrue, Result}
 use Rattle.std.specs.Option.{option_map}
 use Rattle.rw_law.specs.declared.limits.TheConstants.{MOST_ACTORS}
 use Rattle.rw_world.specs.declared.opening.Spec.{Spec}
@@ -49,6 +49,15 @@ pub record HasOpened {V : Type 0} (specs : List (Spec V)) (actors : ℕ) (desk :
 -- a call, with its channel
 abbrev pub row_call : {V : Type 0} → ℕ → ChanCall V → RowCall (ChanCall V)
 row_call channel call = record { channel = channel; call = call }
+
+-- whether there is no watch channel of this number
+abbrev pub no_watch_at : {V : Type 0} → Option (Spec V) → Bool
+no_watch_at None = true
+no_watch_at (Some (spec.Broadcast capacity)) = true
+no_watch_at (Some (spec.Watch init)) = false
+
+abbrev pub has_no_watch : {V : Type 0} → List (Spec V) → ℕ → Bool
+has_no_watch specs channel = no_watch_at (slice_get specs channel)
 
 -- What a desk answers to a call: the pass has its receipt, with the reply that the answer stands for; or the pass is as it was.
 -- There is no channel for the call exactly by the specs.

@@ -1,6 +1,10 @@
 pub mod Answers
 pub mod CallWords
+pub mod Closing
 pub mod Desks
 pub mod Locked
+pub mod Modifying
 pub mod Passes
 pub mod Settling
+pub mod Straying
+pub mod Waiting

@@ -22,9 +22,9 @@ use std::sync::Wait;
 /// Channels that threads share by reference, each under a lock of its own, and how many actors there are.
 #[derive(Drop)]
 pub struct Desk<V: Payload> {
-    specs: Vec<Spec<V>>,
-    actors: u32,
-    places: Vec<Place<V>>,
+    pub(crate) specs: Vec<Spec<V>>,
+    pub(crate) actors: u32,
+    pub(crate) places: Vec<Place<V>>,
 }
 
 impl<V: Payload> Model for Desk<V> {
@@ -118,7 +118,7 @@ impl<V: Payload> Desk<V> {
     }
 
     /// The spec and the lock of a channel, if there is one for this call.
-    fn place(&self, channel: u32, call: &ChanCall<V>) -> Option<(&Spec<V>, &Place<V>)>
+    pub(crate) fn place(&self, channel: u32, call: &ChanCall<V>) -> Option<(&Spec<V>, &Place<V>)>
         ensures none { IsNone result ↔ IsTrue (stray_of strays_at (map kind_of_spec self.now.specs) (row_call channel call.now)) }
         ensures some { IfSome result (λ r. strays_at (kind_of_spec r.0.now) call.now ≡ false) }
     {

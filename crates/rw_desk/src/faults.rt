@@ -30,3 +30,18 @@ pub enum DeskOpenFault {
     #[error("{0}")]
     World(OpenFault),
 }
+
+/// Why a desk isn't closed. The first that holds is answered, in this order, and desk and passes come back.
+#[derive(Clone, Copy, Debug, PartialEq, Eq, Error)]
+pub enum CloseFault {
+    /// The least actor of the desk of whom not exactly one pass was handed in, or else the number of a pass that is no actor's.
+    #[error("not exactly one pass of actor {0}")]
+    Stranger(u32),
+    /// An entry of this actor is out of order, at this place of its channel; or else this is the least actor whose receipts
+    /// aren't its entries, and the least place at which they differ.
+    #[error("actor {0} strayed at {1}")]
+    Strayed(u32, u64),
+    /// A growth was refused.
+    #[error("no memory")]
+    NoMemory,
+}

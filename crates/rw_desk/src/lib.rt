@@ -6,20 +6,26 @@
 #![tactic(auto)]
 
 mod broadcast_calls;
+mod closing;
 mod desk;
 mod faults;
 mod handles;
 mod kept;
 mod locked;
 mod made;
+mod modification;
 mod pass;
 mod place;
 mod same_calls;
 mod settling;
+mod strangers;
+mod straying;
 mod watch_calls;
+mod watch_closures;
 
+pub use closing::settle;
 pub use desk::Desk;
-pub use faults::{DeskFault, DeskOpenFault};
+pub use faults::{CloseFault, DeskFault, DeskOpenFault};
 pub use handles::{BRx, BTx, Ends, WRx, WTx};
 pub use kept::Kept;
 pub use made::Made;

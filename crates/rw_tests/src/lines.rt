@@ -2,7 +2,7 @@
 
 use crate::plain::line_of;
 use rw_devices::{FailingReader, FailingWriter};
-use rw_lines::{Next, ShortWrite, StreamFault, flush, put};
+use rw_lines::{Next, ShortWrite, StreamFault, flush, put, put_whole};
 use std::test::Fail;
 
 const INPUT: &[u8] = b"ab\ncd";
@@ -127,5 +127,23 @@ fn stops_at_each_failed_write(rt: HostRuntime) -> Result<(), Fail> {
         put(&mut takes_nothing, INPUT),
         Err(ShortWrite { written: 0 })
     );
+    Ok(())
+}
+
+// Five writes take the five bytes one by one, and what was written is handed on by the sixth call alone.
+#[test]
+fn whole_pieces_are_handed_on(rt: HostRuntime) -> Result<(), Fail> {
+    for calls in 0..7usize {
+        let mut writer = FailingWriter::new(rt.alloc(), 1, Some(calls as u64));
+        let ended = put_whole(&mut writer, INPUT);
+        let (want, handed): (_, &[u8]) = if calls == 6 {
+            (Ok(()), INPUT)
+        } else {
+            (Err(StreamFault::Write), b"")
+        };
+        assert_eq!(rt; ended, want, "call {calls}");
+        assert_eq!(rt; writer.written(), &INPUT[..calls.min(5)]);
+        assert_eq!(rt; writer.handed_on(), handed);
+    }
     Ok(())
 }

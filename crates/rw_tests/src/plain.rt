@@ -9,7 +9,7 @@ use rw_journal::{Book, PushFault, Run, RunDraft, TakeFault};
 use rw_law::{Entry, NoMemory, Payload, Reversible};
 use rw_lines::{Next, StreamFault, next_line};
 use rw_navigator::{HitIndex, Move, Navigator, OutOfRange, Probe};
-use rw_text::{TextFault, WriteFault, read, round_trip, write};
+use rw_text::{TextFault, WriteFault, read, round_trip, salvage, write};
 use rw_world::{ChanCall, ChanReply, OpenFault, RowCall, Spec, World, open};
 use std::alloc::Global;
 use std::io::{Read, Write};
@@ -152,6 +152,11 @@ pub fn searched<R: Reversible, P: Probe<R>>(
 /// The run that is read from a journal text.
 pub fn run_in<V: Payload>(alloc: Global, bytes: &[u8]) -> Result<Run<V>, TextFault> {
     read(alloc, bytes)
+}
+
+/// The run that a journal text still holds that may have been cut off, and how many bytes its whole lines have.
+pub fn salvage_in<V: Payload>(alloc: Global, bytes: &[u8]) -> Result<(Run<V>, u64), TextFault> {
+    salvage(alloc, bytes)
 }
 
 /// Writes the journal text of a run.

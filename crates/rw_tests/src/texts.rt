@@ -4,4 +4,5 @@ mod faults;
 mod reading;
 mod round_trips;
 pub mod rows;
+mod salvaging;
 mod writing;

@@ -1,23 +1,21 @@
 -- How a run ends, where nothing is known of its files and streams.
-use Rattle.std.proofs.Common.{◌≡◌, ℕ, List, Option, None, Some, Result, Ok, Err, IsSome, inl, inr}
+use Rattle.std.proofs.Common.{ℕ, List, Option, None, Result, Ok, Err, inl, inr}
 use Rattle.std.specs.Prelude.{◌⊎◌, IfOk, IfErr}
 use Rattle.std.specs.Io.KnownBytes.{IsAtEnd, Keeps}
 use Rattle.rw_console.specs.declared.sessions.Outcome.{Outcome}
 use Rattle.rw_lines.specs.declared.streams.StreamFault.{StreamFault}
-use Rattle.rw_lines.specs.declared.streams.StreamFault.TheVariants.{Read, NoMemory}
+use Rattle.rw_lines.specs.declared.streams.StreamFault.TheVariants.{Read}
 use Rattle.rw_text.specs.declared.faults.TextFault.{TextFault}
 use Rattle.rw_journal.specs.Run.{Run}
 use Rattle.rw_law.specs.Numbers.{numbers}
 use Rattle.rw_text.specs.Reading.{reading_of}
-use Rattle.rw_ttd.specs.declared.words.Asked.{Asked}
 use Rattle.rw_ttd.specs.declared.words.Verb.{Verb}
-use Rattle.rw_ttd.specs.declared.words.Verb.TheVariants.{Record, Check, Debug}
+use Rattle.rw_ttd.specs.declared.words.Verb.TheVariants.{Record, Check, Debug, Salvage}
 use Rattle.rw_ttd.specs.Endings.{Ending}
 use Rattle.rw_ttd.specs.Files.{Closes, Debugs, OverFile, TellsOnly}
 use Rattle.rw_ttd.specs.Runs.{Ends, Runs}
 use Rattle.rw_ttd.specs.Statuses.{Tells}
 use Rattle.rw_ttd.specs.Verbs.{DoneBy}
-use Rattle.rw_ttd.specs.Words.{EndsAs, IsEnd, Serves}
 
 module _ (report : List ℕ → List ℕ) (outcome : List ℕ → Outcome) (begun : List (List ℕ) → Type 0) where
   whole_any : (r : Option (List ℕ)) (bytes : List ℕ) (Stays : Type 0) → IsAtEnd r ⊎ Stays → IsAtEnd None ⊎ Stays
@@ -58,6 +56,7 @@ over_any {Made = Made} {Made' = Made'} {Unmade = Unmade} {Unmade' = Unmade'} mad
 pub done_any : (verb : Verb) (f f' r r' w w' : Option (List ℕ)) (line : List ℕ) (status : ℕ) → DoneBy verb f f' r r' w w' line status → DoneBy verb None None None None None None line status
 done_any Record f f' r r' w w' line status d = (tt, over_any (λ bytes m. closes_any w w' line status _ m) (λ fault u. (tt, u.1)) d.1)
 done_any Check f f' r r' w w' line status d = (tt, over_any (λ bytes m. closes_any w w' line status _ m) (λ fault u. (tt, u.1)) d.1)
+done_any Salvage f f' r r' w w' line status d = (tt, over_any (λ bytes m. closes_any w w' line status _ m) (λ fault u. (tt, u.1)) d.1)
 done_any Debug f f' r r' w w' line status d = over_any (λ bytes m. debugs_any r r' w w' line status (reading_of numbers bytes) m) (λ fault u. (tt, (tt, u.1.1))) d
 
 -- what a verb makes of a file that was opened, or that couldn't be

@@ -1,13 +1,11 @@
 -- What a file is: a script, a run's journal text, or neither.
-use Rattle.std.specs.Prelude.{◌≡◌, ◌≤◌, ℕ, List, Option, Result, Ok, Err, length, ⊤}
+use Rattle.std.specs.Prelude.{◌≡◌, ◌≤◌, ℕ, List, Option, Result, Ok, Err, length}
 use Rattle.std.specs.Io.KnownBytes.{Consumes, IsAtEnd}
 use Rattle.rw_console.specs.declared.sessions.TheConstants.{MOST_BYTES}
-use Rattle.rw_journal.specs.Run.{Run}
 use Rattle.rw_lines.specs.declared.streams.StreamFault.TheVariants.{NoMemory}
 use Rattle.rw_lines.specs.Lines.{lines}
 use Rattle.rw_script.specs.Script.{Script, script_in}
-use Rattle.rw_law.specs.Numbers.{numbers}
-use Rattle.rw_text.specs.Reading.{reading_of}
+use Rattle.rw_text.specs.declared.faults.TextFault.{TextFault}
 use Rattle.rw_ttd.specs.declared.reading.Refusal.{Refusal}
 use Rattle.rw_ttd.specs.declared.reading.Refusal.TheVariants as refusal
 use Rattle.rw_ttd.specs.Files.{StopsReading}
@@ -18,11 +16,11 @@ IsNoScript bytes (refusal.Stream fault) = fault ≡ NoMemory
 IsNoScript bytes (refusal.Script fault) = script_in (lines bytes) ≡ Err fault
 IsNoScript bytes (refusal.Text fault) = ⊥
 
--- the same of a run
-abbrev pub IsNoRun : List ℕ → Refusal → Type 0
-IsNoRun bytes (refusal.Stream fault) = fault ≡ NoMemory
-IsNoRun bytes (refusal.Script fault) = ⊥
-IsNoRun bytes (refusal.Text fault) = reading_of numbers bytes ≡ Err fault
+-- the same of a journal text, by what is said of its bytes
+abbrev pub IsNoText : {X : Type 0} → (List ℕ → Result X TextFault) → List ℕ → Refusal → Type 0
+IsNoText said bytes (refusal.Stream fault) = fault ≡ NoMemory
+IsNoText said bytes (refusal.Script fault) = ⊥
+IsNoText said bytes (refusal.Text fault) = said bytes ≡ Err fault
 
 -- a file's bytes were read whole, no more than are allowed, and this holds of them
 abbrev pub ReadsWhole : Option (List ℕ) → Option (List ℕ) → (List ℕ → Type 0) → Type 0
@@ -32,9 +30,9 @@ ReadsWhole file file' Said = (bytes : List ℕ) × Consumes file file' bytes × 
 abbrev pub HasScript : Option (List ℕ) → Option (List ℕ) → Script → Type 0
 HasScript file file' script = ReadsWhole file file' (λ bytes. script_in (lines bytes) ≡ Ok script)
 
--- a file is this run's journal text
-abbrev pub HasRun : Option (List ℕ) → Option (List ℕ) → Run ℕ → Type 0
-HasRun file file' run = ReadsWhole file file' (λ bytes. reading_of numbers bytes ≡ Ok run)
+-- this is said of a file as a journal text
+abbrev pub HasText : {X : Type 0} → (List ℕ → Result X TextFault) → Option (List ℕ) → Option (List ℕ) → X → Type 0
+HasText said file file' x = ReadsWhole file file' (λ bytes. said bytes ≡ Ok x)
 
 -- a file can't be read whole, or memory ran out, or this is its first fault as a script
 abbrev pub HasNoScript : Option (List ℕ) → Option (List ℕ) → Refusal → Type 0
@@ -43,7 +41,7 @@ HasNoScript file file' (refusal.Script fault) = ReadsWhole file file' (λ bytes.
 HasNoScript file file' (refusal.Text fault) = ⊥
 
 -- the same, as a journal text
-abbrev pub HasNoRun : Option (List ℕ) → Option (List ℕ) → Refusal → Type 0
-HasNoRun file file' (refusal.Stream fault) = StopsReading file file' fault
-HasNoRun file file' (refusal.Script fault) = ⊥
-HasNoRun file file' (refusal.Text fault) = ReadsWhole file file' (λ bytes. reading_of numbers bytes ≡ Err fault)
+abbrev pub HasNoText : {X : Type 0} → (List ℕ → Result X TextFault) → Option (List ℕ) → Option (List ℕ) → Refusal → Type 0
+HasNoText said file file' (refusal.Stream fault) = StopsReading file file' fault
+HasNoText said file file' (refusal.Script fault) = ⊥
+HasNoText said file file' (refusal.Text fault) = ReadsWhole file file' (λ bytes. said bytes ≡ Err fault)

@@ -10,6 +10,7 @@ use Rattle.rw_law.specs.Numbers.{numbers}
 use Rattle.rw_text.specs.declared.faults.TextFault.{TextFault}
 use Rattle.rw_text.specs.Faults.{fault_text}
 use Rattle.rw_text.specs.Reading.{reading_of}
+use Rattle.rw_text.specs.Salvaging.{salvage_of}
 use Rattle.rw_text.specs.Texts.{text}
 use Rattle.rw_ttd.specs.Statuses.{status_of}
 
@@ -23,9 +24,12 @@ pub record Ending : Type 0 where
 abbrev pub refused_script : ScriptFault → Ending
 refused_script fault = record { written = []; told = fault_line fault; status = 1 }
 
--- a journal text's fault is written where the journal would be shown
+abbrev pub text_fault_line : TextFault → List ℕ
+text_fault_line fault = codes "journal fault " ++ fault_text fault ++ codes "\n"
+
+-- a journal text's fault is written where its entries would be counted or shown
 abbrev pub refused_text : TextFault → Ending
-refused_text fault = record { written = codes "journal fault " ++ fault_text fault ++ codes "\n"; told = []; status = 1 }
+refused_text fault = record { written = text_fault_line fault; told = []; status = 1 }
 
 -- ---- `record`: the journal text of a script's run; which line would wait is told behind it
 
@@ -44,3 +48,16 @@ checked (Err fault) = refused_text fault
 
 abbrev pub check_of : List ℕ → Ending
 check_of bytes = checked (reading_of numbers bytes)
+
+-- ---- `salvage`: the journal text of what a text holds that was cut off; how many of its bytes say that is told
+
+abbrev pub kept_line : ℕ → List ℕ
+kept_line count = codes "kept " ++ decimal count ++ codes " bytes\n"
+
+-- a fault is told, since a journal would be written
+abbrev pub salvaged : Result (Run ℕ × ℕ) TextFault → Ending
+salvaged (Ok p) = record { written = text numbers p.0; told = kept_line p.1; status = 0 }
+salvaged (Err fault) = record { written = []; told = text_fault_line fault; status = 1 }
+
+abbrev pub salvaging_of : List ℕ → Ending
+salvaging_of bytes = salvaged (salvage_of numbers bytes)

@@ -7,15 +7,14 @@ use Rattle.rw_navigator.specs.Places.{last_place}
 use Rattle.rw_console.specs.Report.{commands_report}
 use Rattle.rw_console.specs.Streams.{Always}
 use Rattle.rw_journal.specs.Run.{Run}
-use Rattle.rw_console.specs.SessionReport.{outcome_at, waiting_line}
+use Rattle.rw_console.specs.SessionReport.{fault_line, outcome_at, waiting_line}
 use Rattle.rw_lines.specs.declared.streams.StreamFault.{StreamFault}
 use Rattle.rw_lines.specs.declared.streams.StreamFault.TheVariants.{Read, Write, TooMuch, NoMemory}
 use Rattle.rw_lines.specs.Writing.{WritesFront}
-use Rattle.rw_script.specs.Script.{Script}
 use Rattle.rw_text.specs.declared.faults.TextFault.{TextFault}
 use Rattle.rw_ttd.specs.declared.reading.Refusal.{Refusal}
 use Rattle.rw_ttd.specs.declared.reading.Refusal.TheVariants as refusal
-use Rattle.rw_ttd.specs.Endings.{Ending, refused_script, refused_text}
+use Rattle.rw_ttd.specs.Endings.{Ending, refused_script, refused_text, text_fault_line}
 use Rattle.rw_ttd.specs.Runs.{Runs}
 use Rattle.rw_ttd.specs.Statuses.{Tells, status_of}
 
@@ -77,7 +76,17 @@ Debugs input input' out out' line status (Err fault) = Keeps input input' × Clo
 
 -- ---- what the parts of a run give to it
 
--- this is told
+-- this line is told with this status, or memory ran out
+abbrev pub TellsLine : List ℕ → ℕ → List ℕ → ℕ → Type 0
+TellsLine line status told answered = ((line ≡ told) × (status ≡ answered)) ⊎ Tells line status (Err NoMemory)
+
+-- why nothing is made of a file is told
+abbrev pub TellsWhy : List ℕ → ℕ → Refusal → Type 0
+TellsWhy line status (refusal.Stream fault) = Tells line status (Err fault)
+TellsWhy line status (refusal.Script fault) = TellsLine line status (fault_line fault) 1
+TellsWhy line status (refusal.Text fault) = TellsLine line status (text_fault_line fault) 1
+
+-- the same, but that a journal text's fault is written
 abbrev pub Refuses : Option (List ℕ) → Option (List ℕ) → List ℕ → ℕ → Refusal → Type 0
 Refuses out out' line status (refusal.Stream fault) = TellsOnly out out' line status fault
 Refuses out out' line status (refusal.Script fault) = Closes out out' line status (refused_script fault)
@@ -85,4 +94,4 @@ Refuses out out' line status (refusal.Text fault) = Closes out out' line status 
 
 -- which line would wait is told, or memory ran out
 abbrev pub SaysWaiting : List ℕ → ℕ → Option ℕ → Type 0
-SaysWaiting line status waits = ((line ≡ waiting_line waits) × (status ≡ status_of (Ok (outcome_at waits)))) ⊎ Tells line status (Err NoMemory)
+SaysWaiting line status waits = TellsLine line status (waiting_line waits) (status_of (Ok (outcome_at waits)))

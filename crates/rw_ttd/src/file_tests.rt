@@ -1,6 +1,6 @@
 //! Scripts and journal texts in files: what is written, what is told, and the statuses.
 
-use crate::files::{check_file, debug_file, record_file};
+use crate::files::{check_file, debug_file, record_file, salvage_file};
 use rw_devices::{FailingReader, FailingWriter};
 use std::test::Fail;
 
@@ -79,6 +79,43 @@ fn checks_journals(rt: HostRuntime) -> Result<(), Fail> {
         let mut out = FailingWriter::new(rt.alloc(), 64, None);
         let mut err = FailingWriter::new(rt.alloc(), 64, None);
         let answered = check_file(rt.alloc(), &mut file, &mut out, &mut err);
+        assert_eq!(rt; answered, status);
+        assert_eq!(rt; out.handed_on(), written);
+        assert_eq!(rt; err.written(), told);
+    }
+    Ok(())
+}
+
+#[test]
+fn salvages_journals(rt: HostRuntime) -> Result<(), Fail> {
+    let cases: [Case; 6] = [
+        (JOURNAL, 0, JOURNAL, b"kept 110 bytes\n"),
+        (
+            &JOURNAL[..90],
+            0,
+            b"ttd-journal 1\nbroadcast 4\nsteps\n1 0 0 send 0 7 = sent 1\n2 0 0 try-recv 1 = value 7\nend\n",
+            b"kept 83 bytes\n",
+        ),
+        (
+            &JOURNAL[..32],
+            0,
+            b"ttd-journal 1\nbroadcast 4\nsteps\nend\n",
+            b"kept 32 bytes\n",
+        ),
+        (&JOURNAL[..31], 1, b"", b"journal fault truncated\n"),
+        (
+            b"ttd-journal 1\nbroadcast 4\nsteps\n1 0 0 send 0 7 = sent 2\n2 0 0 try-re",
+            1,
+            b"",
+            b"journal fault wrong-reply 4\n",
+        ),
+        (b"", 1, b"", b"journal fault truncated\n"),
+    ];
+    for (text, status, written, told) in cases {
+        let mut file = FailingReader::new(text, 7, None);
+        let mut out = FailingWriter::new(rt.alloc(), 64, None);
+        let mut err = FailingWriter::new(rt.alloc(), 64, None);
+        let answered = salvage_file(rt.alloc(), &mut file, &mut out, &mut err);
         assert_eq!(rt; answered, status);
         assert_eq!(rt; out.handed_on(), written);
         assert_eq!(rt; err.written(), told);

@@ -5,13 +5,14 @@ ghost use Rattle.std.specs.Io.KnownBytes.{Appends, Keeps};
 ghost use Rattle.rw_lines.specs.Writing.{WritesFront};
 ghost use Rattle.rw_law.specs.Numbers.{numbers};
 ghost use Rattle.rw_text.specs.Texts.{text};
-ghost use Rattle.rw_ttd.specs.Files.{Closes, Refuses, SaysWaiting};
+ghost use Rattle.rw_ttd.specs.Endings.{kept_line};
+ghost use Rattle.rw_ttd.specs.Files.{Closes, Refuses, SaysWaiting, TellsLine, TellsWhy};
 ghost use Rattle.rw_ttd.specs.Lines.{line_of};
 ghost use Rattle.rw_ttd.specs.Statuses.{Says};
-ghost use Rattle.rw_ttd.specs.Verbs.{Checks, DoneBy, Records, Walks};
+ghost use Rattle.rw_ttd.specs.Verbs.{Checks, DoneBy, Records, Salvages, Walks};
 
 use crate::endings::Ended;
-use crate::reading::{Refusal, read_run, read_script};
+use crate::reading::{Refusal, read_run, read_salvage, read_script};
 use crate::status::{REFUSED_INPUT, WOULD_WAIT};
 use crate::words::Verb;
 use rw_console::{Outcome, SessionFault, debug};
@@ -34,9 +35,9 @@ fn end_with<W: Write>(out: &mut W, line: &str, status: u8) -> Ended
     }
 }
 
-/// Says why nothing is made of a file. A journal text's fault is written on `out`.
-fn refuse<W: Write>(alloc: Global, out: &mut W, why: Refusal) -> Ended
-    ensures { Refuses (W.contents out.old) (W.contents out.new) (line_of result) result.status why }
+/// Tells why nothing is made of a file.
+fn tell(alloc: Global, why: Refusal) -> Ended
+    ensures { TellsWhy (line_of result) result.status why }
 {
     match why {
         Refusal::Stream(fault) => Ended::of(Err(fault)),
@@ -44,6 +45,19 @@ fn refuse<W: Write>(alloc: Global, out: &mut W, why: Refusal) -> Ended
             Ok(line) => Ended::told_by(line, REFUSED_INPUT),
             Err(_) => Ended::of(Err(SessionFault::NoMemory)),
         },
+        Refusal::Text(fault) => match format!(in alloc; "journal fault {fault}\n") {
+            Ok(line) => Ended::told_by(line, REFUSED_INPUT),
+            Err(_) => Ended::of(Err(SessionFault::NoMemory)),
+        },
+    }
+}
+
+/// Says why nothing is made of a file. A journal text's fault is written on `out`.
+fn refuse<W: Write>(alloc: Global, out: &mut W, why: Refusal) -> Ended
+    ensures { Refuses (W.contents out.old) (W.contents out.new) (line_of result) result.status why }
+{
+    match why {
+        Refusal::Stream(_) | Refusal::Script(_) => tell(alloc, why),
         Refusal::Text(fault) => match format!(in alloc; "journal fault {fault}\n") {
             Ok(line) => end_with(out, line.as_str(), REFUSED_INPUT),
             Err(_) => Ended::of(Err(SessionFault::NoMemory)),
@@ -107,6 +121,30 @@ fn check<F: Read, W: Write>(alloc: Global, file: &mut F, out: &mut W) -> Ended
     }
 }
 
+/// Says how many bytes of a text were kept.
+fn say_kept(alloc: Global, count: u64) -> Ended
+    ensures { TellsLine (line_of result) result.status (kept_line count) 0 }
+{
+    match format!(in alloc; "kept {count} bytes\n") {
+        Ok(line) => Ended::told_by(line, 0),
+        Err(_) => Ended::of(Err(SessionFault::NoMemory)),
+    }
+}
+
+/// Writes the journal text of the whole lines of a file, a journal text that may have been cut off.
+fn salvage<F: Read, W: Write>(alloc: Global, file: &mut F, out: &mut W) -> Ended
+    ensures { Salvages (F.remaining file.old) (F.remaining file.new) (W.contents out.old) (W.contents out.new) (line_of result) result.status }
+{
+    let (run, count) = match read_salvage(alloc, file) {
+        Ok(salvaged) => salvaged,
+        Err(why) => return tell(alloc, why),
+    };
+    match write_journal(&run, out) {
+        Ok(()) => say_kept(alloc, count),
+        Err(fault) => Ended::of(Err(fault)),
+    }
+}
+
 /// Reads the journal text in a file, and then commands over its run, and writes what they ask for.
 fn walk<F: Read, R: Read, W: Write>(
     alloc: Global,
@@ -142,6 +180,7 @@ pub fn over_file<F: Read, R: Read, W: Write>(
         Verb::Record => record(alloc, file, out),
         Verb::Check => check(alloc, file, out),
         Verb::Debug => walk(alloc, file, input, out),
+        Verb::Salvage => salvage(alloc, file, out),
     }
 }
 
@@ -190,5 +229,21 @@ pub fn debug_file<F: Read, R: Read, W: Write, E: Write>(
         (W.contents out.old) (W.contents out.new) line result }
 {
     let ended = walk(alloc, file, input, out);
+    ended.finish(err)
+}
+
+/// Writes the journal text of the whole lines of a file, a journal text that may have been cut off. How many bytes those have,
+/// or the text's fault, is told on `err`.
+pub fn salvage_file<F: Read, W: Write, E: Write>(
+    alloc: Global,
+    file: &mut F,
+    out: &mut W,
+    err: &mut E,
+) -> u8
+    ensures known { result ≤ 5 }
+    ensures salvages { (line : List ℕ) × Says (E.contents err.old) (E.contents err.new) line
+        × Salvages (F.remaining file.old) (F.remaining file.new) (W.contents out.old) (W.contents out.new) line result }
+{
+    let ended = salvage(alloc, file, out);
     ended.finish(err)
 }

@@ -1,9 +1,10 @@
 //! The program `ttd`: sessions with the time-travel debugger of channels.
 //!
 //! `ttd session` runs a session on standard input and output, `ttd record FILE` writes the journal of a script, `ttd check FILE`
-//! judges a journal, and `ttd debug FILE` takes commands over one. The one contract is that of `session_on` and of the three
-//! functions over files: what they write, what they tell on the stream for errors and the exit status are those of the bytes
-//! that they read. For a session `rw_console`'s `specs/SessionReport.antt` says which, for a file `specs/Endings.antt`.
+//! judges a journal, `ttd debug FILE` takes commands over one, and `ttd salvage FILE` writes what one that was cut off still
+//! holds. The one contract is that of `session_on` and of the four functions over files: what they write, what they tell on the
+//! stream for errors and the exit status are those of the bytes that they read. For a session `rw_console`'s
+//! `specs/SessionReport.antt` says which, for a file `specs/Endings.antt`.
 //! Start reading at `program.rt`, and go on with `files.rt`.
 #![tactic(auto)]
 

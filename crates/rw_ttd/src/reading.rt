@@ -5,7 +5,8 @@ ghost use Rattle.rw_law.specs.Numbers.{numbers};
 ghost use Rattle.rw_lines.specs.Lines.{lines};
 ghost use Rattle.rw_script.specs.Script.{script_in};
 ghost use Rattle.rw_text.specs.Reading.{reading_of};
-ghost use Rattle.rw_ttd.specs.Contents.{HasNoRun, HasNoScript, HasRun, HasScript, IsNoRun, IsNoScript};
+ghost use Rattle.rw_text.specs.Salvaging.{salvage_of};
+ghost use Rattle.rw_ttd.specs.Contents.{HasNoScript, HasNoText, HasScript, HasText, IsNoScript, IsNoText};
 
 use crate::inputs::read_whole;
 use rw_console::SessionFault;
@@ -43,10 +44,22 @@ fn script_of(alloc: Global, bytes: &[u8]) -> Result<Script, Refusal>
 /// The run whose journal text these bytes are.
 fn run_of(alloc: Global, bytes: &[u8]) -> Result<Run<u64>, Refusal>
     ensures run { IfOk result (λ run. reading_of numbers bytes.now ≡ Ok run) }
-    ensures refused { IfErr result (λ why. IsNoRun bytes.now why) }
+    ensures refused { IfErr result (λ why. IsNoText (reading_of numbers) bytes.now why) }
 {
     match rw_text::read(alloc, bytes) {
         Ok(run) => Ok(run),
+        Err(TextFault::NoMemory) => Err(Refusal::Stream(SessionFault::NoMemory)),
+        Err(fault) => Err(Refusal::Text(fault)),
+    }
+}
+
+/// The run of the whole lines of these bytes, and how many bytes those have.
+fn salvage_of(alloc: Global, bytes: &[u8]) -> Result<(Run<u64>, u64), Refusal>
+    ensures held { IfOk result (λ p. salvage_of numbers bytes.now ≡ Ok p) }
+    ensures refused { IfErr result (λ why. IsNoText (salvage_of numbers) bytes.now why) }
+{
+    match rw_text::salvage(alloc, bytes) {
+        Ok(salvaged) => Ok(salvaged),
         Err(TextFault::NoMemory) => Err(Refusal::Stream(SessionFault::NoMemory)),
         Err(fault) => Err(Refusal::Text(fault)),
     }
@@ -65,11 +78,22 @@ pub fn read_script<F: Read>(alloc: Global, file: &mut F) -> Result<Script, Refus
 
 /// The run whose journal text a file is.
 pub fn read_run<F: Read>(alloc: Global, file: &mut F) -> Result<Run<u64>, Refusal>
-    ensures run { IfOk result (λ run. HasRun (F.remaining file.old) (F.remaining file.new) run) }
-    ensures refused { IfErr result (λ why. HasNoRun (F.remaining file.old) (F.remaining file.new) why) }
+    ensures run { IfOk result (λ run. HasText (reading_of numbers) (F.remaining file.old) (F.remaining file.new) run) }
+    ensures refused { IfErr result (λ why. HasNoText (reading_of numbers) (F.remaining file.old) (F.remaining file.new) why) }
 {
     match read_whole(alloc, file) {
         Ok(bytes) => run_of(alloc, &bytes),
+        Err(fault) => Err(Refusal::Stream(fault)),
+    }
+}
+
+/// The run of the whole lines of a file, a journal text that may have been cut off, and how many bytes those have.
+pub fn read_salvage<F: Read>(alloc: Global, file: &mut F) -> Result<(Run<u64>, u64), Refusal>
+    ensures held { IfOk result (λ p. HasText (salvage_of numbers) (F.remaining file.old) (F.remaining file.new) p) }
+    ensures refused { IfErr result (λ why. HasNoText (salvage_of numbers) (F.remaining file.old) (F.remaining file.new) why) }
+{
+    match read_whole(alloc, file) {
+        Ok(bytes) => salvage_of(alloc, &bytes),
         Err(fault) => Err(Refusal::Stream(fault)),
     }
 }

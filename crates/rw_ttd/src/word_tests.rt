@@ -18,7 +18,7 @@ fn words_of(alloc: Global, texts: &[&str]) -> Result<Vec<String>, Fail> {
 
 #[test]
 fn words_are_taken(rt: HostRuntime) -> Result<(), Fail> {
-    let cases: [(&[&str], Asked<'static>); 5] = [
+    let cases: [(&[&str], Asked<'static>); 6] = [
         (&["ttd", "session"], Asked::Session),
         (
             &["/bin/other", "record", "a b"],
@@ -29,6 +29,7 @@ fn words_are_taken(rt: HostRuntime) -> Result<(), Fail> {
             &["ttd", "debug", "../y.txt"],
             Asked::Over(Verb::Debug, "../y.txt"),
         ),
+        (&["ttd", "salvage", "x"], Asked::Over(Verb::Salvage, "x")),
         // Behind two dashes a word is a path, whatever it begins with.
         (
             &["ttd", "check", "--", "--help"],
@@ -58,7 +59,7 @@ type Case = (
 #[test]
 fn each_word_leads_to_its_function(rt: HostRuntime) -> Result<(), Fail> {
     let alloc = rt.alloc();
-    let cases: [Case; 6] = [
+    let cases: [Case; 7] = [
         (
             &["ttd", "session"],
             b"",
@@ -84,6 +85,14 @@ fn each_word_leads_to_its_function(rt: HostRuntime) -> Result<(), Fail> {
             0,
             b"#3 3 0 0 drop 0 = dropped\n",
             b"",
+        ),
+        (
+            &["ttd", "salvage", "f"],
+            JOURNAL,
+            b"",
+            0,
+            JOURNAL,
+            b"kept 110 bytes\n",
         ),
         (
             &["ttd", "debug", "f"],
@@ -128,7 +137,7 @@ fn unknown_subcommands_are_told(rt: HostRuntime) -> Result<(), Fail> {
     let cases: [(&[&str], &str); 4] = [
         (
             &["ttd"],
-            "error: 'ttd' requires a subcommand but one was not provided\n  [subcommands: session, record, check, debug, help]\n\nUsage: ttd <COMMAND>\n",
+            "error: 'ttd' requires a subcommand but one was not provided\n  [subcommands: session, record, check, debug, salvage, help]\n\nUsage: ttd <COMMAND>\n",
         ),
         (
             &["ttd", "walk"],
@@ -139,8 +148,8 @@ fn unknown_subcommands_are_told(rt: HostRuntime) -> Result<(), Fail> {
             "error: unexpected argument '--version' found\n\nUsage: ttd <COMMAND>\n",
         ),
         (
-            &["ttd", "salvage", "a"],
-            "error: unrecognized subcommand 'salvage'\n\nUsage: ttd <COMMAND>\n",
+            &["ttd", "rescue", "a"],
+            "error: unrecognized subcommand 'rescue'\n\nUsage: ttd <COMMAND>\n",
         ),
     ];
     for (texts, told) in cases {
@@ -187,7 +196,7 @@ fn help_shows_the_subcommands(rt: HostRuntime) -> Result<(), Fail> {
     assert_eq!(rt; ended.status(), 2);
     assert_eq!(rt;
         ended.line(),
-        "Time-travel debugger of broadcast and watch channels\n\nUsage: ttd <COMMAND>\n\nCommands:\n  session  Read a script and then commands over its run, from standard input\n  record   Run the script in FILE and write its journal\n  check    Judge the journal in FILE\n  debug    Read commands over the journal in FILE, from standard input\n  help     Print this message or the help of the given subcommand(s)\n\nOptions:\n  -h, --help  Print help\n"
+        "Time-travel debugger of broadcast and watch channels\n\nUsage: ttd <COMMAND>\n\nCommands:\n  session  Read a script and then commands over its run, from standard input\n  record   Run the script in FILE and write its journal\n  check    Judge the journal in FILE\n  debug    Read commands over the journal in FILE, from standard input\n  salvage  Write what a journal in FILE that was cut off still holds\n  help     Print this message or the help of the given subcommand(s)\n\nOptions:\n  -h, --help  Print help\n"
     );
     Ok(())
 }

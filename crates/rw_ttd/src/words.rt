@@ -18,6 +18,7 @@ pub enum Verb {
     Record,
     Check,
     Debug,
+    Salvage,
 }
 
 /// What the words of the command line ask for.
@@ -56,6 +57,11 @@ fn command_line<'a>(alloc: Global) -> Result<Command<'a>, clap::Error> {
                 alloc,
                 "debug",
                 "Read commands over the journal in FILE, from standard input",
+            )?)?
+            .subcommand(with_file(
+                alloc,
+                "salvage",
+                "Write what a journal in FILE that was cut off still holds",
             )?)?,
     )
 }
@@ -69,6 +75,7 @@ pub fn read_words<'a>(alloc: Global, words: &'a [String]) -> Result<Asked<'a>, c
             ("record", Some(path)) => return Ok(Asked::Over(Verb::Record, path)),
             ("check", Some(path)) => return Ok(Asked::Over(Verb::Check, path)),
             ("debug", Some(path)) => return Ok(Asked::Over(Verb::Debug, path)),
+            ("salvage", Some(path)) => return Ok(Asked::Over(Verb::Salvage, path)),
             _ => {}
         }
     }

@@ -1,10 +1,11 @@
 //! The texts of faults.
 
 use rw_broadcast::{OpenFault as BroadcastOpenFault, Refusal, SendError, TryRecvError};
+use rw_desk::{DeskFault, DeskOpenFault};
 use rw_handles::HandleFault;
-use rw_journal::{PushFault, TakeFault};
+use rw_journal::{MergeFault, PushFault, TakeFault};
 use rw_law::NoMemory;
-use rw_lines::StreamFault;
+use rw_lines::{ShortWrite, StreamFault};
 use rw_navigator::OutOfRange;
 use rw_script::{RunFault, ScriptFault, ScriptFaultKind};
 use rw_text::{TextFault, WriteFault};
@@ -93,9 +94,33 @@ fn faults_of_books_and_runs(rt: HostRuntime) -> Result<(), Fail> {
     ];
     say(&rt, rt.alloc(), &openings)?;
     say(&rt, rt.alloc(), &takes)?;
+    let merges = [
+        (
+            MergeFault::OutOfOrder(1, 0),
+            "entry 0 of channel 1 is out of order",
+        ),
+        (MergeFault::NoMemory, "no memory"),
+    ];
     say(&rt, rt.alloc(), &pushes)?;
+    say(&rt, rt.alloc(), &merges)?;
     say(&rt, rt.alloc(), &[(RunFault::NoMemory, "no memory")])?;
     say(&rt, rt.alloc(), &[(OutOfRange, "out of range")])
+}
+
+#[test]
+fn faults_of_desks(rt: HostRuntime) -> Result<(), Fail> {
+    let calls = [
+        (DeskFault::NoChannel, "no such channel"),
+        (DeskFault::JournalFull, "journal full"),
+        (DeskFault::NoMemory, "no memory"),
+        (DeskFault::Waits, "would wait"),
+    ];
+    let openings = [
+        (DeskOpenFault::BadActors, "bad number of actors"),
+        (DeskOpenFault::World(OpenFault::NoChannels), "no channels"),
+    ];
+    say(&rt, rt.alloc(), &calls)?;
+    say(&rt, rt.alloc(), &openings)
 }
 
 #[test]
@@ -124,6 +149,11 @@ fn faults_of_texts(rt: HostRuntime) -> Result<(), Fail> {
         kind: ScriptFaultKind::BadArguments,
     };
     say(&rt, rt.alloc(), &streams)?;
+    say(
+        &rt,
+        rt.alloc(),
+        &[(ShortWrite { written: 3 }, "write fault after 3 bytes")],
+    )?;
     say(&rt, rt.alloc(), &words)?;
     say(&rt, rt.alloc(), &texts)?;
     say(&rt, rt.alloc(), &[(script, "script fault 2 bad-arguments")])?;

@@ -5,7 +5,8 @@ use rw_devices::FailingWriter;
 use rw_text::WriteFault;
 use std::test::Fail;
 
-const SMALL: &[u8] =
+/// The text of three entries.
+pub const SMALL: &[u8] =
     b"ttd-journal 1\nbroadcast 4\nsteps\n1 0 0 send 0 7 = sent 1\n2 0 0 try-recv 1 = value 7\n3 0 0 drop 0 = dropped\nend\n";
 
 /// Two channels, with most of the words.

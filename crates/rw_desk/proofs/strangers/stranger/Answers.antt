@@ -1,0 +1,31 @@
+use Rattle.std.proofs.Common.{◌∙◌, below_more, refl, sym, ap, subst, arith}
+use Rattle.std.proofs.lemmas.List.{take_all}
+use Rattle.rw_desk.specs.Closing.{IsStranger, passes_of}
+use Rattle.rw_desk.proofs.Passing.{passes_here, passes_more}
+use Rattle.rw_desk.proofs.strangers.stranger.Goals as goal
+
+pub loop-actor-preserved : goal.loop-actor-preserved
+loop-actor-preserved g c = below_more _ _ c.loop-actor.invariant (sym c.passes_of.ensures ∙ c.if-passes_of-ne1.false)
+
+pub loop-pass-preserved : goal.loop-pass-preserved
+loop-pass-preserved g c =
+    let p = c.pass-item.result in (
+      c.loop-pass.invariant.0,
+      λ b past. passes_more b c.loop-pass.pass-index c.args.passes.now p c.loop-pass-test.true c.pass-item.is (λ same. absurd (omega (arith, same, past, c.actor.ensures.actor, c.if-actor-actors.false))) (c.loop-pass.invariant.1 b past),
+    )
+
+pub returns-then-actor-actors-clause-some : goal.returns-then-actor-actors-clause-some
+returns-then-actor-actors-clause-some g c =
+    let p = c.pass-item.result in
+    let here : IsStranger c.args.actors c.args.passes.now p.actor = record {
+      least = λ b below less. c.loop-pass.invariant.0 b below;
+      actor = λ below. absurd (omega (arith, below, c.actor.ensures.actor, c.if-actor-actors.true));
+      number = λ past. passes_here p.actor c.loop-pass.pass-index c.args.passes.now p c.loop-pass-test.true c.pass-item.is refl;
+    } in
+    subst (IsStranger c.args.actors c.args.passes.now) (sym c.actor-then-actor-actors.ensures.actor) here
+
+pub returns-clause-none : goal.returns-clause-none
+returns-clause-none g c = record {
+  once = c.loop-pass.invariant.0;
+  others = λ a past. ap (passes_of a) (sym (take_all c.loop-pass.pass-index c.args.passes.now (omega arith))) ∙ c.loop-pass.invariant.1 a past;
+}

@@ -1,0 +1,70 @@
+//! The call that stores what a closure makes of a value.
+
+ghost use Rattle.std.specs.Prelude.{◌≡◌, Bool};
+ghost use Rattle.std.specs.Fn.{FnOnceReturnsAtMut};
+ghost use Rattle.rw_world.specs.Kinds.{kind_of, watch};
+ghost use Rattle.rw_world.specs.Machines.{of_chan};
+ghost use Rattle.rw_desk.specs.Modifying.{IsModification};
+
+use rw_handles::Kind;
+use rw_watch::WCall;
+use rw_world::Chan;
+
+/// What a closure answers that has changed a value: whether the receivers are told of it. One that answers nothing tells them.
+pub trait Told {
+    /// Whether they are told.
+    ghost tells: { Self → Bool };
+
+    fn is_told(self) -> bool
+        ensures { result ≡ tells self };
+}
+
+impl Told for bool {
+    ghost tells = { λ told. told };
+
+    fn is_told(self) -> bool {
+        self
+    }
+}
+
+impl Told for () {
+    ghost use Rattle.std.specs.Prelude.{true};
+
+    ghost tells = { λ nothing. true };
+
+    fn is_told(self) -> bool {
+        true
+    }
+}
+
+/// The call of this sender that stores what f makes of the value of a watch. Where the handle isn't a live sender's, f isn't
+/// called, and the call holds the value as it is.
+pub(crate) fn modification<V: Copy, T: Told, F: FnOnce(&mut V) -> T>(
+    channel: &Chan<V>,
+    sender: u32,
+    f: F,
+) -> WCall<V>
+    requires f { F.IsAlwaysCallable f }
+    requires watch { kind_of ((of_chan {V = V}).shown channel.now) ≡ watch }
+    ensures { IsModification (λ v told w. (t : T) × FnOnceReturnsAtMut F.FnOnce f v t w × (told ≡ T.tells t)) ((of_chan {V = V}).shown channel.now) sender result }
+{
+    let Chan::Watch(channel) = channel else {
+        unreachable!()
+    };
+    match channel.kind(sender) {
+        Some(Kind::Sender) => {
+            let mut value = channel.value();
+            let told = f(&mut value).is_told();
+            WCall::Modify {
+                told,
+                handle: sender,
+                value,
+            }
+        }
+        _ => WCall::Modify {
+            told: false,
+            handle: sender,
+            value: channel.value(),
+        },
+    }
+}

@@ -1,0 +1,109 @@
+//! The receipts of all passes beside one run, followed in one walk.
+
+ghost use Rattle.std.specs.Prelude.{◌≡◌, ◌↔◌, ◌+◌, ◌<◌, ◌≤◌, Some, ℕ, get_or, length, replicate, set, slice_get, IfNone, IfSome, IsTrue, MatchBool};
+ghost use Rattle.rw_law.specs.declared.limits.TheConstants.{MOST_ACTORS};
+ghost use Rattle.rw_desk.specs.Closing.{IsStray, receipts_of};
+ghost use Rattle.rw_desk.specs.Settling.{receipt_of};
+ghost use Rattle.rw_desk.specs.Straying.{AreAllTheirs, AreAt, StraysAt};
+
+use crate::kept::Kept;
+use crate::pass::Pass;
+use crate::settling::is_next;
+use rw_journal::Run;
+use rw_law::{Entry, MOST_ACTORS, Payload};
+use rw_world::World;
+
+/// The least actor that was seen to stray, or the number past all actors, and the first place at which it does.
+#[derive(Clone, Copy)]
+struct Front {
+    actor: u32,
+    place: usize,
+}
+
+/// The receipts of an actor's first pass; a number without a pass has none.
+fn receipts_of<V: Copy>(passes: &[Pass<V>], actor: u32) -> &[Kept<V>]
+    ensures { result.now ≡ receipts_of actor passes.now }
+{
+    for pass in passes {
+        if pass.actor() == actor {
+            return pass.kept();
+        }
+    }
+    &[]
+}
+
+/// Moves the place of the entry's actor on, if its next receipt is the entry's.
+fn follow<V: Payload>(passes: &[Pass<V>], places: &mut [usize], entry: &Entry<World<V>>) -> bool
+    requires { entry.now.actor < length places.old }
+    ensures same { IsTrue result ↔ (slice_get (receipts_of entry.now.actor passes.now) (get_or places.old entry.now.actor 0) ≡ Some (receipt_of entry.now)) }
+    ensures places { MatchBool result (places.new ≡ set places.old entry.now.actor (get_or places.old entry.now.actor 0 + 1)) (places.new ≡ places.old) }
+{
+    let actor = entry.actor as usize;
+    let place = places[actor];
+    if !is_next(receipts_of(passes, entry.actor), place, entry) {
+        return false;
+    }
+    places[actor] = place + 1;
+    true
+}
+
+/// Follows the receipts of all actors. One that strays is left where it does, with all greater ones.
+fn follow_all<V: Payload>(
+    passes: &[Pass<V>],
+    entries: &[Entry<World<V>>],
+    places: &mut [usize],
+) -> Front
+    requires places { places.old ≡ replicate 64 0 }
+    ensures places { length places.new ≡ MOST_ACTORS }
+    ensures few { result.actor ≤ MOST_ACTORS }
+    ensures at { AreAt passes.now entries.now places.new result.actor }
+    ensures strays { StraysAt passes.now entries.now result }
+{
+    let mut front = Front {
+        actor: MOST_ACTORS,
+        place: 0,
+    };
+    for entry in entries {
+        if entry.actor < front.actor && !follow(passes, places, entry) {
+            front = Front {
+                actor: entry.actor,
+                place: places[entry.actor as usize],
+            };
+        }
+    }
+    front
+}
+
+/// The least actor below a bound who has a receipt at its place.
+fn first_left<V: Copy>(passes: &[Pass<V>], places: &[usize], bound: u32) -> Option<u32>
+    requires { bound ≤ length places.now }
+    ensures none { IfNone result ((a : ℕ) → a < bound → length (receipts_of a passes.now) ≤ get_or places.now a 0) }
+    ensures some { IfSome result (λ a. (a < bound) × (get_or places.now a 0 < length (receipts_of a passes.now))) }
+    ensures least { IfSome result (λ a. (b : ℕ) → b < a → length (receipts_of b passes.now) ≤ get_or places.now b 0) }
+{
+    for actor in 0..bound {
+        if places[actor as usize] < receipts_of(passes, actor).len() {
+            return Some(actor);
+        }
+    }
+    None
+}
+
+/// The least actor whose receipts aren't its entries, and the first place at which they differ.
+pub(crate) fn strayed<V: Payload>(
+    entries: &[Entry<World<V>>],
+    passes: &[Pass<V>],
+) -> Option<(u32, u64)>
+    ensures none { IfNone result (AreAllTheirs passes.now entries.now) }
+    ensures some { IfSome result (λ r. IsStray passes.now entries.now r.0 r.1) }
+{
+    let mut places = [0usize; 64];
+    let front = follow_all(passes, entries, &mut places);
+    if let Some(actor) = first_left(passes, &places, front.actor) {
+        return Some((actor, places[actor as usize] as u64));
+    }
+    if front.actor < MOST_ACTORS {
+        return Some((front.actor, front.place as u64));
+    }
+    None
+}

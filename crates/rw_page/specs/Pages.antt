@@ -1,0 +1,26 @@
+-- What a page is shown.
+use Rattle.std.specs.Prelude.{◌≡◌, ◌≤◌, ◌<◌, ℕ, List, ◌++◌, Result, Ok, Err, codes, length, take}
+use Rattle.rw_console.specs.Report.{commands_report}
+use Rattle.rw_journal.specs.Run.{Run}
+use Rattle.rw_law.specs.Numbers.{numbers}
+use Rattle.rw_navigator.specs.Places.{last_place}
+use Rattle.rw_text.specs.declared.faults.TextFault.{TextFault}
+use Rattle.rw_text.specs.Faults.{fault_text}
+use Rattle.rw_text.specs.Reading.{reading_of}
+
+-- what the commands write over a run, or a journal text's first fault
+abbrev pub shown : Result (Run ℕ) TextFault → List ℕ → List ℕ
+shown (Ok run) commands = commands_report run (last_place run) commands
+shown (Err fault) commands = codes "journal fault " ++ fault_text fault ++ codes "\n"
+
+-- what the commands write over the run whose journal text the first bytes are
+abbrev pub page_of : List ℕ → List ℕ → List ℕ
+page_of journal commands = shown (reading_of numbers journal) commands
+
+-- this text stands at the front of a buffer
+abbrev pub Holds : List ℕ → ℕ → List ℕ → Type 0
+Holds buffer count text = (count ≤ length buffer) × (take count buffer ≡ text)
+
+-- a buffer is too small for this text, whose length is known
+abbrev pub Lacks : List ℕ → ℕ → List ℕ → Type 0
+Lacks buffer count text = (count ≡ length text) × (length buffer < count)

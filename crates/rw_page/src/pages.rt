@@ -1,0 +1,63 @@
+//! The debugger over bytes in memory.
+
+ghost use Rattle.std.specs.Prelude.{◌≡◌, ◌≤◌, IfOk};
+ghost use Rattle.rw_console.specs.SessionReport.{report};
+ghost use Rattle.rw_page.specs.Pages.{Holds, Lacks, page_of};
+
+use rw_console::{SessionFault, debug, session};
+use rw_text::TextFault;
+use std::alloc::Global;
+
+/// What the commands write over the run of a journal text, or that text's first fault.
+pub fn debug_page(alloc: Global, journal: &[u8], commands: &[u8]) -> Result<Vec<u8>, SessionFault>
+    ensures { IfOk result (λ text. text.items ≡ page_of journal.now commands.now) }
+{
+    let run = match rw_text::read(alloc, journal) {
+        Ok(run) => run,
+        Err(TextFault::NoMemory) => return Err(SessionFault::NoMemory),
+        Err(fault) => {
+            let Ok(line) = format!(in alloc; "journal fault {fault}\n") else {
+                return Err(SessionFault::NoMemory);
+            };
+            return Ok(line.into_bytes());
+        }
+    };
+    let mut text = Vec::new(alloc);
+    let mut input = commands;
+    debug(alloc, &run, &mut input, &mut text)?;
+    Ok(text)
+}
+
+/// What a session writes.
+pub fn session_page(alloc: Global, bytes: &[u8]) -> Result<Vec<u8>, SessionFault>
+    ensures { IfOk result (λ text. text.items ≡ report bytes.now) }
+{
+    let mut text = Vec::new(alloc);
+    let mut input = bytes;
+    session(alloc, &mut input, &mut text)?;
+    Ok(text)
+}
+
+/// The text stands in the buffer.
+const ANSWERED: u8 = 0;
+
+/// The buffer is too small for the text.
+const TOO_SMALL: u8 = 1;
+
+/// There is no text.
+pub const NO_ANSWER: u8 = 2;
+
+/// Copies a text to the front of a buffer, where it has room, and answers whether it had.
+pub fn hand_over(text: &Vec<u8>, out: &mut [u8], count: &mut u64) -> u8
+    ensures known { result ≤ 1 }
+    ensures answer { result ≡ 0 → Holds out.new count.new text.now.items }
+    ensures room { result ≡ 1 → Lacks out.new count.new text.now.items }
+{
+    let size = text.len();
+    *count = size as u64;
+    if size > out.len() {
+        return TOO_SMALL;
+    }
+    out[..size].copy_from_slice(text.as_slice());
+    ANSWERED
+}

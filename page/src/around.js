@@ -1,0 +1,22 @@
+// The calls around the place, as a list to go by.
+
+import { coloured, element } from "./dom.js";
+import { actorColour } from "./palette.js";
+import { shortLine } from "./sentence.js";
+
+const BEFORE = 6;
+const SHOWN = 14;
+
+export function callsAround(run, place) {
+  const first = Math.max(1, Math.min(place - BEFORE, run.lastPlace - SHOWN + 1));
+  const width = String(run.lastPlace).length;
+  const lines = [];
+  for (let number = first; number <= Math.min(run.lastPlace, first + SHOWN - 1); number++) {
+    const entry = run.entry(number);
+    const line = element("button", { "data-place": number, class: entry.reply, tabindex: -1 },
+      coloured(actorColour(entry.actor), "● "), `${String(number).padStart(width)}  ${shortLine(entry)}`);
+    if (number === place) line.setAttribute("aria-current", "step");
+    lines.push(element("li", {}, line));
+  }
+  return lines;
+}

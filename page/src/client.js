@@ -1,0 +1,27 @@
+// The page's end of the debugger: each request is a promise of its answer.
+
+export class Client {
+  constructor(workerText, moduleBytes) {
+    this.waiting = new Map();
+    this.count = 0;
+    this.worker = new Worker(URL.createObjectURL(new Blob([workerText], { type: "text/javascript" })));
+    this.worker.onmessage = ({ data }) => this.settle(data);
+    this.worker.onerror = ({ message }) => this.waiting.forEach(({ reject }) => reject(new Error(message)));
+    this.started = this.request("start", moduleBytes);
+  }
+
+  settle({ number, answer, fault }) {
+    const { resolve, reject } = this.waiting.get(number);
+    this.waiting.delete(number);
+    if (fault === undefined) resolve(answer);
+    else reject(new Error(fault));
+  }
+
+  request(request, ...values) {
+    return new Promise((resolve, reject) => {
+      const number = ++this.count;
+      this.waiting.set(number, { resolve, reject });
+      this.worker.postMessage({ number, request, values });
+    });
+  }
+}

@@ -1,0 +1,80 @@
+// The proved debugger: the two exports of its module, over bytes that go in and out through the module's memory.
+
+const ANSWERED = 0;
+const TOO_SMALL = 1;
+const FIRST_ROOM = 1 << 20;
+const COUNT_SIZE = 8;
+
+export class Debugger {
+  constructor(bytes) {
+    this.module = new WebAssembly.Module(bytes);
+    this.start();
+  }
+
+  // What the commands write over a journal text.
+  debug(journal, commands) {
+    return this.call("ttd_debug", [journal, commands]);
+  }
+
+  // What a script, a line `---` and commands write.
+  session(input) {
+    return this.call("ttd_session", [input]);
+  }
+
+  // A trap leaves the memory half written: whatever fails, the next call meets a fresh instance.
+  call(name, inputs) {
+    try {
+      return this.answer(this.exports[name], inputs);
+    } catch (error) {
+      this.start();
+      throw error;
+    }
+  }
+
+  start() {
+    this.exports = new WebAssembly.Instance(this.module).exports;
+    this.countAt = this.take(COUNT_SIZE);
+    this.room = FIRST_ROOM;
+    this.roomAt = this.take(this.room);
+  }
+
+  answer(ask, inputs) {
+    const slices = inputs.flatMap(bytes => [this.put(bytes), BigInt(bytes.length)]);
+    const tried = () => ask(...slices, this.roomAt, BigInt(this.room), this.countAt);
+    let status = tried();
+    if (status === TOO_SMALL) {
+      this.widen(this.count());
+      status = tried();
+    }
+    for (let i = 0; i < slices.length; i += 2) this.exports.host_free(slices[i]);
+    if (status !== ANSWERED) throw new Error("no memory");
+    return this.view(this.roomAt, this.count()).slice();
+  }
+
+  // The memory is another buffer after it has grown, so a view serves at once or never.
+  view(at, size) {
+    return new Uint8Array(this.exports.memory.buffer, Number(at), size);
+  }
+
+  count() {
+    return Number(new DataView(this.exports.memory.buffer).getBigUint64(Number(this.countAt), true));
+  }
+
+  put(bytes) {
+    const at = this.take(bytes.length);
+    this.view(at, bytes.length).set(bytes);
+    return at;
+  }
+
+  widen(size) {
+    this.exports.host_free(this.roomAt);
+    this.room = size;
+    this.roomAt = this.take(size);
+  }
+
+  take(size) {
+    const at = this.exports.host_alloc(BigInt(size));
+    if (at === 0n) throw new Error("no memory");
+    return at;
+  }
+}

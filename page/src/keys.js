@@ -1,0 +1,39 @@
+// The keys, and what each does.
+
+import { element } from "./dom.js";
+
+const FAR = 10;
+
+// Each key with its names for people, what it does in words, and the move.
+const KEYS = [
+  { keys: ["ArrowRight"], shown: "→, with Shift ten", does: "next place", move: (walk, far) => walk.by(far ? FAR : 1) },
+  { keys: ["ArrowLeft"], shown: "←, with Shift ten", does: "place before", move: (walk, far) => walk.by(far ? -FAR : -1) },
+  { keys: ["Home"], shown: "Home", does: "the start", move: walk => walk.to(0) },
+  { keys: ["End"], shown: "End", does: "the end", move: walk => walk.toEnd() },
+  { keys: ["l", "L"], shown: "L, with Shift back", does: "next place where a receiver is told that it lagged", move: (walk, back) => walk.toLag(back) },
+  { keys: ["PageDown"], shown: "Page Down", does: "the places behind those in view", move: walk => walk.turn(1) },
+  { keys: ["PageUp"], shown: "Page Up", does: "the places before those in view", move: walk => walk.turn(-1) },
+  { keys: ["+", "="], shown: "+", does: "nearer", move: walk => walk.zoom(0.5) },
+  { keys: ["-"], shown: "−", does: "farther", move: walk => walk.zoom(2) },
+  { keys: ["0"], shown: "0", does: "the whole run", move: walk => walk.whole() },
+  { keys: ["/"], shown: "/", does: "into the field for a stop; Enter there seeks on, with Shift back", move: walk => walk.ask() },
+];
+
+function isTyping(target) {
+  return target.tagName === "INPUT" && target.type !== "range";
+}
+
+// `page.walk` is the walk over what is opened, if anything is.
+export function listenToKeys(page) {
+  document.addEventListener("keydown", event => {
+    if (event.ctrlKey || event.metaKey || event.altKey || isTyping(event.target)) return;
+    const found = KEYS.find(({ keys }) => keys.includes(event.key));
+    if (!found || !page.walk) return;
+    event.preventDefault();
+    found.move(page.walk, event.shiftKey);
+  });
+}
+
+export function keyRows() {
+  return KEYS.map(({ shown, does }) => element("div", {}, element("dt", {}, element("kbd", {}, shown)), element("dd", {}, does)));
+}

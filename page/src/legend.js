@@ -1,0 +1,51 @@
+// The legend: what colours and shapes mean.
+
+import { cleared, hatched } from "./canvas.js";
+import { coloured, element } from "./dom.js";
+import { actorColour } from "./palette.js";
+import { SHAPES } from "./shapes.js";
+
+const SIZE = 14;
+
+const SHAPE_MEANINGS = {
+  sent: "sent", unsent: "nobody to send to", received: "received or seen", asked: "nothing there, or only asked", made: "a handle made",
+  dropped: "dropped", closed: "told: closed", refused: "refused",
+};
+
+function swatch(draw) {
+  const canvas = element("canvas", { "aria-hidden": "true" });
+  canvas.style.width = `${SIZE}px`;
+  draw(cleared(canvas, SIZE, SIZE));
+  return canvas;
+}
+
+function colourSwatch(colour) {
+  return swatch(pen => {
+    pen.fillStyle = colour;
+    pen.fillRect(0, 2, SIZE, SIZE - 4);
+  });
+}
+
+function shapeSwatch(palette, shape) {
+  return swatch(pen => {
+    pen.fillStyle = pen.strokeStyle = palette.ink;
+    pen.lineWidth = 1.6;
+    SHAPES[shape](pen, SIZE / 2, SIZE / 2, 4.6);
+  });
+}
+
+function item(picture, text) {
+  return element("li", {}, picture, ` ${text}`);
+}
+
+export function legend(run, palette) {
+  const items = [];
+  for (let actor = 0; actor < run.actorCount; actor++) {
+    items.push(item(coloured(actorColour(actor), "●"), run.names.actor(actor)));
+  }
+  items.push(item(colourSwatch(palette.unread), "unread"), item(colourSwatch(palette.lag), "overwritten before it was read"));
+  items.push(item(element("span", { class: "flag" }, "lost 2"), "the receiver is told"), item(colourSwatch(palette.unseen), "value not seen"));
+  items.push(item(swatch(pen => hatched(pen, palette, 0, 1, SIZE, SIZE - 2)), "channel closed"));
+  for (const [shape, meaning] of Object.entries(SHAPE_MEANINGS)) items.push(item(shapeSwatch(palette, shape), meaning));
+  return items;
+}

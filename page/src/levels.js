@@ -1,0 +1,78 @@
+// Draws how receivers stand: what each has still to read, and what was overwritten before it read it.
+
+import { line } from "./canvas.js";
+import { NUMBERS } from "./palette.js";
+
+const FULL = 0.72;
+const LEAST_LAG = 4;
+const UNSEEN_HEIGHT = 15;
+const ABOVE_ROW = 6;
+
+function standsSame(a, b) {
+  return a.unread === b.unread && a.lag === b.lag && a.seen === b.seen;
+}
+
+// Joins neighbouring places at which a receiver stands the same, and shows each such stretch once, with the place behind it.
+function eachStretch(places, stride, receiversAt, show) {
+  const open = new Map();
+  for (const place of places) {
+    for (const receiver of receiversAt(place)) {
+      const stretch = open.get(receiver.handle);
+      if (stretch && standsSame(stretch.receiver, receiver)) {
+        stretch.end = place + stride;
+      } else {
+        if (stretch) show(stretch);
+        open.set(receiver.handle, { receiver, from: place, end: place + stride });
+      }
+    }
+  }
+  for (const stretch of open.values()) show(stretch);
+}
+
+// Of a broadcast: blue is what a receiver can still read, red on top of it what it has lost without being told yet.
+function drawUnread({ pen, palette }, row, receiver, capacity, x, width) {
+  const most = (row.height - 16) * FULL;
+  const readable = most * (receiver.unread - receiver.lag) / capacity;
+  pen.fillStyle = palette.unread;
+  pen.fillRect(x, row.base - readable, width, readable);
+  if (receiver.lag === 0) return;
+  const lost = Math.max(LEAST_LAG, Math.min(row.height - 16 - readable + ABOVE_ROW, most * receiver.lag / capacity));
+  pen.fillStyle = palette.lag;
+  pen.fillRect(x, row.base - readable - lost, width, lost);
+}
+
+function drawUnseen({ pen, palette }, row, x, width) {
+  pen.fillStyle = palette.unseen;
+  pen.fillRect(x, row.base - UNSEEN_HEIGHT, width, UNSEEN_HEIGHT);
+}
+
+export function drawLevels(drawing) {
+  const { run, view, frame, places, band } = drawing;
+  const { kind, capacity } = run.channels[band.channel];
+  eachStretch(places, view.stride, place => run.state(place).channels[band.channel].receivers, ({ receiver, from, end }) => {
+    const row = band.rowOf.get(receiver.handle);
+    if (row === undefined) return;
+    const x = Math.round(frame.x(from));
+    const width = Math.round(Math.min(frame.right, frame.x(Math.min(end, run.lastPlace + 1)))) - x;
+    if (kind === "broadcast") drawUnread(drawing, row, receiver, capacity, x, width);
+    else if (!receiver.seen) drawUnseen(drawing, row, x, width);
+  });
+}
+
+// Of a watch: its value, where it changes.
+export function drawValues({ pen, run, frame, places, band, palette }) {
+  if (run.channels[band.channel].kind !== "watch" || !frame.isNear) return;
+  pen.font = NUMBERS;
+  pen.textAlign = "left";
+  pen.fillStyle = pen.strokeStyle = palette["unseen-ink"];
+  pen.lineWidth = 1;
+  let shown = null;
+  for (const place of places) {
+    const { value } = run.state(place).channels[band.channel];
+    if (value === shown) continue;
+    shown = value;
+    const x = frame.x(place);
+    pen.fillText(`= ${run.names.value(band.channel, value)}`, x + 3, band.head + 16);
+    line(pen, x, band.head + 9, x, band.head + 23);
+  }
+}

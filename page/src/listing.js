@@ -1,0 +1,42 @@
+// The console's `list` in columns, for a picture of very many entries: each column is an array by the entry's number, from 1 on.
+// `starts` says where in the listing an entry's line begins, and where the next one would.
+
+import { MARK_NAMES, markOf } from "./marks.js";
+import { Scanner } from "./scanner.js";
+
+const EQUALS = 61;
+const LINE_END = 10;
+
+function emptyColumns(count) {
+  return {
+    starts: new Uint32Array(count + 2), actors: new Uint8Array(count + 1), channels: new Uint8Array(count + 1),
+    handles: new Uint32Array(count + 1), marks: new Uint8Array(count + 1),
+  };
+}
+
+// Tells `lives` of each handle that is made or dropped.
+export function readListing(bytes, text, count, lives) {
+  const columns = emptyColumns(count);
+  const scanner = new Scanner(bytes, text);
+  for (let number = 1; number <= count; number++) {
+    columns.starts[number] = scanner.at;
+    scanner.skip(1);
+    scanner.number();
+    scanner.number();
+    columns.actors[number] = scanner.number();
+    const channel = scanner.number();
+    const word = scanner.word();
+    const handle = scanner.number();
+    scanner.goBehind(EQUALS);
+    scanner.skip(1);
+    const reply = scanner.word();
+    columns.channels[number] = channel;
+    columns.handles[number] = handle;
+    columns.marks[number] = MARK_NAMES.indexOf(markOf(word, reply));
+    if (reply === "new") lives.begin(channel, scanner.number(), word, number);
+    if (reply === "dropped") lives.end(channel, handle, number);
+    scanner.goBehind(LINE_END);
+  }
+  columns.starts[count + 1] = scanner.at;
+  return columns;
+}

@@ -1,0 +1,44 @@
+// Opens a run by the debugger's own answers: whether it is refused, how many places it has, what happened in it.
+
+import { readListing } from "./listing.js";
+import { Lives } from "./lives.js";
+import { readState } from "./states.js";
+
+const LINE_END = 10;
+const FAULT = /^(journal|script) fault (.*)$/;
+const WAITS = /^would wait (\d+)$/;
+const PLACE = /^place 0 of (\d+)$/;
+
+// Takes line by line from the front of some bytes.
+class Front {
+  constructor(bytes) {
+    this.rest = bytes;
+  }
+
+  line() {
+    const end = this.rest.indexOf(LINE_END);
+    const line = new TextDecoder().decode(this.rest.subarray(0, end));
+    this.rest = this.rest.subarray(end + 1);
+    return line;
+  }
+}
+
+// `ask` gives the bytes that commands write, with a heading before them where a call of the script would wait.
+export function openRun(ask) {
+  const front = new Front(ask("goto 0\nstate json\nlist\n"));
+  const first = front.line();
+  const fault = FAULT.exec(first);
+  if (fault) return { fault: { of: fault[1], text: fault[2] }, heading: "" };
+  const waits = WAITS.exec(first);
+  const lastPlace = Number(PLACE.exec(waits ? front.line() : first)[1]);
+  const opening = readState(front.line());
+  const lives = new Lives(opening, lastPlace);
+  const listing = new TextDecoder().decode(front.rest);
+  const columns = readListing(front.rest, listing, lastPlace, lives);
+  return {
+    lastPlace, opening, listing, columns,
+    lives: lives.channels.map(handles => [...handles.values()]),
+    heading: waits ? `${first}\n` : "",
+    waitingLine: waits && Number(waits[1]),
+  };
+}

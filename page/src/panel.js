@@ -1,0 +1,61 @@
+// The state at the place, channel by channel, as text.
+
+import { kindOf } from "./band.js";
+import { element } from "./dom.js";
+
+function heading(name, channel) {
+  const word = channel.closed ? "closed" : "open";
+  return element("h3", {}, name, element("small", {}, ` ${kindOf(channel)} `), element("span", { class: `tag ${word}` }, word));
+}
+
+// A retained value, and under it the receivers that read it next.
+function valueBox(text, readers) {
+  const marks = readers.map(receiver => element("span", { class: receiver.lag ? "reader lag" : "reader" }, `↑ ${receiver.handle}`));
+  return element("li", {}, element("span", { class: "box" }, text), ...marks);
+}
+
+// The newest of the retained values, and how many there are before them.
+function retained(channel, index, names) {
+  if (channel.retained === 0) return element("p", { class: "mute" }, "nothing sent yet");
+  const oldest = channel.sent - channel.retained;
+  const hidden = channel.retained - channel.window.length;
+  const boxes = channel.window.map((value, i) => {
+    const position = oldest + hidden + i;
+    const readers = channel.receivers.filter(receiver => receiver.unread > 0 && Math.max(receiver.position, oldest) === position);
+    return valueBox(names.value(index, value), readers);
+  });
+  if (hidden) boxes.unshift(element("li", {}, element("span", { class: "box older" }, `+${hidden}`)));
+  return element("ol", { class: "values", "aria-label": "retained values, the oldest first" }, ...boxes);
+}
+
+function standing(channel, receiver) {
+  if (channel.kind === "watch") {
+    return receiver.seen ? ["has seen it"] : [element("strong", { class: "unseen" }, "has not seen it")];
+  }
+  if (receiver.unread === 0) return ["up to date"];
+  const readable = `${receiver.unread - receiver.lag} to read`;
+  if (receiver.lag === 0) return [readable];
+  return [`${readable}, `, element("strong", { class: "lag" }, `${receiver.lag} overwritten`)];
+}
+
+function row(name, ...children) {
+  return element("div", {}, element("dt", {}, name), element("dd", {}, ...children));
+}
+
+function handles(channel) {
+  const rows = channel.receivers.map(receiver => row(`receiver ${receiver.handle}`, ...standing(channel, receiver)));
+  rows.push(row("senders", channel.senders.join(", ") || "none"));
+  if (channel.weak) rows.push(row("weak senders", channel.weak.join(", ")));
+  return element("dl", {}, ...rows);
+}
+
+function currentValue(channel, index, names) {
+  return element("p", {}, element("span", { class: "box" }, names.value(index, channel.value)), ` version ${channel.version}`);
+}
+
+export function statePanel(state, names) {
+  return state.channels.map((channel, index) => element("section", {},
+    heading(names.channel(index), channel),
+    channel.kind === "watch" ? currentValue(channel, index, names) : retained(channel, index, names),
+    handles(channel)));
+}

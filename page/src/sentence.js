@@ -1,0 +1,41 @@
+// The call that led to a place, in words.
+
+import { coloured, element } from "./dom.js";
+import { countOf } from "./numbers.js";
+import { actorColour } from "./palette.js";
+
+// What a reply means, where its word alone may not say it.
+function meaning(entry, names) {
+  if (entry.reply === "lagged") {
+    const lost = countOf(Number(entry.answer), "value was", "values were");
+    return element("strong", { class: "lag" }, ` (${lost} overwritten before handle ${entry.handle} read them)`);
+  }
+  if (entry.reply === "closed") return element("span", { class: "unseen" }, " (no sender is left and nothing more will come)");
+  if (entry.reply !== "value") return "";
+  const text = names.value(entry.channel, entry.answer);
+  return text === entry.answer ? "" : ` (${text})`;
+}
+
+function callText(entry) {
+  return [entry.word, entry.handle, entry.rest].filter(part => part !== "").join(" ");
+}
+
+function replyText(entry) {
+  return [entry.reply, entry.answer].filter(part => part !== "").join(" ");
+}
+
+export function sentence(entry, names) {
+  return [
+    coloured(actorColour(entry.actor), `● ${names.actor(entry.actor)}`), ` on ${names.channel(entry.channel)}: `,
+    element("b", {}, callText(entry)), " → ", element("b", { class: entry.reply }, replyText(entry)), meaning(entry, names),
+  ];
+}
+
+export function atTheStart() {
+  return [element("span", { class: "mute" }, "the start: no call has been made")];
+}
+
+// The same in one short line, for a list.
+export function shortLine(entry) {
+  return `${entry.channel}: ${callText(entry)} → ${replyText(entry)}`;
+}

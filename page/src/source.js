@@ -1,0 +1,35 @@
+// What is opened: a journal text or a script, and how the debugger is asked about it.
+
+const JOURNAL_BEGINS = "ttd-journal";
+const LINE_END = 10;
+
+function isJournal(bytes) {
+  return new TextDecoder().decode(bytes.subarray(0, JOURNAL_BEGINS.length)) === JOURNAL_BEGINS;
+}
+
+// The script's bytes before its line `---`, with their last line ended.
+function scriptPart(bytes) {
+  let start = 0;
+  while (start < bytes.length) {
+    const found = bytes.indexOf(LINE_END, start);
+    const end = found < 0 ? bytes.length : found;
+    if (end === start + 3 && bytes.subarray(start, end).every(byte => byte === 45)) return bytes.subarray(0, start);
+    start = end + 1;
+  }
+  return start > bytes.length ? joined(bytes, Uint8Array.of(LINE_END)) : bytes;
+}
+
+function joined(front, back) {
+  const whole = new Uint8Array(front.length + back.length);
+  whole.set(front);
+  whole.set(back, front.length);
+  return whole;
+}
+
+// A function from commands to the bytes that they write over what is opened.
+export function questions(engine, bytes) {
+  const encoder = new TextEncoder();
+  if (isJournal(bytes)) return commands => engine.debug(bytes, encoder.encode(commands));
+  const script = joined(scriptPart(bytes), encoder.encode("---\n"));
+  return commands => engine.session(joined(script, encoder.encode(commands)));
+}

@@ -1,0 +1,32 @@
+// States at places, as the console's `state json` writes them. Of the values that a broadcast retains only the newest are kept:
+// there may be 65,536 of them, at each of very many places.
+
+export const NEWEST = 16;
+const MOST_VALUES = 1 << 20;
+
+function kept(state) {
+  for (const channel of state.channels) {
+    if (channel.kind === "watch") continue;
+    channel.retained = channel.window.length;
+    channel.window = channel.window.slice(-NEWEST);
+  }
+  return state;
+}
+
+export function readState(line) {
+  return kept(JSON.parse(line));
+}
+
+// How many places are asked for at a time, so that an answer stays small.
+export function placesAtATime(channels) {
+  const capacity = channels.reduce((sum, channel) => sum + (channel.capacity ?? 1), 0);
+  return Math.max(1, Math.floor(MOST_VALUES / capacity));
+}
+
+export function commandsFor(places) {
+  return places.map(place => `goto ${place}\nstate json\n`).join("");
+}
+
+export function readStates(text) {
+  return text.split("\n").filter(line => line.startsWith("{")).map(readState);
+}

@@ -1,0 +1,31 @@
+// Stops: the console's own search for a condition, from a place on.
+
+const HIT = /^hit (\d+) of/;
+
+// Asks for the nearest hit, by `rback` or `rforward`. Gives what the console answers, and the place of the hit, if there is one.
+export async function seek(run, place, word, condition) {
+  const lines = (await run.ask(`goto ${place}\n${word} ${condition}\n`)).trimEnd().split("\n");
+  const answer = lines.at(-1);
+  const hit = HIT.exec(answer);
+  return { answer, place: hit && Number(hit[1]) };
+}
+
+// Conditions that a state offers, each with what it asks for in words.
+export function conditionsAt(state, run) {
+  const { names } = run;
+  const offers = [
+    ["reply lagged", "a receiver is told that it has lost values"],
+    ["reply closed", "a receiver is told that the channel is closed"],
+  ];
+  state.channels.forEach((channel, index) => {
+    const name = names.channel(index);
+    for (const { handle } of channel.receivers) {
+      if (channel.kind === "broadcast") offers.push([`lagging ${index} ${handle}`, `receiver ${handle} of ${name} begins to lag`]);
+      else offers.push([`unseen ${index} ${handle}`, `receiver ${handle} of ${name} has a value that it hasn't seen`]);
+    }
+    offers.push([`closed ${index}`, `${name} is closed`]);
+    if (channel.kind === "broadcast") offers.push([`queue ${index} ${channel.capacity}`, `${name} is full`]);
+  });
+  for (let actor = 0; actor < run.actorCount; actor++) offers.push([`actor ${actor}`, `a call of ${names.actor(actor)}`]);
+  return offers;
+}

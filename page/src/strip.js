@@ -1,0 +1,101 @@
+// The strip of the whole run: where each channel's receivers fell behind and lost values, and which part is in view.
+
+import { fitted, hatched } from "./canvas.js";
+import { LAGGED } from "./marks.js";
+import { SMALL } from "./palette.js";
+
+const MOST_SAMPLES = 600;
+const ROW = 24;
+const BAR = 20;
+const TOP = 10;
+const MANY_PLACES = 2000;
+
+export function stripHeight(run) {
+  return TOP + run.channels.length * ROW + 6;
+}
+
+function summaryOf(channel) {
+  if (channel.kind === "watch") {
+    return { closed: channel.closed, unseen: channel.receivers.some(receiver => !receiver.seen) };
+  }
+  const shares = channel.receivers.map(receiver => (receiver.unread - receiver.lag) / channel.capacity);
+  return {
+    closed: channel.closed, unread: shares.reduce((most, share) => Math.max(most, share), 0),
+    lagging: channel.receivers.some(receiver => receiver.lag > 0),
+  };
+}
+
+// How the channels stand at up to 600 places of the run.
+export async function sample(run) {
+  const stride = Math.max(1, Math.ceil(run.lastPlace / MOST_SAMPLES));
+  const places = Array.from({ length: Math.floor(run.lastPlace / stride) + 1 }, (_, i) => i * stride);
+  const states = await run.statesAt(places);
+  return { stride, rows: states.map(state => ({ place: state.place, channels: state.channels.map(summaryOf) })) };
+}
+
+function drawSummary({ pen, palette }, summary, x, y, width) {
+  if (summary.closed) hatched(pen, palette, x, y, width, BAR);
+  if (summary.unread) {
+    pen.fillStyle = palette.unread;
+    pen.fillRect(x, y + BAR - 12 * summary.unread, width, 12 * summary.unread);
+  }
+  if (summary.lagging) {
+    pen.fillStyle = palette["lag-pale"];
+    pen.fillRect(x, y, width, 7);
+  }
+  if (summary.unseen) {
+    pen.fillStyle = palette.unseen;
+    pen.fillRect(x, y + 9, width, 11);
+  }
+}
+
+// Each reply `lagged`, exactly.
+function drawLags({ pen, run, frame, palette }, channel, y) {
+  const { marks, channels } = run.columns;
+  pen.fillStyle = palette.lag;
+  pen.globalAlpha = run.lastPlace > MANY_PLACES ? 0.45 : 1;
+  for (let place = 1; place <= run.lastPlace; place++) {
+    if (marks[place] === LAGGED && channels[place] === channel) pen.fillRect(frame.middle(place) - 0.7, y, 1.4, BAR);
+  }
+  pen.globalAlpha = 1;
+}
+
+function drawSamples(drawing, channel, y) {
+  const { frame, samples } = drawing;
+  const width = Math.max(1, samples.stride * frame.column) + 0.4;
+  for (const { place, channels } of samples.rows) {
+    const x = frame.x(place);
+    drawSummary(drawing, channels[channel], x, y, Math.min(width, frame.right - x));
+  }
+}
+
+// `drawing` has the pen, the run, a frame over all of it, the palette, and the samples, once they are there.
+export function drawStrip(drawing) {
+  const { pen, run, frame, palette, samples } = drawing;
+  pen.font = SMALL;
+  run.channels.forEach((_, channel) => {
+    const y = TOP + channel * ROW;
+    pen.textAlign = "right";
+    pen.fillStyle = palette.mute;
+    pen.fillText(fitted(pen, run.names.channel(channel), frame.left - 20), frame.left - 10, y + BAR / 2);
+    pen.fillStyle = palette.line;
+    pen.fillRect(frame.left, y, frame.right - frame.left, BAR);
+    if (samples) drawSamples(drawing, channel, y);
+    drawLags(drawing, channel, y);
+  });
+}
+
+// The part in view, and the place.
+export function drawStripCursor({ pen, view, frame, palette, height }) {
+  const x = frame.x(view.from);
+  const width = Math.max(frame.x(view.to + 1) - x, 3);
+  pen.globalAlpha = 0.1;
+  pen.fillStyle = palette.frame;
+  pen.fillRect(x, 4, width, height - 8);
+  pen.globalAlpha = 1;
+  pen.strokeStyle = palette.frame;
+  pen.lineWidth = 1.5;
+  pen.strokeRect(x, 4, width, height - 8);
+  pen.fillStyle = palette["place-line"];
+  pen.fillRect(frame.middle(view.place) - 1, 2, 2, height - 4);
+}

@@ -1,0 +1,76 @@
+// Which places are in view, and which of them is the place. A run that ends in a call that would wait has one more column.
+
+import { gutterOf } from "./frame.js";
+
+const FEWEST = 12;
+const MOST_DRAWN = 1500;
+const GOOD_COLUMN = 14;
+const MOST_AT_FIRST = 64;
+
+// How many columns are well seen side by side.
+export function columnsThatFit(width) {
+  return Math.max(FEWEST, Math.min(MOST_AT_FIRST, Math.floor((width - gutterOf(width)) / GOOD_COLUMN)));
+}
+
+function within(least, number, most) {
+  return Math.max(least, Math.min(most, number));
+}
+
+export class View {
+  constructor(lastPlace, lastColumn, width) {
+    this.lastPlace = lastPlace;
+    this.lastColumn = lastColumn;
+    this.place = 0;
+    this.from = 0;
+    this.to = Math.min(lastColumn, width);
+  }
+
+  get width() {
+    return this.to - this.from;
+  }
+
+  // Goes to a place, which is brought into view.
+  go(place) {
+    this.place = within(0, place, this.lastPlace);
+    if (this.place < this.from || this.place > this.to) this.centre(this.place);
+  }
+
+  centre(column) {
+    this.show(Math.round(column - this.width / 2), this.width);
+  }
+
+  // Has this many columns in view, from this one on, as far as there are so many.
+  show(from, width) {
+    const most = within(Math.min(FEWEST, this.lastColumn), width, this.lastColumn);
+    this.from = within(0, from, this.lastColumn - most);
+    this.to = this.from + most;
+  }
+
+  scroll(columns) {
+    this.show(this.from + columns, this.width);
+  }
+
+  // The place stays where it is in the picture, if it is in view.
+  zoom(factor) {
+    const width = Math.round(this.width * factor);
+    const fixed = within(this.from, this.place, this.to);
+    const share = this.width ? (fixed - this.from) / this.width : 0;
+    this.show(Math.round(fixed - width * share), width);
+  }
+
+  whole() {
+    this.show(0, this.lastColumn);
+  }
+
+  // Of very many places in view every so many are drawn.
+  get stride() {
+    return Math.max(1, Math.ceil(this.width / MOST_DRAWN));
+  }
+
+  drawnPlaces() {
+    const places = [];
+    const first = Math.ceil(this.from / this.stride) * this.stride;
+    for (let place = first; place <= Math.min(this.to, this.lastPlace); place += this.stride) places.push(place);
+    return places;
+  }
+}

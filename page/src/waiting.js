@@ -1,0 +1,36 @@
+// The call that would wait: the script's line, who makes it, and a mark behind the last place.
+
+import { flag, line } from "./canvas.js";
+
+const STEP = /^(\d+) (\d+) ([a-z-]+) (\S+)/;
+
+// The handle that a step names: by its number, or by the name that an earlier step gave to the one that it made. Each of the
+// earlier steps is an entry.
+function handleOf(word, steps, run) {
+  const binding = steps.findIndex(step => step.endsWith(` as ${word}`));
+  return Number(binding < 0 ? word : run.entry(binding + 1).answer);
+}
+
+// What the script says in this line, the first being 1.
+export function waitingCall(bytes, lineNumber, run) {
+  const lines = new TextDecoder().decode(bytes).split("\n").slice(0, lineNumber);
+  const steps = lines.filter(text => STEP.test(text));
+  const text = steps.pop();
+  const [, actor, channel, word, handle] = STEP.exec(text);
+  return { line: lineNumber, text, actor: Number(actor), channel: Number(channel), word, handle: handleOf(handle, steps, run) };
+}
+
+export function drawWaiting({ pen, run, view, frame, layout, palette }) {
+  const column = run.lastPlace + 1;
+  if (view.to < column) return;
+  const { actor, channel, word, handle } = run.waiting;
+  const row = layout.bands[channel].rowOf.get(handle);
+  const x = frame.middle(column);
+  const foot = row ? row.base : layout.bands[channel].head;
+  pen.strokeStyle = palette.actor(actor);
+  pen.lineWidth = 1.6;
+  pen.setLineDash([2, 3]);
+  line(pen, x, layout.actorY(actor), x, foot);
+  pen.setLineDash([]);
+  flag(pen, `${word} would wait`, { x, y: foot - 15, colour: palette.actor(actor), ink: palette.card, least: frame.left, most: frame.right });
+}

@@ -1,0 +1,34 @@
+// The debugger beside the page's own thread: requests come as messages, and each is answered by one.
+
+import { Debugger } from "./debugger.js";
+import { openRun } from "./opening.js";
+import { questions } from "./source.js";
+
+let engine = null;
+let ask = null;
+let heading = "";
+
+const text = bytes => new TextDecoder().decode(bytes);
+
+const requests = {
+  start(module) {
+    engine = new Debugger(module);
+  },
+  open(bytes) {
+    ask = questions(engine, bytes);
+    const opened = openRun(ask);
+    heading = opened.heading;
+    return opened;
+  },
+  ask: commands => text(ask(commands)).slice(heading.length),
+  debug: (journal, commands) => text(engine.debug(journal, commands)),
+  session: input => text(engine.session(input)),
+};
+
+self.onmessage = ({ data: { number, request, values } }) => {
+  try {
+    self.postMessage({ number, answer: requests[request](...values) });
+  } catch (error) {
+    self.postMessage({ number, fault: error.message });
+  }
+};

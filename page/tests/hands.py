@@ -1,0 +1,168 @@
+"""Keys, mouse, stops and files in the real browser, each compared with what the program answers."""
+import json
+import os
+
+import native
+import opening
+from opening import check_place
+
+GUTTER, MARGIN = 140, 14
+
+
+def column_x(tab, box, column, columns):
+    """Where a column stands in a drawing of so many."""
+    left, top, width, height = tab.box(box)
+    return left + GUTTER + (column + 0.5) * (width - GUTTER - MARGIN) / columns, top
+
+
+def keys(tab, folder, journals):
+    """Each key goes where the console goes."""
+    opening.load(tab, opening.page_of(folder, "keys.journal", journals[63]))
+    ask = opening.asker(journals[63])
+    check_place(tab, ask, 0)
+    for pressed, shift, place in (("ArrowRight", False, 1), ("ArrowRight", True, 11), ("ArrowLeft", False, 10), ("End", False, 63),
+                                  ("ArrowRight", False, 63), ("ArrowLeft", True, 53), ("Home", False, 0), ("ArrowLeft", False, 0)):
+        tab.key(pressed, shift)
+        check_place(tab, ask, place)
+
+
+def lag_keys(tab, folder, journals):
+    """L and Shift L go to the places where a receiver is told that it lagged, and say where there is none."""
+    opening.load(tab, opening.page_of(folder, "lags.journal", journals[63]))
+    ask, place = opening.asker(journals[63]), 0
+    for shift in [False] * 4 + [True] * 3:
+        tab.key("L" if shift else "l", shift)
+        answer = ask(f"goto {place}\n{'rback' if shift else 'rforward'} reply lagged\n").rstrip("\n").split("\n")[-1]
+        tab.wait(f"document.getElementById('found').textContent === {json.dumps(answer)}")
+        place = int(answer.split(" ")[1]) if answer.startswith("hit") else place
+        check_place(tab, ask, place)
+        tab.run("void (document.getElementById('found').textContent = '')")
+
+
+def stops(tab, folder, journals):
+    """Stops are the console's own conditions, with its answers, faults among them."""
+    opening.load(tab, opening.page_of(folder, "stops.journal", journals[63]))
+    ask, place = opening.asker(journals[63]), 0
+    for word, condition in (("rforward", "lagging 0 2"), ("rforward", "lagging 0 2"), ("rback", "actor 2"), ("rforward", "closed 1"),
+                            ("rback", "unseen 1 2"), ("rforward", "queue 0 4"), ("rforward", "reply nonsense"), ("rback", "sideways"),
+                            ("rback", "closed 0"), ("rforward", "lagging 99999999999999999999 1")):
+        tab.run("document.getElementById('condition').select()")
+        tab.type(condition)
+        tab.key("Enter", shift=word == "rback")
+        answer = ask(f"goto {place}\n{word} {condition}\n").rstrip("\n").split("\n")[-1]
+        tab.wait(f"document.getElementById('found').textContent === {json.dumps(answer)}")
+        place = int(answer.split(" ")[1]) if answer.startswith("hit") else place
+        check_place(tab, ask, place)
+
+
+def buttons(tab, folder, journals):
+    """Buttons, chips, the list of calls and the slider."""
+    opening.load(tab, opening.page_of(folder, "buttons.journal", journals[63]))
+    ask = opening.asker(journals[63])
+    for name, place in (("#forward", 1), ("#forward", 2), ("#back", 1), ("#last", 63), ("#first", 0), ("#lag-after", 23),
+                        ("#lag-after", 33), ("#lag-before", 23), ("#chips [data-condition='closed 0']", 52), ("#calls [data-place='50']", 50)):
+        tab.click(name)
+        check_place(tab, ask, place)
+    tab.run("(() => { const slider = document.getElementById('slider'); slider.value = 12; slider.dispatchEvent(new Event('input')); })()")
+    check_place(tab, ask, 12)
+
+
+def mouse(tab, folder, journals):
+    """Clicks and drags on the picture and the strip, and the wheel."""
+    opening.load(tab, opening.page_of(folder, "mouse.journal", journals[63]))
+    ask = opening.asker(journals[63])
+    for column in (7, 60, 31):
+        x, top = column_x(tab, "#picture-box", column, 64)
+        tab.click_at(x, top + 60)
+        check_place(tab, ask, column)
+    x, top = column_x(tab, "#picture-box", 10, 64)
+    tab.drag(x, top + 60, column_x(tab, "#picture-box", 44, 64)[0], top + 60)
+    check_place(tab, ask, 44)
+    tab.key("+")
+    tab.wait("document.getElementById('picture').getAttribute('aria-label').includes('from place')")
+    x, top = column_x(tab, "#strip-box", 20, 64)
+    tab.click_at(x, top + 20)
+    check_place(tab, ask, 20)
+    before = tab.run("document.getElementById('picture').getAttribute('aria-label')")
+    tab.mouse("mouseWheel", x, top + 20, deltaX=0, deltaY=200)
+    tab.wait(f"document.getElementById('picture').getAttribute('aria-label') !== {json.dumps(before)}")
+    check_place(tab, ask, 20)
+
+
+def drops(tab, folder, journals):
+    """A journal, then a script, then a spoiled journal is dropped on the page."""
+    tab.load(os.path.join(native.TOP, "page", "yovanelum.html"))
+    tab.wait("window.ttd")
+    journal = opening.put(folder, "dropped.journal", journals[63])
+    tab.drop(journal)
+    opening.settle(tab)
+    tab.key("End")
+    check_place(tab, opening.asker(journals[63]), 63)
+    script = b"broadcast 2\n0 0 send 0 9\n0 0 send 0 10\n0 0 send 0 11\n0 0 recv 1\n---\nback\n"
+    tab.drop(opening.put(folder, "dropped.ttd", script))
+    tab.wait("document.getElementById('facts').textContent.startsWith('dropped.ttd · 4 calls')")
+    ask = script_asker(script)
+    tab.key("End")
+    check_place(tab, ask, 4)
+    tab.drop(opening.put(folder, "spoiled.journal", journals[63].replace(b"= lagged 2", b"= lagged 3")))
+    tab.wait("!document.getElementById('refusal').hidden")
+
+
+def script_asker(script):
+    """The program's answers to commands behind a script, but for the line that says that it would wait."""
+    def ask(commands):
+        answer = native.session(script.partition(b"---\n")[0] + b"---\n" + commands.encode()).decode()
+        return answer.partition("\n")[2] if answer.startswith("would wait") else answer
+    return ask
+
+
+def waiting_script(tab, folder, journals):
+    """A script whose last call would wait: the page says so, and walks the calls before it."""
+    script = b"broadcast 2\nactors 2\n1 0 subscribe 0 as slow\n0 0 send 0 5\n1 0 recv slow\n1 0 recv slow\n0 0 send 0 6\n"
+    opening.load(tab, opening.page_of(folder, "waits.ttd", script))
+    assert native.session(script).startswith(b"would wait 6"), "the program says another line"
+    assert tab.text("facts") == "waits.ttd · 3 calls · 1 channel · 2 actors · line 6 would wait: 1 0 recv slow", tab.text("facts")
+    ask = script_asker(script)
+    for place in (0, 1, 2, 3):
+        check_place(tab, ask, place)
+        tab.key("ArrowRight")
+    check_place(tab, ask, 3)
+
+
+def refused(tab, folder, text, wanted):
+    """A refused text is shown with its fault, and the line that is at fault is marked among those around it."""
+    tab.load(opening.page_of(folder, "refused", text))
+    tab.wait("!document.getElementById('refusal').hidden")
+    fault, line = wanted
+    assert tab.run("document.querySelector('#refusal .fault').textContent") == fault
+    marked = tab.run("[...document.querySelectorAll('#refusal [aria-current]')].map(it => it.value + ' ' + it.textContent)")
+    content = text.split(b"\n")[line - 1].decode(errors="replace")[:256]
+    assert marked == [f"{line} {content}"], marked
+
+
+def refusals(tab, folder, journals):
+    """Refused journals and scripts, by the program's own fault lines."""
+    journal = journals[63]
+    lag = journal[:journal.index(b"= lagged 2")].count(b"\n") + 1
+    for text in (journal.replace(b"= lagged 2", b"= lagged 3"), journal.replace(b"\n9 ", b"\n09 "), journal.replace(b"\n9 ", b"\n8 ", 1),
+                 journal.replace(b"broadcast 4", b"broadcast 65537")):
+        fault = native.debug(text, b"").decode().rstrip("\n")
+        refused(tab, folder, text, (fault, int(fault.split(" ")[3])))
+    assert native.debug(journal.replace(b"= lagged 2", b"= lagged 3"), b"").decode() == f"journal fault wrong-reply {lag}\n"
+    refused(tab, folder, journal[:-20], ("journal fault truncated", journal[:-20].count(b"\n") + 1))
+    for text in (b"broadcast 0\n", b"broadcast 4\n0 0 sing 0\n", b"broadcast 4\n0 0 send 1 <b>\n", b"x" * 300 + b"\n", b"\n"):
+        fault = native.session(text).decode().rstrip("\n")
+        line = int(fault.split(" ")[2])
+        if line <= text.count(b"\n"):
+            refused(tab, folder, text, (fault, line))
+
+
+def addresses(tab, folder, journals):
+    """A place in the address is gone to, and walking puts the place there."""
+    path, ask = opening.page_of(folder, "address.journal", journals[63]), opening.asker(journals[63])
+    opening.load(tab, path, 42)
+    check_place(tab, ask, 42)
+    tab.key("ArrowRight")
+    tab.wait("location.hash === '#place=43'")
+    tab.run("void (location.hash = '#place=7')")
+    check_place(tab, ask, 7)

@@ -1,0 +1,42 @@
+"""The program `ttd`, whose answers the page's are compared with."""
+import os
+import subprocess
+import tempfile
+from concurrent.futures import ThreadPoolExecutor
+
+TOP = os.path.dirname(os.path.dirname(os.path.dirname(os.path.realpath(__file__))))
+PROGRAM = os.path.join(TOP, "crates", "rw_ttd", "out", "rw_ttd")
+
+
+def build():
+    """The first run of the script builds the program where it must."""
+    subprocess.run([os.path.join(TOP, "ttd"), "session"], input=b"", stdout=subprocess.DEVNULL)
+
+
+def answer(words, given=b""):
+    """What the program writes."""
+    return subprocess.run([PROGRAM, *words], input=given, stdout=subprocess.PIPE, stderr=subprocess.DEVNULL, timeout=60).stdout
+
+
+def session(script):
+    return answer(["session"], script)
+
+
+def record(script):
+    with tempfile.NamedTemporaryFile() as file:
+        file.write(script)
+        file.flush()
+        return answer(["record", file.name])
+
+
+def debug(journal, commands):
+    with tempfile.NamedTemporaryFile() as file:
+        file.write(journal)
+        file.flush()
+        return answer(["debug", file.name], commands)
+
+
+def each(ask, cases):
+    """The answers to many cases, asked for side by side."""
+    with ThreadPoolExecutor(os.cpu_count()) as pool:
+        return list(pool.map(lambda case: ask(*case), cases))

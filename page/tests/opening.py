@@ -1,0 +1,83 @@
+"""Pages with a run in them, made by page/open, and what they show."""
+import json
+import os
+import subprocess
+
+import native
+
+OPEN = os.path.join(native.TOP, "page", "open")
+
+
+def put(folder, name, data):
+    path = os.path.join(folder, name)
+    with open(path, "wb") as file:
+        file.write(data)
+    return path
+
+
+def page_of(folder, name, data):
+    """The page that page/open makes of a run in this folder."""
+    made = subprocess.run([OPEN, put(folder, name, data)], stdout=subprocess.PIPE, check=True)
+    return made.stdout.decode().rstrip("\n")
+
+
+def load(tab, path, place=None):
+    tab.load(path, place)
+    settle(tab, place)
+
+
+def settle(tab, place=None):
+    """Waits until a run is shown, and the state at its place."""
+    shown = "!document.getElementById('walk').hidden && document.getElementById('state').dataset.place"
+    tab.wait(f"{shown} !== undefined" if place is None else f"{shown} === '{place}'")
+
+
+
+
+def standing(receiver):
+    """How the page says that a receiver stands."""
+    if "seen" in receiver:
+        return "has seen it" if receiver["seen"] else "has not seen it"
+    if receiver["unread"] == 0:
+        return "up to date"
+    lost = f", {receiver['lag']} overwritten" if receiver["lag"] else ""
+    return f"{receiver['unread'] - receiver['lag']} to read{lost}"
+
+
+def panel_of(state):
+    """The rows that the page shows of a state: of each channel its word, its receivers and its senders."""
+    rows = []
+    for channel in state["channels"]:
+        rows.append("closed" if channel["closed"] else "open")
+        rows += [f"receiver {it['handle']}: {standing(it)}" for it in channel["receivers"]]
+        rows.append("senders: " + (", ".join(map(str, channel["senders"])) or "none"))
+    return rows
+
+
+PANEL = """[...document.querySelectorAll('#state section')].flatMap(section => [section.querySelector('.tag').textContent,
+    ...[...section.querySelectorAll('dl div')].map(row => row.children[0].textContent + ': ' + row.children[1].textContent)])"""
+
+
+def check_place(tab, ask, place):
+    """The page stands at this place, and shows there what the program answers. `ask` gives the program's answer to commands."""
+    settle(tab, place)
+    step, state = ask(f"goto {place}\nstep\n"), ask(f"goto {place}\nstate json\n")
+    entry, count = step.split("\n")[1], json.loads(state.split("\n")[-2])["len"]
+    assert tab.text("place") == f"place {place:,} of {count:,}", tab.text("place")
+    sentence = tab.text("sentence")
+    if place == 0:
+        assert "the start" in sentence
+    else:
+        _, _, actor, channel, call = entry.split(" ", 4)
+        wanted = f"● actor {actor} on channel {channel}: {call.replace(' = ', ' → ')}"
+        assert sentence.startswith(wanted), f"{sentence!r}, not {wanted!r}"
+    shown = tab.run(PANEL)
+    assert shown == panel_of(json.loads(state.split("\n")[-2])), shown
+    told = ask(f"goto {place}\nstep\nstate\n")
+    tab.run("document.getElementById('told').open = true")
+    tab.wait(f"document.getElementById('told-text').textContent === {json.dumps(told)}")
+
+
+def asker(journal):
+    """The program's answers over a journal, as texts."""
+    return lambda commands: native.debug(journal, commands.encode()).decode()

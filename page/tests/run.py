@@ -1,0 +1,82 @@
+"""Runs the page's tests in a browser, whose program is named, all of them or those whose names follow. The last line counts them."""
+import sys
+import tempfile
+import time
+import traceback
+
+import answers
+import hands
+import native
+import rebuilt
+import runs
+import shown
+import speed
+from browser import Browser, Tab
+
+
+def bare(test):
+    """A test of the debugger alone, in the page without a run."""
+    def run(tab, folder, journals):
+        tab.load(rebuilt.PAGE)
+        tab.wait("window.ttd")
+        answers.prepare(tab, journals)
+        test(tab, journals)
+    run.__name__, run.__doc__ = test.__name__, test.__doc__
+    return run
+
+
+TESTS = [
+    shown.pictures, shown.lagging_is_red, shown.hostile_names, shown.refused_markup, shown.wrong_names, shown.spoken,
+    shown.nothing_is_loaded, hands.keys, hands.lag_keys, hands.stops, hands.buttons, hands.mouse, hands.drops, hands.waiting_script,
+    hands.refusals, hands.addresses, shown.large_runs, speed.figures,
+    bare(answers.example_sessions), bare(answers.random_commands), bare(answers.spoiled_texts),
+]
+
+
+def passes(name, run):
+    start = time.monotonic()
+    try:
+        run()
+    except Exception:
+        print(f"page {name}: failed\n{traceback.format_exc()}", flush=True)
+        return False
+    print(f"page {name}: passed, {time.monotonic() - start:.1f} s", flush=True)
+    return True
+
+
+def in_tab(test, browser, journals):
+    """Runs a test in a tab of its own, where the page may tell of no fault."""
+    tab = Tab(browser)
+    try:
+        with tempfile.TemporaryDirectory() as folder:
+            test(tab, folder, journals)
+        faults = tab.faults()
+        assert not faults, f"the page told of {faults}"
+    finally:
+        tab.close()
+
+
+def run_all(program, wanted, folder):
+    """How many tests there were, and how many passed."""
+    built = None if wanted else rebuilt.Rebuilt(folder)
+    journals = runs.journals()
+    tests = [test for test in TESTS if not wanted or test.__name__ in wanted]
+    browser = Browser(program)
+    try:
+        passed = [passes(test.__name__, lambda: in_tab(test, browser, journals)) for test in tests]
+    finally:
+        browser.close()
+    if built:
+        passed.append(passes("is what its sources make", built.is_same))
+    return len(passed), sum(passed)
+
+
+def main():
+    native.build()
+    with tempfile.TemporaryDirectory() as folder:
+        count, passed = run_all(sys.argv[1], sys.argv[2:], folder)
+    print(f"{passed} passed, {count - passed} failed")
+    sys.exit(passed < count)
+
+
+main()

@@ -1,0 +1,85 @@
+"""Runs that the tests open: scripts of random calls, the same ones each time."""
+import os
+import random
+
+import native
+
+PRELUDE = "broadcast 8\nbroadcast 64\nwatch 1\nactors 4\n"
+WATCH = 2
+
+
+class Handles:
+    """Which handles are alive on a channel, as far as a script's author has to know."""
+
+    def __init__(self):
+        self.senders, self.receivers, self.made = [0], [1], 2
+
+    def make(self, kind):
+        kind.append(self.made)
+        self.made += 1
+
+
+def drop(chance, handles):
+    handle = chance.choice(handles)
+    handles.remove(handle)
+    return f"drop {handle}"
+
+
+def broadcast_call(chance, handles, value):
+    """A call on a broadcast: mostly sends and receives, by receivers of which the last is slow."""
+    senders, receivers, turn = handles.senders, handles.receivers, chance.random()
+    if turn < 0.30:
+        return f"send {chance.choice(senders)} {value}"
+    if turn < 0.93:
+        quick = receivers[:max(1, len(receivers) - 1)] if chance.random() < 0.85 else receivers
+        return f"try-recv {chance.choice(quick)}"
+    if turn < 0.95 and len(receivers) < 5:
+        handles.make(receivers)
+        return f"subscribe {chance.choice(senders)}"
+    if turn < 0.96 and len(senders) < 3:
+        made_by = chance.choice(senders)
+        handles.make(senders)
+        return f"clone-sender {made_by}"
+    if turn < 0.975 and len(receivers) > 1:
+        return drop(chance, receivers)
+    if turn < 0.98 and len(senders) > 1:
+        return drop(chance, senders)
+    return f"receiver-len {chance.choice(receivers)}"
+
+
+def watch_call(chance, handles, value):
+    senders, receivers, turn = handles.senders, handles.receivers, chance.random()
+    if turn < 0.3:
+        return f"send {chance.choice(senders)} {value}"
+    if turn < 0.7:
+        return f"update {chance.choice(receivers)}"
+    if turn < 0.9:
+        return f"has-changed {chance.choice(receivers)}"
+    if turn < 0.94 and len(receivers) < 4:
+        made_by = chance.choice(receivers)
+        handles.make(receivers)
+        return f"clone-receiver {made_by}"
+    if turn < 0.97 and len(receivers) > 1:
+        return drop(chance, receivers)
+    return f"borrow {chance.choice(receivers)}"
+
+
+def script(calls):
+    chance = random.Random(calls)
+    channels = [Handles(), Handles(), Handles()]
+    lines = []
+    for value in range(calls):
+        channel = chance.choices([0, 1, WATCH], [5, 3, 2])[0]
+        call = (watch_call if channel == WATCH else broadcast_call)(chance, channels[channel], value)
+        lines.append(f"{chance.randrange(4)} {channel} {call}\n")
+    return (PRELUDE + "".join(lines)).encode()
+
+
+def example():
+    with open(os.path.join(native.TOP, "examples", "price_feed.ttd"), "rb") as file:
+        return file.read()
+
+
+def journals():
+    """The journals of the three runs, by their number of calls."""
+    return {63: native.record(example()), 10_000: native.record(script(10_000)), 100_000: native.record(script(100_000))}
