@@ -3,6 +3,7 @@
 import { drawBandCalls } from "./band_calls.js";
 import { fitted, hatched, line } from "./canvas.js";
 import { drawLevels, drawValues } from "./levels.js";
+import { grouped } from "./numbers.js";
 import { BOLD, FONT, SMALL_BOLD } from "./palette.js";
 
 const FLAG_HEIGHT = 17;
@@ -83,7 +84,7 @@ function drawRowNames(drawing) {
   }
   if (band.left === 0) return;
   pen.textAlign = "left";
-  pen.fillText(`and ${band.left} more rows, not drawn`, frame.left, band.y + band.height - 9);
+  pen.fillText(`and ${grouped(band.left)} more handles, which aren't drawn`, frame.left, band.y + band.height - 9);
 }
 
 export function drawBand(drawing) {

@@ -13,14 +13,13 @@ const FAR_SENDER_ROW = 20;
 const LEAST_RECEIVER_ROW = 36;
 const MOST_RECEIVER_ROW = 58;
 const MANY_HANDLES = 14;
-const MOST_ROWS = 48;
+const MOST_ROWS = 32;
 const LABEL_WIDTH = 34;
 const LEAST_GAP = 4;
 
 const NEAR_ORDER = ["sender", "weak sender", "receiver"];
 const FAR_ORDER = NEAR_ORDER.toReversed();
 
-// The lives in view, each as what the picture says of it.
 function livesInView(lives, view) {
   return lives.filter(life => life.from <= view.to && life.to >= view.from);
 }
@@ -29,16 +28,20 @@ function ownRows(lives) {
   return lives.toSorted((a, b) => a.handle - b.handle).map(life => ({ kind: life.kind, lives: [life] }));
 }
 
-// Puts each life into the first row of its kind that is free again, with a gap between them.
-function sharedRows(lives, gap, order) {
-  const rank = life => order.indexOf(life.kind);
+// Puts each life of a kind into the first row that is free again, with a gap between them. There are only so many rows.
+function sharedRows(lives, kind, gap) {
   const rows = [];
-  for (const life of lives.toSorted((a, b) => rank(a) - rank(b) || a.from - b.from || a.handle - b.handle)) {
-    const free = rows.find(row => row.kind === life.kind && row.lives.at(-1).to + gap < life.from);
+  for (const life of lives.filter(it => it.kind === kind).sort((a, b) => a.from - b.from || a.handle - b.handle)) {
+    const free = rows.find(row => row.lives.at(-1).to + gap < life.from);
     if (free) free.lives.push(life);
-    else rows.push({ kind: life.kind, lives: [life] });
+    else if (rows.length < MOST_ROWS) rows.push({ kind, lives: [life] });
   }
   return rows;
+}
+
+function bandOf(channel, lives, rows) {
+  const drawn = rows.reduce((sum, row) => sum + row.lives.length, 0);
+  return { channel, rows, left: lives.length - drawn };
 }
 
 // Stands rows under each other, and gives where the band ends.
@@ -67,10 +70,8 @@ export function layOut(run, view, frame, room) {
   const shared = seen.reduce((sum, lives) => sum + lives.length, 0) > MANY_HANDLES;
   const gap = Math.ceil((frame.isNear ? LABEL_WIDTH : LEAST_GAP) / frame.column);
   const order = frame.isNear ? NEAR_ORDER : FAR_ORDER;
-  const bands = seen.map((lives, channel) => {
-    const rows = shared ? sharedRows(lives, gap, order) : ownRows(lives);
-    return { channel, rows: rows.slice(0, MOST_ROWS), left: Math.max(0, rows.length - MOST_ROWS) };
-  });
+  const rowsOf = lives => (shared ? order.flatMap(kind => sharedRows(lives, kind, gap)) : ownRows(lives));
+  const bands = seen.map((lives, channel) => bandOf(channel, lives, rowsOf(lives)));
   const actorY = actor => TOP + actor * ACTOR_ROW + ACTOR_ROW / 2;
   let y = TOP + run.actorCount * ACTOR_ROW + 10;
   const receiverRow = receiverHeight(room - y, bands);

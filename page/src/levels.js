@@ -13,16 +13,17 @@ function standsSame(a, b) {
 }
 
 // Joins neighbouring places at which a receiver stands the same, and shows each such stretch once, with the place behind it.
-function eachStretch(places, stride, receiversAt, show) {
+function eachStretch({ run, view, places, band }, show) {
   const open = new Map();
   for (const place of places) {
-    for (const receiver of receiversAt(place)) {
+    for (const receiver of run.state(place).channels[band.channel].receivers) {
+      if (!band.rowOf.has(receiver.handle)) continue;
       const stretch = open.get(receiver.handle);
       if (stretch && standsSame(stretch.receiver, receiver)) {
-        stretch.end = place + stride;
+        stretch.end = place + view.stride;
       } else {
         if (stretch) show(stretch);
-        open.set(receiver.handle, { receiver, from: place, end: place + stride });
+        open.set(receiver.handle, { receiver, from: place, end: place + view.stride });
       }
     }
   }
@@ -47,11 +48,10 @@ function drawUnseen({ pen, palette }, row, x, width) {
 }
 
 export function drawLevels(drawing) {
-  const { run, view, frame, places, band } = drawing;
+  const { run, frame, band } = drawing;
   const { kind, capacity } = run.channels[band.channel];
-  eachStretch(places, view.stride, place => run.state(place).channels[band.channel].receivers, ({ receiver, from, end }) => {
+  eachStretch(drawing, ({ receiver, from, end }) => {
     const row = band.rowOf.get(receiver.handle);
-    if (row === undefined) return;
     const x = Math.round(frame.x(from));
     const width = Math.round(Math.min(frame.right, frame.x(Math.min(end, run.lastPlace + 1)))) - x;
     if (kind === "broadcast") drawUnread(drawing, row, receiver, capacity, x, width);

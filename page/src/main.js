@@ -65,7 +65,17 @@ async function showRun(client, opened, { name, bytes, names }) {
   byId("legend").replaceChildren(...legend(run, screen.palette));
   page.walk = new Walk(run, view, screen, tellFault);
   page.walk.to(placeIn(location.href));
-  screen.addSamples(await sample(run));
+  addSamples(page.walk);
+}
+
+// The strip's samples come from all over the run, so they come last.
+async function addSamples(walk) {
+  try {
+    const samples = await sample(walk.run);
+    if (!walk.isLeft) walk.screen.addSamples(samples);
+  } catch (fault) {
+    tellFault(fault);
+  }
 }
 
 async function open(client, source) {

@@ -3,6 +3,8 @@
 import { kindOf } from "./band.js";
 import { element } from "./dom.js";
 
+const MOST_HANDLES = 64;
+
 function heading(name, channel) {
   const word = channel.closed ? "closed" : "open";
   return element("h3", {}, name, element("small", {}, ` ${kindOf(channel)} `), element("span", { class: `tag ${word}` }, word));
@@ -42,10 +44,18 @@ function row(name, ...children) {
   return element("div", {}, element("dt", {}, name), element("dd", {}, ...children));
 }
 
+function listed(numbers) {
+  if (numbers.length <= MOST_HANDLES) return numbers.join(", ") || "none";
+  return `${numbers.slice(0, MOST_HANDLES).join(", ")} and ${numbers.length - MOST_HANDLES} more`;
+}
+
 function handles(channel) {
-  const rows = channel.receivers.map(receiver => row(`receiver ${receiver.handle}`, ...standing(channel, receiver)));
-  rows.push(row("senders", channel.senders.join(", ") || "none"));
-  if (channel.weak) rows.push(row("weak senders", channel.weak.join(", ")));
+  const receivers = channel.receivers.slice(0, MOST_HANDLES);
+  const rows = receivers.map(receiver => row(`receiver ${receiver.handle}`, ...standing(channel, receiver)));
+  const left = channel.receivers.length - receivers.length;
+  if (left) rows.push(row("receivers", `and ${left} more`));
+  rows.push(row("senders", listed(channel.senders)));
+  if (channel.weak) rows.push(row("weak senders", listed(channel.weak)));
   return element("dl", {}, ...rows);
 }
 

@@ -55,12 +55,11 @@ function drawAxis({ pen, run, view, frame, layout, palette }) {
   }
 }
 
-// `drawing` has the pen, the run, the view, its frame and layout, and the palette.
+// `drawing` has the pen, the run, the view, its frame and layout, the places whose states are drawn, and the palette.
 export function drawPicture(drawing) {
   drawActors(drawing);
   drawActorCalls(drawing);
-  const places = drawing.view.drawnPlaces().filter(place => drawing.run.state(place));
-  for (const band of drawing.layout.bands) drawBand({ ...drawing, places, band });
+  for (const band of drawing.layout.bands) drawBand({ ...drawing, band });
   if (drawing.run.waiting) drawWaiting(drawing);
   drawAxis(drawing);
 }

@@ -1,9 +1,17 @@
 // An opened run: its entries, and the states at those places that were asked for.
 
 import { readEntry } from "./entries.js";
-import { commandsFor, placesAtATime, readStates } from "./states.js";
+import { commandsFor, readStates } from "./states.js";
 
-const MOST_STATES = 12000;
+// How long an answer may be, how much is kept of them, and what a state takes before any was seen.
+const MOST_ASKED = 8 << 20;
+const MOST_KEPT = 16 << 20;
+const SHORT_STATE = 1000;
+const VALUE = 8;
+
+function longestState(channels) {
+  return channels.reduce((length, channel) => length + VALUE * (channel.capacity ?? 1), SHORT_STATE);
+}
 
 export class Run {
   constructor(client, opened, names) {
@@ -17,6 +25,7 @@ export class Run {
     this.names = names;
     this.actorCount = this.columns.actors.reduce((most, actor) => Math.max(most, actor + 1), 1);
     this.states = new Map([[0, opened.opening]]);
+    this.stateLength = longestState(this.channels);
   }
 
   entry(number) {
@@ -37,27 +46,28 @@ export class Run {
     return places.filter(place => !this.states.has(place));
   }
 
-  // Asks for the states at these places that aren't known, at most as many as are kept.
+  // Asks for the states at these places that aren't known.
   async load(places) {
-    const wanted = this.missing(places);
-    if (wanted.length === 0) return;
-    for (const state of await this.statesAt(wanted)) this.states.set(state.place, state);
+    for (const state of await this.statesAt(this.missing(places))) this.states.set(state.place, state);
     this.forget(new Set(places));
   }
 
   // Forgets states that aren't needed, the oldest first, where there are too many.
   forget(needed) {
     for (const place of this.states.keys()) {
-      if (this.states.size <= MOST_STATES) return;
+      if (this.states.size * this.stateLength <= MOST_KEPT) return;
       if (!needed.has(place)) this.states.delete(place);
     }
   }
 
   async statesAt(places) {
     const states = [];
-    const count = placesAtATime(this.channels);
-    for (let i = 0; i < places.length; i += count) {
-      states.push(...readStates(await this.ask(commandsFor(places.slice(i, i + count)))));
+    for (let done = 0; done < places.length;) {
+      const some = places.slice(done, done + Math.ceil(MOST_ASKED / this.stateLength));
+      const text = await this.ask(commandsFor(some));
+      this.stateLength = Math.max(this.stateLength, text.length / some.length);
+      states.push(...readStates(text));
+      done += some.length;
     }
     return states;
   }

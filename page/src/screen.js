@@ -45,15 +45,16 @@ export class Screen {
     return cleared(byId(id), this.width, height);
   }
 
-  // Draws the places in view, if the picture isn't of them already.
+  // Draws the places in view whose states are known, if the picture isn't of them already.
   drawView() {
     const { run, view, palette } = this;
-    const wanted = `${view.from} ${view.to}`;
+    const places = view.drawnPlaces().filter(place => run.state(place));
+    const wanted = `${view.from} ${view.to} ${places.length}`;
     if (this.drawn === wanted) return;
     const frame = new Frame(view.from, view.to, this.width);
     const layout = layOut(run, view, frame, window.innerHeight - OTHER_ROWS);
     this.picture = { run, view, frame, layout, palette };
-    drawPicture({ ...this.picture, pen: this.pen("picture", layout.height) });
+    drawPicture({ ...this.picture, places, pen: this.pen("picture", layout.height) });
     byId("picture-box").style.height = `${layout.height}px`;
     this.drawn = wanted;
   }

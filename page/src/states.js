@@ -1,8 +1,7 @@
 // States at places, as the console's `state json` writes them. Of the values that a broadcast retains only the newest are kept:
 // there may be 65,536 of them, at each of very many places.
 
-export const NEWEST = 16;
-const MOST_VALUES = 1 << 20;
+const NEWEST = 16;
 
 function kept(state) {
   for (const channel of state.channels) {
@@ -15,12 +14,6 @@ function kept(state) {
 
 export function readState(line) {
   return kept(JSON.parse(line));
-}
-
-// How many places are asked for at a time, so that an answer stays small.
-export function placesAtATime(channels) {
-  const capacity = channels.reduce((sum, channel) => sum + (channel.capacity ?? 1), 0);
-  return Math.max(1, Math.floor(MOST_VALUES / capacity));
 }
 
 export function commandsFor(places) {

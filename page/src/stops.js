@@ -1,5 +1,6 @@
 // Stops: the console's own search for a condition, from a place on.
 
+const MOST_RECEIVERS = 16;
 const HIT = /^hit (\d+) of/;
 
 // Asks for the nearest hit, by `rback` or `rforward`. Gives what the console answers, and the place of the hit, if there is one.
@@ -19,7 +20,7 @@ export function conditionsAt(state, run) {
   ];
   state.channels.forEach((channel, index) => {
     const name = names.channel(index);
-    for (const { handle } of channel.receivers) {
+    for (const { handle } of channel.receivers.slice(0, MOST_RECEIVERS)) {
       if (channel.kind === "broadcast") offers.push([`lagging ${index} ${handle}`, `receiver ${handle} of ${name} begins to lag`]);
       else offers.push([`unseen ${index} ${handle}`, `receiver ${handle} of ${name} has a value that it hasn't seen`]);
     }

@@ -133,6 +133,28 @@ def nothing_is_loaded(tab, folder, journals):
     tab.forget()
 
 
+def quick_walking(tab, folder, journals):
+    """After quick moves the picture is the one that is drawn anew, when all its states are there."""
+    opening.load(tab, opening.page_of(folder, "quick.journal", journals[100_000]), 50_000)
+    for key in ["PageDown"] * 5 + ["-", "-", "PageUp", "-", "PageDown", "+"]:
+        tab.call("Input.dispatchKeyEvent", type="keyDown", key=key)
+    opening.settle(tab, tab.run("document.getElementById('slider').valueAsNumber"))
+    tab.run("new Promise(done => setTimeout(done, 1000))")
+    drawn = "document.getElementById('picture').toDataURL()"
+    shown = tab.run(drawn)
+    tab.run("void dispatchEvent(new Event('resize'))")
+    assert tab.run(drawn) == shown
+
+
+def many_handles(tab, folder, journals):
+    """A run with thousands of receivers alive at once opens, and says how many it leaves out."""
+    script = b"broadcast 4\n" + b"0 0 subscribe 0\n" * 3000 + b"0 0 send 0 1\n" * 9
+    opening.load(tab, opening.page_of(folder, "many.ttd", script), 3005)
+    assert "receiversand 2937 more" in tab.text("state"), tab.text("state")[:2000]
+    tab.key("0")
+    tab.wait("document.getElementById('picture').getAttribute('aria-label').includes('to 3009')")
+
+
 def large_runs(tab, folder, journals):
     """Walking and searching in the runs of 10,000 and 100,000 calls."""
     for calls in (10_000, 100_000):
