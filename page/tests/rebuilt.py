@@ -10,10 +10,10 @@ PAGE = os.path.join(native.TOP, "page", "yovanelum.html")
 class Rebuilt:
     """A build of the page, which goes on beside other tests."""
 
-    def __init__(self, folder):
+    def __init__(self, folder, *words):
         self.made = os.path.join(folder, "rebuilt.html")
-        words = [os.path.join(native.TOP, "page", "build"), self.made]
-        self.build = subprocess.Popen(words, stdout=subprocess.DEVNULL, stderr=subprocess.PIPE)
+        build = os.path.join(native.TOP, "page", "build")
+        self.build = subprocess.Popen([build, *words, self.made], stdout=subprocess.DEVNULL, stderr=subprocess.PIPE)
 
     def is_same(self):
         told = self.build.communicate()[1].decode()

@@ -75,14 +75,22 @@ def toolchain(kit, work):
     return folder
 
 
-def build_module(top, work):
-    """The module's bytes. `work` is an empty folder."""
+def are_left(top):
+    """Whether the libraries below are there as `rt ci` leaves them: without the stamps by which `rt lib` knows its own."""
+    folders = [f"{top}/crates/{name}/out/rlib" for name in below(CRATE, uses_of(top))]
+    return all(os.path.isdir(it) and not os.path.exists(f"{it}/stamp") for it in folders)
+
+
+def build_module(top, work, are_proved):
+    """The module's bytes. `work` is an empty folder. The libraries below are proved and built first, unless `rt ci` has just done
+    that: what it leaves of them suffices here, but `rt lib` would prove them all once more."""
     rt = shutil.which("rt")
     if rt is None:
         raise Refused("rt, Rattle's command, isn't on the PATH")
     kit = os.path.dirname(os.path.dirname(os.path.realpath(rt)))
     crate, archive, heap, module = f"{top}/crates/{CRATE}", f"{work}/page.a", f"{work}/heap.o", f"{work}/page.wasm"
-    run(rt, "lib", cwd=crate)
+    if not (are_proved and are_left(top)):
+        run(rt, "lib", cwd=crate)
     run(f"{kit}/bin/rattle", "build", "--crate-name", CRATE, "src/lib.rt", *library_words(top, kit),
         "--antt-project", f"{kit}/rattle/logic/antt-project.json", "--logic-built", f"{kit}/logic_built", "--jobs", "1",
         "--links", f"{CRATE}=", "--crate-type", "staticlib", "--cpu", "x86-64", "--backend", "llvm",
