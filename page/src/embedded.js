@@ -18,7 +18,8 @@ export function workerText() {
 }
 
 export function exampleRun() {
-  return { name: "an example", bytes: new TextEncoder().encode(byId("example").textContent) };
+  const bytesOf = id => new TextEncoder().encode(byId(id).textContent);
+  return { name: "an example", bytes: bytesOf("example"), names: bytesOf("example-names") };
 }
 
 // A run's file name, its bytes, and those of its file of names, if it has one; or nothing. Each stands in a line of its own.

@@ -10,7 +10,10 @@ const KEYS = [
   { keys: ["ArrowLeft"], shown: "←, with Shift ten", does: "place before", move: (walk, far) => walk.by(far ? -FAR : -1) },
   { keys: ["Home"], shown: "Home", does: "the start", move: walk => walk.to(0) },
   { keys: ["End"], shown: "End", does: "the end", move: walk => walk.toEnd() },
-  { keys: ["l", "L"], shown: "L, with Shift back", does: "next place where a receiver is told that it lagged", move: (walk, back) => walk.toLag(back) },
+  {
+    keys: ["l", "L"], shown: "L, with Shift back",
+    does: "next place where a receiver is told that it lagged", move: (walk, back) => walk.toLag(back),
+  },
   { keys: ["PageDown"], shown: "Page Down", does: "the places behind those in view", move: walk => walk.turn(1) },
   { keys: ["PageUp"], shown: "Page Up", does: "the places before those in view", move: walk => walk.turn(-1) },
   { keys: ["+", "="], shown: "+", does: "nearer", move: walk => walk.zoom(0.5) },

@@ -44,7 +44,8 @@ export function legend(run, palette) {
     items.push(item(coloured(actorColour(actor), "●"), run.names.actor(actor)));
   }
   items.push(item(colourSwatch(palette.unread), "unread"), item(colourSwatch(palette.lag), "overwritten before it was read"));
-  items.push(item(element("span", { class: "flag" }, "lost 2"), "the receiver is told"), item(colourSwatch(palette.unseen), "value not seen"));
+  items.push(item(element("span", { class: "flag" }, "lost 2"), "the receiver is told"));
+  items.push(item(colourSwatch(palette.unseen), "value not seen"));
   items.push(item(swatch(pen => hatched(pen, palette, 0, 1, SIZE, SIZE - 2)), "channel closed"));
   for (const [shape, meaning] of Object.entries(SHAPE_MEANINGS)) items.push(item(shapeSwatch(palette, shape), meaning));
   return items;

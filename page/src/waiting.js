@@ -32,5 +32,7 @@ export function drawWaiting({ pen, run, view, frame, layout, palette }) {
   pen.setLineDash([2, 3]);
   line(pen, x, layout.actorY(actor), x, foot);
   pen.setLineDash([]);
-  flag(pen, `${word} would wait`, { x, y: foot - 15, colour: palette.actor(actor), ink: palette.card, least: frame.left, most: frame.right });
+  flag(pen, `${word} would wait`, {
+    x, y: foot - 15, colour: palette.actor(actor), ink: palette.card, least: frame.left, most: frame.right,
+  });
 }

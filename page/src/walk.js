@@ -99,8 +99,9 @@ export class Walk {
     const { run, view } = this;
     const { place } = view;
     byId("sentence").replaceChildren(...(place === 0 ? atTheStart() : sentence(run.entry(place), run.names)));
+    const spoken = byId("sentence").textContent.replace("● ", "");
     byId("slider").value = place;
-    byId("slider").setAttribute("aria-valuetext", `place ${place} of ${run.lastPlace}: ${byId("sentence").textContent.replace("● ", "")}`);
+    byId("slider").setAttribute("aria-valuetext", `place ${place} of ${run.lastPlace}: ${spoken}`);
     byId("place").textContent = `place ${grouped(place)} of ${grouped(run.lastPlace)}`;
     byId("calls").replaceChildren(...callsAround(run, place));
     putIntoAddress(place);

@@ -68,7 +68,7 @@ def random_commands(tab, journals):
     """1,000 sequences of random commands over the three runs."""
     chance = random.Random(1)
     asked, native_cases = [], []
-    for calls, sequences, length in ((63, 800, 40), (10_000, 150, 40), (100_000, 50, 20)):
+    for calls, sequences, length in ((63, 870, 40), (10_000, 100, 40), (100_000, 30, 20)):
         for _ in range(sequences):
             given = commands(chance, calls, length)
             asked.append(["debug", f"run of {calls}", packed(given)])
@@ -110,11 +110,9 @@ def spoiled_texts(tab, journals):
 
 def example_sessions(tab, journals):
     """The sessions of examples/, with their own commands."""
-    folder = os.path.join(native.TOP, "examples")
     asked, wanted = [], []
-    for name in sorted(os.listdir(folder)):
-        with open(os.path.join(folder, name), "rb") as file:
-            text = file.read()
+    for name in sorted(os.listdir(os.path.join(native.TOP, "examples"))):
+        text = runs.example_file(name)
         asked.append(["session", packed(text)])
         wanted.append(native.session(text))
     compare(tab, asked, wanted)

@@ -1,12 +1,17 @@
 """Keys, mouse, stops and files in the real browser, each compared with what the program answers."""
 import json
 import os
+import subprocess
 
 import native
 import opening
+import rebuilt
 from opening import check_place
 
 GUTTER, MARGIN = 140, 14
+STOPS = [("rforward", "lagging 0 2"), ("rforward", "lagging 0 2"), ("rback", "actor 2"), ("rforward", "closed 1"),
+         ("rback", "unseen 1 2"), ("rforward", "queue 0 4"), ("rforward", "reply nonsense"), ("rback", "sideways"),
+         ("rback", "closed 0"), ("rforward", "lagging 99999999999999999999 1")]
 
 
 def column_x(tab, box, column, columns):
@@ -43,9 +48,7 @@ def stops(tab, folder, journals):
     """Stops are the console's own conditions, with its answers, faults among them."""
     opening.load(tab, opening.page_of(folder, "stops.journal", journals[63]))
     ask, place = opening.asker(journals[63]), 0
-    for word, condition in (("rforward", "lagging 0 2"), ("rforward", "lagging 0 2"), ("rback", "actor 2"), ("rforward", "closed 1"),
-                            ("rback", "unseen 1 2"), ("rforward", "queue 0 4"), ("rforward", "reply nonsense"), ("rback", "sideways"),
-                            ("rback", "closed 0"), ("rforward", "lagging 99999999999999999999 1")):
+    for word, condition in STOPS:
         tab.run("document.getElementById('condition').select()")
         tab.type(condition)
         tab.key("Enter", shift=word == "rback")
@@ -91,7 +94,7 @@ def mouse(tab, folder, journals):
 
 def drops(tab, folder, journals):
     """A journal, then a script, then a spoiled journal is dropped on the page."""
-    tab.load(os.path.join(native.TOP, "page", "yovanelum.html"))
+    tab.load(rebuilt.PAGE)
     tab.wait("window.ttd")
     journal = opening.put(folder, "dropped.journal", journals[63])
     tab.drop(journal)
@@ -155,6 +158,25 @@ def refusals(tab, folder, journals):
         line = int(fault.split(" ")[2])
         if line <= text.count(b"\n"):
             refused(tab, folder, text, (fault, line))
+
+
+def example(tab, folder, journals):
+    """The page's own example, which has names."""
+    tab.load(rebuilt.PAGE)
+    tab.wait("window.ttd")
+    tab.click("#example-button")
+    opening.settle(tab, 0)
+    tab.key("l")
+    opening.settle(tab, 23)
+    assert tab.text("sentence").startswith("● slow auditor on prices: recv 2 → lagged 2 (2 values were overwritten"), tab.text("sentence")
+
+
+def files_that_are_not_there(tab, folder, journals):
+    """page/open says what it is missing, with status 2."""
+    for words, told in (([os.path.join(folder, "nothing")], f"page/open: {folder}/nothing is no file that can be read\n"),
+                        ([], "page/open: give one journal or script\n")):
+        done = subprocess.run([opening.OPEN, *words], capture_output=True)
+        assert (done.returncode, done.stdout, done.stderr.decode()) == (2, b"", told)
 
 
 def addresses(tab, folder, journals):

@@ -75,9 +75,13 @@ def script(calls):
     return (PRELUDE + "".join(lines)).encode()
 
 
-def example():
-    with open(os.path.join(native.TOP, "examples", "price_feed.ttd"), "rb") as file:
+def example_file(name):
+    with open(os.path.join(native.TOP, "examples", name), "rb") as file:
         return file.read()
+
+
+def example():
+    return example_file("price_feed.ttd")
 
 
 def journals():

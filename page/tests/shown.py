@@ -15,8 +15,7 @@ ALERTED = "void (window.alert = () => { window.alerted = true; })"
 
 def lagging_picture(tab, folder, path):
     """A receiver that lags, with names for actors and channels."""
-    names = {"actors": {"0": "exchange", "1": "quick trader", "2": "slow auditor"}, "channels": {"0": "prices", "1": "trading limit"}}
-    opening.put(folder, "price_feed.names", json.dumps(names).encode())
+    opening.put(folder, "price_feed.names", runs.example_file("price_feed.names"))
     tab.resize(1280, 1100)
     opening.load(tab, opening.page_of(folder, "price_feed.ttd", runs.example()), 22)
     tab.picture(path, "#picture-box")
@@ -88,7 +87,7 @@ def hostile_names(tab, folder, journals):
     for _ in range(3):
         tab.key("l")
     tab.run("new Promise(done => setTimeout(done, 100))")
-    assert tab.run("[document.querySelectorAll('img').length, document.querySelectorAll('script').length, window.alerted ?? false]") == [0, 5, False]
+    assert tab.run("[document.querySelectorAll('img').length, document.querySelectorAll('script').length, window.alerted ?? false]") == [0, 6, False]
 
 
 def refused_markup(tab, folder, journals):
@@ -97,7 +96,7 @@ def refused_markup(tab, folder, journals):
     tab.run(ALERTED)
     tab.wait("!document.getElementById('refusal').hidden")
     assert "</script><script>alert(2)</script>" in tab.text("refusal")
-    assert tab.run("[document.querySelectorAll('img').length, document.querySelectorAll('script').length, window.alerted ?? false]") == [0, 5, False]
+    assert tab.run("[document.querySelectorAll('img').length, document.querySelectorAll('script').length, window.alerted ?? false]") == [0, 6, False]
 
 
 def wrong_names(tab, folder, journals):

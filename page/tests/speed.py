@@ -33,5 +33,5 @@ def figures(tab, folder, journals):
         tab.wait("document.getElementById('picture').getAttribute('aria-label').includes('from place 0')")
         far = tab.run(STEPS)
         means = [sum(times) / len(times) for times in (near, far)]
-        print(f"  {calls:,} calls: open {opened:.2f} s, a step {means[0]:.1f} ms, in the whole run {means[1]:.1f} ms, worst {max(near + far):.0f} ms")
+        print(f"  {calls:,} calls: open {opened:.2f} s, a step {means[0]:.1f} ms, in the whole run {means[1]:.1f} ms")
         assert opened < most_open and max(means) / 1000 < most_step, "slower than it may be"

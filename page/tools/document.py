@@ -56,5 +56,6 @@ def page(folder, module):
         "style": style, "style hash": hash_of(style), "main": main, "main hash": hash_of(main),
         "worker": script(source, "worker"), "module": base64.b64encode(module).decode(),
         "example": read(folder, "..", "examples", "price_feed.ttd"),
+        "example names": read(folder, "..", "examples", "price_feed.names"),
     }
     return re.sub(r"\{\{([\w ]+)\}\}", lambda hole: parts[hole[1]], read(source, "index.html"))
