@@ -2,8 +2,10 @@
 
 use crate::plain::{index_of, looked_up, navigator_of, searched};
 use crate::texts::rows::{OVERRUN, TWO_CHANNELS, UNREAD, run_of};
+use rw_journal::Run;
 use rw_navigator::Cond;
 use rw_words::ReplyWord;
+use std::alloc::Global;
 use std::process::Abort;
 use std::test::Fail;
 
@@ -27,6 +29,28 @@ fn an_index_has_the_hits_below_and_above_a_place(rt: HostRuntime) -> Result<(), 
         (7, Some(6), None),
     ] {
         assert_eq!(rt; looked_up(&index, place), (below, above), "at {place}");
+    }
+    Ok(())
+}
+
+/// The condition has a hit, and its index finds what searches find, at each place.
+fn finds_as_searches(
+    rt: &impl Abort,
+    alloc: Global,
+    run: &Run<u64>,
+    condition: &Cond,
+) -> Result<(), Fail> {
+    let mut navigator = navigator_of(alloc, run)?;
+    let index = index_of(alloc, &navigator, condition)?.expect(rt, "it is a condition on entries");
+    let (greatest, _) = looked_up(&index, run.len() + 1);
+    assert!(rt; greatest.is_some(), "{condition:?} has no hit");
+    for place in 0..run.len() + 1 {
+        let found = searched(&mut navigator, condition, place);
+        assert_eq!(rt;
+            found,
+            Ok(looked_up(&index, place)),
+            "{condition:?} at {place}"
+        );
     }
     Ok(())
 }
@@ -61,23 +85,8 @@ fn an_index_finds_what_searches_find(rt: HostRuntime) -> Result<(), Fail> {
         (TWO_CHANNELS, &on_two_channels),
     ] {
         let run = run_of(rt.alloc(), script)?;
-        let mut navigator = navigator_of(rt.alloc(), &run)?;
-        let last = run.len();
         for condition in conditions {
-            let index = index_of(rt.alloc(), &navigator, condition)?.expect(
-                &rt,
-                "it is a condition on entries",
-            );
-            let (greatest, _) = looked_up(&index, last + 1);
-            assert!(rt; greatest.is_some(), "{condition:?} has no hit");
-            for place in 0..last + 1 {
-                let found = searched(&mut navigator, condition, place);
-                assert_eq!(rt;
-                    found,
-                    Ok(looked_up(&index, place)),
-                    "{condition:?} at {place}"
-                );
-            }
+            finds_as_searches(&rt, rt.alloc(), &run, condition)?;
         }
     }
     Ok(())

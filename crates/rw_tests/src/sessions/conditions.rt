@@ -2,6 +2,7 @@
 
 use crate::sessions::playing::play;
 use std::alloc::Global;
+use std::process::Abort;
 use std::test::Fail;
 
 /// A broadcast that is overrun and closed, and a watch with a receiver whose mark is none.
@@ -15,9 +16,21 @@ fn asked(alloc: Global, command: &[u8]) -> Result<Vec<u8>, Fail> {
     Ok(input)
 }
 
+/// Each command reports so.
+fn reports(rt: &impl Abort, alloc: Global, cases: &[(&[u8], &[u8])]) -> Result<(), Fail> {
+    for (command, report) in cases {
+        play(
+            rt,
+            alloc,
+            &[("conditions", &asked(alloc, command)?, report)],
+        );
+    }
+    Ok(())
+}
+
 #[test]
-fn conditions(rt: HostRuntime) -> Result<(), Fail> {
-    let cases: [(&[u8], &[u8]); 30] = [
+fn conditions_on_states(rt: HostRuntime) -> Result<(), Fail> {
+    let cases: [(&[u8], &[u8]); 23] = [
         (b"rback unread 0 1 2", b"hit 2 of 6\n"),
         (b"rback unread 0 1 3", b"no hit, place 6 of 6\n"),
         (b"rback unread 0 0 0", b"no hit, place 6 of 6\n"),
@@ -43,6 +56,17 @@ fn conditions(rt: HostRuntime) -> Result<(), Fail> {
         (b"rback queue 0 1", b"hit 1 of 6\n"),
         (b"rback queue 0 2", b"no hit, place 6 of 6\n"),
         (b"rback queue 1 0", b"no hit, place 6 of 6\n"),
+        (
+            b"state json",
+            b"{\"channels\":[{\"capacity\":1,\"closed\":true,\"kind\":\"broadcast\",\"made\":2,\"queued\":1,\"receivers\":[{\"handle\":1,\"lag\":1,\"position\":0,\"unread\":2}],\"senders\":[],\"sent\":2,\"window\":[2]},{\"closed\":false,\"kind\":\"watch\",\"made\":3,\"receivers\":[{\"handle\":1,\"mark\":null,\"seen\":false},{\"handle\":2,\"mark\":1,\"seen\":true}],\"senders\":[0],\"value\":8,\"version\":1}],\"len\":6,\"place\":6}\n",
+        ),
+    ];
+    reports(&rt, rt.alloc(), &cases)
+}
+
+#[test]
+fn conditions_on_entries(rt: HostRuntime) -> Result<(), Fail> {
+    let cases: [(&[u8], &[u8]); 7] = [
         (b"rback actor 1", b"hit 5 of 6\n"),
         (b"rback actor 4294967297", b"no hit, place 6 of 6\n"),
         (b"rback channel 1", b"hit 5 of 6\n"),
@@ -53,19 +77,8 @@ fn conditions(rt: HostRuntime) -> Result<(), Fail> {
             b"start\nrforward reply stored",
             b"place 0 of 6\nhit 4 of 6\n",
         ),
-        (
-            b"state json",
-            b"{\"channels\":[{\"capacity\":1,\"closed\":true,\"kind\":\"broadcast\",\"made\":2,\"queued\":1,\"receivers\":[{\"handle\":1,\"lag\":1,\"position\":0,\"unread\":2}],\"senders\":[],\"sent\":2,\"window\":[2]},{\"closed\":false,\"kind\":\"watch\",\"made\":3,\"receivers\":[{\"handle\":1,\"mark\":null,\"seen\":false},{\"handle\":2,\"mark\":1,\"seen\":true}],\"senders\":[0],\"value\":8,\"version\":1}],\"len\":6,\"place\":6}\n",
-        ),
     ];
-    for (command, report) in cases {
-        play(
-            &rt,
-            rt.alloc(),
-            &[("conditions", &asked(rt.alloc(), command)?, report)],
-        );
-    }
-    Ok(())
+    reports(&rt, rt.alloc(), &cases)
 }
 
 #[test]
