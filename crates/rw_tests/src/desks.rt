@@ -1,3 +1,6 @@
-//! Passes, which record calls.
+//! Passes, which record calls, and desks.
 
+mod one_thread;
 mod passes;
+mod plain;
+mod threads;

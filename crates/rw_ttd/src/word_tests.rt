@@ -6,7 +6,6 @@ use crate::program::{over_opened, session_end};
 use crate::words::{Asked, Verb, read_words, refuse_words};
 use rw_devices::{FailingReader, FailingWriter};
 use std::alloc::Global;
-use std::process::Abort;
 use std::test::Fail;
 
 fn words_of(alloc: Global, texts: &[&str]) -> Result<Vec<String>, Fail> {
@@ -57,29 +56,10 @@ type Case = (
     &'static [u8],
 );
 
-/// Does what the words of a case ask for, over its file and its input.
-fn leads_so(rt: &impl Abort, alloc: Global, cases: &[Case]) -> Result<(), Fail> {
-    for case in cases {
-        let (texts, bytes, typed, status, written, told) = *case;
-        let words = words_of(alloc, texts)?;
-        let file = FailingReader::new(bytes, 64, None);
-        let mut input = FailingReader::new(typed, 64, None);
-        let mut out = FailingWriter::new(alloc, 64, None);
-        let ended = match read_words(alloc, words.as_slice()) {
-            Ok(Asked::Session) => session_end(alloc, &mut input, &mut out),
-            Ok(Asked::Over(verb, _)) => over_opened(alloc, verb, Ok(file), &mut input, &mut out),
-            Err(error) => refuse_words(alloc, &error),
-        };
-        assert_eq!(rt; ended.status(), status);
-        assert_eq!(rt; ended.line().as_bytes(), told);
-        assert_eq!(rt; out.handed_on(), written);
-    }
-    Ok(())
-}
-
 #[test]
 fn each_word_leads_to_its_function(rt: HostRuntime) -> Result<(), Fail> {
-    let cases: [Case; 5] = [
+    let alloc = rt.alloc();
+    let cases: [Case; 7] = [
         (
             &["ttd", "session"],
             b"",
@@ -89,6 +69,14 @@ fn each_word_leads_to_its_function(rt: HostRuntime) -> Result<(), Fail> {
             b"",
         ),
         (&["ttd", "record", "f"], SCRIPT, b"", 0, JOURNAL, b""),
+        (
+            &["ttd", "record", "f"],
+            JOURNAL,
+            b"",
+            1,
+            b"",
+            b"script fault 1 syntax\n",
+        ),
         (&["ttd", "check", "f"], JOURNAL, b"", 0, b"ok 3\n", b""),
         (
             &["ttd", "debug", "f"],
@@ -106,21 +94,6 @@ fn each_word_leads_to_its_function(rt: HostRuntime) -> Result<(), Fail> {
             JOURNAL,
             b"kept 110 bytes\n",
         ),
-    ];
-    leads_so(&rt, rt.alloc(), &cases)
-}
-
-#[test]
-fn a_file_of_another_kind_is_refused(rt: HostRuntime) -> Result<(), Fail> {
-    let cases: [Case; 2] = [
-        (
-            &["ttd", "record", "f"],
-            JOURNAL,
-            b"",
-            1,
-            b"",
-            b"script fault 1 syntax\n",
-        ),
         (
             &["ttd", "debug", "f"],
             SCRIPT,
@@ -130,7 +103,21 @@ fn a_file_of_another_kind_is_refused(rt: HostRuntime) -> Result<(), Fail> {
             b"",
         ),
     ];
-    leads_so(&rt, rt.alloc(), &cases)
+    for (texts, bytes, typed, status, written, told) in cases {
+        let words = words_of(alloc, texts)?;
+        let file = FailingReader::new(bytes, 64, None);
+        let mut input = FailingReader::new(typed, 64, None);
+        let mut out = FailingWriter::new(alloc, 64, None);
+        let ended = match read_words(alloc, words.as_slice()) {
+            Ok(Asked::Session) => session_end(alloc, &mut input, &mut out),
+            Ok(Asked::Over(verb, _)) => over_opened(alloc, verb, Ok(file), &mut input, &mut out),
+            Err(error) => refuse_words(alloc, &error),
+        };
+        assert_eq!(rt; ended.status(), status);
+        assert_eq!(rt; ended.line().as_bytes(), told);
+        assert_eq!(rt; out.handed_on(), written);
+    }
+    Ok(())
 }
 
 /// The line that the texts of clap end with.

@@ -1,0 +1,198 @@
+//! Desks of one actor, and what is refused.
+
+use super::plain::{
+    b_clone_sender, b_receiver_count, b_send, b_try_recv, call, close, differs, open, order,
+    receipts, w_clone_sender, w_drop_sender, w_send, w_send_if_modified, w_send_modify, w_update,
+    w_wait_for,
+};
+use rw_broadcast::{BCall, BReply};
+use rw_desk::{CloseFault, DeskFault, DeskOpenFault, Ends, Made};
+use rw_watch::{WCall, WReply};
+use rw_world::{ChanCall, ChanReply, OpenFault, Spec};
+use std::test::Fail;
+
+#[test]
+fn desk_of_one_actor(rt: HostRuntime) -> Result<(), Fail> {
+    let alloc = rt.alloc();
+    let (desk, mut passes, mut ends) = open::<u64>(alloc, &[Spec::Broadcast(2)], 1)?;
+    let Some(Ends::Broadcast(sender, receiver)) = ends.pop() else {
+        return Err(Fail::from("no broadcast"));
+    };
+    let mut pass = passes.pop().ok_or("no pass")?;
+    assert_eq!(rt;
+        b_send(&desk, &rt, &mut pass, &sender, 4),
+        Ok(BReply::Sent(1))
+    );
+    assert_eq!(rt;
+        b_try_recv(&desk, &rt, &mut pass, &receiver),
+        Ok(BReply::Value(4))
+    );
+    assert_eq!(rt;
+        b_try_recv(&desk, &rt, &mut pass, &receiver),
+        Ok(BReply::Empty)
+    );
+    let recv = ChanCall::B(BCall::Recv(1));
+    assert_eq!(rt; call(&desk, &rt, &mut pass, 0, recv), Err(DeskFault::Waits));
+    assert_eq!(rt;
+        call(&desk, &rt, &mut pass, 1, recv),
+        Err(DeskFault::NoChannel)
+    );
+    let mut kept = Vec::from_slice(alloc, receipts(&pass))?;
+    let Err((fault, desk, mut passes)) = close(desk, alloc, passes) else {
+        return Err(Fail::from("closed without the pass"));
+    };
+    assert_eq!(rt; fault, CloseFault::Stranger(0));
+    passes.push(pass)?;
+    let Ok(run) = close(desk, alloc, passes) else {
+        return Err(Fail::from("not closed"));
+    };
+    let stamps = [(1, 0), (2, 0), (3, 0)];
+    assert_eq!(rt; order(alloc, &run)?.as_slice(), stamps.as_slice());
+    assert_eq!(rt; differs(&run, 0, &kept), None);
+    assert_eq!(rt; differs(&run, 0, &kept[..2]), Some(2));
+    kept[1].reply = ChanReply::B(BReply::Value(5));
+    assert_eq!(rt; differs(&run, 0, &kept), Some(1));
+    Ok(())
+}
+
+#[test]
+fn desks_that_are_not_opened(rt: HostRuntime) -> Result<(), Fail> {
+    for actors in [0, 65] {
+        let Err(fault) = open::<u64>(rt.alloc(), &[Spec::Broadcast(2)], actors) else {
+            return Err(Fail::from("opened"));
+        };
+        assert_eq!(rt; fault, DeskOpenFault::BadActors);
+    }
+    let none: [Spec<u64>; 0] = [];
+    let Err(fault) = open(rt.alloc(), &none, 1) else {
+        return Err(Fail::from("opened"));
+    };
+    assert_eq!(rt; fault, DeskOpenFault::World(OpenFault::NoChannels));
+    Ok(())
+}
+
+#[test]
+fn desk_without_calls(rt: HostRuntime) -> Result<(), Fail> {
+    let alloc = rt.alloc();
+    let (desk, passes, _ends) = open(alloc, &[Spec::Watch(7u64); 64], 64)?;
+    let Ok(run) = close(desk, alloc, passes) else {
+        return Err(Fail::from("not closed"));
+    };
+    assert_eq!(rt; (run.len(), run.specs().len()), (0, 64));
+    Ok(())
+}
+
+#[test]
+fn heeded_stamps(rt: HostRuntime) -> Result<(), Fail> {
+    let alloc = rt.alloc();
+    let heeded = [(1, 0), (2, 0), (3, 0), (4, 1)];
+    let unheeded = [(1, 0), (1, 1), (2, 0), (3, 0)];
+    for (heed, wanted) in [(3, heeded), (0, unheeded)] {
+        let (desk, mut passes, mut ends) = open(
+            alloc,
+            &[Spec::Broadcast(2), Spec::Watch(5u64)],
+            2,
+        )?;
+        let Some(Ends::Watch(writer, _reader)) = ends.pop() else {
+            return Err(Fail::from("no watch"));
+        };
+        let Some(Ends::Broadcast(sender, _receiver)) = ends.pop() else {
+            return Err(Fail::from("no broadcast"));
+        };
+        for _ in 0..3 {
+            assert_eq!(rt;
+                b_send(&desk, &rt, &mut passes[0], &sender, 1),
+                Ok(BReply::Sent(1))
+            );
+        }
+        passes[1].heed(heed);
+        assert_eq!(rt;
+            w_send(&desk, &rt, &mut passes[1], &writer, 6),
+            Ok(WReply::Stored)
+        );
+        assert_eq!(rt; passes[1].stamp(), heed + 1);
+        let Ok(run) = close(desk, alloc, passes) else {
+            return Err(Fail::from("not closed"));
+        };
+        assert_eq!(rt; order(alloc, &run)?.as_slice(), wanted.as_slice());
+    }
+    Ok(())
+}
+
+#[test]
+fn wait_for_a_value_of_a_closed_watch(rt: HostRuntime) -> Result<(), Fail> {
+    let alloc = rt.alloc();
+    let (desk, mut passes, mut ends) = open(alloc, &[Spec::Watch(1u64)], 1)?;
+    let Some(Ends::Watch(sender, receiver)) = ends.pop() else {
+        return Err(Fail::from("no watch"));
+    };
+    let mut pass = passes.pop().ok_or("no pass")?;
+    assert_eq!(rt;
+        w_drop_sender(&desk, &rt, &mut pass, sender),
+        Ok(WReply::Dropped)
+    );
+    let answer = w_wait_for(&desk, &rt, &mut pass, &receiver, |value| *value == 2);
+    assert_eq!(rt; answer, Ok(WReply::Closed));
+    let wanted = [
+        (WCall::DropHandle(0), WReply::Dropped),
+        (WCall::Update(1), WReply::Value(1)),
+        (WCall::Changed(1), WReply::Closed),
+    ];
+    assert_eq!(rt; receipts(&pass).len(), 3);
+    for (kept, (call, reply)) in receipts(&pass).iter().zip(wanted) {
+        assert_eq!(rt;
+            (kept.call, kept.reply),
+            (ChanCall::W(call), ChanReply::W(reply))
+        );
+    }
+    passes.push(pass)?;
+    assert!(rt; close(desk, alloc, passes).is_ok());
+    Ok(())
+}
+
+#[test]
+fn senders_that_are_cloned_and_closures(rt: HostRuntime) -> Result<(), Fail> {
+    let alloc = rt.alloc();
+    let (desk, mut passes, mut ends) = open(alloc, &[Spec::Broadcast(2), Spec::Watch(1u64)], 1)?;
+    let Some(Ends::Watch(writer, reader)) = ends.pop() else {
+        return Err(Fail::from("no watch"));
+    };
+    let Some(Ends::Broadcast(sender, _receiver)) = ends.pop() else {
+        return Err(Fail::from("no broadcast"));
+    };
+    let pass = &mut passes[0];
+    let Ok(Made::New(second)) = w_clone_sender(&desk, &rt, pass, &writer) else {
+        return Err(Fail::from("no second writer"));
+    };
+    assert_eq!(rt; (second.channel(), second.number()), (1, 2));
+    let told = w_send_modify(&desk, &rt, pass, &second, |value| *value = 4);
+    assert_eq!(rt; told, Ok(WReply::Told(true)));
+    assert_eq!(rt; w_update(&desk, &rt, pass, &reader), Ok(WReply::Value(4)));
+    let found = w_wait_for(&desk, &rt, pass, &reader, |value| *value == 4);
+    assert_eq!(rt; found, Ok(WReply::Value(4)));
+    let Ok(Made::New(other)) = b_clone_sender(&desk, &rt, pass, &sender) else {
+        return Err(Fail::from("no second sender"));
+    };
+    assert_eq!(rt; (other.channel(), other.number()), (0, 2));
+    assert_eq!(rt;
+        b_receiver_count(&desk, &rt, pass, &other),
+        Ok(BReply::Count(1))
+    );
+
+    // Where the handle is refused, the closure isn't called, and the receipt holds the value as it is.
+    let dropped = call(&desk, &rt, pass, 1, ChanCall::W(WCall::DropHandle(2)));
+    assert_eq!(rt; dropped, Ok(ChanReply::W(WReply::Dropped)));
+    let gone = w_send_if_modified(&desk, &rt, pass, &second, |value| {
+        *value = 9;
+        true
+    });
+    assert_eq!(rt; gone, Ok(WReply::Gone));
+    let last = receipts(pass)[receipts(pass).len() - 1];
+    let unchanged = WCall::Modify {
+        told: false,
+        handle: 2,
+        value: 4,
+    };
+    assert_eq!(rt; last.call, ChanCall::W(unchanged));
+    Ok(())
+}

@@ -1,0 +1,204 @@
+//! Calls of desks without their contracts, over any type of values: a test that meets them here takes seconds to prove.
+
+use rw_broadcast::BReply;
+use rw_desk::{
+    BRx, BTx, CloseFault, Desk, DeskFault, DeskOpenFault, Ends, Kept, Made, Pass, WRx, WTx, compare,
+};
+use rw_journal::Run;
+use rw_law::Payload;
+use rw_watch::WReply;
+use rw_world::{ChanCall, ChanReply, Spec};
+use std::alloc::Global;
+use std::sync::Wait;
+
+/// A desk with its passes and ends.
+pub fn open<V: Payload>(
+    alloc: Global,
+    specs: &[Spec<V>],
+    actors: u32,
+) -> Result<(Desk<V>, Vec<Pass<V>>, Vec<Ends>), DeskOpenFault> {
+    Desk::open(alloc, specs, actors)
+}
+
+/// Closes a desk.
+pub fn close<V: Payload>(
+    desk: Desk<V>,
+    alloc: Global,
+    passes: Vec<Pass<V>>,
+) -> Result<Run<V>, (CloseFault, Desk<V>, Vec<Pass<V>>)> {
+    desk.close(alloc, passes)
+}
+
+/// One call.
+pub fn call<V: Payload, R: Wait>(
+    desk: &Desk<V>,
+    rt: &R,
+    pass: &mut Pass<V>,
+    channel: u32,
+    call: ChanCall<V>,
+) -> Result<ChanReply<V>, DeskFault> {
+    desk.call(rt, pass, channel, call)
+}
+
+/// The receipts of a pass.
+pub fn receipts<V: Payload>(pass: &Pass<V>) -> &[Kept<V>] {
+    pass.kept()
+}
+
+/// The least place at which receipts and entries differ.
+pub fn differs<V: Payload>(run: &Run<V>, actor: u32, kept: &[Kept<V>]) -> Option<u64> {
+    compare(run, actor, kept)
+}
+
+/// Each entry's stamp and channel.
+pub fn order<V: Payload>(
+    alloc: Global,
+    run: &Run<V>,
+) -> Result<Vec<(u64, u32)>, std::alloc::AllocError> {
+    let mut order = Vec::new(alloc);
+    for entry in run.entries() {
+        order.push((entry.stamp, entry.call.channel))?;
+    }
+    Ok(order)
+}
+
+/// Sends a value on a broadcast channel.
+pub fn b_send<V: Payload, R: Wait>(
+    desk: &Desk<V>,
+    rt: &R,
+    pass: &mut Pass<V>,
+    sender: &BTx,
+    value: V,
+) -> Result<BReply<V>, DeskFault> {
+    desk.b_send(rt, pass, sender, value)
+}
+
+/// Receives a value of a broadcast channel, if there is one.
+pub fn b_try_recv<V: Payload, R: Wait>(
+    desk: &Desk<V>,
+    rt: &R,
+    pass: &mut Pass<V>,
+    receiver: &BRx,
+) -> Result<BReply<V>, DeskFault> {
+    desk.b_try_recv(rt, pass, receiver)
+}
+
+/// Receives a value of a broadcast channel, and waits for it.
+pub fn b_recv<V: Payload, R: Wait>(
+    desk: &Desk<V>,
+    rt: &R,
+    pass: &mut Pass<V>,
+    receiver: &BRx,
+) -> Result<BReply<V>, DeskFault> {
+    desk.b_recv(rt, pass, receiver)
+}
+
+/// Makes another sender of a broadcast channel.
+pub fn b_clone_sender<V: Payload, R: Wait>(
+    desk: &Desk<V>,
+    rt: &R,
+    pass: &mut Pass<V>,
+    sender: &BTx,
+) -> Result<Made<BTx, BReply<V>>, DeskFault> {
+    desk.b_clone_sender(rt, pass, sender)
+}
+
+/// Counts the receivers of a broadcast channel.
+pub fn b_receiver_count<V: Payload, R: Wait>(
+    desk: &Desk<V>,
+    rt: &R,
+    pass: &mut Pass<V>,
+    sender: &BTx,
+) -> Result<BReply<V>, DeskFault> {
+    desk.b_receiver_count(rt, pass, sender)
+}
+
+/// Writes the value of a watch channel.
+pub fn w_send<V: Payload, R: Wait>(
+    desk: &Desk<V>,
+    rt: &R,
+    pass: &mut Pass<V>,
+    sender: &WTx,
+    value: V,
+) -> Result<WReply<V>, DeskFault> {
+    desk.w_send(rt, pass, sender, value)
+}
+
+/// Makes another sender of a watch channel.
+pub fn w_clone_sender<V: Payload, R: Wait>(
+    desk: &Desk<V>,
+    rt: &R,
+    pass: &mut Pass<V>,
+    sender: &WTx,
+) -> Result<Made<WTx, WReply<V>>, DeskFault> {
+    desk.w_clone_sender(rt, pass, sender)
+}
+
+/// Reads the value of a watch channel as a sender.
+pub fn w_peek<V: Payload, R: Wait>(
+    desk: &Desk<V>,
+    rt: &R,
+    pass: &mut Pass<V>,
+    sender: &WTx,
+) -> Result<WReply<V>, DeskFault> {
+    desk.w_peek(rt, pass, sender)
+}
+
+/// Reads the value of a watch channel, which is then seen.
+pub fn w_update<V: Payload, R: Wait>(
+    desk: &Desk<V>,
+    rt: &R,
+    pass: &mut Pass<V>,
+    receiver: &WRx,
+) -> Result<WReply<V>, DeskFault> {
+    desk.w_update(rt, pass, receiver)
+}
+
+/// Drops a sender of a watch channel.
+pub fn w_drop_sender<V: Payload, R: Wait>(
+    desk: &Desk<V>,
+    rt: &R,
+    pass: &mut Pass<V>,
+    sender: WTx,
+) -> Result<WReply<V>, (DeskFault, WTx)> {
+    desk.w_drop_sender(rt, pass, sender)
+}
+
+/// Stores what f makes of the value of a watch channel.
+pub fn w_send_modify<V: Payload, R: Wait, F: FnOnce(&mut V)>(
+    desk: &Desk<V>,
+    rt: &R,
+    pass: &mut Pass<V>,
+    sender: &WTx,
+    f: F,
+) -> Result<WReply<V>, DeskFault>
+    requires { F.IsAlwaysCallable f }
+{
+    desk.w_send_modify(rt, pass, sender, f)
+}
+
+/// Stores what f makes of the value of a watch channel, told or not.
+pub fn w_send_if_modified<V: Payload, R: Wait, F: FnOnce(&mut V) -> bool>(
+    desk: &Desk<V>,
+    rt: &R,
+    pass: &mut Pass<V>,
+    sender: &WTx,
+    f: F,
+) -> Result<WReply<V>, DeskFault>
+    requires { F.IsAlwaysCallable f }
+{
+    desk.w_send_if_modified(rt, pass, sender, f)
+}
+
+/// Waits for a value of which f is true.
+pub fn w_wait_for<V: Payload, R: Wait, F: Fn(&V) -> bool>(
+    desk: &Desk<V>,
+    rt: &R,
+    pass: &mut Pass<V>,
+    receiver: &WRx,
+    f: F,
+) -> Result<WReply<V>, DeskFault>
+    requires { F.IsAlwaysCallable f }
+{
+    desk.w_wait_for(rt, pass, receiver, f)
+}
