@@ -6,7 +6,7 @@ use super::plain::{
     w_wait_for,
 };
 use rw_broadcast::{BCall, BReply};
-use rw_desk::{CloseFault, DeskFault, DeskOpenFault, Ends, Made};
+use rw_desk::{CloseFault, DeskFault, DeskOpenFault, Ends, Kept, Made};
 use rw_watch::{WCall, WReply};
 use rw_world::{ChanCall, ChanReply, OpenFault, Spec};
 use std::test::Fail;
@@ -37,7 +37,7 @@ fn desk_of_one_actor(rt: HostRuntime) -> Result<(), Fail> {
         call(&desk, &rt, &mut pass, 1, recv),
         Err(DeskFault::NoChannel)
     );
-    let mut kept = Vec::from_slice(alloc, receipts(&pass))?;
+    let kept = Vec::from_slice(alloc, receipts(&pass))?;
     let Err((fault, desk, mut passes)) = close(desk, alloc, passes) else {
         return Err(Fail::from("closed without the pass"));
     };
@@ -49,9 +49,15 @@ fn desk_of_one_actor(rt: HostRuntime) -> Result<(), Fail> {
     let stamps = [(1, 0), (2, 0), (3, 0)];
     assert_eq!(rt; order(alloc, &run)?.as_slice(), stamps.as_slice());
     assert_eq!(rt; differs(&run, 0, &kept), None);
-    assert_eq!(rt; differs(&run, 0, &kept[..2]), Some(2));
-    kept[1].reply = ChanReply::B(BReply::Value(5));
-    assert_eq!(rt; differs(&run, 0, &kept), Some(1));
+    let [first, second, third] = kept.as_slice() else {
+        return Err(Fail::from("not three receipts"));
+    };
+    assert_eq!(rt; differs(&run, 0, &[*first, *second]), Some(2));
+    let other = Kept {
+        reply: ChanReply::B(BReply::Value(5)),
+        ..*second
+    };
+    assert_eq!(rt; differs(&run, 0, &[*first, other, *third]), Some(1));
     Ok(())
 }
 
@@ -99,18 +105,22 @@ fn heeded_stamps(rt: HostRuntime) -> Result<(), Fail> {
         let Some(Ends::Broadcast(sender, _receiver)) = ends.pop() else {
             return Err(Fail::from("no broadcast"));
         };
+        let mut second = passes.pop().ok_or("no second pass")?;
+        let mut first = passes.pop().ok_or("no first pass")?;
         for _ in 0..3 {
             assert_eq!(rt;
-                b_send(&desk, &rt, &mut passes[0], &sender, 1),
+                b_send(&desk, &rt, &mut first, &sender, 1),
                 Ok(BReply::Sent(1))
             );
         }
-        passes[1].heed(heed);
+        second.heed(heed);
         assert_eq!(rt;
-            w_send(&desk, &rt, &mut passes[1], &writer, 6),
+            w_send(&desk, &rt, &mut second, &writer, 6),
             Ok(WReply::Stored)
         );
-        assert_eq!(rt; passes[1].stamp(), heed + 1);
+        assert_eq!(rt; second.stamp(), heed + 1);
+        passes.push(first)?;
+        passes.push(second)?;
         let Ok(run) = close(desk, alloc, passes) else {
             return Err(Fail::from("not closed"));
         };
@@ -160,7 +170,7 @@ fn senders_that_are_cloned_and_closures(rt: HostRuntime) -> Result<(), Fail> {
     let Some(Ends::Broadcast(sender, _receiver)) = ends.pop() else {
         return Err(Fail::from("no broadcast"));
     };
-    let pass = &mut passes[0];
+    let pass = &mut passes.pop().ok_or("no pass")?;
     let Ok(Made::New(second)) = w_clone_sender(&desk, &rt, pass, &writer) else {
         return Err(Fail::from("no second writer"));
     };
@@ -187,7 +197,9 @@ fn senders_that_are_cloned_and_closures(rt: HostRuntime) -> Result<(), Fail> {
         true
     });
     assert_eq!(rt; gone, Ok(WReply::Gone));
-    let last = receipts(pass)[receipts(pass).len() - 1];
+    let Some(last) = receipts(pass).last() else {
+        return Err(Fail::from("no receipt"));
+    };
     let unchanged = WCall::Modify {
         told: false,
         handle: 2,

@@ -42,9 +42,10 @@ fn finds_as_searches(
 ) -> Result<(), Fail> {
     let mut navigator = navigator_of(alloc, run)?;
     let index = index_of(alloc, &navigator, condition)?.expect(rt, "it is a condition on entries");
-    let (greatest, _) = looked_up(&index, run.len() + 1);
+    let end = run.len().saturating_add(1);
+    let (greatest, _) = looked_up(&index, end);
     assert!(rt; greatest.is_some(), "{condition:?} has no hit");
-    for place in 0..run.len() + 1 {
+    for place in 0..end {
         let found = searched(&mut navigator, condition, place);
         assert_eq!(rt;
             found,
