@@ -4,3 +4,4 @@ pub mod KeptLaws
 pub mod ReadingLaws
 pub mod PlayLaws
 pub mod Spared
+mod FollowLaws

@@ -128,7 +128,7 @@ ends script book made index p at =
     let world : List (ChannelRecord ℕ) = records_after (opened_records script.specs) (calls_of book.entries) in
     p.rest ∙ ap (λ steps. put_before (interleaving_of book.entries) (run_from world made steps)) at ∙ ap (λ cs. record { calls = cs; waits = None }) (append-nil (interleaving_of book.entries))
 
-made_is : (binds : Bool) (r : ChanReply ℕ) (made : List ℕ) (handle : ℕ) → handle ≡ made_by r → cond binds (made ++ handle ∷ []) made ≡ made_after binds r made
+pub made_is : (binds : Bool) (r : ChanReply ℕ) (made : List ℕ) (handle : ℕ) → handle ≡ made_by r → cond binds (made ++ handle ∷ []) made ≡ made_after binds r made
 made_is true r made handle is = ap (λ h. made ++ h ∷ []) is
 made_is false r made handle is = refl
 

@@ -5,3 +5,4 @@ pub mod Script
 pub mod Memory
 pub mod Kept
 pub mod Running
+pub mod Threads

@@ -8,16 +8,22 @@
 
 mod faults;
 mod fields;
+mod following;
+mod gate;
 mod head;
 mod names;
 mod reader;
 mod running;
 mod said;
 mod script;
+mod start;
 mod steps;
+mod threads;
 
 pub use faults::{ScriptFault, ScriptFaultKind};
+pub use gate::Gate;
 pub use reader::{MOST_STEPS, ScriptReader, is_mark};
 pub use running::{Played, RunFault, play, run_one};
 pub use script::Script;
 pub use steps::Step;
+pub use threads::run_threads;

@@ -1,6 +1,6 @@
 //! The run of a script, on one book.
 
-ghost use Rattle.std.specs.Prelude.{◌≡◌, ◌<◌, ◌^◌, ◌++◌, ◌∷◌, [], None, false, if◌then◌else◌, length, IfOk, OnOk, IsTrue, MatchOption};
+ghost use Rattle.std.specs.Prelude.{◌≡◌, ◌<◌, ◌^◌, ◌++◌, ◌∷◌, [], None, false, if◌then◌else◌, length, IfErr, IfOk, OnOk, IsTrue, MatchOption};
 ghost use Rattle.rw_journal.specs.Book.{last_stamp, opening_of, reply_to};
 ghost use Rattle.rw_journal.specs.Interleaving.{CountsFrom, interleaving_of, journal_of};
 ghost use Rattle.rw_world.specs.Machines.{of_world};
@@ -12,20 +12,39 @@ use crate::steps::Step;
 use rw_broadcast::BReply;
 use rw_journal::laws::journal_of_an_interleaving;
 use rw_journal::{Book, Run, TakeFault};
+use rw_law::NoMemory;
 use rw_watch::WReply;
 use rw_world::{ChanCall, ChanReply, OpenFault, RowCall, Spec, World, documented, open, specified};
 use std::alloc::Global;
 use thiserror::Error;
 
 /// A number that no handle ever has. A name stands for it where its line made no handle.
-const NEVER_MADE: u32 = u32::MAX;
+pub(crate) const NEVER_MADE: u32 = u32::MAX;
 
-/// Why a script isn't run.
+/// Why a script isn't run. The first that holds is answered, in this order.
 #[derive(Clone, Copy, Debug, PartialEq, Eq, Error)]
 pub enum RunFault {
     /// A growth was refused.
     #[error("no memory")]
     NoMemory,
+    /// Not all threads could be started, and no call was made. `run_threads` alone answers this.
+    #[error("no thread")]
+    NoThread,
+    /// No growth was refused, and a call of a desk was, or the desk's journals and receipts don't give the run of the script.
+    /// `run_threads` alone answers this.
+    #[error("strayed")]
+    Strayed,
+}
+
+impl From<NoMemory> for RunFault {
+    ghost use Rattle.std.specs.Prelude.{◌≡◌};
+    ghost use Rattle.rw_script.specs.declared.running.RunFault.TheVariants as run;
+
+    ghost from_gives = { λ memory fault. fault ≡ run.NoMemory };
+
+    fn from(_: NoMemory) -> RunFault {
+        RunFault::NoMemory
+    }
 }
 
 /// The same call, made with another handle.
@@ -39,7 +58,7 @@ fn with_handle(call: ChanCall<u64>, handle: u32) -> ChanCall<u64>
 }
 
 /// The step's call, with the handle that its name stands for.
-fn filled(step: &Step, made: &[u32]) -> ChanCall<u64>
+pub(crate) fn filled(step: &Step, made: &[u32]) -> ChanCall<u64>
     ensures { result ≡ filled step.now.call step.now.target made.now }
 {
     match step.target {
@@ -52,7 +71,7 @@ fn filled(step: &Step, made: &[u32]) -> ChanCall<u64>
 }
 
 /// The handle that a call made, by its reply.
-fn made_by(reply: &ChanReply<u64>) -> u32
+pub(crate) fn made_by(reply: &ChanReply<u64>) -> u32
     ensures { result ≡ made_by reply.now }
 {
     match reply {
@@ -63,7 +82,7 @@ fn made_by(reply: &ChanReply<u64>) -> u32
 }
 
 /// Makes the call of a step, and gives the handle that it made. A call that would wait isn't made, and gives none.
-fn run_step(book: &mut Book<World<u64>>, step: &Step, made: &[u32]) -> Result<Option<u32>, RunFault>
+fn run_step(book: &mut Book<World<u64>>, step: &Step, made: &[u32]) -> Result<Option<u32>, NoMemory>
     requires few { length book.old.entries < 1_048_576 }
     requires stamps { last_stamp book.old.entries < 2 ^ 62 }
     requires actor { step.now.actor < 64 }
@@ -77,17 +96,17 @@ fn run_step(book: &mut Book<World<u64>>, step: &Step, made: &[u32]) -> Result<Op
     match book.take(step.actor, 0, call) {
         Ok(receipt) => Ok(Some(made_by(&receipt.reply))),
         Err(TakeFault::Waits) => Ok(None),
-        Err(TakeFault::NoMemory) => Err(RunFault::NoMemory),
+        Err(TakeFault::NoMemory) => Err(NoMemory),
         Err(TakeFault::JournalFull | TakeFault::NoChannel) => unreachable!(),
     }
 }
 
 /// Keeps the handle that a name stands for, where the step binds one.
-fn keep_handle(made: &mut Vec<u32>, binds: bool, handle: u32) -> Result<(), RunFault>
+pub(crate) fn keep_handle(made: &mut Vec<u32>, binds: bool, handle: u32) -> Result<(), NoMemory>
     ensures { OnOk result (made.new.items ≡ (if binds then made.old.items ++ handle ∷ [] else made.old.items)) }
 {
     if binds && made.push(handle).is_err() {
-        return Err(RunFault::NoMemory);
+        return Err(NoMemory);
     }
     Ok(())
 }
@@ -97,7 +116,7 @@ fn run_steps(
     alloc: Global,
     book: &mut Book<World<u64>>,
     script: &Script,
-) -> Result<Option<u64>, RunFault>
+) -> Result<Option<u64>, NoMemory>
     requires opened { opening_of of_world book.old ≡ opened script.now.specs }
     requires fresh { book.old.entries ≡ [] }
     ensures opened { OnOk result (opening_of of_world book.new ≡ opened script.now.specs) }
@@ -127,13 +146,13 @@ pub struct Played {
 }
 
 /// A book without entries, on the world that a script opens.
-fn book_of(alloc: Global, script: &Script) -> Result<Book<World<u64>>, RunFault>
+fn book_of(alloc: Global, script: &Script) -> Result<Book<World<u64>>, NoMemory>
     ensures opened { IfOk result (λ book. opening_of of_world book ≡ opened script.now.specs) }
     ensures fresh { IfOk result (λ book. book.entries ≡ []) }
 {
     match open(alloc, script.specs()) {
-        Ok(world) => Book::open(alloc, world).map_err(|_| RunFault::NoMemory),
-        Err(OpenFault::NoMemory) => Err(RunFault::NoMemory),
+        Ok(world) => Book::open(alloc, world),
+        Err(OpenFault::NoMemory) => Err(NoMemory),
         Err(_) => unreachable!(),
     }
 }
@@ -146,6 +165,7 @@ pub fn play(alloc: Global, script: &Script) -> Result<Played, RunFault>
     ensures opened { IfOk result (λ played. opening_of of_world played.book ≡ opened played.specs.items) }
     ensures entries { IfOk result (λ played. played.book.entries ≡ journal_of of_world (opened script.now.specs) 0 (run_of script.now).calls) }
     ensures waits { IfOk result (λ played. played.waits ≡ (run_of script.now).waits) }
+    ensures fault { IfErr result (λ fault. fault ≡ RunFault.NoMemory) }
 {
     let Ok(specs) = script.specs().to_vec(alloc) else {
         return Err(RunFault::NoMemory);
@@ -153,9 +173,9 @@ pub fn play(alloc: Global, script: &Script) -> Result<Played, RunFault>
     let mut book = book_of(alloc, script)?;
     let waits = match run_steps(alloc, &mut book, script) {
         Ok(waits) => waits,
-        Err(fault) => {
+        Err(NoMemory) => {
             drop(book);
-            return Err(fault);
+            return Err(RunFault::NoMemory);
         }
     };
     book.kept();
@@ -168,6 +188,7 @@ pub fn run_one(alloc: Global, script: &Script) -> Result<(Run<u64>, Option<u64>)
     ensures specs { IfOk result (λ ran. ran.0.specs ≡ script.now.specs) }
     ensures entries { IfOk result (λ ran. ran.0.entries ≡ journal_of of_world (opened script.now.specs) 0 (run_of script.now).calls) }
     ensures waits { IfOk result (λ ran. ran.1 ≡ (run_of script.now).waits) }
+    ensures fault { IfErr result (λ fault. fault ≡ RunFault.NoMemory) }
 {
     let Played { specs, book, waits } = play(alloc, script)?;
     Ok((Run::of_book(specs, book), waits))

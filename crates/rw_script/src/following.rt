@@ -1,0 +1,67 @@
+//! The receipts of passes beside the lines of a script.
+
+ghost use Rattle.std.specs.Prelude.{◌≡◌, OnOk, IfSome, IsTrue};
+ghost use Rattle.rw_world.specs.Lists.{Each};
+ghost use Rattle.rw_script.specs.Running.{call_of};
+ghost use Rattle.rw_script.specs.Threads.{IsFollowed, Moves, call_kept};
+
+use crate::running::{NEVER_MADE, RunFault, filled, keep_handle, made_by};
+use crate::steps::Step;
+use rw_desk::{Kept, Pass};
+use std::alloc::Global;
+
+/// Whether a receipt is of the call of a step.
+fn is_call(receipt: &Kept<u64>, step: &Step, made: &[u32]) -> bool
+    ensures { IsTrue result → call_kept receipt.now ≡ (call_of step.now made.now).1 }
+{
+    receipt.channel == step.channel && receipt.call == filled(step, made)
+}
+
+/// Moves on over a step: where it is the actor's, over the receipt of its call. Gives the place behind that and the handle that
+/// the call made. `made` has the handles that the names so far stand for.
+fn moved(pass: &Pass<u64>, place: usize, step: &Step, made: &[u32]) -> Option<(usize, u32)>
+    ensures { IfSome result (λ to. Moves pass.now place step.now made.now to) }
+{
+    if step.actor != pass.actor() {
+        return Some((place, NEVER_MADE));
+    }
+    let receipt = pass.kept().get(place)?;
+    if is_call(receipt, step, made) {
+        Some((place + 1, made_by(&receipt.reply)))
+    } else {
+        None
+    }
+}
+
+/// Refuses a pass whose receipts aren't those of its actor's lines, all and in order.
+fn follow(alloc: Global, steps: &[Step], pass: &Pass<u64>) -> Result<(), RunFault>
+    ensures { OnOk result (IsFollowed steps.now pass.now) }
+{
+    let mut made = Vec::new(alloc);
+    let mut place = 0;
+    'each_step: for step in steps {
+        let Some((next, handle)) = moved(pass, place, step, &made) else {
+            return Err(RunFault::Strayed);
+        };
+        keep_handle(&mut made, step.binds, handle)?;
+        place = next;
+    }
+    if place < pass.kept().len() {
+        return Err(RunFault::Strayed);
+    }
+    Ok(())
+}
+
+/// Refuses passes whose receipts aren't those of their actors' lines.
+pub(crate) fn follow_all(
+    alloc: Global,
+    steps: &[Step],
+    passes: &[Pass<u64>],
+) -> Result<(), RunFault>
+    ensures { OnOk result (Each (IsFollowed steps.now) passes.now) }
+{
+    for pass in passes {
+        follow(alloc, steps, pass)?;
+    }
+    Ok(())
+}

@@ -1,0 +1,232 @@
+//! Scripts that are played by a thread for each actor.
+
+ghost use Rattle.std.specs.Prelude.{◌≡◌, ◌<◌, All, IfOk, IsTrue};
+ghost use Rattle.rw_desk.specs.Closing.{Agree, AreAllHere};
+ghost use Rattle.rw_script.specs.Threads.{IsRunOf};
+
+use crate::following::follow_all;
+use crate::gate::Gate;
+use crate::running::{NEVER_MADE, RunFault, filled, keep_handle, made_by};
+use crate::script::Script;
+use crate::start::Start;
+use crate::steps::Step;
+use rw_desk::{CloseFault, Desk, DeskFault, Pass};
+use rw_journal::Run;
+use rw_law::Entry;
+use rw_world::{ChanCall, ChanReply, World};
+use std::alloc::Global;
+use std::sync::Wait;
+use std::thread;
+use std::thread::Threads;
+
+/// What an actor's calls are made on. Threads share it as a parameter, so that their proof needn't look into a desk.
+trait Calls {
+    /// One call, which waits where it has to.
+    fn make<R: Wait>(
+        &self,
+        rt: &R,
+        pass: &mut Pass<u64>,
+        channel: u32,
+        call: ChanCall<u64>,
+    ) -> Result<ChanReply<u64>, DeskFault>;
+}
+
+/// A desk that the threads of a script share. As a type of its own it is proved once that threads may share it.
+#[derive(Drop)]
+struct Shared {
+    desk: Desk<u64>,
+}
+
+impl Calls for Shared {
+    fn make<R: Wait>(
+        &self,
+        rt: &R,
+        pass: &mut Pass<u64>,
+        channel: u32,
+        call: ChanCall<u64>,
+    ) -> Result<ChanReply<u64>, DeskFault> {
+        self.desk.wait_call(rt, pass, channel, call)
+    }
+}
+
+/// Makes the call of a step, between the gate's two, and gives the handle that it made. `made` has the handles that the names so
+/// far stand for.
+fn make_call<D: Calls, G: Gate, R: Wait>(
+    rt: &R,
+    desk: &D,
+    gate: &G,
+    pass: &mut Pass<u64>,
+    step: &Step,
+    made: &[u32],
+) -> Result<u32, RunFault> {
+    let call = filled(step, made);
+    let i = pass.kept().len() as u64;
+    gate.before(step.actor, i);
+    let answer = desk.make(rt, pass, step.channel, call);
+    gate.after(step.actor, i);
+    match answer {
+        Ok(reply) => Ok(made_by(&reply)),
+        Err(DeskFault::NoMemory) => Err(RunFault::NoMemory),
+        Err(_) => Err(RunFault::Strayed),
+    }
+}
+
+/// Makes the calls of an actor's lines in order, up to the first that is refused. `made` is empty, and gets the handles that the
+/// names stand for.
+fn make_calls<D: Calls, G: Gate, R: Wait>(
+    rt: &R,
+    desk: &D,
+    gate: &G,
+    steps: &[Step],
+    pass: &mut Pass<u64>,
+    made: &mut Vec<u32>,
+) -> Result<(), RunFault> {
+    for step in steps {
+        let handle = if step.actor == pass.actor() {
+            make_call(rt, desk, gate, pass, step, made)?
+        } else {
+            NEVER_MADE
+        };
+        keep_handle(made, step.binds, handle)?;
+    }
+    Ok(())
+}
+
+/// What an actor's thread does once it is told to go. It gives back the pass, beside the fault that it met.
+fn play_actor<D: Calls, G: Gate, R: Wait>(
+    rt: &R,
+    start: &Start,
+    desk: &D,
+    gate: &G,
+    steps: &[Step],
+    mut pass: Pass<u64>,
+    mut made: Vec<u32>,
+) -> (Pass<u64>, Result<(), RunFault>) {
+    if !start.wait(rt) {
+        return (pass, Ok(()));
+    }
+    let played = make_calls(rt, desk, gate, steps, &mut pass, &mut made);
+    (pass, played)
+}
+
+/// The first in the order of faults.
+fn first_fault(one: Result<(), RunFault>, other: Result<(), RunFault>) -> Result<(), RunFault> {
+    match one {
+        Ok(()) | Err(RunFault::Strayed) if other.is_err() => other,
+        _ => one,
+    }
+}
+
+/// Plays each actor's lines in a thread of its own, and gives the passes back. No call is made unless all threads were started.
+fn play_all<D: Calls + Sync, G: Gate + Sync, R: Threads + Wait + Sync>(
+    rt: &R,
+    alloc: Global,
+    desk: &D,
+    gate: &G,
+    steps: &[Step],
+    passes: Vec<Pass<u64>>,
+) -> Result<Vec<Pass<u64>>, RunFault> {
+    let start = Start::new();
+    let signal = &start;
+    let Ok(mut back) = Vec::with_capacity(alloc, passes.len()) else {
+        return Err(RunFault::NoMemory);
+    };
+    let Ok(mut threads) = Vec::with_capacity(alloc, passes.len()) else {
+        return Err(RunFault::NoMemory);
+    };
+    let mut started = true;
+    let mut played = Ok(());
+    thread::scope(thread::scope_env(), rt, |scope| {
+        for pass in passes {
+            let made = Vec::new(alloc);
+            // There is room for each, here and below.
+            match scope.spawn(move || play_actor(rt, signal, desk, gate, steps, pass, made)) {
+                Ok(thread) => {
+                    let _ = threads.push(thread);
+                }
+                Err(_) => started = false,
+            }
+        }
+        signal.tell(rt, started);
+        for thread in threads {
+            let (pass, fault) = thread.join(rt);
+            played = first_fault(played, fault);
+            let _ = back.push(pass);
+        }
+    });
+    if !started {
+        return Err(RunFault::NoThread);
+    }
+    played?;
+    Ok(back)
+}
+
+/// Ends the desk.
+fn close(alloc: Global, desk: Desk<u64>, passes: Vec<Pass<u64>>) -> Result<Run<u64>, RunFault>
+    ensures here { IfOk result (λ run. AreAllHere desk.actors passes.items) }
+    ensures specs { IfOk result (λ run. run.specs ≡ desk.specs) }
+    ensures agree { IfOk result (λ run. Agree passes.items run.entries) }
+{
+    match desk.close(alloc, passes) {
+        Ok(run) => Ok(run),
+        Err((CloseFault::NoMemory, ..)) => Err(RunFault::NoMemory),
+        Err(_) => Err(RunFault::Strayed),
+    }
+}
+
+/// Whether all entries are of so many actors.
+fn are_of(entries: &[Entry<World<u64>>], actors: u32) -> bool
+    ensures { IsTrue result → All (λ e. e.actor < actors) entries.now }
+{
+    for entry in entries {
+        if entry.actor >= actors {
+            return false;
+        }
+    }
+    true
+}
+
+/// The run of the desk, if each actor's calls are those of its lines.
+fn played(
+    alloc: Global,
+    script: &Script,
+    desk: Desk<u64>,
+    passes: Vec<Pass<u64>>,
+) -> Result<Run<u64>, RunFault>
+    requires specs { desk.specs ≡ script.now.specs }
+    requires actors { desk.actors ≡ script.now.actors }
+    ensures { IfOk result (IsRunOf script.now) }
+{
+    script.kept();
+    follow_all(alloc, script.steps(), &passes)?;
+    let run = close(alloc, desk, passes)?;
+    if !are_of(run.entries(), script.actors()) {
+        drop(run);
+        return Err(RunFault::Strayed);
+    }
+    Ok(run)
+}
+
+/// Plays a script: each actor's lines in a thread of its own, which waits where a call would wait, and makes no more calls once
+/// one of them is refused. The gate hears of each call.
+///
+/// At `Ok` each actor's calls are those of its lines, all and in order; names stand for the handles that its own lines made.
+/// No call is made unless all threads were started. It may wait forever, as where a call waits for one that no line makes.
+pub fn run_threads<G: Gate + Sync, R: Threads + Wait + Sync>(
+    rt: &R,
+    alloc: Global,
+    script: &Script,
+    gate: &G,
+) -> Result<Run<u64>, RunFault>
+    ensures { IfOk result (IsRunOf script.now) }
+{
+    // A script's specs open and its actors are 1 to 64, so memory alone can be wanting.
+    let Ok((desk, passes, ends)) = Desk::open(alloc, script.specs(), script.actors()) else {
+        return Err(RunFault::NoMemory);
+    };
+    drop(ends);
+    let shared = Shared { desk };
+    let passes = play_all(rt, alloc, &shared, gate, script.steps(), passes)?;
+    let Shared { desk } = shared;
+    played(alloc, script, desk, passes)
+}
