@@ -32,7 +32,7 @@ module _ (report : List ℕ → List ℕ) (outcome : List ℕ → Outcome) (begu
   pub runs_any : {r r' w w' : Option (List ℕ)} {line : List ℕ} {status : ℕ} → Runs report outcome begun r r' w w' line status → Runs report outcome begun None None None None line status
   runs_any {r = r} {r' = r'} {w = w} {w' = w'} s = record { ended = s.ended; commands = ends_any r r' w w' s.ended s.commands; told = s.told }
 
-closes_any : (w w' : Option (List ℕ)) (line : List ℕ) (status : ℕ) (ending : Ending) → Closes w w' line status ending → Closes None None line status ending
+pub closes_any : (w w' : Option (List ℕ)) (line : List ℕ) (status : ℕ) (ending : Ending) → Closes w w' line status ending → Closes None None line status ending
 closes_any w w' line status ending (inl c) = inl (record { written = tt; told = c.told; answered = c.answered })
 closes_any w w' line status ending (inr f) =
     inr (record { fault = f.fault; why = f.why; front = record { text = f.front.text; rest = f.front.rest; written = tt; front = f.front.front }; told = f.told })
@@ -41,7 +41,7 @@ debugs_any : (r r' w w' : Option (List ℕ)) (line : List ℕ) (status : ℕ) (s
 debugs_any r r' w w' line status (Ok run) d = runs_any _ _ _ d
 debugs_any r r' w w' line status (Err fault) d = (tt, closes_any w w' line status _ d.1)
 
-over_any : {file file' : Option (List ℕ)} {Made Made' : List ℕ → Type 0} {Unmade Unmade' : StreamFault → Type 0} → ((bytes : List ℕ) → Made bytes → Made' bytes) → ((fault : StreamFault) → Unmade fault → Unmade' fault)
+pub over_any : {file file' : Option (List ℕ)} {Made Made' : List ℕ → Type 0} {Unmade Unmade' : StreamFault → Type 0} → ((bytes : List ℕ) → Made bytes → Made' bytes) → ((fault : StreamFault) → Unmade fault → Unmade' fault)
     → OverFile file file' Made Unmade → OverFile None None Made' Unmade'
 over_any {Made = Made} {Made' = Made'} {Unmade = Unmade} {Unmade' = Unmade'} made unmade o =
     record {

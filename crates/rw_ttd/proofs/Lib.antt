@@ -1,3 +1,4 @@
 pub mod FileRuns
 pub mod Forgetting
 pub mod Telling
+mod ForgettingThreads

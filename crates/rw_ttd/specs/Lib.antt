@@ -5,4 +5,5 @@ pub mod Endings
 pub mod Files
 pub mod Contents
 pub mod Verbs
+pub mod Threads
 pub mod Words

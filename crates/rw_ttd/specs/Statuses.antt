@@ -5,6 +5,8 @@ use Rattle.rw_lines.specs.declared.streams.StreamFault.{StreamFault}
 use Rattle.rw_lines.specs.declared.streams.StreamFault.TheVariants.{Read, Write, TooMuch, NoMemory}
 use Rattle.rw_console.specs.declared.sessions.Outcome.{Outcome}
 use Rattle.rw_console.specs.declared.sessions.Outcome.TheVariants.{Done, Refused, Waited}
+use Rattle.rw_script.specs.declared.running.RunFault.{RunFault}
+use Rattle.rw_script.specs.declared.running.RunFault.TheVariants as run
 
 -- 0 done, 1 the script refused, 3 a call would wait, 4 a fault of reading or writing, 5 no memory
 abbrev pub status_of : Result Outcome StreamFault → ℕ
@@ -23,6 +25,12 @@ said_of (Err Read) = codes "read fault\n"
 said_of (Err Write) = codes "write fault\n"
 said_of (Err TooMuch) = codes "read fault\n"
 said_of (Err NoMemory) = codes "no memory\n"
+
+-- the line where the threads of a script give no run; the status is then 5
+abbrev pub said_of_threads : RunFault → List ℕ
+said_of_threads run.NoMemory = codes "no memory\n"
+said_of_threads run.NoThread = codes "no thread\n"
+said_of_threads run.Strayed = codes "strayed\n"
 
 -- this line and this status tell an end
 abbrev pub Tells : List ℕ → ℕ → Result Outcome StreamFault → Type 0

@@ -4,15 +4,17 @@ use Rattle.rw_lines.specs.declared.streams.StreamFault.TheVariants.{Read, NoMemo
 use Rattle.rw_console.specs.Heads.{HasMark}
 use Rattle.rw_console.specs.SessionReport.{outcome, report}
 use Rattle.rw_ttd.specs.declared.words.Asked.{Asked}
-use Rattle.rw_ttd.specs.declared.words.Asked.TheVariants.{Session, Over}
+use Rattle.rw_ttd.specs.declared.words.Asked.TheVariants.{Session, Over, Threads}
 use Rattle.rw_ttd.specs.Runs.{Runs}
 use Rattle.rw_ttd.specs.Statuses.{Tells}
+use Rattle.rw_ttd.specs.Threads.{RecordsThreads}
 use Rattle.rw_ttd.specs.Verbs.{DoneBy}
 
--- the session of some bytes, or what the verb makes of some file, or a file that can't be opened
+-- the session of some bytes, or what the verb or the threads make of some file, or a file that can't be opened
 abbrev pub Serves : Asked → List ℕ → ℕ → Type 0
 Serves Session line status = Runs report outcome HasMark None None None None line status
 Serves (Over verb path) line status = Tells line status (Err Read) ⊎ DoneBy verb None None None None None None line status
+Serves (Threads path) line status = Tells line status (Err Read) ⊎ RecordsThreads None None None None line status
 
 -- that, or memory ran out
 abbrev pub EndsAs : Asked → List ℕ → ℕ → Type 0

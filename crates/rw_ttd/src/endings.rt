@@ -2,11 +2,12 @@
 
 ghost use Rattle.std.specs.Prelude.{◌≡◌, ◌≤◌, ◌<◌, [], take, length, string_bytes, OnOk, IfErr};
 ghost use Rattle.std.specs.Io.KnownBytes.{Appends};
-ghost use Rattle.rw_ttd.specs.Statuses.{Says, said_of, status_of};
+ghost use Rattle.rw_ttd.specs.Statuses.{Says, said_of, said_of_threads, status_of};
 
-use crate::status::{said, status};
+use crate::status::{NO_RUN, said, said_of_threads, status};
 use rw_console::{Outcome, SessionFault};
 use rw_lines::{ShortWrite, put};
+use rw_script::RunFault;
 use std::io::Write;
 
 /// A line that is told, or nothing.
@@ -49,6 +50,17 @@ impl Ended {
         Ended {
             line: Line::Fixed(said(ended)),
             status: status(ended),
+        }
+    }
+
+    /// The end where the threads of a script give no run.
+    pub fn of_threads(fault: RunFault) -> Ended
+        ensures line { line_of result ≡ said_of_threads fault }
+        ensures status { result.status ≡ 5 }
+    {
+        Ended {
+            line: Line::Fixed(said_of_threads(fault)),
+            status: NO_RUN,
         }
     }
 

@@ -36,7 +36,32 @@ fn records_scripts(rt: HostRuntime) -> Result<(), Fail> {
         let mut file = FailingReader::new(script, 7, None);
         let mut out = FailingWriter::new(rt.alloc(), 64, None);
         let mut err = FailingWriter::new(rt.alloc(), 64, None);
-        let answered = record_file(rt.alloc(), &mut file, &mut out, &mut err);
+        let answered = record_file(&rt, rt.alloc(), &mut file, false, &mut out, &mut err);
+        assert_eq!(rt; answered, status);
+        assert_eq!(rt; out.handed_on(), written);
+        assert_eq!(rt; err.written(), told);
+    }
+    Ok(())
+}
+
+#[test]
+fn records_scripts_with_threads(rt: HostRuntime) -> Result<(), Fail> {
+    let cases: [Case; 3] = [
+        (SCRIPT, 0, JOURNAL, b""),
+        // One call waits for that of the other thread.
+        (
+            b"broadcast 2\nactors 2\n0 0 recv 1\n1 0 send 0 5\n",
+            0,
+            b"ttd-journal 1\nbroadcast 2\nsteps\n1 1 0 send 0 5 = sent 1\n2 0 0 recv 1 = value 5\nend\n",
+            b"",
+        ),
+        (b"broadcast 0\n", 1, b"", b"script fault 1 bad-capacity\n"),
+    ];
+    for (script, status, written, told) in cases {
+        let mut file = FailingReader::new(script, 7, None);
+        let mut out = FailingWriter::new(rt.alloc(), 64, None);
+        let mut err = FailingWriter::new(rt.alloc(), 64, None);
+        let answered = record_file(&rt, rt.alloc(), &mut file, true, &mut out, &mut err);
         assert_eq!(rt; answered, status);
         assert_eq!(rt; out.handed_on(), written);
         assert_eq!(rt; err.written(), told);
@@ -145,7 +170,7 @@ fn each_read_and_each_write_fails(rt: HostRuntime) -> Result<(), Fail> {
         let mut file = FailingReader::new(SCRIPT, 7, Some(k));
         let mut out = FailingWriter::new(rt.alloc(), 3, Some(k));
         let mut err = FailingWriter::new(rt.alloc(), 64, None);
-        let answered = record_file(rt.alloc(), &mut file, &mut out, &mut err);
+        let answered = record_file(&rt, rt.alloc(), &mut file, false, &mut out, &mut err);
         if answered == 0 {
             done = true;
             assert_eq!(rt; out.handed_on(), JOURNAL);
@@ -203,7 +228,7 @@ fn each_write_of_a_told_line_fails(rt: HostRuntime) -> Result<(), Fail> {
         let mut file = FailingReader::new(script, 64, None);
         let mut out = FailingWriter::new(rt.alloc(), 64, None);
         let mut err = FailingWriter::new(rt.alloc(), 3, Some(k));
-        let answered = record_file(rt.alloc(), &mut file, &mut out, &mut err);
+        let answered = record_file(&rt, rt.alloc(), &mut file, false, &mut out, &mut err);
         assert_eq!(rt; answered, 3, "{k}");
         assert_eq!(rt;
             out.handed_on(),

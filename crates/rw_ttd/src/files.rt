@@ -9,11 +9,13 @@ ghost use Rattle.rw_ttd.specs.Endings.{kept_line};
 ghost use Rattle.rw_ttd.specs.Files.{Closes, Refuses, SaysWaiting, TellsLine, TellsWhy};
 ghost use Rattle.rw_ttd.specs.Lines.{line_of};
 ghost use Rattle.rw_ttd.specs.Statuses.{Says};
+ghost use Rattle.rw_ttd.specs.Threads.{RecordsBy};
 ghost use Rattle.rw_ttd.specs.Verbs.{Checks, DoneBy, Records, Salvages, Walks};
 
 use crate::endings::Ended;
 use crate::reading::{Refusal, read_run, read_salvage, read_script};
 use crate::status::{REFUSED_INPUT, WOULD_WAIT};
+use crate::threads::record_by;
 use crate::words::Verb;
 use rw_console::{Outcome, SessionFault, debug};
 use rw_journal::Run;
@@ -21,6 +23,8 @@ use rw_lines::{flush, put_whole};
 use rw_script::run_one;
 use std::alloc::Global;
 use std::io::{Read, Write};
+use std::sync::Wait;
+use std::thread::Threads;
 
 /// Writes a line, and ends with this status, unless the writer fails.
 fn end_with<W: Write>(out: &mut W, line: &str, status: u8) -> Ended
@@ -53,7 +57,7 @@ fn tell(alloc: Global, why: Refusal) -> Ended
 }
 
 /// Says why nothing is made of a file. A journal text's fault is written on `out`.
-fn refuse<W: Write>(alloc: Global, out: &mut W, why: Refusal) -> Ended
+pub(crate) fn refuse<W: Write>(alloc: Global, out: &mut W, why: Refusal) -> Ended
     ensures { Refuses (W.contents out.old) (W.contents out.new) (line_of result) result.status why }
 {
     match why {
@@ -79,7 +83,7 @@ fn say_waiting(alloc: Global, waits: Option<u64>) -> Ended
 }
 
 /// Writes a run's journal text, and hands it on. At an `Err` the writer failed, when a front of it was written.
-fn write_journal<W: Write>(run: &Run<u64>, out: &mut W) -> Result<(), SessionFault>
+pub(crate) fn write_journal<W: Write>(run: &Run<u64>, out: &mut W) -> Result<(), SessionFault>
     ensures ok { OnOk result (Appends (W.contents out.old) (W.contents out.new) (text numbers run.now)) }
     ensures fault { IfErr result (λ fault. fault ≡ SessionFault.Write) }
     ensures front { IfErr result (λ _. WritesFront (W.contents out.old) (W.contents out.new) (text numbers run.now)) }
@@ -91,7 +95,7 @@ fn write_journal<W: Write>(run: &Run<u64>, out: &mut W) -> Result<(), SessionFau
 }
 
 /// Runs the script in a file, and writes the journal text of the calls before the first that would wait.
-fn record<F: Read, W: Write>(alloc: Global, file: &mut F, out: &mut W) -> Ended
+pub(crate) fn record<F: Read, W: Write>(alloc: Global, file: &mut F, out: &mut W) -> Ended
     ensures { Records (F.remaining file.old) (F.remaining file.new) (W.contents out.old) (W.contents out.new) (line_of result) result.status }
 {
     let script = match read_script(alloc, file) {
@@ -185,18 +189,21 @@ pub fn over_file<F: Read, R: Read, W: Write>(
 }
 
 /// Runs the script in a file, and writes the journal text of the calls before the first that would wait. That line, or the
-/// script's fault, is told on `err`.
-pub fn record_file<F: Read, W: Write, E: Write>(
+/// script's fault, is told on `err`. With `threads` each actor has a thread, which waits where a call would wait, and it is told
+/// where the threads give no run.
+pub fn record_file<F: Read, W: Write, E: Write, R: Threads + Wait + Sync>(
+    rt: &R,
     alloc: Global,
     file: &mut F,
+    threads: bool,
     out: &mut W,
     err: &mut E,
 ) -> u8
     ensures known { result ≤ 5 }
     ensures records { (line : List ℕ) × Says (E.contents err.old) (E.contents err.new) line
-        × Records (F.remaining file.old) (F.remaining file.new) (W.contents out.old) (W.contents out.new) line result }
+        × RecordsBy threads (F.remaining file.old) (F.remaining file.new) (W.contents out.old) (W.contents out.new) line result }
 {
-    let ended = record(alloc, file, out);
+    let ended = record_by(rt, alloc, file, threads, out);
     ended.finish(err)
 }
 

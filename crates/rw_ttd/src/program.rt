@@ -9,18 +9,22 @@ ghost use Rattle.rw_ttd.specs.Files.{TellsOnly};
 ghost use Rattle.rw_ttd.specs.Lines.{line_of};
 ghost use Rattle.rw_ttd.specs.Runs.{Runs};
 ghost use Rattle.rw_ttd.specs.Statuses.{Says, Tells};
+ghost use Rattle.rw_ttd.specs.Threads.{RecordsThreads};
 ghost use Rattle.rw_ttd.specs.Verbs.{DoneBy};
 ghost use Rattle.rw_ttd.specs.Words.{EndsAs, IsEnd};
 
 use crate::endings::Ended;
 use crate::files::over_file;
 use crate::status::REFUSED_WORDS;
+use crate::threads::record_threads;
 use crate::words::{Asked, Verb, read_words, refuse_words};
 use rw_console::{SessionFault, session};
 use std::alloc::Global;
 use std::fs;
 use std::io::{self, BufReader, BufWriter, ErrorKind, Read, Write};
 use std::rt::{Env, Files};
+use std::sync::Wait;
+use std::thread::Threads;
 
 /// How many bytes of output are kept before they are handed on.
 const OUTPUT_BUFFER: usize = 65_536;
@@ -68,8 +72,28 @@ pub fn over_opened<F: Read + Drop, R: Read, W: Write>(
     }
 }
 
+/// Plays the script in a file by a thread for each actor. A file that couldn't be opened is a failed read.
+pub fn threads_over_opened<F: Read + Drop, W: Write, R: Threads + Wait + Sync>(
+    rt: &R,
+    alloc: Global,
+    file: io::Result<F>,
+    out: &mut W,
+) -> Ended
+    ensures unopened { IfErr file (λ _. TellsOnly (W.contents out.old) (W.contents out.new) (line_of result) result.status SessionFault.Read) }
+    ensures played { IfOk file (λ f. (rest : Option (List ℕ))
+        × RecordsThreads (F.remaining f) rest (W.contents out.old) (W.contents out.new) (line_of result) result.status) }
+{
+    match file {
+        Ok(mut file) => record_threads(rt, alloc, &mut file, out),
+        Err(_) => Ended::of(Err(SessionFault::Read)),
+    }
+}
+
 /// Does what the words ask for.
-fn answer<R: Files + Input + Print + AllocGlobal>(rt: &R, asked: Asked<'_>) -> Ended
+fn answer<R: Files + Input + Print + AllocGlobal + Threads + Wait + Sync>(
+    rt: &R,
+    asked: Asked<'_>,
+) -> Ended
     ensures { EndsAs asked.entry (line_of result) result.status }
 {
     let alloc = rt.alloc();
@@ -85,6 +109,7 @@ fn answer<R: Files + Input + Print + AllocGlobal>(rt: &R, asked: Asked<'_>) -> E
         Asked::Over(verb, path) => {
             over_opened(alloc, verb, fs::open(rt, path), &mut input, &mut out)
         }
+        Asked::Threads(path) => threads_over_opened(rt, alloc, fs::open(rt, path), &mut out),
     }
 }
 
@@ -113,7 +138,7 @@ fn words_of<R: Env + AllocGlobal>(rt: &R) -> Result<Vec<String>, Ended>
 }
 
 /// Does what the words of the command line ask for.
-fn perform<R: Env + Files + Input + Print + AllocGlobal>(rt: &R) -> Ended
+fn perform<R: Env + Files + Input + Print + AllocGlobal + Threads + Wait + Sync>(rt: &R) -> Ended
     ensures { IsEnd (line_of result) result.status }
 {
     let words = match words_of(rt) {
@@ -127,7 +152,10 @@ fn perform<R: Env + Files + Input + Print + AllocGlobal>(rt: &R) -> Ended
 }
 
 /// Runs the program on the real words, files and streams, and answers its exit status.
-pub fn run<R: Env + Files + Input + Print + AllocGlobal, E: Write>(rt: &R, err: &mut E) -> u8
+pub fn run<R: Env + Files + Input + Print + AllocGlobal + Threads + Wait + Sync, E: Write>(
+    rt: &R,
+    err: &mut E,
+) -> u8
     ensures known { result ≤ 5 }
     ensures ends { (line : List ℕ) × Says (E.contents err.old) (E.contents err.new) line × IsEnd line result }
 {

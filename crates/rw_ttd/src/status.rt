@@ -1,9 +1,10 @@
 //! What a session's end is told by: an exit status, and a line on the stream for errors.
 
 ghost use Rattle.std.specs.Prelude.{◌≡◌, ◌≤◌};
-ghost use Rattle.rw_ttd.specs.Statuses.{said_of, status_of};
+ghost use Rattle.rw_ttd.specs.Statuses.{said_of, said_of_threads, status_of};
 
 use rw_console::{Outcome, SessionFault};
+use rw_script::RunFault;
 
 /// The input was refused.
 pub const REFUSED_INPUT: u8 = 1;
@@ -13,6 +14,9 @@ pub const REFUSED_WORDS: u8 = 2;
 
 /// A call of the script would wait.
 pub const WOULD_WAIT: u8 = 3;
+
+/// Memory ran out, or there was no thread, or the threads strayed.
+pub const NO_RUN: u8 = 5;
 
 /// The exit status of a session that ended so.
 pub fn status(ended: Result<Outcome, SessionFault>) -> u8
@@ -24,7 +28,7 @@ pub fn status(ended: Result<Outcome, SessionFault>) -> u8
         Ok(Outcome::Refused(_)) => REFUSED_INPUT,
         Ok(Outcome::Waited(_)) => WOULD_WAIT,
         Err(SessionFault::Read | SessionFault::Write | SessionFault::TooMuch) => 4,
-        Err(SessionFault::NoMemory) => 5,
+        Err(SessionFault::NoMemory) => NO_RUN,
     }
 }
 
@@ -37,5 +41,16 @@ pub fn said(ended: Result<Outcome, SessionFault>) -> &'static str
         Err(SessionFault::Read | SessionFault::TooMuch) => "read fault\n",
         Err(SessionFault::Write) => "write fault\n",
         Err(SessionFault::NoMemory) => "no memory\n",
+    }
+}
+
+/// The line on the stream for errors where the threads of a script give no run.
+pub fn said_of_threads(fault: RunFault) -> &'static str
+    ensures { result.now ≡ said_of_threads fault }
+{
+    match fault {
+        RunFault::NoMemory => "no memory\n",
+        RunFault::NoThread => "no thread\n",
+        RunFault::Strayed => "strayed\n",
     }
 }

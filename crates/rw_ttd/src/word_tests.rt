@@ -2,7 +2,7 @@
 
 use crate::endings::Ended;
 use crate::file_tests::{JOURNAL, SCRIPT};
-use crate::program::{over_opened, session_end};
+use crate::program::{over_opened, session_end, threads_over_opened};
 use crate::words::{Asked, Verb, read_words, refuse_words};
 use rw_devices::{FailingReader, FailingWriter};
 use std::alloc::Global;
@@ -18,11 +18,18 @@ fn words_of(alloc: Global, texts: &[&str]) -> Result<Vec<String>, Fail> {
 
 #[test]
 fn words_are_taken(rt: HostRuntime) -> Result<(), Fail> {
-    let cases: [(&[&str], Asked<'static>); 6] = [
+    let cases: [(&[&str], Asked<'static>); 9] = [
         (&["ttd", "session"], Asked::Session),
         (
             &["/bin/other", "record", "a b"],
             Asked::Over(Verb::Record, "a b"),
+        ),
+        // The flag stands on either side of the path.
+        (&["ttd", "record", "x", "--threads"], Asked::Threads("x")),
+        (&["ttd", "record", "--threads", "x"], Asked::Threads("x")),
+        (
+            &["ttd", "record", "--", "--threads"],
+            Asked::Over(Verb::Record, "--threads"),
         ),
         (&["ttd", "check", "x"], Asked::Over(Verb::Check, "x")),
         (
@@ -59,7 +66,7 @@ type Case = (
 #[test]
 fn each_word_leads_to_its_function(rt: HostRuntime) -> Result<(), Fail> {
     let alloc = rt.alloc();
-    let cases: [Case; 7] = [
+    let cases: [Case; 8] = [
         (
             &["ttd", "session"],
             b"",
@@ -69,6 +76,14 @@ fn each_word_leads_to_its_function(rt: HostRuntime) -> Result<(), Fail> {
             b"",
         ),
         (&["ttd", "record", "f"], SCRIPT, b"", 0, JOURNAL, b""),
+        (
+            &["ttd", "record", "f", "--threads"],
+            SCRIPT,
+            b"",
+            0,
+            JOURNAL,
+            b"",
+        ),
         (
             &["ttd", "record", "f"],
             JOURNAL,
@@ -111,6 +126,7 @@ fn each_word_leads_to_its_function(rt: HostRuntime) -> Result<(), Fail> {
         let ended = match read_words(alloc, words.as_slice()) {
             Ok(Asked::Session) => session_end(alloc, &mut input, &mut out),
             Ok(Asked::Over(verb, _)) => over_opened(alloc, verb, Ok(file), &mut input, &mut out),
+            Ok(Asked::Threads(_)) => threads_over_opened(&rt, alloc, Ok(file), &mut out),
             Err(error) => refuse_words(alloc, &error),
         };
         assert_eq!(rt; ended.status(), status);
@@ -177,8 +193,8 @@ fn wrong_words_of_a_subcommand_are_told(rt: HostRuntime) -> Result<(), Fail> {
             "error: unexpected argument 'b' found\n\nUsage: ttd check <FILE>\n",
         ),
         (
-            &["ttd", "record", "--threads", "a"],
-            "error: unexpected argument '--threads' found\n\n  tip: to pass '--threads' as a value, use '-- --threads'\n\nUsage: ttd record <FILE>\n",
+            &["ttd", "check", "--threads", "a"],
+            "error: unexpected argument '--threads' found\n\n  tip: to pass '--threads' as a value, use '-- --threads'\n\nUsage: ttd check <FILE>\n",
         ),
     ];
     for (texts, told) in cases {

@@ -26,14 +26,33 @@ pub enum Verb {
 pub enum Asked<'a> {
     Session,
     Over(Verb, &'a str),
+    /// The script in this file is to be played by a thread for each actor.
+    Threads(&'a str),
 }
 
-/// A subcommand whose one word is a path.
+/// The name of the flag that has a script played by threads.
+const THREADS: &str = "threads";
+
+/// A subcommand that takes a path.
 fn with_file<'a>(alloc: Global, name: &'a str, about: &'a str) -> Result<Command<'a>, clap::Error> {
     let file = Arg::new(alloc, "FILE")
         .required(true)
         .action(ArgAction::Set);
     Ok(Command::new(alloc, name).about(about).arg(file)?)
+}
+
+/// The subcommand that runs a script. The flag may stand on either side of the path.
+fn record_words<'a>(alloc: Global) -> Result<Command<'a>, clap::Error> {
+    let threads = Arg::new(alloc, THREADS)
+        .long(THREADS)
+        .help("Play each actor's lines in a thread of its own")
+        .action(ArgAction::SetTrue);
+    let record = with_file(
+        alloc,
+        "record",
+        "Run the script in FILE and write its journal",
+    )?;
+    Ok(record.arg(threads)?)
 }
 
 /// The words that the program takes.
@@ -47,11 +66,7 @@ fn command_line<'a>(alloc: Global) -> Result<Command<'a>, clap::Error> {
             .about("Time-travel debugger of broadcast and watch channels")
             .subcommand_required(true)
             .subcommand(session)?
-            .subcommand(with_file(
-                alloc,
-                "record",
-                "Run the script in FILE and write its journal",
-            )?)?
+            .subcommand(record_words(alloc)?)?
             .subcommand(with_file(alloc, "check", "Judge the journal in FILE")?)?
             .subcommand(with_file(
                 alloc,
@@ -72,6 +87,7 @@ pub fn read_words<'a>(alloc: Global, words: &'a [String]) -> Result<Asked<'a>, c
     if let Some((name, inner)) = matches.subcommand() {
         match (name, inner.get_str("FILE")) {
             ("session", _) => return Ok(Asked::Session),
+            ("record", Some(path)) if inner.get_flag(THREADS) => return Ok(Asked::Threads(path)),
             ("record", Some(path)) => return Ok(Asked::Over(Verb::Record, path)),
             ("check", Some(path)) => return Ok(Asked::Over(Verb::Check, path)),
             ("debug", Some(path)) => return Ok(Asked::Over(Verb::Debug, path)),
