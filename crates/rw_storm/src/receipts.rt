@@ -1,0 +1,47 @@
+//! The receipts of actors beside the entries of the run.
+
+ghost use Rattle.std.specs.Prelude.{◌≡◌, ◌↔◌, All, IsTrue};
+ghost use Rattle.rw_desk.specs.Settling.{projection};
+
+use rw_desk::{Kept, Pass, compare};
+use rw_journal::Run;
+use std::alloc::{AllocError, Global};
+
+/// A copy of an actor's receipts, which outlives its pass.
+#[derive(Drop)]
+pub struct Receipts {
+    actor: u32,
+    kept: Vec<Kept<u64>>,
+}
+
+/// Copies the receipts of each pass.
+pub fn receipts_of(alloc: Global, passes: &[Pass<u64>]) -> Result<Vec<Receipts>, AllocError> {
+    let mut all = Vec::new(alloc);
+    for pass in passes {
+        let kept = pass.kept().to_vec(alloc)?;
+        all.push(Receipts {
+            actor: pass.actor(),
+            kept,
+        })?;
+    }
+    Ok(all)
+}
+
+/// Whether an actor's receipts are its entries: as many, in the same order, with the same calls, replies and stamps.
+fn are_its_entries(run: &Run<u64>, receipts: &Receipts) -> bool
+    ensures { IsTrue result ↔ (receipts.now.kept.items ≡ projection receipts.now.actor run.now.entries) }
+{
+    compare(run, receipts.actor, &receipts.kept).is_none()
+}
+
+/// Whether each actor's receipts are its entries.
+pub fn agree(run: &Run<u64>, all: &[Receipts]) -> bool
+    ensures { IsTrue result → All (λ r. r.kept.items ≡ projection r.actor run.now.entries) all.now }
+{
+    for receipts in all {
+        if !are_its_entries(run, receipts) {
+            return false;
+        }
+    }
+    true
+}
