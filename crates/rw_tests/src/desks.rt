@@ -1,6 +1,9 @@
 //! Passes, which record calls, and desks.
 
+mod by_handles;
 mod one_thread;
 mod passes;
-mod plain;
+pub mod plain;
+mod rows;
+mod settling;
 mod threads;

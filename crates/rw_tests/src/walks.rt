@@ -3,7 +3,7 @@
 mod adding;
 mod metering;
 mod parity;
-mod recording;
+pub mod recording;
 
 use adding::Adder;
 use metering::Metered;
@@ -12,10 +12,21 @@ use recording::record;
 use rw_navigator::{Move, Navigator, OutOfRange};
 use std::test::Fail;
 
+/// Calls by actor 0, with their stamps.
+const ONE_TO_SEVEN: [(u32, u64, u64); 7] = [
+    (0, 1, 1),
+    (0, 2, 2),
+    (0, 3, 3),
+    (0, 4, 4),
+    (0, 5, 5),
+    (0, 6, 6),
+    (0, 7, 7),
+];
+
 #[test]
 fn the_machine_had_as_many_calls_as_places_were_passed(rt: HostRuntime) -> Result<(), Fail> {
     let mut played = Metered::new(Adder::new());
-    let entries = record(rt.alloc(), &mut played, &[3, 1, 4])?;
+    let entries = record(rt.alloc(), &mut played, &[(0, 1, 3), (0, 2, 1), (0, 3, 4)])?;
     assert_eq!(rt; played.calls(), 3);
     let start = Metered::new(Adder::new());
     let mut navigator = Navigator::open(rt.alloc(), start, &entries)?;
@@ -39,7 +50,7 @@ fn the_machine_had_as_many_calls_as_places_were_passed(rt: HostRuntime) -> Resul
 #[test]
 fn walks_by_moves_and_refuses_those_out_of_range(rt: HostRuntime) -> Result<(), Fail> {
     let mut played = Adder::new();
-    let entries = record(rt.alloc(), &mut played, &[1, 2, 3, 4, 5, 6, 7])?;
+    let entries = record(rt.alloc(), &mut played, &ONE_TO_SEVEN)?;
     let mut navigator = Navigator::open(rt.alloc(), Adder::new(), &entries)?;
     let moves = [
         Move::Back(5),
@@ -85,7 +96,7 @@ fn finds_the_nearest_hit_in_each_direction(rt: HostRuntime) -> Result<(), Fail> 
     };
     // The sums at the places 0 to 7 are 0, 1, 3, 6, 10, 15, 21, 28.
     let mut played = Adder::new();
-    let entries = record(rt.alloc(), &mut played, &[1, 2, 3, 4, 5, 6, 7])?;
+    let entries = record(rt.alloc(), &mut played, &ONE_TO_SEVEN)?;
     let mut navigator = Navigator::open(rt.alloc(), Adder::new(), &entries)?;
     for (probe, from, below, above) in [
         (even_amount, 0, None, Some(2)),

@@ -3,25 +3,25 @@
 ghost use Rattle.std.specs.Prelude.{◌≡◌, ◌+◌, ◌≤◌, ◌^◌, ◌<◌, IfOk, IfSome, length};
 ghost use Rattle.rw_law.specs.Journal.{IsLegal, IsStep};
 
-use rw_law::{Entry, NoMemory, Reversible};
+use rw_law::{Entry, MOST_ACTORS, MOST_STAMP, NoMemory, Reversible};
 use std::alloc::Global;
 
-/// Makes the calls in order, up to the first that would wait or stray, and records them.
+/// Makes the calls in order, each by its actor and at its stamp, and records them: up to the first that would wait or stray, or
+/// whose actor or stamp is above the greatest.
 pub fn record<R: Reversible>(
     alloc: Global,
     machine: &mut R,
-    calls: &[R::Call],
+    steps: &[(u32, u64, R::Call)],
 ) -> Result<Vec<Entry<R>>, NoMemory>
-    requires { R.weigh (R.shown machine.old) + length calls.now ≤ 2 ^ 62 }
+    requires { R.weigh (R.shown machine.old) + length steps.now ≤ 2 ^ 62 }
     ensures legal { IfOk result (λ entries. IsLegal R.Reversible (R.shown machine.old) entries.items) }
-    ensures few { IfOk result (λ entries. length entries.items ≤ length calls.now) }
+    ensures few { IfOk result (λ entries. length entries.items ≤ length steps.now) }
 {
-    let mut entries = Vec::with_capacity(alloc, calls.len())?;
+    let mut entries = Vec::with_capacity(alloc, steps.len())?;
     let _known = machine.weight();
-    machine.ready(calls.len() as u64)?;
-    for call in calls {
-        let stamp = entries.len() as u64 + 1;
-        let Some(entry) = take(machine, stamp, call) else {
+    machine.ready(steps.len() as u64)?;
+    for step in steps {
+        let Some(entry) = take(machine, step) else {
             break;
         };
         entries.push_reserved(entry);
@@ -30,21 +30,24 @@ pub fn record<R: Reversible>(
 }
 
 /// Makes a call, unless it would wait or stray.
-fn take<R: Reversible>(machine: &mut R, stamp: u64, call: &R::Call) -> Option<Entry<R>>
+fn take<R: Reversible>(machine: &mut R, step: &(u32, u64, R::Call)) -> Option<Entry<R>>
     requires room { R.weigh (R.shown machine.old) < R.reserved machine.old }
-    requires stamp { stamp ≤ 2 ^ 62 }
     ensures step { IfSome result (λ entry. IsStep R.Reversible (R.shown machine.old) entry) }
     ensures next { IfSome result (λ entry. R.shown machine.new ≡ R.next (R.shown machine.old) entry.call) }
     ensures room { R.reserved machine.new ≡ R.reserved machine.old }
 {
-    let (reply, patch) = machine.apply(call);
+    let (actor, stamp, call) = *step;
+    if actor >= MOST_ACTORS || stamp > MOST_STAMP {
+        return None;
+    }
+    let (reply, patch) = machine.apply(&call);
     if R::waits(&reply) || R::strays(&reply) {
         return None;
     }
     Some(Entry {
-        actor: 0,
+        actor,
         stamp,
-        call: *call,
+        call,
         reply,
         patch,
     })

@@ -1,0 +1,64 @@
+//! Journals of two channels, merged.
+
+use super::by_channel::{Step, merged};
+use crate::desks::plain::order;
+use rw_broadcast::BCall;
+use rw_journal::MergeFault;
+use rw_world::{ChanCall, Spec};
+use std::alloc::{AllocError, Global};
+use std::process::Abort;
+use std::test::Fail;
+
+/// Calls that each state answers alike, by these actors and at these stamps.
+fn steps(alloc: Global, marks: &[(u32, u64)]) -> Result<Vec<Step<u64>>, AllocError> {
+    let mut steps = Vec::new(alloc);
+    for (actor, stamp) in marks {
+        steps.push((*actor, *stamp, ChanCall::B(BCall::ReceiverCount(0))))?;
+    }
+    Ok(steps)
+}
+
+/// The actors and stamps of two channels' entries, and why they aren't merged or in which order.
+type Row<'a> = (
+    &'a [(u32, u64)],
+    &'a [(u32, u64)],
+    Result<&'a [(u64, u32)], MergeFault>,
+);
+
+/// Merges the journals of a row.
+fn merge_row(rt: &impl Abort, alloc: Global, row: &Row) -> Result<(), Fail> {
+    let (first, second, wanted) = row;
+    let (first, second) = (steps(alloc, first)?, steps(alloc, second)?);
+    let specs = [Spec::Broadcast(2), Spec::Broadcast(2)];
+    match merged(alloc, &specs, &[first.as_slice(), second.as_slice()])? {
+        Ok(run) => assert_eq!(rt; Ok(order(alloc, &run)?.as_slice()), *wanted),
+        Err(fault) => assert_eq!(rt; Err(fault), *wanted),
+    }
+    Ok(())
+}
+
+#[test]
+fn merges(rt: HostRuntime) -> Result<(), Fail> {
+    let rows: [Row; 6] = [
+        (
+            &[(0, 1), (0, 3)],
+            &[(1, 1), (1, 2)],
+            Ok(&[(1, 0), (1, 1), (2, 1), (3, 0)]),
+        ),
+        (&[(0, 2), (0, 2)], &[], Err(MergeFault::OutOfOrder(0, 1))),
+        (&[(0, 0)], &[], Err(MergeFault::OutOfOrder(0, 0))),
+        // An actor has one stamp on two channels.
+        (&[(0, 1)], &[(0, 1)], Err(MergeFault::OutOfOrder(1, 0))),
+        // Its own channel's order is looked at before the actor's.
+        (
+            &[(0, 1)],
+            &[(0, 1), (1, 1)],
+            Err(MergeFault::OutOfOrder(1, 1)),
+        ),
+        (&[], &[], Ok(&[])),
+    ];
+    for row in &rows {
+        merge_row(&rt, rt.alloc(), row)?;
+    }
+    Ok(())
+}
