@@ -12,6 +12,8 @@ mod channels;
 #[cfg(test)]
 mod desks;
 #[cfg(test)]
+mod flags;
+#[cfg(test)]
 mod handles;
 #[cfg(test)]
 mod journals;
@@ -27,6 +29,8 @@ mod scripts;
 mod sessions;
 #[cfg(test)]
 mod texts;
+#[cfg(test)]
+mod threads;
 #[cfg(test)]
 mod values;
 #[cfg(test)]

@@ -144,7 +144,7 @@ broadcast 2/0 0 subscribe 4294967296 as r/=2 bad-arguments
 broadcast 2/0 0 subscribe 0 as r/0 0 drop 0 as r=3 bad-arguments";
 
 /// The bytes of a script.
-fn script_of(alloc: Global, text: &str) -> Result<Vec<u8>, Fail> {
+pub(crate) fn script_of(alloc: Global, text: &str) -> Result<Vec<u8>, Fail> {
     let mut script = Vec::new(alloc);
     for byte in text.bytes() {
         script.push(if byte == b'/' { b'\n' } else { byte })?;
@@ -297,7 +297,10 @@ fn takes_1048576_steps(rt: HostRuntime) -> Result<(), Fail> {
 }
 
 /// An entry's line with `/` behind it.
-fn push_line<V: Payload>(text: &mut Vec<u8>, entry: &Entry<World<V>>) -> Result<(), NoMemory> {
+pub(crate) fn push_line<V: Payload>(
+    text: &mut Vec<u8>,
+    entry: &Entry<World<V>>,
+) -> Result<(), NoMemory> {
     if World::<V>::waits(&entry.reply) || World::<V>::strays(&entry.reply) {
         text.extend_from_slice(b"not recorded/")?;
         return Ok(());

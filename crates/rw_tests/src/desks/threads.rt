@@ -1,6 +1,7 @@
 //! Desks that threads share.
 
 use super::plain::{b_recv, b_send, close, open, order, w_peek, w_send, w_send_if_modified};
+use crate::flags::is_set_in_time;
 use rw_broadcast::BReply;
 use rw_desk::{BRx, BTx, Desk, Ends, Pass, WTx};
 use rw_watch::WReply;
@@ -115,16 +116,6 @@ fn a_value_for_a_thread_that_waits(rt: HostRuntime) -> Result<(), Fail> {
         );
     }
     Ok(())
-}
-
-/// Whether a flag is set within so many looks.
-fn is_set_in_time(flag: &AtomicBool) -> bool {
-    for _ in 0..100_000_000 {
-        if flag.load(Ordering::SeqCst) {
-            return true;
-        }
-    }
-    false
 }
 
 /// A closure under the lock of one channel, in another thread, that waits for an answered call of another channel in this one.

@@ -103,7 +103,12 @@ fn faults_of_books_and_runs(rt: HostRuntime) -> Result<(), Fail> {
     ];
     say(&rt, rt.alloc(), &pushes)?;
     say(&rt, rt.alloc(), &merges)?;
-    say(&rt, rt.alloc(), &[(RunFault::NoMemory, "no memory")])?;
+    let runs = [
+        (RunFault::NoMemory, "no memory"),
+        (RunFault::NoThread, "no thread"),
+        (RunFault::Strayed, "strayed"),
+    ];
+    say(&rt, rt.alloc(), &runs)?;
     say(&rt, rt.alloc(), &[(OutOfRange, "out of range")])
 }
 
