@@ -22,6 +22,8 @@ mod lines;
 #[cfg(test)]
 mod plain;
 #[cfg(test)]
+mod programs;
+#[cfg(test)]
 mod rings;
 #[cfg(test)]
 mod scripts;

@@ -1,31 +1,9 @@
-//! The program `ttd`: sessions with the time-travel debugger of channels.
-//!
-//! `ttd session` runs a session on standard input and output, `ttd record FILE` writes the journal of a script, with `--threads`
-//! of one that a thread for each actor plays, `ttd check FILE` judges a journal, `ttd debug FILE` takes commands over one, and
-//! `ttd salvage FILE` writes what one that was cut off still holds. The one contract is that of `session_on` and of the four
-//! functions over files: what they write, what they tell on the stream for errors and the exit status are those of the bytes
-//! that they read; of a script's threads, those of some run of the script. For a session `rw_console`'s
-//! `specs/SessionReport.antt` says which, for a file `specs/Endings.antt` and `specs/Threads.antt`.
-//! Start reading at `program.rt`, and go on with `files.rt`.
+//! The program `ttd`: it hands its words, files and streams on to `rw_program`, which says what it does, and ends with the
+//! status that is answered there.
 #![tactic(auto)]
-
-mod endings;
-#[cfg(test)]
-mod file_tests;
-mod files;
-mod inputs;
-mod program;
-mod reading;
-mod status;
-#[cfg(test)]
-mod tests;
-mod threads;
-#[cfg(test)]
-mod word_tests;
-mod words;
 
 use std::process::ExitCode;
 
 fn main(rt: HostRuntime) -> ExitCode {
-    ExitCode::from(program::run(&rt, &mut rt.stderr()))
+    ExitCode::from(rw_program::run(&rt, &mut rt.stderr()))
 }

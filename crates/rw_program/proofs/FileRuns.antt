@@ -1,0 +1,96 @@
+-- Runs over files.
+use Rattle.std.proofs.Common.{◌≡◌, ◌<◌, ◌≤◌, ◌++◌, ℕ, List, [], Option, None, Some, Result, Ok, Err, inl, inr, refl, sym, ap, subst, ◌∙◌, codes, length, arith, lit<}
+use Rattle.std.specs.Io.KnownBytes.{Appends, Consumes, Keeps}
+use Rattle.std.proofs.lemmas.List.{append-nil, length-append}
+use Rattle.rw_console.specs.SessionReport.{recording_of}
+use Rattle.rw_console.specs.declared.sessions.TheConstants.{MOST_BYTES}
+use Rattle.rw_journal.specs.Run.{Run}
+use Rattle.rw_lines.specs.Writing.{WritesFront}
+use Rattle.rw_lines.specs.declared.streams.StreamFault.{StreamFault}
+use Rattle.rw_lines.proofs.Known.{Appends-none}
+use Rattle.rw_lines.specs.declared.streams.StreamFault.TheVariants.{Write, NoMemory}
+use Rattle.rw_script.specs.Script.{Script}
+use Rattle.rw_law.specs.Numbers.{numbers}
+use Rattle.rw_text.specs.declared.faults.TextFault.{TextFault}
+use Rattle.rw_text.specs.Salvaging.{salvage_of}
+use Rattle.rw_text.specs.Texts.{text}
+use Rattle.rw_program.specs.declared.reading.Refusal.{Refusal}
+use Rattle.rw_program.specs.declared.reading.Refusal.TheVariants as refusal
+use Rattle.rw_program.specs.Contents.{HasNoScript, HasNoText, IsNoScript, IsNoText, ReadsWhole}
+use Rattle.rw_program.specs.Endings.{recorded, text_fault_line}
+use Rattle.rw_program.specs.Files.{Closes, ExplainsReading, Fails, OverFile, TellsLine, TellsWhy}
+use Rattle.rw_program.specs.Statuses.{Tells}
+use Rattle.rw_program.specs.Verbs.{Salvages}
+
+-- ---- what is read
+
+-- what is made of bytes that were read whole is made of their file
+pub no_script : (file file' : Option (List ℕ)) (bytes : List ℕ) → Consumes file file' bytes → length bytes ≤ MOST_BYTES → (why : Refusal)
+    → ((Said : List ℕ → Type 0) → Said bytes → ReadsWhole file file' Said) → IsNoScript bytes why → HasNoScript file file' why
+no_script file file' bytes read few (refusal.Stream fault) whole same = (bytes, read, subst (λ (e : StreamFault). ExplainsReading (length bytes) e) (sym same) few)
+no_script file file' bytes read few (refusal.Script fault) whole said = whole _ said
+no_script file file' bytes read few (refusal.Text fault) whole said = absurd said
+
+pub no_text : {X : Type 0} (text_of : List ℕ → Result X TextFault) (file file' : Option (List ℕ)) (bytes : List ℕ) → Consumes file file' bytes → length bytes ≤ MOST_BYTES → (why : Refusal)
+    → ((Said : List ℕ → Type 0) → Said bytes → ReadsWhole file file' Said) → IsNoText text_of bytes why → HasNoText text_of file file' why
+no_text text_of file file' bytes read few (refusal.Stream fault) whole same = (bytes, read, subst (λ (e : StreamFault). ExplainsReading (length bytes) e) (sym same) few)
+no_text text_of file file' bytes read few (refusal.Script fault) whole said = absurd said
+no_text text_of file file' bytes read few (refusal.Text fault) whole said = whole _ said
+
+-- what was made of the bytes that were read whole
+pub over : {file file' : Option (List ℕ)} {Said Made : List ℕ → Type 0} (Unmade : StreamFault → Type 0) → ReadsWhole file file' Said → ((bytes : List ℕ) → Said bytes → Made bytes)
+    → OverFile file file' Made Unmade
+over Unmade (bytes, read, ended, few, said) make = record { bytes = bytes; read = read; made = inl (ended, few, make bytes said) }
+
+-- ---- what is written
+
+-- nothing is a front of any text
+pub no_front : (out : Option (List ℕ)) (text : List ℕ) → WritesFront out out text
+no_front out text = record { text = []; rest = text; written = Appends-none out; front = refl }
+
+-- memory ran out before anything was written
+pub ran_out : {out : Option (List ℕ)} {line : List ℕ} {status : ℕ} (text : List ℕ) → Tells line status (Err NoMemory) → Fails out out line status text
+ran_out {out = out} text told = record { fault = NoMemory; why = tt; front = no_front out text; told = told }
+
+-- a line was told when a text was written, or memory ran out
+pub told_after : {out out' : Option (List ℕ)} {line : List ℕ} {status : ℕ} (text told : List ℕ) (answered : ℕ) → Appends out out' text → TellsLine line status told answered
+    → Closes out out' line status (record { written = text; told = told; status = answered })
+told_after text told answered written (inl said) = inl (record { written = written; told = said.0; answered = said.1 })
+told_after text told answered written (inr memory) = inr (record { fault = NoMemory; why = tt; front = record { text = text; rest = []; written = written; front = append-nil text }; told = memory })
+
+-- a run of a script's channels and journal is the script's
+same_run : (run : Run ℕ) (script : Script) → run.specs ≡ (recording_of script).specs → run.entries ≡ (recording_of script).entries → run ≡ recording_of script
+same_run run script specs entries =
+    ap (λ specs. record { specs = specs; entries = run.entries }) specs
+    ∙ ap (λ entries. record { specs = script.specs; entries = entries }) entries
+
+some_front : (front rest : List ℕ) → 0 < length front → 0 < length (front ++ rest)
+some_front front rest some = omega (arith, length-append front rest)
+
+-- a journal text has its first line
+some_text : (run : Run ℕ) → 0 < length (text numbers run)
+unfolding text
+some_text run = some_front (codes "ttd-journal 1\n") _ (lit< tt)
+
+-- the writer failed when a front of a journal was written
+pub unwritten : {out out' : Option (List ℕ)} {line : List ℕ} {status : ℕ} (run : Run ℕ) (told : List ℕ) (answered : ℕ) (fault : StreamFault) → fault ≡ Write → WritesFront out out' (text numbers run) → Tells line status (Err fault)
+    → Closes out out' line status (record { written = text numbers run; told = told; status = answered })
+unwritten {line = line} {status = status} run told answered fault write front said = inr (record { fault = Write; why = some_text run; front = front; told = subst (λ (e : StreamFault). Tells line status (Err e)) write said })
+
+-- a front of a script's journal
+pub closes_not : {out out' : Option (List ℕ)} {line : List ℕ} {status : ℕ} (script : Script) (run : Run ℕ) → run.specs ≡ (recording_of script).specs → run.entries ≡ (recording_of script).entries
+    → (fault : StreamFault) → fault ≡ Write → WritesFront out out' (text numbers run) → Tells line status (Err fault) → Closes out out' line status (recorded (Ok script))
+closes_not {out = out} {out' = out'} script run specs entries fault write front told =
+    unwritten (recording_of script) _ _ fault write (subst (λ (r : Run ℕ). WritesFront out out' (text numbers r)) (same_run run script specs entries) front) told
+
+-- ---- salvage
+
+keeps_self : (out : Option (List ℕ)) → Keeps out out
+keeps_self None = tt
+keeps_self (Some bytes) = refl
+
+-- nothing is written of a text that holds no run
+pub unsalvaged : {file file' : Option (List ℕ)} (out : Option (List ℕ)) {line : List ℕ} {status : ℕ} (why : Refusal) → HasNoText (salvage_of numbers) file file' why → TellsWhy line status why → Salvages file file' out out line status
+unsalvaged out (refusal.Stream fault) (bytes, read, explained) told = record { bytes = bytes; read = read; made = inr (fault, explained, (keeps_self out, told)) }
+unsalvaged out (refusal.Script fault) none told = absurd none
+unsalvaged out (refusal.Text fault) held told = over _ held (λ bytes said. rw said (told_after [] (text_fault_line fault) 1 (Appends-none out) told))

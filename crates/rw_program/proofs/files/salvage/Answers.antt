@@ -1,0 +1,14 @@
+use Rattle.rw_program.proofs.FileRuns.{over, told_after, unsalvaged, unwritten}
+use Rattle.rw_program.proofs.files.salvage.Goals as goal
+
+pub returns-in-Err : goal.returns-in-Err
+returns-in-Err g c = unsalvaged _ c.in-Err.why c.in-Err.ensures.refused c.tell.ensures
+
+pub returns-in-Ok-write_journal : goal.returns-in-Ok-write_journal
+returns-in-Ok-write_journal g c = over _ c.in-Ok.ensures.held (λ bytes said. rw said (told_after _ _ 0 c.in-Ok-write_journal.ensures.ok c.say_kept.ensures))
+
+pub returns : goal.returns
+returns g c =
+    let e = c.in-Err-write_journal.ensures in
+    let told = c.of.ensures in
+    over _ c.in-Ok.ensures.held (λ bytes said. rw said (unwritten _ _ 0 c.in-Err-write_journal.fault e.fault e.front (told.line, told.status)))

@@ -1,0 +1,256 @@
+//! What is made of a script or a journal text in a file.
+
+ghost use Rattle.std.specs.Prelude.{◌≡◌, ◌≤◌, ◌<◌, ℕ, List, [], length, IfErr, OnOk};
+ghost use Rattle.std.specs.Io.KnownBytes.{Appends, Keeps};
+ghost use Rattle.rw_lines.specs.Writing.{WritesFront};
+ghost use Rattle.rw_law.specs.Numbers.{numbers};
+ghost use Rattle.rw_text.specs.Texts.{text};
+ghost use Rattle.rw_program.specs.Endings.{kept_line};
+ghost use Rattle.rw_program.specs.Files.{Closes, Refuses, SaysWaiting, TellsLine, TellsWhy};
+ghost use Rattle.rw_program.specs.Lines.{line_of};
+ghost use Rattle.rw_program.specs.Statuses.{Says};
+ghost use Rattle.rw_program.specs.Threads.{RecordsBy};
+ghost use Rattle.rw_program.specs.Verbs.{Checks, DoneBy, Records, Salvages, Walks};
+
+use crate::endings::Ended;
+use crate::reading::{Refusal, read_run, read_salvage, read_script};
+use crate::statuses::{REFUSED_INPUT, WOULD_WAIT};
+use crate::threads::record_by;
+use crate::words::Verb;
+use rw_console::{Outcome, SessionFault, debug};
+use rw_journal::Run;
+use rw_lines::{flush, put_whole};
+use rw_script::run_one;
+use std::alloc::Global;
+use std::io::{Read, Write};
+use std::sync::Wait;
+use std::thread::Threads;
+
+/// Writes a line, and ends with this status, unless the writer fails.
+fn end_with<W: Write>(out: &mut W, line: &str, status: u8) -> Ended
+    requires known { status ≤ 5 }
+    requires some { 0 < length line.now }
+    ensures { Closes (W.contents out.old) (W.contents out.new) (line_of result) result.status
+        (record { written = line.now; told = []; status = status }) }
+{
+    match put_whole(out, line.as_bytes()) {
+        Ok(()) => Ended::silent(status),
+        Err(fault) => Ended::of(Err(fault)),
+    }
+}
+
+/// Tells why nothing is made of a file.
+fn tell(alloc: Global, why: Refusal) -> Ended
+    ensures { TellsWhy (line_of result) result.status why }
+{
+    match why {
+        Refusal::Stream(fault) => Ended::of(Err(fault)),
+        Refusal::Script(fault) => match format!(in alloc; "{fault}\n") {
+            Ok(line) => Ended::told_by(line, REFUSED_INPUT),
+            Err(_) => Ended::of(Err(SessionFault::NoMemory)),
+        },
+        Refusal::Text(fault) => match format!(in alloc; "journal fault {fault}\n") {
+            Ok(line) => Ended::told_by(line, REFUSED_INPUT),
+            Err(_) => Ended::of(Err(SessionFault::NoMemory)),
+        },
+    }
+}
+
+/// Says why nothing is made of a file. A journal text's fault is written on `out`.
+pub(crate) fn refuse<W: Write>(alloc: Global, out: &mut W, why: Refusal) -> Ended
+    ensures { Refuses (W.contents out.old) (W.contents out.new) (line_of result) result.status why }
+{
+    match why {
+        Refusal::Stream(_) | Refusal::Script(_) => tell(alloc, why),
+        Refusal::Text(fault) => match format!(in alloc; "journal fault {fault}\n") {
+            Ok(line) => end_with(out, line.as_str(), REFUSED_INPUT),
+            Err(_) => Ended::of(Err(SessionFault::NoMemory)),
+        },
+    }
+}
+
+/// Says which line would wait, if one would.
+fn say_waiting(alloc: Global, waits: Option<u64>) -> Ended
+    ensures { SaysWaiting (line_of result) result.status waits }
+{
+    let Some(number) = waits else {
+        return Ended::of(Ok(Outcome::Done));
+    };
+    match format!(in alloc; "would wait {number}\n") {
+        Ok(line) => Ended::told_by(line, WOULD_WAIT),
+        Err(_) => Ended::of(Err(SessionFault::NoMemory)),
+    }
+}
+
+/// Writes a run's journal text, and hands it on. At an `Err` the writer failed, when a front of it was written.
+pub(crate) fn write_journal<W: Write>(run: &Run<u64>, out: &mut W) -> Result<(), SessionFault>
+    ensures ok { OnOk result (Appends (W.contents out.old) (W.contents out.new) (text numbers run.now)) }
+    ensures fault { IfErr result (λ fault. fault ≡ SessionFault.Write) }
+    ensures front { IfErr result (λ _. WritesFront (W.contents out.old) (W.contents out.new) (text numbers run.now)) }
+{
+    match rw_text::write(run, out) {
+        Ok(_) => flush(out),
+        Err(_) => Err(SessionFault::Write),
+    }
+}
+
+/// Runs the script in a file, and writes the journal text of the calls before the first that would wait.
+pub(crate) fn record<F: Read, W: Write>(alloc: Global, file: &mut F, out: &mut W) -> Ended
+    ensures { Records (F.remaining file.old) (F.remaining file.new) (W.contents out.old) (W.contents out.new) (line_of result) result.status }
+{
+    let script = match read_script(alloc, file) {
+        Ok(script) => script,
+        Err(why) => return refuse(alloc, out, why),
+    };
+    let Ok((run, waits)) = run_one(alloc, &script) else {
+        return Ended::of(Err(SessionFault::NoMemory));
+    };
+    match write_journal(&run, out) {
+        Ok(()) => say_waiting(alloc, waits),
+        Err(fault) => Ended::of(Err(fault)),
+    }
+}
+
+/// Judges the journal text in a file: writes `ok N`, N being the number of its entries, or its first fault.
+fn check<F: Read, W: Write>(alloc: Global, file: &mut F, out: &mut W) -> Ended
+    ensures { Checks (F.remaining file.old) (F.remaining file.new) (W.contents out.old) (W.contents out.new) (line_of result) result.status }
+{
+    let run = match read_run(alloc, file) {
+        Ok(run) => run,
+        Err(why) => return refuse(alloc, out, why),
+    };
+    match format!(in alloc; "ok {}\n", run.len()) {
+        Ok(line) => end_with(out, line.as_str(), 0),
+        Err(_) => Ended::of(Err(SessionFault::NoMemory)),
+    }
+}
+
+/// Says how many bytes of a text were kept.
+fn say_kept(alloc: Global, count: u64) -> Ended
+    ensures { TellsLine (line_of result) result.status (kept_line count) 0 }
+{
+    match format!(in alloc; "kept {count} bytes\n") {
+        Ok(line) => Ended::told_by(line, 0),
+        Err(_) => Ended::of(Err(SessionFault::NoMemory)),
+    }
+}
+
+/// Writes the journal text of the whole lines of a file, a journal text that may have been cut off.
+fn salvage<F: Read, W: Write>(alloc: Global, file: &mut F, out: &mut W) -> Ended
+    ensures { Salvages (F.remaining file.old) (F.remaining file.new) (W.contents out.old) (W.contents out.new) (line_of result) result.status }
+{
+    let (run, count) = match read_salvage(alloc, file) {
+        Ok(salvaged) => salvaged,
+        Err(why) => return tell(alloc, why),
+    };
+    match write_journal(&run, out) {
+        Ok(()) => say_kept(alloc, count),
+        Err(fault) => Ended::of(Err(fault)),
+    }
+}
+
+/// Reads the journal text in a file, and then commands over its run, and writes what they ask for.
+fn walk<F: Read, R: Read, W: Write>(
+    alloc: Global,
+    file: &mut F,
+    input: &mut R,
+    out: &mut W,
+) -> Ended
+    ensures { Walks (F.remaining file.old) (F.remaining file.new) (R.remaining input.old) (R.remaining input.new)
+        (W.contents out.old) (W.contents out.new) (line_of result) result.status }
+{
+    let run = match read_run(alloc, file) {
+        Ok(run) => run,
+        Err(why) => return refuse(alloc, out, why),
+    };
+    match debug(alloc, &run, input, out) {
+        Ok(()) => Ended::of(Ok(Outcome::Done)),
+        Err(fault) => Ended::of(Err(fault)),
+    }
+}
+
+/// Does with an opened file what a verb says. Only `debug` reads the input.
+pub fn over_file<F: Read, R: Read, W: Write>(
+    alloc: Global,
+    verb: Verb,
+    file: &mut F,
+    input: &mut R,
+    out: &mut W,
+) -> Ended
+    ensures { DoneBy verb (F.remaining file.old) (F.remaining file.new) (R.remaining input.old) (R.remaining input.new)
+        (W.contents out.old) (W.contents out.new) (line_of result) result.status }
+{
+    match verb {
+        Verb::Record => record(alloc, file, out),
+        Verb::Check => check(alloc, file, out),
+        Verb::Debug => walk(alloc, file, input, out),
+        Verb::Salvage => salvage(alloc, file, out),
+    }
+}
+
+/// Runs the script in a file, and writes the journal text of the calls before the first that would wait. That line, or the
+/// script's fault, is told on `err`. With `threads` each actor has a thread, which waits where a call would wait, and it is told
+/// where the threads give no run.
+pub fn record_file<F: Read, W: Write, E: Write, R: Threads + Wait + Sync>(
+    rt: &R,
+    alloc: Global,
+    file: &mut F,
+    threads: bool,
+    out: &mut W,
+    err: &mut E,
+) -> u8
+    ensures known { result ≤ 5 }
+    ensures records { (line : List ℕ) × Says (E.contents err.old) (E.contents err.new) line
+        × RecordsBy threads (F.remaining file.old) (F.remaining file.new) (W.contents out.old) (W.contents out.new) line result }
+{
+    let ended = record_by(rt, alloc, file, threads, out);
+    ended.finish(err)
+}
+
+/// Judges the journal text in a file: writes `ok N`, N being the number of its entries, or its first fault.
+pub fn check_file<F: Read, W: Write, E: Write>(
+    alloc: Global,
+    file: &mut F,
+    out: &mut W,
+    err: &mut E,
+) -> u8
+    ensures known { result ≤ 5 }
+    ensures checks { (line : List ℕ) × Says (E.contents err.old) (E.contents err.new) line
+        × Checks (F.remaining file.old) (F.remaining file.new) (W.contents out.old) (W.contents out.new) line result }
+{
+    let ended = check(alloc, file, out);
+    ended.finish(err)
+}
+
+/// Reads the journal text in a file, and then commands over its run, and writes what they ask for.
+pub fn debug_file<F: Read, R: Read, W: Write, E: Write>(
+    alloc: Global,
+    file: &mut F,
+    input: &mut R,
+    out: &mut W,
+    err: &mut E,
+) -> u8
+    ensures known { result ≤ 5 }
+    ensures debugs { (line : List ℕ) × Says (E.contents err.old) (E.contents err.new) line
+        × Walks (F.remaining file.old) (F.remaining file.new) (R.remaining input.old) (R.remaining input.new)
+        (W.contents out.old) (W.contents out.new) line result }
+{
+    let ended = walk(alloc, file, input, out);
+    ended.finish(err)
+}
+
+/// Writes the journal text of the whole lines of a file, a journal text that may have been cut off. How many bytes those have,
+/// or the text's fault, is told on `err`.
+pub fn salvage_file<F: Read, W: Write, E: Write>(
+    alloc: Global,
+    file: &mut F,
+    out: &mut W,
+    err: &mut E,
+) -> u8
+    ensures known { result ≤ 5 }
+    ensures salvages { (line : List ℕ) × Says (E.contents err.old) (E.contents err.new) line
+        × Salvages (F.remaining file.old) (F.remaining file.new) (W.contents out.old) (W.contents out.new) line result }
+{
+    let ended = salvage(alloc, file, out);
+    ended.finish(err)
+}

@@ -1,0 +1,37 @@
+//! Whole inputs.
+
+ghost use Rattle.std.specs.Prelude.{◌≤◌, length, IfOk, IfErr};
+ghost use Rattle.std.specs.Io.KnownBytes.{Consumes, IsAtEnd};
+ghost use Rattle.rw_program.specs.Files.{StopsReading};
+
+use rw_console::{MOST_BYTES, SessionFault};
+use std::alloc::Global;
+use std::io::Read;
+
+/// How many bytes are asked for at once.
+const PIECE: usize = 65_536;
+
+/// All bytes of a reader. More than 268,435,456 are too much.
+pub fn read_whole<R: Read>(alloc: Global, reader: &mut R) -> Result<Vec<u8>, SessionFault>
+    ensures read { IfOk result (λ bytes. Consumes (R.remaining reader.old) (R.remaining reader.new) bytes.items) }
+    ensures few { IfOk result (λ bytes. length bytes.items ≤ MOST_BYTES) }
+    ensures whole { IfOk result (λ bytes. IsAtEnd (R.remaining reader.new)) }
+    ensures fault { IfErr result (λ fault. StopsReading (R.remaining reader.old) (R.remaining reader.new) fault) }
+{
+    let mut bytes = Vec::new(alloc);
+    let mut piece = [0u8; PIECE];
+    'each_piece: loop {
+        let Ok(taken) = reader.read(&mut piece) else {
+            return Err(SessionFault::Read);
+        };
+        if taken == 0 {
+            return Ok(bytes);
+        }
+        if bytes.len() as u64 + taken as u64 > MOST_BYTES {
+            return Err(SessionFault::TooMuch);
+        }
+        if bytes.extend_from_slice(&piece[..taken]).is_err() {
+            return Err(SessionFault::NoMemory);
+        }
+    }
+}

@@ -1,0 +1,164 @@
+//! The program over its words, files and streams.
+
+ghost use Rattle.std.specs.Prelude.{◌≡◌, ◌≢◌, ◌≤◌, ◌⊎◌, ℕ, List, Option, [], IfOk, IfErr};
+ghost use Rattle.std.specs.Io.KnownBytes.{Keeps};
+ghost use Rattle.std.specs.IoError.{error_kind};
+ghost use Rattle.rw_console.specs.Heads.{HasMark};
+ghost use Rattle.rw_console.specs.SessionReport.{outcome, report};
+ghost use Rattle.rw_program.specs.Files.{TellsOnly};
+ghost use Rattle.rw_program.specs.Lines.{line_of};
+ghost use Rattle.rw_program.specs.Runs.{Runs};
+ghost use Rattle.rw_program.specs.Statuses.{Says, Tells};
+ghost use Rattle.rw_program.specs.Threads.{RecordsThreads};
+ghost use Rattle.rw_program.specs.Verbs.{DoneBy};
+ghost use Rattle.rw_program.specs.Words.{EndsAs, IsEnd};
+
+use crate::endings::Ended;
+use crate::files::over_file;
+use crate::statuses::REFUSED_WORDS;
+use crate::threads::record_threads;
+use crate::words::{Asked, Verb, read_words, refuse_words};
+use rw_console::{SessionFault, session};
+use std::alloc::Global;
+use std::fs;
+use std::io::{self, BufReader, BufWriter, ErrorKind, Read, Write};
+use std::rt::{Env, Files};
+use std::sync::Wait;
+use std::thread::Threads;
+
+/// How many bytes of output are kept before they are handed on.
+const OUTPUT_BUFFER: usize = 65_536;
+
+/// Runs a session on these streams.
+pub fn session_end<R: Read, W: Write>(alloc: Global, input: &mut R, out: &mut W) -> Ended
+    ensures { Runs report outcome HasMark (R.remaining input.old) (R.remaining input.new) (W.contents out.old) (W.contents out.new)
+        (line_of result) result.status }
+{
+    Ended::of(session(alloc, input, out))
+}
+
+/// Runs a session on these streams, tells its end, and answers the exit status.
+pub fn session_on<R: Read, W: Write, E: Write>(
+    alloc: Global,
+    input: &mut R,
+    out: &mut W,
+    err: &mut E,
+) -> u8
+    ensures known { result ≤ 5 }
+    ensures runs { (line : List ℕ) × Says (E.contents err.old) (E.contents err.new) line
+        × Runs report outcome HasMark (R.remaining input.old) (R.remaining input.new) (W.contents out.old) (W.contents out.new) line result }
+{
+    let ended = session_end(alloc, input, out);
+    ended.finish(err)
+}
+
+/// Does with a file what a verb says. A file that couldn't be opened is a failed read.
+pub fn over_opened<F: Read + Drop, R: Read, W: Write>(
+    alloc: Global,
+    verb: Verb,
+    file: io::Result<F>,
+    input: &mut R,
+    out: &mut W,
+) -> Ended
+    ensures unopened { IfErr file (λ _. Keeps (R.remaining input.old) (R.remaining input.new)
+        × TellsOnly (W.contents out.old) (W.contents out.new) (line_of result) result.status SessionFault.Read) }
+    ensures done { IfOk file (λ f. (rest : Option (List ℕ))
+        × DoneBy verb (F.remaining f) rest (R.remaining input.old) (R.remaining input.new)
+        (W.contents out.old) (W.contents out.new) (line_of result) result.status) }
+{
+    match file {
+        Ok(mut file) => over_file(alloc, verb, &mut file, input, out),
+        Err(_) => Ended::of(Err(SessionFault::Read)),
+    }
+}
+
+/// Plays the script in a file by a thread for each actor. A file that couldn't be opened is a failed read.
+pub fn threads_over_opened<F: Read + Drop, W: Write, R: Threads + Wait + Sync>(
+    rt: &R,
+    alloc: Global,
+    file: io::Result<F>,
+    out: &mut W,
+) -> Ended
+    ensures unopened { IfErr file (λ _. TellsOnly (W.contents out.old) (W.contents out.new) (line_of result) result.status SessionFault.Read) }
+    ensures played { IfOk file (λ f. (rest : Option (List ℕ))
+        × RecordsThreads (F.remaining f) rest (W.contents out.old) (W.contents out.new) (line_of result) result.status) }
+{
+    match file {
+        Ok(mut file) => record_threads(rt, alloc, &mut file, out),
+        Err(_) => Ended::of(Err(SessionFault::Read)),
+    }
+}
+
+/// Does what the words ask for.
+fn answer<R: Files + Input + Print + AllocGlobal + Threads + Wait + Sync>(
+    rt: &R,
+    asked: Asked<'_>,
+) -> Ended
+    ensures { EndsAs asked.entry (line_of result) result.status }
+{
+    let alloc = rt.alloc();
+    // A session flushes once per command, and a long list goes out in large pieces.
+    let Ok(mut out) = BufWriter::with_capacity(alloc, OUTPUT_BUFFER, io::writer(rt)) else {
+        return Ended::of(Err(SessionFault::NoMemory));
+    };
+    let Ok(mut input) = BufReader::new(alloc, rt.reader()) else {
+        return Ended::of(Err(SessionFault::NoMemory));
+    };
+    match asked {
+        Asked::Session => session_end(alloc, &mut input, &mut out),
+        Asked::Over(verb, path) => {
+            over_opened(alloc, verb, fs::open(rt, path), &mut input, &mut out)
+        }
+        Asked::Threads(path) => threads_over_opened(rt, alloc, fs::open(rt, path), &mut out),
+    }
+}
+
+/// How the program ends where its words can't be read: refused, with nothing told, or for want of memory.
+fn unread_words(error: &io::Error) -> Ended
+    ensures memory { error_kind error.now ≡ ErrorKind.OutOfMemory → Tells (line_of result) result.status (Err SessionFault.NoMemory) }
+    ensures words { error_kind error.now ≢ ErrorKind.OutOfMemory → (line_of result ≡ []) × (result.status ≡ 2) }
+{
+    match error.kind() {
+        ErrorKind::OutOfMemory => Ended::of(Err(SessionFault::NoMemory)),
+        _ => Ended::silent(REFUSED_WORDS),
+    }
+}
+
+/// The words of the command line.
+fn words_of<R: Env + AllocGlobal>(rt: &R) -> Result<Vec<String>, Ended>
+    ensures { IfErr result (λ ended. ((line_of ended ≡ []) × (ended.status ≡ 2))
+        ⊎ Tells (line_of ended) ended.status (Err SessionFault.NoMemory)) }
+{
+    match std::env::args(rt) {
+        Ok(args) => args
+            .collect(rt.alloc())
+            .map_err(|_| Ended::of(Err(SessionFault::NoMemory))),
+        Err(error) => Err(unread_words(&error)),
+    }
+}
+
+/// Does what the words of the command line ask for.
+fn perform<R: Env + Files + Input + Print + AllocGlobal + Threads + Wait + Sync>(rt: &R) -> Ended
+    ensures { IsEnd (line_of result) result.status }
+{
+    let words = match words_of(rt) {
+        Ok(words) => words,
+        Err(ended) => return ended,
+    };
+    match read_words(rt.alloc(), words.as_slice()) {
+        Ok(asked) => answer(rt, asked),
+        Err(error) => refuse_words(rt.alloc(), &error),
+    }
+}
+
+/// Runs the program on the real words, files and streams, and answers its exit status.
+pub fn run<R: Env + Files + Input + Print + AllocGlobal + Threads + Wait + Sync, E: Write>(
+    rt: &R,
+    err: &mut E,
+) -> u8
+    ensures known { result ≤ 5 }
+    ensures ends { (line : List ℕ) × Says (E.contents err.old) (E.contents err.new) line × IsEnd line result }
+{
+    let ended = perform(rt);
+    ended.finish(err)
+}

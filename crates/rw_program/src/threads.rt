@@ -1,0 +1,54 @@
+//! What is made of a script in a file that a thread for each actor plays.
+
+ghost use Rattle.rw_program.specs.Lines.{line_of};
+ghost use Rattle.rw_program.specs.Threads.{RecordsBy, RecordsThreads};
+
+use crate::endings::Ended;
+use crate::files::{record, refuse, write_journal};
+use crate::reading::read_script;
+use rw_console::Outcome;
+use rw_script::run_threads;
+use std::alloc::Global;
+use std::io::{Read, Write};
+use std::sync::Wait;
+use std::thread::Threads;
+
+/// Plays the script in a file by a thread for each actor, and writes the journal text of its run.
+pub(crate) fn record_threads<F: Read, W: Write, R: Threads + Wait + Sync>(
+    rt: &R,
+    alloc: Global,
+    file: &mut F,
+    out: &mut W,
+) -> Ended
+    ensures { RecordsThreads (F.remaining file.old) (F.remaining file.new) (W.contents out.old) (W.contents out.new) (line_of result) result.status }
+{
+    let script = match read_script(alloc, file) {
+        Ok(script) => script,
+        Err(why) => return refuse(alloc, out, why),
+    };
+    let run = match run_threads(rt, alloc, &script, &()) {
+        Ok(run) => run,
+        Err(fault) => return Ended::of_threads(fault),
+    };
+    match write_journal(&run, out) {
+        Ok(()) => Ended::of(Ok(Outcome::Done)),
+        Err(fault) => Ended::of(Err(fault)),
+    }
+}
+
+/// Runs the script in a file with threads or without them.
+pub(crate) fn record_by<F: Read, W: Write, R: Threads + Wait + Sync>(
+    rt: &R,
+    alloc: Global,
+    file: &mut F,
+    threads: bool,
+    out: &mut W,
+) -> Ended
+    ensures { RecordsBy threads (F.remaining file.old) (F.remaining file.new) (W.contents out.old) (W.contents out.new) (line_of result) result.status }
+{
+    if threads {
+        record_threads(rt, alloc, file, out)
+    } else {
+        record(alloc, file, out)
+    }
+}

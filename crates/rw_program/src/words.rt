@@ -1,0 +1,115 @@
+//! The words of the command line.
+
+ghost use Rattle.std.specs.Prelude.{◌≡◌, ◌≢◌, ◌⊎◌, Err};
+ghost use Rattle.clap.specs.Values.{kind_of};
+ghost use Rattle.rw_program.specs.Lines.{line_of};
+ghost use Rattle.rw_program.specs.Statuses.{Tells};
+
+use crate::endings::Ended;
+use crate::statuses::REFUSED_WORDS;
+use clap::error::ErrorKind;
+use clap::{Arg, ArgAction, Command};
+use rw_console::SessionFault;
+use std::alloc::Global;
+
+/// What is done with a file.
+#[derive(Clone, Copy, Debug, PartialEq, Eq)]
+pub enum Verb {
+    Record,
+    Check,
+    Debug,
+    Salvage,
+}
+
+/// What the words of the command line ask for.
+#[derive(Clone, Copy, Debug, PartialEq, Eq)]
+pub enum Asked<'a> {
+    Session,
+    Over(Verb, &'a str),
+    /// The script in this file is to be played by a thread for each actor.
+    Threads(&'a str),
+}
+
+/// The name of the flag that has a script played by threads.
+const THREADS: &str = "threads";
+
+/// A subcommand that takes a path.
+fn with_file<'a>(alloc: Global, name: &'a str, about: &'a str) -> Result<Command<'a>, clap::Error> {
+    let file = Arg::new(alloc, "FILE")
+        .required(true)
+        .action(ArgAction::Set);
+    Ok(Command::new(alloc, name).about(about).arg(file)?)
+}
+
+/// The subcommand that runs a script. The flag may stand on either side of the path.
+fn record_words<'a>(alloc: Global) -> Result<Command<'a>, clap::Error> {
+    let threads = Arg::new(alloc, THREADS)
+        .long(THREADS)
+        .help("Play each actor's lines in a thread of its own")
+        .action(ArgAction::SetTrue);
+    let record = with_file(
+        alloc,
+        "record",
+        "Run the script in FILE and write its journal",
+    )?;
+    Ok(record.arg(threads)?)
+}
+
+/// The words that the program takes.
+fn command_line<'a>(alloc: Global) -> Result<Command<'a>, clap::Error> {
+    let session = Command::new(alloc, "session").about(
+        "Read a script and then commands over its run, from standard input",
+    );
+    Ok(
+        Command::new(alloc, "ttd")
+            .bin_name("ttd")?
+            .about("Time-travel debugger of broadcast and watch channels")
+            .subcommand_required(true)
+            .subcommand(session)?
+            .subcommand(record_words(alloc)?)?
+            .subcommand(with_file(alloc, "check", "Judge the journal in FILE")?)?
+            .subcommand(with_file(
+                alloc,
+                "debug",
+                "Read commands over the journal in FILE, from standard input",
+            )?)?
+            .subcommand(with_file(
+                alloc,
+                "salvage",
+                "Write what a journal in FILE that was cut off still holds",
+            )?)?,
+    )
+}
+
+/// Reads the words of the command line, the program's own name first.
+pub fn read_words<'a>(alloc: Global, words: &'a [String]) -> Result<Asked<'a>, clap::Error> {
+    let matches = command_line(alloc)?.try_get_matches_from(words)?;
+    if let Some((name, inner)) = matches.subcommand() {
+        match (name, inner.get_str("FILE")) {
+            ("session", _) => return Ok(Asked::Session),
+            ("record", Some(path)) if inner.get_flag(THREADS) => return Ok(Asked::Threads(path)),
+            ("record", Some(path)) => return Ok(Asked::Over(Verb::Record, path)),
+            ("check", Some(path)) => return Ok(Asked::Over(Verb::Check, path)),
+            ("debug", Some(path)) => return Ok(Asked::Over(Verb::Debug, path)),
+            ("salvage", Some(path)) => return Ok(Asked::Over(Verb::Salvage, path)),
+            _ => {}
+        }
+    }
+    // A subcommand is required and each has its arm, so this isn't met; no contract says so.
+    Err(command_line(alloc)?.error(ErrorKind::MissingSubcommand, "a subcommand is missing")?)
+}
+
+/// How the program ends where its words aren't taken: the text that tells why, or want of memory.
+pub fn refuse_words(alloc: Global, error: &clap::Error) -> Ended
+    ensures memory { kind_of error.now ≡ ErrorKind.OutOfMemory → Tells (line_of result) result.status (Err SessionFault.NoMemory) }
+    ensures words { kind_of error.now ≢ ErrorKind.OutOfMemory → (result.status ≡ 2)
+        ⊎ Tells (line_of result) result.status (Err SessionFault.NoMemory) }
+{
+    match error.kind() {
+        ErrorKind::OutOfMemory => Ended::of(Err(SessionFault::NoMemory)),
+        _ => match format!(in alloc; "{error}") {
+            Ok(text) => Ended::told_by(text, REFUSED_WORDS),
+            Err(_) => Ended::of(Err(SessionFault::NoMemory)),
+        },
+    }
+}

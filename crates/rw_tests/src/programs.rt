@@ -1,0 +1,5 @@
+//! The program: its words, what it makes of files, and its statuses.
+
+mod files;
+mod statuses;
+mod words;
