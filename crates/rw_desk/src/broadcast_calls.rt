@@ -47,6 +47,22 @@ impl<V: Payload> Desk<V> {
         }
     }
 
+    /// A call of a broadcast channel that makes a receiver.
+    fn b_new_receiver<R: Wait>(
+        &self,
+        rt: &R,
+        pass: &mut Pass<V>,
+        channel: u32,
+        call: BCall<V>,
+    ) -> Result<Made<BRx, BReply<V>>, DeskFault>
+        ensures { MakesBRx self.now.specs pass.old pass.new channel call result }
+    {
+        match self.b_call(rt, pass, channel, call)? {
+            BReply::New(number) => Ok(Made::New(BRx { channel, number })),
+            reply => Ok(Made::Refused(reply)),
+        }
+    }
+
     /// Sends a value to all live receivers.
     pub fn b_send<R: Wait>(
         &self,
@@ -69,11 +85,7 @@ impl<V: Payload> Desk<V> {
     ) -> Result<Made<BRx, BReply<V>>, DeskFault>
         ensures { MakesBRx self.now.specs pass.old pass.new sender.now.channel (BCall.Subscribe sender.now.number) result }
     {
-        let channel = sender.channel;
-        match self.b_call(rt, pass, channel, BCall::Subscribe(sender.number))? {
-            BReply::New(number) => Ok(Made::New(BRx { channel, number })),
-            reply => Ok(Made::Refused(reply)),
-        }
+        self.b_new_receiver(rt, pass, sender.channel, BCall::Subscribe(sender.number))
     }
 
     /// Makes another sender.
@@ -101,11 +113,12 @@ impl<V: Payload> Desk<V> {
     ) -> Result<Made<BRx, BReply<V>>, DeskFault>
         ensures { MakesBRx self.now.specs pass.old pass.new receiver.now.channel (BCall.Resubscribe receiver.now.number) result }
     {
-        let channel = receiver.channel;
-        match self.b_call(rt, pass, channel, BCall::Resubscribe(receiver.number))? {
-            BReply::New(number) => Ok(Made::New(BRx { channel, number })),
-            reply => Ok(Made::Refused(reply)),
-        }
+        self.b_new_receiver(
+            rt,
+            pass,
+            receiver.channel,
+            BCall::Resubscribe(receiver.number),
+        )
     }
 
     /// Receives a value, if there is one.

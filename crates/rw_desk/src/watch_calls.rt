@@ -47,6 +47,22 @@ impl<V: Payload> Desk<V> {
         }
     }
 
+    /// A call of a watch channel that makes a receiver.
+    fn w_new_receiver<R: Wait>(
+        &self,
+        rt: &R,
+        pass: &mut Pass<V>,
+        channel: u32,
+        call: WCall<V>,
+    ) -> Result<Made<WRx, WReply<V>>, DeskFault>
+        ensures { MakesWRx self.now.specs pass.old pass.new channel call result }
+    {
+        match self.w_call(rt, pass, channel, call)? {
+            WReply::New(number) => Ok(Made::New(WRx { channel, number })),
+            reply => Ok(Made::Refused(reply)),
+        }
+    }
+
     /// Writes a value and tells the receivers, if there are any.
     pub fn w_send<R: Wait>(
         &self,
@@ -87,11 +103,7 @@ impl<V: Payload> Desk<V> {
     ) -> Result<Made<WRx, WReply<V>>, DeskFault>
         ensures { MakesWRx self.now.specs pass.old pass.new sender.now.channel (WCall.Subscribe sender.now.number) result }
     {
-        let channel = sender.channel;
-        match self.w_call(rt, pass, channel, WCall::Subscribe(sender.number))? {
-            WReply::New(number) => Ok(Made::New(WRx { channel, number })),
-            reply => Ok(Made::Refused(reply)),
-        }
+        self.w_new_receiver(rt, pass, sender.channel, WCall::Subscribe(sender.number))
     }
 
     /// Makes another sender.
@@ -119,11 +131,12 @@ impl<V: Payload> Desk<V> {
     ) -> Result<Made<WRx, WReply<V>>, DeskFault>
         ensures { MakesWRx self.now.specs pass.old pass.new receiver.now.channel (WCall.CloneReceiver receiver.now.number) result }
     {
-        let channel = receiver.channel;
-        match self.w_call(rt, pass, channel, WCall::CloneReceiver(receiver.number))? {
-            WReply::New(number) => Ok(Made::New(WRx { channel, number })),
-            reply => Ok(Made::Refused(reply)),
-        }
+        self.w_new_receiver(
+            rt,
+            pass,
+            receiver.channel,
+            WCall::CloneReceiver(receiver.number),
+        )
     }
 
     /// Reads the value.
