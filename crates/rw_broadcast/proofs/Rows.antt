@@ -1,11 +1,11 @@
 -- Worked rows of calls, computed: their replies, and what is shown at some places.
 use Rattle.std.proofs.Common.{◌≡◌, ℕ, List, [], ◌∷◌, take, refl}
-use Rattle.rw_handles.specs.declared.kinds.Kind.TheVariants.{Sender, Receiver}
+use Rattle.rw_handles.specs.declared.kinds.Kind.TheVariants.{Sender, Receiver, Weak}
 use Rattle.rw_handles.specs.declared.kinds.Slot.TheVariants.{Live, Spent}
 use Rattle.rw_broadcast.specs.declared.calls.BCall.{BCall}
-use Rattle.rw_broadcast.specs.declared.calls.BCall.TheVariants.{Send, Subscribe, CloneSender, Resubscribe, TryRecv, Recv, DropHandle, SenderLen, ReceiverCount, ReceiverLen}
+use Rattle.rw_broadcast.specs.declared.calls.BCall.TheVariants.{Send, Subscribe, CloneSender, Resubscribe, TryRecv, Recv, DropHandle, SenderLen, ReceiverCount, ReceiverLen, Downgrade, Upgrade, CloneWeak}
 use Rattle.rw_broadcast.specs.declared.calls.BReply.{BReply}
-use Rattle.rw_broadcast.specs.declared.calls.BReply.TheVariants.{Sent, NoReceivers, Value, Lagged, Empty, Closed, Waits, New, Dropped, Count, Unknown, Gone, WrongKind}
+use Rattle.rw_broadcast.specs.declared.calls.BReply.TheVariants.{Sent, NoReceivers, Value, Lagged, Empty, Closed, Waits, New, Dropped, Count, Unknown, Gone, WrongKind, NoSender}
 use Rattle.rw_broadcast.specs.Arithmetic.{retained_capacity}
 use Rattle.rw_broadcast.specs.Record.{opened, replies, after}
 use Rattle.rw_broadcast.specs.Shown.{Shown, shown}
@@ -116,3 +116,25 @@ refused_handles-replies = refl
 refused_handles-at_3 : shown_after 2 (take 3 refused_handles) ≡ shown_after 2 []
 unfolding retained_capacity
 refused_handles-at_3 = refl
+
+abbrev weak_senders : List (BCall ℕ)
+weak_senders = Downgrade 0 ∷ Upgrade 2 ∷ DropHandle 0 ∷ TryRecv 1 ∷ DropHandle 3 ∷ Upgrade 2 ∷ TryRecv 1 ∷ []
+
+weak_senders-replies : replies_of 2 weak_senders ≡ New 2 ∷ New 3 ∷ Dropped ∷ Empty ∷ Dropped ∷ NoSender ∷ Closed ∷ []
+unfolding retained_capacity
+weak_senders-replies = refl
+
+weak_senders-at_1 : shown_after 2 (take 1 weak_senders) ≡ record { capacity = 2; sent = 0; window = []; slots = Live Sender 0 ∷ Live Receiver 0 ∷ Live Weak 0 ∷ [] }
+unfolding retained_capacity
+weak_senders-at_1 = refl
+
+weak_senders-at_7 : shown_after 2 weak_senders ≡ record { capacity = 2; sent = 0; window = []; slots = Spent ∷ Live Receiver 0 ∷ Live Weak 0 ∷ Spent ∷ [] }
+unfolding retained_capacity
+weak_senders-at_7 = refl
+
+abbrev weak_senders_refused : List (BCall ℕ)
+weak_senders_refused = Downgrade 0 ∷ CloneWeak 2 ∷ Send 2 1 ∷ DropHandle 2 ∷ Upgrade 2 ∷ Upgrade 3 ∷ []
+
+weak_senders_refused-replies : replies_of 2 weak_senders_refused ≡ New 2 ∷ New 3 ∷ WrongKind ∷ Dropped ∷ Gone ∷ New 4 ∷ []
+unfolding retained_capacity
+weak_senders_refused-replies = refl

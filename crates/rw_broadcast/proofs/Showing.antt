@@ -15,7 +15,7 @@ use Rattle.rw_handles.specs.Slots.{found}
 use Rattle.rw_handles.specs.declared.table.TheConstants.{MOST_HANDLES}
 use Rattle.rw_law.proofs.Lists.{slice_get-drop}
 use Rattle.rw_broadcast.specs.declared.calls.BCall.{BCall}
-use Rattle.rw_broadcast.specs.declared.calls.BCall.TheVariants.{Send, Subscribe, CloneSender, Resubscribe, TryRecv, Recv, DropHandle, SenderLen, ReceiverCount, ReceiverLen}
+use Rattle.rw_broadcast.specs.declared.calls.BCall.TheVariants.{TryRecv, Recv}
 use Rattle.rw_broadcast.specs.declared.calls.BReply.{BReply}
 use Rattle.rw_broadcast.specs.declared.calls.BReply.TheVariants.{Empty, Waits, TooManyHandles}
 use Rattle.rw_broadcast.specs.Arithmetic.{lag}
@@ -53,16 +53,9 @@ module _ {V : Type 0} (r : Record V) where
         by_test false e o p same = ap (λ o. read whole h position o nothing) (same refl)
 
   same_with : (call : BCall V) (kind : Kind) (position : ℕ) → effect_with rest call kind position ≡ effect_with whole call kind position
-  same_with (Send h v) kind position = refl
-  same_with (Subscribe h) kind position = refl
-  same_with (CloneSender h) kind position = refl
-  same_with (Resubscribe h) kind position = refl
   same_with (TryRecv h) kind position = same_receive h position Empty
   same_with (Recv h) kind position = same_receive h position Waits
-  same_with (DropHandle h) kind position = refl
-  same_with (SenderLen h) kind position = refl
-  same_with (ReceiverCount h) kind position = refl
-  same_with (ReceiverLen h) kind position = refl
+  same_with _ kind position = refl
 
   same_found : (call : BCall V) (f : Found ℕ) → effect_found rest call f ≡ effect_found whole call f
   same_found call (Fault f) = refl

@@ -5,7 +5,7 @@
 -- documentation speaks, and what a machine still shows that has let the evicted values go (`Shown`).
 use Rattle.std.specs.Prelude.{ℕ, ◌+◌, Bool, true, false, ◌==◌, nat_lt, if◌then◌else◌, List, Option, Some, None, length}
 use Rattle.rw_handles.specs.declared.kinds.Kind.{Kind}
-use Rattle.rw_handles.specs.declared.kinds.Kind.TheVariants.{Sender, Receiver}
+use Rattle.rw_handles.specs.declared.kinds.Kind.TheVariants.{Sender, Receiver, Weak}
 use Rattle.rw_handles.specs.declared.kinds.Slot.{Slot}
 use Rattle.rw_handles.specs.declared.kinds.HandleFault.{HandleFault}
 use Rattle.rw_handles.specs.declared.kinds.HandleFault.TheVariants as fault
@@ -13,9 +13,9 @@ use Rattle.rw_handles.specs.declared.kinds.Found.{Found}
 use Rattle.rw_handles.specs.Channels.{checked}
 use Rattle.rw_handles.specs.Slots.{found, alive, values}
 use Rattle.rw_broadcast.specs.declared.calls.BCall.{BCall}
-use Rattle.rw_broadcast.specs.declared.calls.BCall.TheVariants.{Send, Subscribe, CloneSender, Resubscribe, TryRecv, Recv, DropHandle, SenderLen, ReceiverCount, ReceiverLen}
+use Rattle.rw_broadcast.specs.declared.calls.BCall.TheVariants.{Send, Subscribe, CloneSender, Resubscribe, TryRecv, Recv, DropHandle, SenderLen, ReceiverCount, ReceiverLen, Downgrade, Upgrade, CloneWeak}
 use Rattle.rw_broadcast.specs.declared.calls.BReply.{BReply}
-use Rattle.rw_broadcast.specs.declared.calls.BReply.TheVariants.{Sent, NoReceivers, Value, Lagged, Empty, Closed, Waits, New, Dropped, Count, Unknown, Gone, WrongKind, TooManyHandles}
+use Rattle.rw_broadcast.specs.declared.calls.BReply.TheVariants.{Sent, NoReceivers, Value, Lagged, Empty, Closed, Waits, New, Dropped, Count, Unknown, Gone, WrongKind, TooManyHandles, NoSender}
 use Rattle.rw_broadcast.specs.Arithmetic as number
 
 -- a channel, as its calls read it
@@ -26,7 +26,7 @@ pub record Channel (V : Type 0) : Type 0 where
   pub sent : ℕ
   -- the value at a position, if one was sent there
   pub value : ℕ → Option V
-  -- what stands under each handle's number: a receiver with its position, a sender with 0, or nothing any more
+  -- what stands under each handle's number: a receiver with its position, a handle of another kind with 0, or nothing any more
   pub slots : List (Slot ℕ)
 
 -- what a call changes
@@ -46,7 +46,9 @@ pub data Change (V : Type 0) : Type 0 where
 abbrev pub receivers : {V : Type 0} → Channel V → ℕ
 receivers c = alive Receiver c.slots
 
--- "When all Sender handles have been dropped, no new values may be sent. At this point, the channel is "closed"."
+-- "When all Sender handles have been dropped, no new values may be sent. At this point, the channel is "closed"." A weak sender
+-- doesn't keep it open: "If all Sender instances of a channel were dropped and only WeakSender instances remain, the channel is
+-- closed."
 abbrev pub is_closed : {V : Type 0} → Channel V → Bool
 is_closed c = alive Sender c.slots == 0
 
@@ -70,6 +72,9 @@ handle_of (DropHandle h) = h
 handle_of (SenderLen h) = h
 handle_of (ReceiverCount h) = h
 handle_of (ReceiverLen h) = h
+handle_of (Downgrade h) = h
+handle_of (Upgrade h) = h
+handle_of (CloneWeak h) = h
 
 -- the same call, made with another handle
 abbrev pub with_handle : {V : Type 0} → BCall V → ℕ → BCall V
@@ -83,6 +88,9 @@ with_handle (DropHandle h) g = DropHandle g
 with_handle (SenderLen h) g = SenderLen g
 with_handle (ReceiverCount h) g = ReceiverCount g
 with_handle (ReceiverLen h) g = ReceiverLen g
+with_handle (Downgrade h) g = Downgrade g
+with_handle (Upgrade h) g = Upgrade g
+with_handle (CloneWeak h) g = CloneWeak g
 
 -- the kind that this handle has to be of; None: any
 abbrev pub wanted : {V : Type 0} → BCall V → Option Kind
@@ -96,12 +104,18 @@ wanted (DropHandle h) = None
 wanted (SenderLen h) = Some Sender
 wanted (ReceiverCount h) = Some Sender
 wanted (ReceiverLen h) = Some Receiver
+wanted (Downgrade h) = Some Sender
+wanted (Upgrade h) = Some Weak
+wanted (CloneWeak h) = Some Weak
 
 -- whether a call makes a handle, where it isn't refused
 abbrev pub makes : {V : Type 0} → BCall V → Bool
 makes (Subscribe h) = true
 makes (CloneSender h) = true
 makes (Resubscribe h) = true
+makes (Downgrade h) = true
+makes (Upgrade h) = true
+makes (CloneWeak h) = true
 makes _ = false
 
 -- the reply for a handle that can't be used
@@ -118,6 +132,10 @@ send c v = if receivers c == 0 then (Keep, NoReceivers v) else (Append v, Sent (
 -- a new handle has the next number; a new receiver "will receive values sent after the call"
 abbrev pub make : {V : Type 0} → Channel V → Kind → ℕ → Change V × BReply V
 make c kind position = (Make kind position, New (length c.slots))
+
+-- a weak sender is upgraded: "It returns None if all Senders have been dropped, and otherwise it returns a Sender."
+abbrev pub upgrade : {V : Type 0} → Channel V → Change V × BReply V
+upgrade c = if is_closed c then (Keep, NoSender) else make c Sender 0
 
 -- what receiver h gets of the value at its position, if there is one. "Once a receiver has received all values retained
 -- by the channel, the next call to recv will return with RecvError::Closed." Where more may come, the reply is `nothing`.
@@ -146,6 +164,9 @@ effect_with c (DropHandle h) kind position = (Leave h kind position, Dropped)
 effect_with c (SenderLen h) kind position = (Keep, Count (queued c))
 effect_with c (ReceiverCount h) kind position = (Keep, Count (receivers c))
 effect_with c (ReceiverLen h) kind position = (Keep, Count (number.unread c.sent position))
+effect_with c (Downgrade h) kind position = make c Weak 0
+effect_with c (Upgrade h) kind position = upgrade c
+effect_with c (CloneWeak h) kind position = make c Weak 0
 
 -- the same, where the handle is looked for: a call is checked for an unknown number, a dropped handle, one of the wrong
 -- kind, and too many handles, in this order

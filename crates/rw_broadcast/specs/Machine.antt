@@ -1,8 +1,8 @@
 -- A broadcast machine, as its callers see it.
 use Rattle.std.specs.Prelude.{ℕ, min, Option, Some, None}
-use Rattle.rw_handles.specs.declared.kinds.Kind.TheVariants.{Sender, Receiver}
+use Rattle.rw_handles.specs.declared.kinds.Kind.TheVariants.{Receiver}
 use Rattle.rw_handles.specs.declared.kinds.Slot.{Slot}
-use Rattle.rw_handles.specs.declared.kinds.Slot.TheVariants.{Live, Spent}
+use Rattle.rw_handles.specs.declared.kinds.Slot.TheVariants.{Live}
 use Rattle.rw_handles.specs.Slots.{receiver_at}
 use Rattle.rw_law.specs.Outcomes.{Machine as MachineOf, Follows}
 use Rattle.rw_broadcast.specs.declared.calls.BReply.{BReply}
@@ -22,9 +22,8 @@ Takes old new given e = Follows old new given (outcome_of old.shown e)
 abbrev pub position_at : Option (Slot ℕ) → Option ℕ
 position_at o = receiver_at o
 
--- the least position so far and that of one more slot
+-- the least position so far and that of one more slot, if a receiver stands there
 abbrev pub least_with : Option ℕ → Slot ℕ → Option ℕ
 least_with None (Live Receiver position) = Some position
 least_with (Some other) (Live Receiver position) = Some (min other position)
-least_with o (Live Sender position) = o
-least_with o Spent = o
+least_with o slot = o

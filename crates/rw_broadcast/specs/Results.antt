@@ -1,12 +1,12 @@
 -- What a reply tells the caller of one call, as the results and errors of tokio's methods.
-use Rattle.std.specs.Prelude.{ℕ, Result, Ok, Err}
+use Rattle.std.specs.Prelude.{ℕ, Option, Some, None, Result, Ok, Err}
 use Rattle.rw_handles.specs.declared.kinds.HandleFault.TheVariants as fault
 use Rattle.rw_handles.specs.declared.refusals.Refusal.{Refusal}
 use Rattle.rw_handles.specs.declared.refusals.Refusal.TheVariants as refusal
 use Rattle.rw_handles.specs.declared.refusals.SendError.{SendError}
 use Rattle.rw_handles.specs.declared.refusals.SendError.TheVariants as send
 use Rattle.rw_broadcast.specs.declared.calls.BReply.{BReply}
-use Rattle.rw_broadcast.specs.declared.calls.BReply.TheVariants.{Sent, NoReceivers, Value, Lagged, Empty, Closed, Waits, New, Dropped, Count, Unknown, Gone, WrongKind, TooManyHandles}
+use Rattle.rw_broadcast.specs.declared.calls.BReply.TheVariants.{Sent, NoReceivers, Value, Lagged, Empty, Closed, Waits, New, Dropped, Count, Unknown, Gone, WrongKind, TooManyHandles, NoSender}
 use Rattle.rw_broadcast.specs.declared.results.TryRecvError.{TryRecvError}
 use Rattle.rw_broadcast.specs.declared.results.TryRecvError.TheVariants as receive
 
@@ -34,10 +34,16 @@ received Waits = Err receive.Empty
 received Closed = Err receive.Closed
 received reply = Err (receive.Refused (refusal_of reply))
 
--- of a call that makes a handle: its number
+-- of a call that always makes a handle, where it isn't refused: its number
 abbrev pub made : {V : Type 0} → BReply V → Result ℕ Refusal
 made (New handle) = Ok handle
 made reply = Err (refusal_of reply)
+
+-- of an upgrade: the number of the sender, or none
+abbrev pub upgraded : {V : Type 0} → BReply V → Result (Option ℕ) Refusal
+upgraded (New handle) = Ok (Some handle)
+upgraded NoSender = Ok None
+upgraded reply = Err (refusal_of reply)
 
 -- of a drop
 abbrev pub dropped : {V : Type 0} → BReply V → Result (Unit {0}) Refusal

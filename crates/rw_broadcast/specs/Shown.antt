@@ -1,6 +1,6 @@
 -- What a broadcast channel shows, which is the record without the values that were evicted: its steps, and their undoing.
 use Rattle.std.specs.Prelude.{◌≡◌, ℕ, ◌+◌, ◌-◌, ◌≤◌, ◌<◌, min, Bool, true, false, List, [], ◌∷◌, ◌++◌, Option, Some, None, All, slice_get, slice_set, length, take, drop, ⊤}
-use Rattle.rw_handles.specs.declared.kinds.Kind.TheVariants.{Sender, Receiver}
+use Rattle.rw_handles.specs.declared.kinds.Kind.TheVariants.{Receiver}
 use Rattle.rw_handles.specs.declared.kinds.Slot.{Slot}
 use Rattle.rw_handles.specs.declared.kinds.Slot.TheVariants.{Live, Spent}
 use Rattle.rw_handles.specs.Slots.{IsLive, IsReceiver}
@@ -10,7 +10,7 @@ use Rattle.rw_law.specs.Outcomes.{Outcome}
 use Rattle.rw_ring.specs.Windows.{put, evicted, unput}
 use Rattle.rw_broadcast.specs.declared.calls.BCall.{BCall}
 use Rattle.rw_broadcast.specs.declared.calls.BReply.{BReply}
-use Rattle.rw_broadcast.specs.declared.calls.BReply.TheVariants.{NoReceivers, Empty, Closed, Waits, Unknown, Gone, WrongKind, TooManyHandles}
+use Rattle.rw_broadcast.specs.declared.calls.BReply.TheVariants.{NoReceivers, Empty, Closed, Waits, Unknown, Gone, WrongKind, TooManyHandles, NoSender}
 use Rattle.rw_broadcast.specs.declared.calls.BPatch.{BPatch}
 use Rattle.rw_broadcast.specs.declared.calls.BPatch.TheVariants.{Same, Pushed, Evicted, Made, Moved, Left}
 use Rattle.rw_broadcast.specs.Arithmetic.{oldest}
@@ -84,11 +84,11 @@ back x call Made = record x { slots = take (length x.slots - 1) x.slots }
 back x call (Moved from) = record x { slots = slice_set x.slots (handle_of call) (Live Receiver from) }
 back x call (Left kind position) = record x { slots = slice_set x.slots (handle_of call) (Live kind position) }
 
--- what can stand under a number, where so many values were sent: a sender with 0, a receiver with a position up to the end,
--- or nothing any more
+-- what can stand under a number, where so many values were sent: a receiver with a position up to the end, a handle of another
+-- kind with 0, or nothing any more
 abbrev pub IsPlaced : ℕ → Slot ℕ → Type 0
-IsPlaced sent (Live Sender position) = position ≡ 0
 IsPlaced sent (Live Receiver position) = position ≤ sent
+IsPlaced sent (Live kind position) = position ≡ 0
 IsPlaced sent Spent = ⊤
 
 -- what channels can show
@@ -127,6 +127,7 @@ refuses Unknown = true
 refuses Gone = true
 refuses WrongKind = true
 refuses TooManyHandles = true
+refuses NoSender = true
 refuses _ = false
 
 -- the reply says that the call would wait

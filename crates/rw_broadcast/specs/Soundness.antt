@@ -6,7 +6,7 @@ use Rattle.std.proofs.lemmas.List.{length_push}
 use Rattle.std.proofs.lemmas.Option.{slice_get_within}
 use Rattle.std.proofs.lemmas.List.Elements.{All-push, All-set, All-weaker}
 use Rattle.rw_handles.specs.declared.kinds.Kind.{Kind}
-use Rattle.rw_handles.specs.declared.kinds.Kind.TheVariants.{Sender, Receiver}
+use Rattle.rw_handles.specs.declared.kinds.Kind.TheVariants.{Sender, Receiver, Weak}
 use Rattle.rw_handles.specs.declared.kinds.Slot.{Slot}
 use Rattle.rw_handles.specs.declared.kinds.Slot.TheVariants.{Live, Spent}
 use Rattle.rw_handles.specs.declared.kinds.Found.TheVariants.{Handle}
@@ -18,11 +18,11 @@ use Rattle.rw_law.specs.Laws.{Laws}
 use Rattle.rw_law.specs.Outcomes.{IsSound, sound_if, laws_of}
 use Rattle.rw_law.proofs.Lists.{push_back}
 use Rattle.rw_broadcast.specs.declared.calls.BCall.{BCall}
-use Rattle.rw_broadcast.specs.declared.calls.BCall.TheVariants.{Send, Subscribe, CloneSender, Resubscribe, TryRecv, Recv, DropHandle, SenderLen, ReceiverCount, ReceiverLen}
+use Rattle.rw_broadcast.specs.declared.calls.BCall.TheVariants.{Send, Subscribe, CloneSender, Resubscribe, TryRecv, Recv, DropHandle, SenderLen, ReceiverCount, ReceiverLen, Downgrade, Upgrade, CloneWeak}
 use Rattle.rw_broadcast.specs.declared.calls.BReply.{BReply}
 use Rattle.rw_broadcast.specs.declared.calls.BReply.TheVariants.{Sent, Value, Lagged, Empty, Waits, New, Dropped, TooManyHandles}
 use Rattle.rw_broadcast.specs.Arithmetic.{lag}
-use Rattle.rw_broadcast.specs.Channel.{Change, Keep, Append, Make, Move, Leave, handle_of, wanted, makes, refused, oldest, receivers, read, receive, effect_with, effect}
+use Rattle.rw_broadcast.specs.Channel.{Change, Keep, Append, Make, Move, Leave, handle_of, wanted, makes, refused, is_closed, oldest, receivers, read, receive, effect_with, effect}
 use Rattle.rw_broadcast.specs.Shown.{Shown, channel_of, changed, patch_of_send, outcome_of, outcome, next, reply_of, patch_of, back, IsPlaced, IsAllowed, CanUnsend, Fits, weight, refuses, waits, strays}
 use Rattle.rw_ring.specs.Windows.{put, evicted, unput, unput-put, length-put}
 
@@ -89,8 +89,8 @@ right_leave x call kind position here = record {
 }
 
 placed_more : (n : ℕ) (slot : Slot ℕ) → IsPlaced n slot → IsPlaced (n + 1) slot
-placed_more n (Live Sender position) h = h
 placed_more n (Live Receiver position) h = omega arith
+placed_more n (Live kind position) h = h
 placed_more n Spent h = h
 
 -- what a send evicts decides its patch
@@ -158,6 +158,9 @@ right_with x (DropHandle h) kind position is few = right_leave x (DropHandle h) 
 right_with x (SenderLen h) kind position is few = right_keep x _ _
 right_with x (ReceiverCount h) kind position is few = right_keep x _ _
 right_with x (ReceiverLen h) kind position is few = right_keep x _ _
+right_with x (Downgrade h) kind position is few = right_make x _ Weak 0 refl (few refl)
+right_with x (Upgrade h) kind position is few = sound_if IsAllowed weight back Fits refuses (outcome_of x) (is_closed (channel_of x)) (λ _. right_keep x _ _) (λ _. right_make x _ Sender 0 refl (few refl))
+right_with x (CloneWeak h) kind position is few = right_make x _ Weak 0 refl (few refl)
 
 right : {V : Type 0} (x : Shown V) (call : BCall V) → IsRight x call (effect (channel_of x) call)
 right x call =

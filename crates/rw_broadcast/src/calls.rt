@@ -20,7 +20,7 @@ pub enum BCall<V> {
     TryRecv(u32),
     /// Receives a value, and waits for one where there is none yet.
     Recv(u32),
-    /// Drops a handle of either kind.
+    /// Drops a handle of any kind.
     DropHandle(u32),
     /// Asks a sender how many values are queued.
     SenderLen(u32),
@@ -28,6 +28,12 @@ pub enum BCall<V> {
     ReceiverCount(u32),
     /// Asks a receiver how many values it has yet to receive.
     ReceiverLen(u32),
+    /// Makes a weak sender, which doesn't keep the channel open.
+    Downgrade(u32),
+    /// Makes a sender out of a weak one, as long as there is a sender.
+    Upgrade(u32),
+    /// Makes another weak sender.
+    CloneWeak(u32),
 }
 
 /// What a call answers.
@@ -57,10 +63,12 @@ pub enum BReply<V> {
     Unknown,
     /// The handle was dropped before.
     Gone,
-    /// The handle is of the other kind.
+    /// The handle is of another kind.
     WrongKind,
     /// The channel has made all the handles that it may make.
     TooManyHandles,
+    /// No sender is alive, so a weak one can't be made into a sender.
+    NoSender,
 }
 
 /// What undoing a step needs beside its call.
@@ -95,7 +103,10 @@ impl<V: Copy> BCall<V> {
             | BCall::DropHandle(handle)
             | BCall::SenderLen(handle)
             | BCall::ReceiverCount(handle)
-            | BCall::ReceiverLen(handle) => *handle,
+            | BCall::ReceiverLen(handle)
+            | BCall::Downgrade(handle)
+            | BCall::Upgrade(handle)
+            | BCall::CloneWeak(handle) => *handle,
         }
     }
 
@@ -114,10 +125,13 @@ impl<V: Copy> BCall<V> {
             BCall::SenderLen(_) => BCall::SenderLen(handle),
             BCall::ReceiverCount(_) => BCall::ReceiverCount(handle),
             BCall::ReceiverLen(_) => BCall::ReceiverLen(handle),
+            BCall::Downgrade(_) => BCall::Downgrade(handle),
+            BCall::Upgrade(_) => BCall::Upgrade(handle),
+            BCall::CloneWeak(_) => BCall::CloneWeak(handle),
         }
     }
 
-    /// The kind that this handle has to be of; `None` where either kind will do.
+    /// The kind that this handle has to be of; `None` where any kind will do.
     pub(crate) fn wanted(&self) -> Option<Kind>
         ensures { result ≡ wanted self.now }
     {
@@ -126,9 +140,11 @@ impl<V: Copy> BCall<V> {
             | BCall::Subscribe(_)
             | BCall::CloneSender(_)
             | BCall::SenderLen(_)
-            | BCall::ReceiverCount(_) => Some(Kind::Sender),
+            | BCall::ReceiverCount(_)
+            | BCall::Downgrade(_) => Some(Kind::Sender),
             BCall::Resubscribe(_) | BCall::TryRecv(_) | BCall::Recv(_) | BCall::ReceiverLen(_) =>
                 Some(Kind::Receiver),
+            BCall::Upgrade(_) | BCall::CloneWeak(_) => Some(Kind::Weak),
             BCall::DropHandle(_) => None,
         }
     }
@@ -139,7 +155,12 @@ impl<V: Copy> BCall<V> {
     {
         matches!(
             self,
-            BCall::Subscribe(_) | BCall::CloneSender(_) | BCall::Resubscribe(_)
+            BCall::Subscribe(_)
+                | BCall::CloneSender(_)
+                | BCall::Resubscribe(_)
+                | BCall::Downgrade(_)
+                | BCall::Upgrade(_)
+                | BCall::CloneWeak(_)
         )
     }
 }

@@ -28,7 +28,6 @@ fn lesser(least: Option<u64>, slot: &Slot<u64>) -> Option<u64>
             None => Some(*position),
             Some(other) => Some(other.min(*position)),
         },
-        Slot::Live(Kind::Sender, _) => least,
-        Slot::Spent => least,
+        _ => least,
     }
 }

@@ -1,6 +1,6 @@
 //! What a reply tells the caller of one call, under the names of tokio's results and errors.
 ghost use Rattle.std.specs.Prelude.{◌≡◌};
-ghost use Rattle.rw_broadcast.specs.Results.{count, dropped, made, received, refusal_of, sent};
+ghost use Rattle.rw_broadcast.specs.Results.{count, dropped, made, received, refusal_of, sent, upgraded};
 
 use crate::calls::BReply;
 use rw_handles::{HandleFault, Refusal, SendError};
@@ -48,12 +48,23 @@ impl<V: Copy> BReply<V> {
         }
     }
 
-    /// Of `Subscribe`, `CloneSender` and `Resubscribe`: the number of the new handle.
+    /// Of a call that always makes a handle, where it isn't refused: the number of the new handle.
     pub fn made(self) -> Result<u32, Refusal>
         ensures { result ≡ made self }
     {
         match self {
             BReply::New(handle) => Ok(handle),
+            _ => Err(self.refusal()),
+        }
+    }
+
+    /// Of `Upgrade`: the number of the new sender, or `None` where no sender is alive.
+    pub fn upgraded(self) -> Result<Option<u32>, Refusal>
+        ensures { result ≡ upgraded self }
+    {
+        match self {
+            BReply::New(handle) => Ok(Some(handle)),
+            BReply::NoSender => Ok(None),
             _ => Err(self.refusal()),
         }
     }

@@ -6,7 +6,7 @@ use Rattle.std.proofs.lemmas.List.Elements.{All-get_or}
 use Rattle.std.proofs.lemmas.Option.{slice_get_within, get_or_from_slice_get}
 use Rattle.rw_handles.specs.declared.kinds.HandleFault.TheVariants.{WrongKind}
 use Rattle.rw_handles.specs.declared.kinds.Kind.{Kind}
-use Rattle.rw_handles.specs.declared.kinds.Kind.TheVariants.{Sender, Receiver}
+use Rattle.rw_handles.specs.declared.kinds.Kind.TheVariants.{Sender, Receiver, Weak}
 use Rattle.rw_handles.specs.declared.kinds.Slot.{Slot}
 use Rattle.rw_handles.specs.declared.kinds.Slot.TheVariants.{Live, Spent}
 use Rattle.rw_handles.specs.declared.kinds.Found.TheVariants.{Fault, Handle}
@@ -30,8 +30,8 @@ set_back (x ∷ xs) (suc i) a b h = ap (λ ys. x ∷ ys) (set_back xs i a b h)
 same_kind_is : (a b : Kind) → same_kind a b ≡ true → a ≡ b
 same_kind_is Sender Sender h = refl
 same_kind_is Receiver Receiver h = refl
-same_kind_is Sender Receiver h = cc
-same_kind_is Receiver Sender h = cc
+same_kind_is Weak Weak h = refl
+same_kind_is _ _ h = cc
 
 -- and where a kind is wanted, it is of that kind
 pub found_at_wanted : {X : Type 0} (wanted : Kind) (o : Option (Slot X)) (kind : Kind) (x : X) → found_at (Some wanted) o ≡ Handle kind x → o ≡ Some (Live wanted x)

@@ -4,7 +4,7 @@ use Rattle.std.specs.Prelude.{Some, slice_get}
 use Rattle.std.proofs.lemmas.List.Sums.{sum_by-set, count_by-le-length, sum_by-append}
 use Rattle.std.proofs.lemmas.Option.{slice_get_within, get_or_from_slice_get}
 use Rattle.rw_handles.specs.declared.kinds.Kind.{Kind}
-use Rattle.rw_handles.specs.declared.kinds.Kind.TheVariants.{Sender, Receiver}
+use Rattle.rw_handles.specs.declared.kinds.Kind.TheVariants.{Sender, Receiver, Weak}
 use Rattle.rw_handles.specs.declared.kinds.Slot.{Slot}
 use Rattle.rw_handles.specs.declared.kinds.Slot.TheVariants.{Live, Spent}
 use Rattle.rw_handles.specs.Slots.{alive, is_alive, same_kind}
@@ -25,6 +25,7 @@ alive-push k slots last = omega (arith, sum_by-append (λ s. cond (is_alive k s)
 same_kind-refl : (k : Kind) → same_kind k k ≡ true
 same_kind-refl Sender = refl
 same_kind-refl Receiver = refl
+same_kind-refl Weak = refl
 
 -- a live handle is counted
 pub alive-some : {X : Type 0} (kind : Kind) (slots : List (Slot X)) (id : ℕ) (x : X) → slice_get slots id ≡ Some (Live kind x) → 0 < alive kind slots

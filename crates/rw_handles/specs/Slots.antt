@@ -2,7 +2,7 @@
 -- So its length is the number of handles made, and a dropped handle keeps its number.
 use Rattle.std.specs.Prelude.{ℕ, Bool, true, false, cond, List, [], ◌∷◌, Option, Some, None, IsSome, Result, Ok, Err, slice_get, count_by, ⊤}
 use Rattle.rw_handles.specs.declared.kinds.Kind.{Kind}
-use Rattle.rw_handles.specs.declared.kinds.Kind.TheVariants.{Sender, Receiver}
+use Rattle.rw_handles.specs.declared.kinds.Kind.TheVariants.{Sender, Receiver, Weak}
 use Rattle.rw_handles.specs.declared.kinds.Slot.{Slot}
 use Rattle.rw_handles.specs.declared.kinds.Slot.TheVariants.{Live, Spent}
 use Rattle.rw_handles.specs.declared.kinds.HandleFault.{HandleFault}
@@ -13,6 +13,7 @@ use Rattle.rw_handles.specs.declared.kinds.Found.TheVariants.{Fault, Handle}
 abbrev pub same_kind : Kind → Kind → Bool
 same_kind Sender Sender = true
 same_kind Receiver Receiver = true
+same_kind Weak Weak = true
 same_kind _ _ = false
 
 -- whether a handle of this kind serves where one of the wanted kind is asked for; at None any kind serves

@@ -7,6 +7,8 @@ use thiserror::Error;
 pub enum Kind {
     Sender,
     Receiver,
+    /// A sender that doesn't keep its channel open. It sends nothing, but as long as there is a sender it can be made into one.
+    Weak,
 }
 
 /// What stands under a handle's number: a live handle of a kind with its value, or the spent number of a dropped one.

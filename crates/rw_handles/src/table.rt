@@ -57,6 +57,7 @@ impl<X: Copy> Table<X> {
             tally: Tally {
                 senders: 0,
                 receivers: 0,
+                weak: 0,
             },
         })
     }

@@ -10,6 +10,7 @@ use crate::kinds::Kind;
 pub struct Tally {
     pub senders: u64,
     pub receivers: u64,
+    pub weak: u64,
 }
 
 impl Tally {
@@ -19,6 +20,7 @@ impl Tally {
         match kind {
             Kind::Sender => self.senders,
             Kind::Receiver => self.receivers,
+            Kind::Weak => self.weak,
         }
     }
 
@@ -29,6 +31,7 @@ impl Tally {
         match kind {
             Kind::Sender => self.senders += 1,
             Kind::Receiver => self.receivers += 1,
+            Kind::Weak => self.weak += 1,
         }
     }
 
@@ -39,6 +42,7 @@ impl Tally {
         match kind {
             Kind::Sender => self.senders -= 1,
             Kind::Receiver => self.receivers -= 1,
+            Kind::Weak => self.weak -= 1,
         }
     }
 }

@@ -1,6 +1,6 @@
 //! What a broadcast channel shows.
 ghost use Rattle.std.specs.Prelude.{◌≡◌, length, slice_get, option_map};
-ghost use Rattle.rw_handles.specs.Slots.{kind_at};
+ghost use Rattle.rw_handles.specs.Slots.{alive, kind_at};
 ghost use Rattle.rw_broadcast.specs.Arithmetic.{lag, unread};
 ghost use Rattle.rw_broadcast.specs.Channel.{is_closed, oldest, queued};
 ghost use Rattle.rw_broadcast.specs.Shown.{channel_of};
@@ -84,6 +84,13 @@ impl<V: Copy> Broadcast<V> {
         ensures { result ≡ kind_at (slice_get self.now.shown.slots id) }
     {
         self.handles.kind(id)
+    }
+
+    /// How many handles of this kind are alive. It reads a count and looks at no handle.
+    pub fn alive(&self, kind: Kind) -> u64
+        ensures { result ≡ alive kind self.now.shown.slots }
+    {
+        self.handles.alive(kind)
     }
 
     /// Whether no sender is alive.

@@ -5,7 +5,7 @@ ghost use Rattle.rw_handles.specs.declared.kinds.Slot.TheVariants.{Live};
 ghost use Rattle.rw_handles.specs.declared.kinds.Found.TheVariants.{Handle};
 ghost use Rattle.rw_handles.specs.Slots.{found};
 ghost use Rattle.rw_handles.specs.declared.table.TheConstants.{MOST_HANDLES};
-ghost use Rattle.rw_broadcast.specs.Channel.{Keep, Make, Move, Leave, send, read, receive, effect, effect_with, handle_of, wanted, makes, oldest, receivers};
+ghost use Rattle.rw_broadcast.specs.Channel.{Keep, Make, Move, Leave, send, read, receive, upgrade, effect, effect_with, handle_of, wanted, makes, oldest, receivers};
 ghost use Rattle.rw_broadcast.specs.Shown.{CanUnsend, IsPlaced, channel_of, weight};
 ghost use Rattle.rw_ring.specs.Windows.{unput};
 ghost use Rattle.rw_broadcast.specs.Machine.{Takes};
@@ -109,6 +109,19 @@ impl<V: Copy> Broadcast<V> {
         }
     }
 
+    /// Makes a sender out of a weak one, if there is a sender.
+    fn upgrade(&mut self) -> (BReply<V>, BPatch<V>)
+        requires few { length self.old.shown.slots < MOST_HANDLES }
+        requires room { weight self.old.shown < self.old.limit }
+        ensures { Takes self.old self.new result (upgrade (channel_of self.old.shown)) }
+    {
+        if self.closed() {
+            self.keep(BReply::NoSender)
+        } else {
+            self.make(Kind::Sender, 0)
+        }
+    }
+
     /// Makes a call with the live handle that it found.
     fn perform(&mut self, call: &BCall<V>, kind: Kind, position: u64) -> (BReply<V>, BPatch<V>)
         requires room { weight self.old.shown < self.old.limit }
@@ -128,6 +141,9 @@ impl<V: Copy> Broadcast<V> {
             BCall::SenderLen(_) => self.keep(BReply::Count(self.queued())),
             BCall::ReceiverCount(_) => self.keep(BReply::Count(self.receivers())),
             BCall::ReceiverLen(_) => self.keep(BReply::Count(sent - position)),
+            BCall::Downgrade(_) => self.make(Kind::Weak, 0),
+            BCall::Upgrade(_) => self.upgrade(),
+            BCall::CloneWeak(_) => self.make(Kind::Weak, 0),
         }
     }
 
