@@ -1,3 +1,4 @@
 pub mod Cloning
 pub mod Rows
 pub mod Showing
+pub mod Strong

@@ -93,10 +93,11 @@ IsMark version None = ⊤
 IsMark version (Some mark) = mark ≤ version
 
 -- what can stand under a number, in a channel of this version: a sender with None, a receiver that has seen no later one, or
--- nothing any more
+-- nothing any more; a watch has no handle of another kind
 abbrev pub IsMarked : (version : ℕ) → Slot (Option ℕ) → Type 0
 IsMarked version (Live Sender mark) = mark ≡ None
 IsMarked version (Live Receiver mark) = IsMark version mark
+IsMarked version (Live other mark) = ⊥
 IsMarked version Spent = ⊤
 
 -- what channels can show

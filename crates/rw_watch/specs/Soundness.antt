@@ -112,6 +112,7 @@ marked_more : (n : ℕ) (slot : Slot (Option ℕ)) → IsMarked n slot → IsMar
 marked_more n (Live Sender mark) h = h
 marked_more n (Live Receiver None) h = h
 marked_more n (Live Receiver (Some mark)) h = omega arith
+marked_more n (Live other mark) h = h
 marked_more n Spent h = h
 
 right_write : {V : Type 0} (x : Shown V) (call : WCall V) (v : V) (told : Bool) (reply : WReply V) → refuses reply ≡ false → IsRight x call (Write v told, reply)

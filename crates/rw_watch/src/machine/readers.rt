@@ -1,5 +1,5 @@
 //! What a watch channel shows.
-ghost use Rattle.std.specs.Prelude.{◌≡◌, length, slice_get};
+ghost use Rattle.std.specs.Prelude.{◌≡◌, ◌≢◌, Some, length, slice_get};
 ghost use Rattle.rw_handles.specs.Slots.{kind_at};
 ghost use Rattle.rw_watch.specs.Channel.{is_closed};
 ghost use Rattle.rw_watch.specs.Machine.{mark_at, is_seen_at};
@@ -44,9 +44,10 @@ impl<V: Copy> Watch<V> {
         self.handles.made()
     }
 
-    /// The kind of a live handle.
+    /// The kind of a live handle. A watch has no weak sender.
     pub fn kind(&self, id: u32) -> Option<Kind>
-        ensures { result ≡ kind_at (slice_get self.now.shown.slots id) }
+        ensures kind { result ≡ kind_at (slice_get self.now.shown.slots id) }
+        ensures strong { result ≢ Some Kind.Weak }
     {
         self.handles.kind(id)
     }
