@@ -43,10 +43,10 @@ found token = either_table token _ _ (found_in broadcast.reply_word_text token b
 -- ---- the word of a reply stands first in its text
 
 broadcast_plain : (w : BroadcastReplyWord) → lacks 32 (broadcast.reply_word_text w) ≡ true
-broadcast_plain = elim [ broadcast_word.Sent ↦ refl | broadcast_word.Value ↦ refl | broadcast_word.Empty ↦ refl | broadcast_word.Lagged ↦ refl | broadcast_word.NoReceivers ↦ refl | broadcast_word.Closed ↦ refl | broadcast_word.New ↦ refl | broadcast_word.Dropped ↦ refl | broadcast_word.Count ↦ refl | broadcast_word.Unknown ↦ refl | broadcast_word.Gone ↦ refl | broadcast_word.WrongKind ↦ refl | broadcast_word.TooManyHandles ↦ refl ]
+broadcast_plain = elim [ broadcast_word.Sent ↦ refl | _ ↦ refl ]
 
 watch_plain : (w : WatchReplyWord) → lacks 32 (watch.reply_word_text w) ≡ true
-watch_plain = elim [ watch_word.Stored ↦ refl | watch_word.Done ↦ refl | watch_word.Value ↦ refl | watch_word.Flag ↦ refl | watch_word.NoReceivers ↦ refl | watch_word.Old ↦ refl | watch_word.Told ↦ refl | watch_word.New ↦ refl | watch_word.Closed ↦ refl | watch_word.Count ↦ refl | watch_word.Dropped ↦ refl | watch_word.Unknown ↦ refl | watch_word.Gone ↦ refl | watch_word.WrongKind ↦ refl | watch_word.TooManyHandles ↦ refl ]
+watch_plain = elim [ watch_word.Stored ↦ refl | _ ↦ refl ]
 
 first_word_is : (word : List ℕ) (o : Option (List ℕ)) → lacks 32 word ≡ true → first_word (word ++ rest_text o) ≡ word
 first_word_is word None plain = rw (append-nil word, cut_lacks 32 word plain) refl
