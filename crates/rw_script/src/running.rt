@@ -8,7 +8,7 @@ ghost use Rattle.rw_world.specs.Openings.{opened, refusal};
 ghost use Rattle.rw_script.specs.Running.{IsMade, call_of, filled, made_by, run_of, with_handle};
 
 use crate::script::Script;
-use crate::steps::Step;
+use crate::steps::ScriptStep;
 use rw_broadcast::BReply;
 use rw_journal::laws::journal_of_an_interleaving;
 use rw_journal::{Book, Run, TakeFault};
@@ -58,7 +58,7 @@ fn with_handle(call: ChanCall<u64>, handle: u32) -> ChanCall<u64>
 }
 
 /// The step's call, with the handle that its name stands for.
-pub(crate) fn filled(step: &Step, made: &[u32]) -> ChanCall<u64>
+pub(crate) fn filled(step: &ScriptStep, made: &[u32]) -> ChanCall<u64>
     ensures { result ≡ filled step.now.call step.now.target made.now }
 {
     match step.target {
@@ -82,7 +82,11 @@ pub(crate) fn made_by(reply: &ChanReply<u64>) -> u32
 }
 
 /// Makes the call of a step, and gives the handle that it made. A call that would wait isn't made, and gives none.
-fn run_step(book: &mut Book<World<u64>>, step: &Step, made: &[u32]) -> Result<Option<u32>, NoMemory>
+fn run_step(
+    book: &mut Book<World<u64>>,
+    step: &ScriptStep,
+    made: &[u32],
+) -> Result<Option<u32>, NoMemory>
     requires few { length book.old.entries < 1_048_576 }
     requires stamps { last_stamp book.old.entries < 2 ^ 62 }
     requires actor { step.now.actor < 64 }
