@@ -97,7 +97,7 @@ blocks_go f cs i c start out out' so here more =
 pub blocks_end : {C : Type 0} (f : C → ChanShown ℕ) (cs : List C) (i : ℕ) (start out : List ℕ) → out ≡ start ++ first_blocks (map f cs) i → i ≡ length cs → out ≡ start ++ world_blocks (map f cs)
 blocks_end f cs i start out so all = so ∙ ap (λ (n : ℕ). start ++ first_blocks (map f cs) n) (all ∙ sym (length-map cs f))
 
-pub ruleset numbered = (sender_words-more, sender_words-none, broadcast_lines-more, broadcast_lines-none, watch_lines-more, watch_lines-none, common_steps)
+pub ruleset by_number = (sender_words-more, sender_words-none, broadcast_lines-more, broadcast_lines-none, watch_lines-more, watch_lines-none, common_steps)
 
 -- ---- four and five pieces, one behind the other
 

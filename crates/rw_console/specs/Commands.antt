@@ -31,21 +31,21 @@ word_and_number word n =
     else if bytes_eq word (codes "goto") then Move (Goto n)
     else Bad
 
-abbrev pub numbered : List ℕ → Option ℕ → Command
-numbered word None = Bad
-numbered word (Some n) = word_and_number word n
+abbrev pub number_command : List ℕ → Option ℕ → Command
+number_command word None = Bad
+number_command word (Some n) = word_and_number word n
 
-abbrev pub searching : (Cond → Command) → Option Cond → Command
-searching search None = Bad
-searching search (Some cond) = search cond
+abbrev pub search_command : (Cond → Command) → Option Cond → Command
+search_command search None = Bad
+search_command search (Some cond) = search cond
 
 -- a word, and what stands behind the space after it
 abbrev pub word_with : List ℕ → List ℕ → Command
 word_with word rest =
-    if bytes_eq word (codes "rback") then searching SearchBack (condition_in rest)
-    else if bytes_eq word (codes "rforward") then searching SearchForward (condition_in rest)
+    if bytes_eq word (codes "rback") then search_command SearchBack (condition_in rest)
+    else if bytes_eq word (codes "rforward") then search_command SearchForward (condition_in rest)
     else if bytes_eq word (codes "state") then (if bytes_eq rest (codes "json") then StateJson else Bad)
-    else numbered word (numeral_in rest)
+    else number_command word (numeral_in rest)
 
 abbrev pub command_words : List ℕ → Option (List ℕ × List ℕ) → Command
 command_words line None = word_alone line

@@ -5,11 +5,11 @@ use Rattle.rw_handles.specs.declared.kinds.Kind.{Kind}
 use Rattle.rw_handles.specs.declared.kinds.Kind.TheVariants.{Sender, Receiver}
 use Rattle.rw_handles.specs.declared.kinds.Slot.{Slot}
 use Rattle.rw_handles.specs.Slots.{kind_at}
-use Rattle.rw_console.specs.Texts.{labelled}
+use Rattle.rw_console.specs.Texts.{with_number}
 
 -- handle h, if it is a live sender
 abbrev pub sender_word : ℕ → Option Kind → List ℕ
-sender_word h (Some Sender) = labelled (codes " ") h
+sender_word h (Some Sender) = with_number (codes " ") h
 sender_word h (Some Receiver) = []
 sender_word h None = []
 

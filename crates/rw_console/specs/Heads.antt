@@ -9,8 +9,8 @@ use Rattle.rw_script.specs.declared.faults.ScriptFault.{ScriptFault}
 use Rattle.rw_script.specs.Script.{Script, Reading, ended, is_mark, script_in, after_mark}
 use Rattle.rw_console.specs.declared.reading.ScriptEnd.{ScriptEnd}
 use Rattle.rw_console.specs.declared.reading.ScriptEnd.TheVariants.{Mark, Reader, Fault}
-use Rattle.rw_console.specs.declared.reading.Head.{Head}
-use Rattle.rw_console.specs.declared.reading.Head.TheVariants as heads
+use Rattle.rw_console.specs.declared.reading.SessionScript.{SessionScript}
+use Rattle.rw_console.specs.declared.reading.SessionScript.TheVariants as heads
 
 -- the script's end was read
 abbrev pub HasMark : List (List ℕ) → Type 0
@@ -61,7 +61,7 @@ GivesLines reader reader' before after r Reader = GivesAll reader reader' before
 GivesLines reader reader' before after r (Fault f) = GivesFault reader reader' before f
 
 -- the bytes begin with a script, are one, or begin with a fault
-abbrev pub GivesHead : Option (List ℕ) → Option (List ℕ) → ℕ → ℕ → Head → Type 0
-GivesHead reader reader' before after (heads.Script script) = GivesScript reader reader' before after (Ok script)
-GivesHead reader reader' before after (heads.Ended script) = GivesAll reader reader' before (Ok script)
-GivesHead reader reader' before after (heads.Refused fault) = GivesFault reader reader' before fault
+abbrev pub GivesSessionScript : Option (List ℕ) → Option (List ℕ) → ℕ → ℕ → SessionScript → Type 0
+GivesSessionScript reader reader' before after (heads.Script script) = GivesScript reader reader' before after (Ok script)
+GivesSessionScript reader reader' before after (heads.Ended script) = GivesAll reader reader' before (Ok script)
+GivesSessionScript reader reader' before after (heads.Refused fault) = GivesFault reader reader' before fault

@@ -3,8 +3,8 @@ use Rattle.std.specs.Prelude.{ℕ, List, [], ◌++◌, Bool, true, false, Option
 use Rattle.rw_navigator.specs.declared.moves.OutOfRange.{OutOfRange}
 
 -- a number, and the words before it
-unfoldable pub labelled : List ℕ → ℕ → List ℕ
-labelled label n = label ++ decimal n
+unfoldable pub with_number : List ℕ → ℕ → List ℕ
+with_number label n = label ++ decimal n
 
 -- ---- places
 

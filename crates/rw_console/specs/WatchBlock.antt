@@ -4,13 +4,13 @@ use Rattle.std.specs.List.{flat_map, range_with_len}
 use Rattle.rw_watch.specs.Shown.{Shown}
 use Rattle.rw_watch.specs.Channel.{is_closed, is_unseen}
 use Rattle.rw_watch.specs.Machine.{mark_at}
-use Rattle.rw_console.specs.Texts.{labelled, open_or_closed}
+use Rattle.rw_console.specs.Texts.{with_number, open_or_closed}
 use Rattle.rw_console.specs.Handles.{senders_line}
 
 -- the numbers of the channel that has number i
 unfoldable pub channel_numbers : ℕ → Shown ℕ → List ℕ
-channel_numbers i x = labelled (codes "channel ") i ++ labelled (codes " watch version ") x.version ++ labelled (codes " value ") x.value
-    ++ labelled (codes " made ") (length x.slots)
+channel_numbers i x = with_number (codes "channel ") i ++ with_number (codes " watch version ") x.version ++ with_number (codes " value ") x.value
+    ++ with_number (codes " made ") (length x.slots)
 
 unfoldable pub channel_line : ℕ → Shown ℕ → List ℕ
 channel_line i x = channel_numbers i x ++ open_or_closed (is_closed x)
@@ -27,7 +27,7 @@ seen_or_unseen false = codes " unseen\n"
 -- the line of handle h, if it is a live receiver, by its mark
 unfoldable pub receiver_line : Shown ℕ → ℕ → Option (Option ℕ) → List ℕ
 receiver_line x h None = []
-receiver_line x h (Some mark) = labelled (codes "receiver ") h ++ codes " mark " ++ mark_text mark ++ seen_or_unseen (not (is_unseen x.version mark))
+receiver_line x h (Some mark) = with_number (codes "receiver ") h ++ codes " mark " ++ mark_text mark ++ seen_or_unseen (not (is_unseen x.version mark))
 
 -- the lines of the live receivers among the first n handles, in order of number
 unfoldable pub receiver_lines : Shown ℕ → ℕ → List ℕ

@@ -6,7 +6,7 @@ ghost use Rattle.rw_console.specs.Handles.{senders_line};
 ghost use Rattle.rw_console.specs.BroadcastBlock.{channel_numbers, channel_line, window_line, receiver_line, receiver_lines, broadcast_block};
 
 use crate::handles::push_sender;
-use crate::text::{open_or_closed, push_labelled};
+use crate::text::{open_or_closed, push_with_number};
 use rw_broadcast::Broadcast;
 use rw_law::Reversible;
 use std::alloc::AllocError;
@@ -25,11 +25,11 @@ pub fn push_broadcast(out: &mut Vec<u8>, i: u64, channel: &Broadcast<u64>) -> Re
 fn push_numbers(out: &mut Vec<u8>, i: u64, channel: &Broadcast<u64>) -> Result<(), AllocError>
     ensures { OnOk result (out.new.items ≡ out.old.items ++ channel_numbers i channel.now.shown) }
 {
-    push_labelled(out, b"channel ", i)?;
-    push_labelled(out, b" broadcast capacity ", channel.capacity())?;
-    push_labelled(out, b" sent ", channel.sent())?;
-    push_labelled(out, b" queued ", channel.queued())?;
-    push_labelled(out, b" made ", u64::from(channel.made()))
+    push_with_number(out, b"channel ", i)?;
+    push_with_number(out, b" broadcast capacity ", channel.capacity())?;
+    push_with_number(out, b" sent ", channel.sent())?;
+    push_with_number(out, b" queued ", channel.queued())?;
+    push_with_number(out, b" made ", u64::from(channel.made()))
 }
 
 /// The first line: the channel's numbers, and whether it is open.
@@ -50,14 +50,14 @@ fn push_window(out: &mut Vec<u8>, channel: &Broadcast<u64>) -> Result<(), AllocE
     out.extend_from_slice(b"window")?;
     let mut i = 0;
     'each_value: while let Some(value) = channel.window(i) {
-        push_labelled(out, b" ", value)?;
+        push_with_number(out, b" ", value)?;
         i += 1;
     }
     out.extend_from_slice(b"\n")
 }
 
 /// The live senders.
-#[tactic(auto, using(crate::proofs::Written::numbered), unfolding(crate::specs::Handles::senders_line))]
+#[tactic(auto, using(crate::proofs::Written::by_number), unfolding(crate::specs::Handles::senders_line))]
 fn push_senders(out: &mut Vec<u8>, channel: &Broadcast<u64>) -> Result<(), AllocError>
     ensures { OnOk result (out.new.items ≡ out.old.items ++ senders_line channel.now.shown.slots) }
 {
@@ -75,15 +75,15 @@ fn push_receiver(out: &mut Vec<u8>, channel: &Broadcast<u64>, h: u32) -> Result<
     let Some(position) = channel.position(h) else {
         return Ok(());
     };
-    push_labelled(out, b"receiver ", u64::from(h))?;
-    push_labelled(out, b" position ", position)?;
-    push_labelled(out, b" unread ", channel.unread(h).unwrap())?;
-    push_labelled(out, b" lag ", channel.lag(h).unwrap())?;
+    push_with_number(out, b"receiver ", u64::from(h))?;
+    push_with_number(out, b" position ", position)?;
+    push_with_number(out, b" unread ", channel.unread(h).unwrap())?;
+    push_with_number(out, b" lag ", channel.lag(h).unwrap())?;
     out.extend_from_slice(b"\n")
 }
 
 /// The live receivers, a line each.
-#[tactic(auto, using(crate::proofs::Written::numbered))]
+#[tactic(auto, using(crate::proofs::Written::by_number))]
 fn push_receivers(out: &mut Vec<u8>, channel: &Broadcast<u64>) -> Result<(), AllocError>
     ensures { OnOk result (out.new.items ≡ out.old.items ++ receiver_lines channel.now.shown (length channel.now.shown.slots)) }
 {

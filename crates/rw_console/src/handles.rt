@@ -3,7 +3,7 @@
 ghost use Rattle.std.specs.Prelude.{◌≡◌, ◌++◌, OnOk};
 ghost use Rattle.rw_console.specs.Handles.{sender_word};
 
-use crate::text::push_labelled;
+use crate::text::push_with_number;
 use rw_handles::Kind;
 use std::alloc::AllocError;
 
@@ -12,7 +12,7 @@ pub fn push_sender(out: &mut Vec<u8>, h: u32, kind: Option<Kind>) -> Result<(), 
     ensures { OnOk result (out.new.items ≡ out.old.items ++ sender_word h kind) }
 {
     match kind {
-        Some(Kind::Sender) => push_labelled(out, b" ", u64::from(h)),
+        Some(Kind::Sender) => push_with_number(out, b" ", u64::from(h)),
         Some(Kind::Receiver) | None => Ok(()),
     }
 }

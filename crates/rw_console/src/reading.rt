@@ -2,7 +2,7 @@
 
 ghost use Rattle.std.specs.Prelude.{◌≡◌, ◌+◌, ◌-◌, ◌^◌, ◌<◌, Ok, Err, MatchOption, IfOk, IfErr};
 ghost use Rattle.rw_script.specs.Script.{opening, after_line};
-ghost use Rattle.rw_console.specs.Heads.{GivesHead, GivesLines, StopsInScript};
+ghost use Rattle.rw_console.specs.Heads.{GivesSessionScript, GivesLines, StopsInScript};
 
 use rw_lines::{Next, StreamFault, next_line};
 use rw_script::{Script, ScriptFault, ScriptFaultKind, ScriptReader, is_mark};
@@ -22,7 +22,7 @@ pub enum ScriptEnd {
 
 /// What the front of a session's bytes is.
 #[derive(Drop)]
-pub enum Head {
+pub enum SessionScript {
     /// A script; commands follow.
     Script(Script),
     /// A script, and nothing behind it.
@@ -91,21 +91,21 @@ pub fn read_script<R: Read>(
     alloc: Global,
     reader: &mut R,
     allowed: &mut u64,
-) -> Result<Head, StreamFault>
+) -> Result<SessionScript, StreamFault>
     requires { allowed.old < 2 ^ 63 }
-    ensures ok { IfOk result (GivesHead (R.remaining reader.old) (R.remaining reader.new) allowed.old allowed.new) }
+    ensures ok { IfOk result (GivesSessionScript (R.remaining reader.old) (R.remaining reader.new) allowed.old allowed.new) }
     ensures err { IfErr result (StopsInScript (R.remaining reader.old) (R.remaining reader.new) allowed.old) }
 {
     let mut script = ScriptReader::new(alloc);
     match read_lines(alloc, reader, allowed, &mut script)? {
-        ScriptEnd::Fault(fault) => Ok(Head::Refused(fault)),
+        ScriptEnd::Fault(fault) => Ok(SessionScript::Refused(fault)),
         ScriptEnd::Mark => match script.finish() {
-            Ok(script) => Ok(Head::Script(script)),
-            Err(fault) => Ok(Head::Refused(fault)),
+            Ok(script) => Ok(SessionScript::Script(script)),
+            Err(fault) => Ok(SessionScript::Refused(fault)),
         },
         ScriptEnd::Reader => match script.finish() {
-            Ok(script) => Ok(Head::Ended(script)),
-            Err(fault) => Ok(Head::Refused(fault)),
+            Ok(script) => Ok(SessionScript::Ended(script)),
+            Err(fault) => Ok(SessionScript::Refused(fault)),
         },
     }
 }

@@ -10,7 +10,7 @@ ghost use Rattle.rw_lines.specs.Writing.{StopsWriting};
 ghost use Rattle.rw_console.specs.Streams.{Answers, Stops};
 
 use crate::console::commands;
-use crate::reading::{Head, read_script};
+use crate::reading::{SessionScript, read_script};
 use crate::walk::Walk;
 pub use rw_lines::StreamFault as SessionFault;
 use rw_lines::put_whole;
@@ -104,15 +104,15 @@ pub fn session<R: Read, W: Write>(
 {
     let mut allowed = MOST_BYTES;
     match read_script(alloc, reader, &mut allowed)? {
-        Head::Refused(fault) => {
+        SessionScript::Refused(fault) => {
             refuse(alloc, writer, fault)?;
             Ok(Outcome::Refused(fault))
         }
-        Head::Ended(script) => {
+        SessionScript::Ended(script) => {
             let (_, waits) = begin(alloc, script, writer)?;
             Ok(outcome_at(waits))
         }
-        Head::Script(script) => {
+        SessionScript::Script(script) => {
             let (mut walk, waits) = begin(alloc, script, writer)?;
             commands(alloc, &mut walk, reader, writer, &mut allowed)?;
             Ok(outcome_at(waits))

@@ -1,15 +1,15 @@
 //! The lines that a session writes of places: each function appends to a buffer.
 
 ghost use Rattle.std.specs.Prelude.{◌≡◌, ◌++◌, OnOk};
-ghost use Rattle.rw_console.specs.Texts.{hit_line, labelled, open_or_closed, place_line, refusal};
+ghost use Rattle.rw_console.specs.Texts.{hit_line, with_number, open_or_closed, place_line, refusal};
 
 use rw_lines::push_number;
 use rw_navigator::OutOfRange;
 use std::alloc::AllocError;
 
-#[tactic(auto, unfolding(crate::specs::Texts::labelled))]
-pub fn push_labelled(out: &mut Vec<u8>, label: &[u8], n: u64) -> Result<(), AllocError>
-    ensures { OnOk result (out.new.items ≡ out.old.items ++ labelled label.now n) }
+#[tactic(auto, unfolding(crate::specs::Texts::with_number))]
+pub fn push_with_number(out: &mut Vec<u8>, label: &[u8], n: u64) -> Result<(), AllocError>
+    ensures { OnOk result (out.new.items ≡ out.old.items ++ with_number label.now n) }
 {
     out.extend_from_slice(label)?;
     push_number(out, n)

@@ -6,7 +6,7 @@ ghost use Rattle.rw_console.specs.Handles.{senders_line};
 ghost use Rattle.rw_console.specs.WatchBlock.{channel_numbers, channel_line, mark_text, seen_or_unseen, receiver_line, receiver_lines, watch_block};
 
 use crate::handles::push_sender;
-use crate::text::{open_or_closed, push_labelled};
+use crate::text::{open_or_closed, push_with_number};
 use rw_lines::push_number;
 use rw_watch::Watch;
 use std::alloc::AllocError;
@@ -24,10 +24,10 @@ pub fn push_watch(out: &mut Vec<u8>, i: u64, channel: &Watch<u64>) -> Result<(),
 fn push_numbers(out: &mut Vec<u8>, i: u64, channel: &Watch<u64>) -> Result<(), AllocError>
     ensures { OnOk result (out.new.items ≡ out.old.items ++ channel_numbers i channel.now.shown) }
 {
-    push_labelled(out, b"channel ", i)?;
-    push_labelled(out, b" watch version ", channel.version())?;
-    push_labelled(out, b" value ", channel.value())?;
-    push_labelled(out, b" made ", u64::from(channel.made()))
+    push_with_number(out, b"channel ", i)?;
+    push_with_number(out, b" watch version ", channel.version())?;
+    push_with_number(out, b" value ", channel.value())?;
+    push_with_number(out, b" made ", u64::from(channel.made()))
 }
 
 /// The first line: the channel's numbers, and whether it is open.
@@ -40,7 +40,7 @@ fn push_summary(out: &mut Vec<u8>, i: u64, channel: &Watch<u64>) -> Result<(), A
 }
 
 /// The live senders.
-#[tactic(auto, using(crate::proofs::Written::numbered), unfolding(crate::specs::Handles::senders_line))]
+#[tactic(auto, using(crate::proofs::Written::by_number), unfolding(crate::specs::Handles::senders_line))]
 fn push_senders(out: &mut Vec<u8>, channel: &Watch<u64>) -> Result<(), AllocError>
     ensures { OnOk result (out.new.items ≡ out.old.items ++ senders_line channel.now.shown.slots) }
 {
@@ -73,14 +73,14 @@ fn push_receiver(out: &mut Vec<u8>, channel: &Watch<u64>, h: u32) -> Result<(), 
     let Some(mark) = channel.mark(h) else {
         return Ok(());
     };
-    push_labelled(out, b"receiver ", u64::from(h))?;
+    push_with_number(out, b"receiver ", u64::from(h))?;
     out.extend_from_slice(b" mark ")?;
     push_mark(out, mark)?;
     out.extend_from_slice(seen_or_unseen(channel.is_seen(h).unwrap()).as_bytes())
 }
 
 /// The live receivers, a line each.
-#[tactic(auto, using(crate::proofs::Written::numbered))]
+#[tactic(auto, using(crate::proofs::Written::by_number))]
 fn push_receivers(out: &mut Vec<u8>, channel: &Watch<u64>) -> Result<(), AllocError>
     ensures { OnOk result (out.new.items ≡ out.old.items ++ receiver_lines channel.now.shown (length channel.now.shown.slots)) }
 {

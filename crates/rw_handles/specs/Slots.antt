@@ -31,9 +31,9 @@ abbrev pub found : {X : Type 0} → Option Kind → List (Slot X) → ℕ → Fo
 found wanted slots h = found_at wanted (slice_get slots h)
 
 -- whether a handle was found, or the fault
-abbrev pub looked : {X : Type 0} → Found X → Result (Unit {0}) HandleFault
-looked (Fault fault) = Err fault
-looked (Handle kind x) = Ok tt
+abbrev pub look_answer : {X : Type 0} → Found X → Result (Unit {0}) HandleFault
+look_answer (Fault fault) = Err fault
+look_answer (Handle kind x) = Ok tt
 
 -- the kind of the live handle that stands under a number, if one does
 abbrev pub kind_at : {X : Type 0} → Option (Slot X) → Option Kind

@@ -2,7 +2,7 @@
 ghost use Rattle.std.specs.Prelude.{◌≡◌, ◌+◌, ◌-◌, ◌<◌, ◌≤◌, ◌++◌, ◌∷◌, [], length, take, slice_get, slice_set, Some, IfOk, OnOk, IsOk};
 ghost use Rattle.rw_handles.specs.declared.kinds.Kind.TheVariants.{Sender, Receiver};
 ghost use Rattle.rw_handles.specs.declared.kinds.Slot.TheVariants.{Live, Spent};
-ghost use Rattle.rw_handles.specs.Slots.{IsLive, found, looked, serves, alive, kind_at, receiver_at, value_at, with_value};
+ghost use Rattle.rw_handles.specs.Slots.{IsLive, found, look_answer, serves, alive, kind_at, receiver_at, value_at, with_value};
 ghost use Rattle.rw_handles.specs.declared.table.TheConstants.{MOST_HANDLES};
 
 use crate::kinds::{Found, HandleFault, Kind, Slot};
@@ -221,7 +221,7 @@ impl<X: Copy> Table<X> {
 
     /// Whether the number is that of a live handle of this kind.
     pub fn look(&self, id: u32, kind: Kind) -> Result<(), HandleFault>
-        ensures { result ≡ looked (found (Some kind) self.now.slots id) }
+        ensures { result ≡ look_answer (found (Some kind) self.now.slots id) }
     {
         match self.find(id, Some(kind)) {
             Found::Fault(fault) => Err(fault),

@@ -1,7 +1,7 @@
 //! Conditions to search for.
 
 ghost use Rattle.std.specs.Prelude.{◌≡◌, Bool, not, ◌&&◌};
-ghost use Rattle.rw_law.specs.declared.journal.Entry.{Entry as Step};
+ghost use Rattle.rw_law.specs.declared.journal.Entry.{Entry as EntryOf};
 
 use rw_law::{Entry, Reversible};
 
@@ -14,7 +14,7 @@ pub trait Probe<R: Reversible> {
     ghost asks_step: { Self → Bool };
 
     /// The entry meets it.
-    ghost holds_of_step: { Self → Step R R.Call R.Reply R.Patch → Bool };
+    ghost holds_of_step: { Self → EntryOf R R.Call R.Reply R.Patch → Bool };
 
     /// The machine meets it.
     ghost holds_of_state: { Self → R → Bool };

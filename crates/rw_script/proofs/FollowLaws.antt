@@ -18,8 +18,8 @@ use Rattle.rw_world.specs.declared.rows.RowCall.{RowCall}
 use Rattle.rw_world.specs.declared.opening.Spec.{Spec}
 use Rattle.rw_world.specs.Lists.{Each}
 use Rattle.rw_world.specs.Specified.{WorldEntry}
-use Rattle.rw_script.specs.declared.steps.Step.{Step}
-use Rattle.rw_script.specs.Kept.{IsStep}
+use Rattle.rw_script.specs.declared.steps.ScriptStep.{ScriptStep}
+use Rattle.rw_script.specs.Kept.{IsScriptStep}
 use Rattle.rw_script.specs.Running.{call_of, made_after, made_by}
 use Rattle.rw_script.specs.Threads.{IsFollowed, IsPlayed, Moves, call_kept, calls_by, calls_kept, first, others, replies_kept}
 use Rattle.rw_script.proofs.PlayLaws.{made_is}
@@ -29,14 +29,14 @@ use Rattle.rw_script.proofs.PlayLaws.{made_is}
 abbrev Calls : Type 0
 Calls = List (RowCall (ChanCall ℕ))
 
-own_calls : (actor : ℕ) (made : List ℕ) (step : Step) (steps : List Step) (replies : List (ChanReply ℕ)) → step.actor ≡ actor
+own_calls : (actor : ℕ) (made : List ℕ) (step : ScriptStep) (steps : List ScriptStep) (replies : List (ChanReply ℕ)) → step.actor ≡ actor
     → calls_by actor made (step ∷ steps) replies ≡ (call_of step made).1 ∷ calls_by actor (made_after step.binds (first replies) made) steps (others replies)
 own_calls actor made step steps replies same = elim (eqb_tells step.actor actor) [
   | inl t ↦ cond-true (nat_eq step.actor actor) _ _ (t.0)
   | inr t ↦ absurd (t.1 same)
 ]
 
-other_calls : (actor : ℕ) (made : List ℕ) (step : Step) (steps : List Step) (replies : List (ChanReply ℕ)) → step.actor ≢ actor
+other_calls : (actor : ℕ) (made : List ℕ) (step : ScriptStep) (steps : List ScriptStep) (replies : List (ChanReply ℕ)) → step.actor ≢ actor
     → calls_by actor made (step ∷ steps) replies ≡ calls_by actor (made_after step.binds reply.NoChannel made) steps replies
 other_calls actor made step steps replies other = elim (eqb_tells step.actor actor) [
   | inl t ↦ absurd (other t.1)
@@ -44,13 +44,13 @@ other_calls actor made step steps replies other = elim (eqb_tells step.actor act
 ]
 
 -- the receipts before a place are those of the calls of the steps before an index
-pub record Follows (p : Pass ℕ) (steps : List Step) (index place : ℕ) (made : List ℕ) : Type 0 where
+pub record Follows (p : Pass ℕ) (steps : List ScriptStep) (index place : ℕ) (made : List ℕ) : Type 0 where
   pub within : place ≤ length p.kept
   pub rest : calls_by p.actor [] steps (replies_kept p.kept) ≡ calls_kept (take place p.kept) ++ calls_by p.actor made (drop index steps) (replies_kept (drop place p.kept))
 
-module _ (p : Pass ℕ) (steps : List Step) (index : ℕ) (step : Step) (lt : index < length steps) (at : step ≡ get_or steps index step) (place : ℕ) (made : List ℕ) (so_far : Follows p steps index place made) (to : ℕ × ℕ) (moves : Moves p place step made to)
+module _ (p : Pass ℕ) (steps : List ScriptStep) (index : ℕ) (step : ScriptStep) (lt : index < length steps) (at : step ≡ get_or steps index step) (place : ℕ) (made : List ℕ) (so_far : Follows p steps index place made) (to : ℕ × ℕ) (moves : Moves p place step made to)
     (made' : List ℕ) (names : made' ≡ cond step.binds (made ++ to.1 ∷ []) made) where
-  abbrev left : List Step
+  abbrev left : List ScriptStep
   left = drop (index + 1) steps
 
   abbrev ks : List (Kept ℕ)
@@ -96,18 +96,18 @@ module _ (p : Pass ℕ) (steps : List Step) (index : ℕ) (step : Step) (lt : in
   follows_more = elim (eqb_tells step.actor p.actor) [ inl t ↦ over_own t.1 | inr t ↦ over_other t.1 ]
 
 -- at the step of an index
-pub follows_at : (p : Pass ℕ) (steps : List Step) (index : ℕ) (d : Step) → index < length steps → (place : ℕ) (made : List ℕ) → Follows p steps index place made → (to : ℕ × ℕ) → Moves p place (get_or steps index d) made to
+pub follows_at : (p : Pass ℕ) (steps : List ScriptStep) (index : ℕ) (d : ScriptStep) → index < length steps → (place : ℕ) (made : List ℕ) → Follows p steps index place made → (to : ℕ × ℕ) → Moves p place (get_or steps index d) made to
     → (made' : List ℕ) → made' ≡ cond (get_or steps index d).binds (made ++ to.1 ∷ []) made → Follows p steps (index + 1) to.0 made'
 follows_at p steps index d lt place made so_far to moves made' names =
-    let step : Step = get_or steps index d in
+    let step : ScriptStep = get_or steps index d in
     follows_more p steps index step lt (get_or_default steps index d step lt) place made so_far to moves made' names
 
 -- before the first step
-pub follows_none : (p : Pass ℕ) (steps : List Step) (made : List ℕ) → made ≡ [] → Follows p steps 0 0 made
+pub follows_none : (p : Pass ℕ) (steps : List ScriptStep) (made : List ℕ) → made ≡ [] → Follows p steps 0 0 made
 follows_none p steps made none = rw none (record { within = omega arith; rest = refl })
 
 -- behind the last one
-pub follows_whole : (p : Pass ℕ) (steps : List Step) (index place : ℕ) (made : List ℕ) → Follows p steps index place made → length steps ≤ index → length p.kept ≤ place → IsFollowed steps p
+pub follows_whole : (p : Pass ℕ) (steps : List ScriptStep) (index place : ℕ) (made : List ℕ) → Follows p steps index place made → length steps ≤ index → length p.kept ≤ place → IsFollowed steps p
 follows_whole p steps index place made f all whole =
     sym (
     f.rest
@@ -127,10 +127,10 @@ replies_of_receipts [] = refl
 replies_of_receipts (e ∷ es) = ap (λ rs. e.reply ∷ rs) (replies_of_receipts es)
 
 -- the calls of an actor are those of its lines
-abbrev IsPlayedBy : List Step → List (WorldEntry ℕ) → ℕ → Type 0
+abbrev IsPlayedBy : List ScriptStep → List (WorldEntry ℕ) → ℕ → Type 0
 IsPlayedBy steps es actor = map (λ e. e.call) (entries_by actor es) ≡ calls_by actor [] steps (map (λ e. e.reply) (entries_by actor es))
 
-by_pass : (steps : List Step) (es : List (WorldEntry ℕ)) (p : Pass ℕ) → p.kept ≡ projection p.actor es → IsFollowed steps p → IsPlayedBy steps es p.actor
+by_pass : (steps : List ScriptStep) (es : List (WorldEntry ℕ)) (p : Pass ℕ) → p.kept ≡ projection p.actor es → IsFollowed steps p → IsPlayedBy steps es p.actor
 by_pass steps es p kept followed =
     let mine : List (WorldEntry ℕ) = entries_by p.actor es in
     sym (calls_of_receipts mine)
@@ -139,7 +139,7 @@ by_pass steps es p kept followed =
     ∙ (ap (λ ks. calls_by p.actor [] steps (replies_kept ks)) kept
     ∙ ap (calls_by p.actor [] steps) (replies_of_receipts mine))))
 
-by_passes : (steps : List Step) (es : List (WorldEntry ℕ)) (a : ℕ) (ps : List (Pass ℕ)) → 0 < passes_of a ps → Each (λ p. p.kept ≡ projection p.actor es) ps → Each (IsFollowed steps) ps → IsPlayedBy steps es a
+by_passes : (steps : List ScriptStep) (es : List (WorldEntry ℕ)) (a : ℕ) (ps : List (Pass ℕ)) → 0 < passes_of a ps → Each (λ p. p.kept ≡ projection p.actor es) ps → Each (IsFollowed steps) ps → IsPlayedBy steps es a
 by_passes steps es a [] some kept followed = absurd (omega arith)
 by_passes steps es a (p ∷ ps) some kept followed = elim (eqb_tells p.actor a) [
   | inl t ↦ subst (IsPlayedBy steps es) (t.1) (by_pass steps es p kept.0 followed.0)
@@ -157,13 +157,13 @@ no_entries n a (e ∷ es) past known = elim (eqb_tells e.actor a) [
   | inr t ↦ rw (t.0) (no_entries n a es past (λ k d lt. known (suc k) d (omega (arith, lt))))
 ]
 
-no_lines : (specs : List (Spec ℕ)) (n a : ℕ) (made : List ℕ) (steps : List Step) → n ≤ a → All (IsStep specs n) steps → calls_by a made steps [] ≡ []
+no_lines : (specs : List (Spec ℕ)) (n a : ℕ) (made : List ℕ) (steps : List ScriptStep) → n ≤ a → All (IsScriptStep specs n) steps → calls_by a made steps [] ≡ []
 no_lines specs n a made [] past known = refl
 no_lines specs n a made (s ∷ steps) past known =
     other_calls a made s steps [] (λ same. absurd (omega (arith, same, (known 0 s (omega arith)).actor, past)))
     ∙ no_lines specs n a (made_after s.binds reply.NoChannel made) steps past (λ k d lt. known (suc k) d (omega (arith, lt)))
 
-pub all_played : (specs : List (Spec ℕ)) (n : ℕ) (steps : List Step) (es : List (WorldEntry ℕ)) (ps : List (Pass ℕ)) → AreAllHere n ps → Agree ps es → Each (IsFollowed steps) ps → All (λ e. e.actor < n) es → All (IsStep specs n) steps
+pub all_played : (specs : List (Spec ℕ)) (n : ℕ) (steps : List ScriptStep) (es : List (WorldEntry ℕ)) (ps : List (Pass ℕ)) → AreAllHere n ps → Agree ps es → Each (IsFollowed steps) ps → All (λ e. e.actor < n) es → All (IsScriptStep specs n) steps
     → IsPlayed steps es
 all_played specs n steps es ps here agree followed known lines a = elim (cases_lt a n) [
   | inl lt ↦ by_passes steps es a ps (omega (arith, here.once a lt)) agree.receipts followed

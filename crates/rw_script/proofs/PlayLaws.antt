@@ -11,7 +11,7 @@ use Rattle.rw_world.specs.declared.opening.Spec.{Spec}
 use Rattle.rw_world.specs.declared.channels.ChanCall.TheVariants as call
 use Rattle.rw_world.specs.declared.rows.RowCall.{RowCall}
 use Rattle.rw_world.specs.Channel.{strays_at}
-use Rattle.rw_world.specs.Kinds.{Kind, broadcast, watch}
+use Rattle.rw_world.specs.Kinds.{ChannelKind, broadcast, watch}
 use Rattle.rw_world.specs.declared.channels.Chan.{Chan}
 use Rattle.rw_world.specs.declared.channels.ChanCall.{ChanCall}
 use Rattle.rw_world.specs.declared.channels.ChanReply.{ChanReply}
@@ -22,24 +22,24 @@ use Rattle.rw_world.specs.Records.{ChannelRecord, opened_records, next_records, 
 use Rattle.rw_world.specs.Specified.{WorldEntry, StraysBySpecs}
 use Rattle.rw_journal.specs.Book.{Book, last_stamp_from, last_stamp, opening_of, state_of, reply_to}
 use Rattle.rw_journal.specs.Interleaving.{CountsFrom, interleaving_of}
-use Rattle.rw_script.specs.declared.steps.Step.{Step}
-use Rattle.rw_script.specs.Kept.{IsStep}
+use Rattle.rw_script.specs.declared.steps.ScriptStep.{ScriptStep}
+use Rattle.rw_script.specs.Kept.{IsScriptStep}
 use Rattle.rw_script.specs.Running.{Ran, IsMade, call_of, filled, made_after, made_by, onto, run_from, run_of, with_handle}
 use Rattle.rw_script.specs.Script.{Script}
 
 -- ---- calls keep their kind
 
-strays_with : (k : Kind) (c : ChanCall ℕ) (h : ℕ) → strays_at k (with_handle c h) ≡ strays_at k c
+strays_with : (k : ChannelKind) (c : ChanCall ℕ) (h : ℕ) → strays_at k (with_handle c h) ≡ strays_at k c
 strays_with broadcast (call.B c) h = refl
 strays_with broadcast (call.W c) h = refl
 strays_with watch (call.B c) h = refl
 strays_with watch (call.W c) h = refl
 
-strays_filled : (k : Kind) (c : ChanCall ℕ) (name : Option ℕ) (made : List ℕ) → strays_at k (filled c name made) ≡ strays_at k c
+strays_filled : (k : ChannelKind) (c : ChanCall ℕ) (name : Option ℕ) (made : List ℕ) → strays_at k (filled c name made) ≡ strays_at k c
 strays_filled k c None made = refl
 strays_filled k c (Some name) made = strays_with k c (get_or made name 4294967295)
 
-stray_filled : (o : Option Kind) (c : ChanCall ℕ) (name : Option ℕ) (made : List ℕ) → option_map_or (λ k. strays_at k (filled c name made)) o true ≡ option_map_or (λ k. strays_at k c) o true
+stray_filled : (o : Option ChannelKind) (c : ChanCall ℕ) (name : Option ℕ) (made : List ℕ) → option_map_or (λ k. strays_at k (filled c name made)) o true ≡ option_map_or (λ k. strays_at k c) o true
 stray_filled None c name made = refl
 stray_filled (Some k) c name made = strays_filled k c name made
 
@@ -96,24 +96,24 @@ answered script book made index documented p c =
     ∙ documented script.specs (calls_of book.entries) c
 
 -- no call of a step strays
-pub never_strays : (script : Script) (book : WorldBook) (made : List ℕ) (index : ℕ) → StraysBySpecs ℕ → Played script book made index → (step : Step) → IsStep script.specs script.actors step
+pub never_strays : (script : Script) (book : WorldBook) (made : List ℕ) (index : ℕ) → StraysBySpecs ℕ → Played script book made index → (step : ScriptStep) → IsScriptStep script.specs script.actors step
     → (of_world {V = ℕ}).is_straying (reply_to of_world book (call_of step made).1) ≡ false
 never_strays script book made index specified p step ok =
     let c : RowCall (ChanCall ℕ) = (call_of step made).1 in
     ap (λ x. (of_world {V = ℕ}).is_straying ((of_world {V = ℕ}).reply_of (after_all of_world x book.entries) c)) p.opening
     ∙ (specified script.specs book.entries c ∙ (stray_filled (slice_get (map kind_of_spec script.specs) step.channel) step.call step.target made ∙ ok.kind))
 
-run_waits : (world : List (ChannelRecord ℕ)) (made : List ℕ) (step : Step) (steps : List Step) → (of_chan {V = ℕ}).is_waiting (reply_from world (call_of step made).1) ≡ true
+run_waits : (world : List (ChannelRecord ℕ)) (made : List ℕ) (step : ScriptStep) (steps : List ScriptStep) → (of_chan {V = ℕ}).is_waiting (reply_from world (call_of step made).1) ≡ true
     → run_from world made (step ∷ steps) ≡ record { calls = []; waits = Some step.line }
 run_waits world made step steps waits =
     cond-true ((of_chan {V = ℕ}).is_waiting (reply_from world (call_of step made).1)) (record { calls = []; waits = Some step.line }) _ waits
 
-run_goes_on : (world : List (ChannelRecord ℕ)) (made : List ℕ) (step : Step) (steps : List Step) → (of_chan {V = ℕ}).is_waiting (reply_from world (call_of step made).1) ≡ false
+run_goes_on : (world : List (ChannelRecord ℕ)) (made : List ℕ) (step : ScriptStep) (steps : List ScriptStep) → (of_chan {V = ℕ}).is_waiting (reply_from world (call_of step made).1) ≡ false
     → run_from world made (step ∷ steps) ≡ onto (call_of step made) (run_from (next_records world (call_of step made).1) (made_after step.binds (reply_from world (call_of step made).1) made) steps)
 run_goes_on world made step steps on = cond-false ((of_chan {V = ℕ}).is_waiting (reply_from world (call_of step made).1)) (record { calls = []; waits = Some step.line }) _ on
 
 -- at a call that would wait the run is what was made
-pub stops : (script : Script) (book : WorldBook) (made : List ℕ) (index : ℕ) (step : Step) (steps : List Step) → RepliesByRecords ℕ → Played script book made index → drop index script.steps ≡ step ∷ steps
+pub stops : (script : Script) (book : WorldBook) (made : List ℕ) (index : ℕ) (step : ScriptStep) (steps : List ScriptStep) → RepliesByRecords ℕ → Played script book made index → drop index script.steps ≡ step ∷ steps
     → (of_world {V = ℕ}).is_waiting (reply_to of_world book (call_of step made).1) ≡ true → run_of script ≡ record { calls = interleaving_of book.entries; waits = Some step.line }
 stops script book made index step steps documented p at waits =
     let c : RowCall (ChanCall ℕ) = (call_of step made).1 in
@@ -136,7 +136,7 @@ put_more : (cs : List (ℕ × RowCall (ChanCall ℕ))) (c : ℕ × RowCall (Chan
 put_more cs c ran = ap (λ (ds : List (ℕ × RowCall (ChanCall ℕ))). record { calls = ds; waits = ran.waits }) (append_assoc cs (c ∷ []) ran.calls)
 
 -- one step more
-pub goes_on : (script : Script) (old new : WorldBook) (made made' : List ℕ) (index : ℕ) (step : Step) (handle : ℕ) → RepliesByRecords ℕ → Played script old made index
+pub goes_on : (script : Script) (old new : WorldBook) (made made' : List ℕ) (index : ℕ) (step : ScriptStep) (handle : ℕ) → RepliesByRecords ℕ → Played script old made index
     → drop index script.steps ≡ step ∷ drop (index + 1) script.steps → IsMade of_world old new (call_of step made) handle → made' ≡ cond step.binds (made ++ handle ∷ []) made → Played script new made' (index + 1)
 goes_on script old new made made' index step handle documented p at done names =
     let c : ℕ × RowCall (ChanCall ℕ) = call_of step made in
@@ -145,7 +145,7 @@ goes_on script old new made made' index step handle documented p at done names =
     let same : reply_to of_world old c.1 ≡ r = answered script old made index documented p c.1 in
     let on : (of_chan {V = ℕ}).is_waiting r ≡ false = ap (λ r. (of_chan {V = ℕ}).is_waiting r) (sym same) ∙ done.taken.no_wait in
     let entry : WorldEntry ℕ = record { actor = c.0; stamp = done.stamp; call = c.1; reply = reply_to of_world old c.1; patch = (of_world {V = ℕ}).patch_of (state_of of_world old) c.1 } in
-    let steps : List Step = drop (index + 1) script.steps in
+    let steps : List ScriptStep = drop (index + 1) script.steps in
     let calls : interleaving_of new.entries ≡ interleaving_of old.entries ++ c ∷ [] = ap (λ es. interleaving_of es) done.taken.entries ∙ map-append (λ (e : WorldEntry ℕ). (e.actor, e.call)) old.entries (entry ∷ []) in
     let worlds : records_after (opened_records script.specs) (calls_of new.entries) ≡ next_records world c.1 =
     ap (λ es. records_after (opened_records script.specs) (calls_of es)) done.taken.entries
@@ -163,12 +163,12 @@ goes_on script old new made made' index step handle documented p at done names =
 
 -- ---- at the step of an index
 
-next_step : (steps : List Step) (i : ℕ) (d : Step) → i < length steps → drop i steps ≡ get_or steps i d ∷ drop (i + 1) steps
+next_step : (steps : List ScriptStep) (i : ℕ) (d : ScriptStep) → i < length steps → drop i steps ≡ get_or steps i d ∷ drop (i + 1) steps
 next_step steps i d lt = drop-cons steps i d lt ∙ ap (λ n. get_or steps i d ∷ drop n steps) (sym (add-one i))
 
-module _ (script : Script) (steps : List Step) (same : steps ≡ script.steps) (index : ℕ) (d : Step) (lt : index < length steps) where
+module _ (script : Script) (steps : List ScriptStep) (same : steps ≡ script.steps) (index : ℕ) (d : ScriptStep) (lt : index < length steps) where
   at_index : drop index script.steps ≡ get_or steps index d ∷ drop (index + 1) script.steps
-  at_index = subst (λ (ss : List Step). drop index ss ≡ get_or steps index d ∷ drop (index + 1) ss) same (next_step steps index d lt)
+  at_index = subst (λ (ss : List ScriptStep). drop index ss ≡ get_or steps index d ∷ drop (index + 1) ss) same (next_step steps index d lt)
 
   pub goes_on_at : (old new : WorldBook) (made made' : List ℕ) (handle : ℕ) → RepliesByRecords ℕ → Played script old made index → IsMade of_world old new (call_of (get_or steps index d) made) handle
       → made' ≡ cond (get_or steps index d).binds (made ++ handle ∷ []) made → Played script new made' (index + 1)
@@ -179,5 +179,5 @@ module _ (script : Script) (steps : List Step) (same : steps ≡ script.steps) (
   stops_at old made documented p waits = stops script old made index (get_or steps index d) (drop (index + 1) script.steps) documented p at_index waits
 
 -- actors are below 64
-pub actor_at : (specs : List (Spec ℕ)) (actors : ℕ) (steps : List Step) (i : ℕ) (d : Step) → All (IsStep specs actors) steps → i < length steps → actors ≤ 64 → (get_or steps i d).actor < 64
+pub actor_at : (specs : List (Spec ℕ)) (actors : ℕ) (steps : List ScriptStep) (i : ℕ) (d : ScriptStep) → All (IsScriptStep specs actors) steps → i < length steps → actors ≤ 64 → (get_or steps i d).actor < 64
 actor_at specs actors steps i d each lt few = omega (arith, (each i d lt).actor, few)

@@ -13,8 +13,8 @@ use Rattle.rw_world.specs.declared.opening.Spec.TheVariants as spec
 use Rattle.rw_script.specs.declared.faults.ScriptFaultKind.{ScriptFaultKind}
 use Rattle.rw_script.specs.declared.faults.ScriptFaultKind.TheVariants as kind
 use Rattle.rw_script.specs.declared.faults.ScriptFault.{ScriptFault}
-use Rattle.rw_script.specs.declared.head.Head.{Head}
-use Rattle.rw_script.specs.declared.head.Head.TheVariants.{Broadcast, Watch, Actors}
+use Rattle.rw_script.specs.declared.head.HeadLine.{HeadLine}
+use Rattle.rw_script.specs.declared.head.HeadLine.TheVariants.{Broadcast, Watch, Actors}
 use Rattle.rw_script.specs.Fields.{fields_in, named_in}
 use Rattle.rw_script.specs.Script.{Reading, actors_of, after_line, at_line, head_of_line, is_broadcast, spec_for, with_head, with_line, with_said, with_spec, with_step, with_words}
 use Rattle.rw_script.specs.StepLines.{Bound, Said, in_script, is_bound_again, makes, number_of, said_by, said_in, target_in, with_bound}
@@ -25,7 +25,7 @@ Spared r = Spares kind.NoMemory r
 spec_spared : (r : Reading) (s : Spec ℕ) → Spared (with_spec r s)
 spec_spared r s = cond_spares kind.NoMemory (ltb (length r.specs) 64) (Ok (record r { specs = r.specs ++ s ∷ [] })) (Err kind.TooManyChannels) tt (λ e. cc)
 
-head_spared : (r : Reading) (head : Head) → Spared (with_head r head)
+head_spared : (r : Reading) (head : HeadLine) → Spared (with_head r head)
 head_spared r (Broadcast n) = cond_spares kind.NoMemory (leb 1 n && leb n 65536) (with_spec r (spec.Broadcast n)) (Err kind.BadCapacity) (spec_spared r (spec.Broadcast n)) (λ e. cc)
 head_spared r (Watch v) = spec_spared r (spec.Watch v)
 head_spared r (Actors n) = cond_spares kind.NoMemory (leb 1 n && leb n 64) (Ok (record r { actors = Some n })) (Err kind.BadActors) tt (λ e. cc)
@@ -69,7 +69,7 @@ step_spared r line =
     (λ s. bind_spares kind.NoMemory (said_in (is_broadcast s) f.2) (λ said. target_in r.names f.0 f.1 said.target >>= with_said r f.0 f.1 said) (said_spared (is_broadcast s) f.2)
     (λ said. bind_spares kind.NoMemory (target_in r.names f.0 f.1 said.target) (with_said r f.0 f.1 said) (target_spared r.names f.0 f.1 said.target) (λ target. with_said_spared r f.0 f.1 said target))))
 
-words_spared : (r : Reading) (head : Option Head) (line : List ℕ) → Spared (with_words r head line)
+words_spared : (r : Reading) (head : Option HeadLine) (line : List ℕ) → Spared (with_words r head line)
 words_spared r (Some head) line = head_spared r head
 words_spared r None line = step_spared r line
 

@@ -7,11 +7,11 @@ use Rattle.rw_world.specs.Shapes.{stray_of}
 use Rattle.rw_law.specs.declared.limits.TheConstants.{MOST_ACTORS}
 use Rattle.rw_world.specs.declared.opening.TheConstants.{MOST_CHANNELS}
 use Rattle.rw_script.specs.declared.reader.TheConstants.{MOST_STEPS}
-use Rattle.rw_script.specs.declared.steps.Step.{Step}
+use Rattle.rw_script.specs.declared.steps.ScriptStep.{ScriptStep}
 use Rattle.rw_script.specs.Script.{Script, Reading, actors_of}
 
 -- the actor is there, and the channel is there and of the call's kind
-pub record IsStep (specs : List (Spec ℕ)) (actors : ℕ) (step : Step) : Type 0 where
+pub record IsScriptStep (specs : List (Spec ℕ)) (actors : ℕ) (step : ScriptStep) : Type 0 where
   pub actor : step.actor < actors
   pub channel : step.channel < length specs
   pub kind : stray_of strays_at (map kind_of_spec specs) (record { channel = step.channel; call = step.call }) ≡ false
@@ -22,7 +22,7 @@ pub record IsScript (s : Script) : Type 0 where
   pub some_actor : 1 ≤ s.actors
   pub few_actors : s.actors ≤ MOST_ACTORS
   pub few_steps : length s.steps ≤ MOST_STEPS
-  pub steps : All (IsStep s.specs s.actors) s.steps
+  pub steps : All (IsScriptStep s.specs s.actors) s.steps
 
 -- the same on the way, where there may be no channel yet; no step binds two names
 pub record IsReading (r : Reading) : Type 0 where
@@ -32,4 +32,4 @@ pub record IsReading (r : Reading) : Type 0 where
   pub few_actors : actors_of r ≤ MOST_ACTORS
   pub few_steps : length r.steps ≤ MOST_STEPS
   pub few_names : length r.names ≤ length r.steps
-  pub steps : All (IsStep r.specs (actors_of r)) r.steps
+  pub steps : All (IsScriptStep r.specs (actors_of r)) r.steps

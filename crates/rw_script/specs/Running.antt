@@ -15,7 +15,7 @@ use Rattle.rw_world.specs.declared.channels.ChanCall.{ChanCall}
 use Rattle.rw_world.specs.declared.channels.ChanReply.{ChanReply}
 use Rattle.rw_world.specs.Machines.{of_chan}
 use Rattle.rw_world.specs.Records.{ChannelRecord, opened_records, next_records, reply_from}
-use Rattle.rw_script.specs.declared.steps.Step.{Step}
+use Rattle.rw_script.specs.declared.steps.ScriptStep.{ScriptStep}
 use Rattle.rw_script.specs.Script.{Script}
 
 -- the actors and calls that are made, and the line of the first call that would wait, if one would
@@ -40,7 +40,7 @@ filled c None made = c
 filled c (Some name) made = with_handle c (get_or made name NEVER_MADE)
 
 -- the actor and the call of a step
-abbrev pub call_of : Step → List ℕ → ℕ × RowCall (ChanCall ℕ)
+abbrev pub call_of : ScriptStep → List ℕ → ℕ × RowCall (ChanCall ℕ)
 call_of step made = (step.actor, record { channel = step.channel; call = filled step.call step.target made })
 
 -- the handle that a call made, by its reply
@@ -68,7 +68,7 @@ abbrev pub onto : ℕ × RowCall (ChanCall ℕ) → Ran → Ran
 onto c ran = record { calls = c ∷ ran.calls; waits = ran.waits }
 
 -- the steps from here, in a world with these records
-abbrev pub run_from : List (ChannelRecord ℕ) → List ℕ → List Step → Ran
+abbrev pub run_from : List (ChannelRecord ℕ) → List ℕ → List ScriptStep → Ran
 run_from world made [] = record { calls = []; waits = None }
 run_from world made (step ∷ steps) =
     let c = call_of step made in

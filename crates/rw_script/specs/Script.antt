@@ -8,14 +8,15 @@ use Rattle.rw_lines.specs.Numerals.{numeral_in}
 use Rattle.rw_world.specs.declared.opening.Spec.{Spec}
 use Rattle.rw_world.specs.declared.opening.Spec.TheVariants as spec
 use Rattle.rw_law.specs.declared.limits.TheConstants.{MOST_ACTORS}
+use Rattle.rw_ring.specs.declared.ring.TheConstants.{MOST_CAPACITY}
 use Rattle.rw_world.specs.declared.opening.TheConstants.{MOST_CHANNELS}
 use Rattle.rw_script.specs.declared.reader.TheConstants.{MOST_STEPS}
 use Rattle.rw_script.specs.declared.faults.ScriptFaultKind.{ScriptFaultKind}
 use Rattle.rw_script.specs.declared.faults.ScriptFaultKind.TheVariants.{TooLong, Syntax, BadCapacity, TooManyChannels, BadActors, UnknownActor, UnknownChannel, NameTaken, TooManySteps, NoChannels}
 use Rattle.rw_script.specs.declared.faults.ScriptFault.{ScriptFault}
-use Rattle.rw_script.specs.declared.head.Head.{Head}
-use Rattle.rw_script.specs.declared.head.Head.TheVariants.{Broadcast, Watch, Actors}
-use Rattle.rw_script.specs.declared.steps.Step.{Step}
+use Rattle.rw_script.specs.declared.head.HeadLine.{HeadLine}
+use Rattle.rw_script.specs.declared.head.HeadLine.TheVariants.{Broadcast, Watch, Actors}
+use Rattle.rw_script.specs.declared.steps.ScriptStep.{ScriptStep}
 use Rattle.rw_words.specs.Arguments as option
 use Rattle.rw_script.specs.Fields.{fields_in}
 use Rattle.rw_script.specs.StepLines.{Said, Bound, said_in, target_in, is_bound_again, with_bound}
@@ -25,7 +26,7 @@ use Rattle.rw_words.specs.Words.{◌>>=◌, or_fault}
 pub record Script : Type 0 where
   pub specs : List (Spec ℕ)
   pub actors : ℕ
-  pub steps : List Step
+  pub steps : List ScriptStep
 
 -- what the lines of a script say so far
 pub record Reading : Type 0 where
@@ -34,7 +35,7 @@ pub record Reading : Type 0 where
   pub specs : List (Spec ℕ)
   -- what the actors line says, once there was one
   pub actors : Option ℕ
-  pub steps : List Step
+  pub steps : List ScriptStep
   -- the names that the steps bind, in order
   pub names : List Bound
 
@@ -49,18 +50,18 @@ actors_of r = unwrap_or r.actors 1
 -- ---- channel lines and the actors line
 
 -- a line of one word and one numeral
-abbrev pub head_with : List ℕ → ℕ → Option Head
+abbrev pub head_with : List ℕ → ℕ → Option HeadLine
 head_with word n =
     if bytes_eq word (codes "broadcast") then Some (Broadcast n)
     else if bytes_eq word (codes "watch") then Some (Watch n)
     else if bytes_eq word (codes "actors") then Some (Actors n)
     else None
 
-abbrev pub head_after : Option (List ℕ × List ℕ) → Option Head
+abbrev pub head_after : Option (List ℕ × List ℕ) → Option HeadLine
 head_after None = None
 head_after (Some p) = option.◌>>=◌ (numeral_in p.1) (head_with p.0)
 
-unfoldable pub head_in : List ℕ → Option Head
+unfoldable pub head_in : List ℕ → Option HeadLine
 head_in line = head_after (cut 32 line)
 
 -- channel lines, and the actors line behind them, have their place before the actors line and the first step
@@ -70,8 +71,8 @@ is_in_head r = is_none r.actors && nat_eq (length r.steps) 0
 abbrev pub with_spec : Reading → Spec ℕ → Result Reading ScriptFaultKind
 with_spec r s = if nat_lt (length r.specs) MOST_CHANNELS then Ok (record r { specs = r.specs ++ s ∷ [] }) else Err TooManyChannels
 
-abbrev pub with_head : Reading → Head → Result Reading ScriptFaultKind
-with_head r (Broadcast n) = if nat_le 1 n && nat_le n 65536 then with_spec r (spec.Broadcast n) else Err BadCapacity
+abbrev pub with_head : Reading → HeadLine → Result Reading ScriptFaultKind
+with_head r (Broadcast n) = if nat_le 1 n && nat_le n MOST_CAPACITY then with_spec r (spec.Broadcast n) else Err BadCapacity
 with_head r (Watch v) = with_spec r (spec.Watch v)
 with_head r (Actors n) = if nat_le 1 n && nat_le n MOST_ACTORS then Ok (record r { actors = Some n }) else Err BadActors
 
@@ -105,11 +106,11 @@ with_step r line = do
 
 -- ---- any line
 
-abbrev pub with_words : Reading → Option Head → List ℕ → Result Reading ScriptFaultKind
+abbrev pub with_words : Reading → Option HeadLine → List ℕ → Result Reading ScriptFaultKind
 with_words r (Some head) line = with_head r head
 with_words r None line = with_step r line
 
-abbrev pub head_of_line : Reading → List ℕ → Option Head
+abbrev pub head_of_line : Reading → List ℕ → Option HeadLine
 head_of_line r line = if is_in_head r then head_in line else None
 
 -- what is said with the line that was read last, or what is wrong with it

@@ -1,4 +1,4 @@
--- Step lines: `ACTOR CHANNEL WORD HANDLE ARGS`, where a name may stand for the handle, and ` as NAME` may follow a call
+-- ScriptStep lines: `ACTOR CHANNEL WORD HANDLE ARGS`, where a name may stand for the handle, and ` as NAME` may follow a call
 -- that makes a handle.
 use Rattle.std.specs.Prelude.{ℕ, Bool, true, false, not, ◌&&◌, ◌==◌, is_some, if◌then◌else◌, List, [], ◌∷◌, ◌++◌, Option, None, Some, Result, Ok, Err, position}
 use Rattle.std.specs.Option.{option_map}
@@ -8,7 +8,7 @@ use Rattle.rw_law.specs.Numbers.{numbers}
 use Rattle.rw_broadcast.specs.Channel as broadcast
 use Rattle.rw_watch.specs.Channel as watch
 use Rattle.rw_world.specs.declared.channels.ChanCall.TheVariants as call
-use Rattle.rw_world.specs.Kinds.{Kind}
+use Rattle.rw_world.specs.Kinds.{ChannelKind}
 use Rattle.rw_world.specs.Kinds as kinds
 use Rattle.rw_world.specs.declared.channels.ChanCall.{ChanCall}
 use Rattle.rw_words.specs.declared.arguments.WordFault.{WordFault}
@@ -53,7 +53,7 @@ unfoldable pub said_in : Bool → List ℕ → Result Said ScriptFaultKind
 said_in broadcast text = in_script (call_in numbers broadcast (named_in text).text) >>= said_by (named_in text).target (named_in text).bound
 
 -- the kind of channel that is a broadcast or else a watch
-abbrev pub kind_if : Bool → Kind
+abbrev pub kind_if : Bool → ChannelKind
 kind_if true = kinds.broadcast
 kind_if false = kinds.watch
 

@@ -8,7 +8,7 @@ use Rattle.rw_world.specs.declared.channels.ChanReply.{ChanReply}
 use Rattle.rw_world.specs.declared.channels.ChanReply.TheVariants as reply
 use Rattle.rw_world.specs.declared.rows.RowCall.{RowCall}
 use Rattle.rw_world.specs.Specified.{WorldEntry}
-use Rattle.rw_script.specs.declared.steps.Step.{Step}
+use Rattle.rw_script.specs.declared.steps.ScriptStep.{ScriptStep}
 use Rattle.rw_script.specs.Script.{Script}
 use Rattle.rw_script.specs.Running.{NEVER_MADE, call_of, made_after, made_by}
 
@@ -22,14 +22,14 @@ others [] = []
 others (r ∷ rs) = rs
 
 -- the calls of an actor's lines, where these are the replies to them; made: the handles that the names so far stand for, of which those that another actor bound stand for none
-abbrev pub calls_by : ℕ → List ℕ → List Step → List (ChanReply ℕ) → List (RowCall (ChanCall ℕ))
+abbrev pub calls_by : ℕ → List ℕ → List ScriptStep → List (ChanReply ℕ) → List (RowCall (ChanCall ℕ))
 calls_by actor made [] replies = []
 calls_by actor made (step ∷ steps) replies =
     if nat_eq step.actor actor then (call_of step made).1 ∷ calls_by actor (made_after step.binds (first replies) made) steps (others replies)
     else calls_by actor (made_after step.binds reply.NoChannel made) steps replies
 
 -- each actor's calls are those of its lines, all and in order, with names for the handles that its own lines made
-abbrev pub IsPlayed : List Step → List (WorldEntry ℕ) → Type 0
+abbrev pub IsPlayed : List ScriptStep → List (WorldEntry ℕ) → Type 0
 IsPlayed steps es = (actor : ℕ) → map (λ e. e.call) (entries_by actor es) ≡ calls_by actor [] steps (map (λ e. e.reply) (entries_by actor es))
 
 -- a run of the script's channels in which each actor's calls are those of its lines
@@ -51,19 +51,19 @@ abbrev pub replies_kept : List (Kept ℕ) → List (ChanReply ℕ)
 replies_kept ks = map (λ k. k.reply) ks
 
 -- the calls of a pass are those of its actor's lines
-abbrev pub IsFollowed : List Step → Pass ℕ → Type 0
+abbrev pub IsFollowed : List ScriptStep → Pass ℕ → Type 0
 IsFollowed steps p = calls_kept p.kept ≡ calls_by p.actor [] steps (replies_kept p.kept)
 
 -- ---- the walk over an actor's lines and its receipts
 
 -- the receipt at a place is that of a step's call; to: the place behind it, and the handle that the call made
-pub record IsNext (p : Pass ℕ) (place : ℕ) (step : Step) (made : List ℕ) (to : ℕ × ℕ) : Type 0 where
+pub record IsNext (p : Pass ℕ) (place : ℕ) (step : ScriptStep) (made : List ℕ) (to : ℕ × ℕ) : Type 0 where
   pub receipt : Kept ℕ
   pub at : slice_get p.kept place ≡ Some receipt
   pub call : call_kept receipt ≡ (call_of step made).1
   pub to_is : to ≡ (place + 1, made_by receipt.reply)
 
 -- a step of the pass's actor has the next receipt, and a step of another has none and makes no handle
-pub record Moves (p : Pass ℕ) (place : ℕ) (step : Step) (made : List ℕ) (to : ℕ × ℕ) : Type 0 where
+pub record Moves (p : Pass ℕ) (place : ℕ) (step : ScriptStep) (made : List ℕ) (to : ℕ × ℕ) : Type 0 where
   pub own : step.actor ≡ p.actor → IsNext p place step made to
   pub other : step.actor ≢ p.actor → to ≡ (place, NEVER_MADE)

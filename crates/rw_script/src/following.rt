@@ -6,12 +6,12 @@ ghost use Rattle.rw_script.specs.Running.{call_of};
 ghost use Rattle.rw_script.specs.Threads.{IsFollowed, Moves, call_kept};
 
 use crate::running::{NEVER_MADE, RunFault, filled, keep_handle, made_by};
-use crate::steps::Step;
+use crate::steps::ScriptStep;
 use rw_desk::{Kept, Pass};
 use std::alloc::Global;
 
 /// Whether a receipt is of the call of a step.
-fn is_call(receipt: &Kept<u64>, step: &Step, made: &[u32]) -> bool
+fn is_call(receipt: &Kept<u64>, step: &ScriptStep, made: &[u32]) -> bool
     ensures { IsTrue result → call_kept receipt.now ≡ (call_of step.now made.now).1 }
 {
     receipt.channel == step.channel && receipt.call == filled(step, made)
@@ -19,7 +19,7 @@ fn is_call(receipt: &Kept<u64>, step: &Step, made: &[u32]) -> bool
 
 /// Moves on over a step: where it is the actor's, over the receipt of its call. Gives the place behind that and the handle that
 /// the call made. `made` has the handles that the names so far stand for.
-fn moved(pass: &Pass<u64>, place: usize, step: &Step, made: &[u32]) -> Option<(usize, u32)>
+fn moved(pass: &Pass<u64>, place: usize, step: &ScriptStep, made: &[u32]) -> Option<(usize, u32)>
     ensures { IfSome result (λ to. Moves pass.now place step.now made.now to) }
 {
     if step.actor != pass.actor() {
@@ -34,7 +34,7 @@ fn moved(pass: &Pass<u64>, place: usize, step: &Step, made: &[u32]) -> Option<(u
 }
 
 /// Refuses a pass whose receipts aren't those of its actor's lines, all and in order.
-fn follow(alloc: Global, steps: &[Step], pass: &Pass<u64>) -> Result<(), RunFault>
+fn follow(alloc: Global, steps: &[ScriptStep], pass: &Pass<u64>) -> Result<(), RunFault>
     ensures { OnOk result (IsFollowed steps.now pass.now) }
 {
     let mut made = Vec::new(alloc);
@@ -55,7 +55,7 @@ fn follow(alloc: Global, steps: &[Step], pass: &Pass<u64>) -> Result<(), RunFaul
 /// Refuses passes whose receipts aren't those of their actors' lines.
 pub(crate) fn follow_all(
     alloc: Global,
-    steps: &[Step],
+    steps: &[ScriptStep],
     passes: &[Pass<u64>],
 ) -> Result<(), RunFault>
     ensures { OnOk result (Each (IsFollowed steps.now) passes.now) }

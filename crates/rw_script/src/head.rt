@@ -7,7 +7,7 @@ use rw_lines::{cut, numeral};
 
 /// A line at the head of a script: a word and a numeral.
 #[derive(Clone, Copy)]
-pub(crate) enum Head {
+pub(crate) enum HeadLine {
     /// A channel line: a broadcast of this capacity.
     Broadcast(u64),
     /// A channel line: a watch of this value.
@@ -16,16 +16,16 @@ pub(crate) enum Head {
     Actors(u64),
 }
 
-impl Head {
-    fn with(word: &[u8], number: u64) -> Option<Head>
+impl HeadLine {
+    fn with(word: &[u8], number: u64) -> Option<HeadLine>
         ensures { result ≡ head_with word.now number }
     {
         if word == b"broadcast".as_slice() {
-            Some(Head::Broadcast(number))
+            Some(HeadLine::Broadcast(number))
         } else if word == b"watch".as_slice() {
-            Some(Head::Watch(number))
+            Some(HeadLine::Watch(number))
         } else if word == b"actors".as_slice() {
-            Some(Head::Actors(number))
+            Some(HeadLine::Actors(number))
         } else {
             None
         }
@@ -33,10 +33,10 @@ impl Head {
 
     /// What a line at the head says.
     #[tactic(auto, unfolding(crate::specs::Script::head_in))]
-    pub(crate) fn of(line: &[u8]) -> Option<Head>
+    pub(crate) fn of(line: &[u8]) -> Option<HeadLine>
         ensures { result ≡ head_in line.now }
     {
         let (word, number) = cut(line, b' ')?;
-        Head::with(word, numeral(number)?)
+        HeadLine::with(word, numeral(number)?)
     }
 }

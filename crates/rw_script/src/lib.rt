@@ -25,5 +25,5 @@ pub use gate::Gate;
 pub use reader::{MOST_STEPS, ScriptReader, is_mark};
 pub use running::{Played, RunFault, play, run_one};
 pub use script::Script;
-pub use steps::Step;
+pub use steps::ScriptStep;
 pub use threads::run_threads;

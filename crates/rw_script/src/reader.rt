@@ -1,20 +1,22 @@
 //! A script, read line by line: channel lines, an actors line, then step lines.
 
 ghost use Rattle.std.specs.Prelude.{◌≡◌, ◌+◌, ◌-◌, ◌^◌, ◌<◌, ◌≤◌, true, false, Some, length, map, option_map, slice_get, IfErr, OnErr, IfOk, OnOk};
+ghost use Rattle.rw_law.specs.declared.limits.TheConstants.{MOST_ACTORS};
+ghost use Rattle.rw_world.specs.declared.opening.TheConstants.{MOST_CHANNELS};
 ghost use Rattle.rw_script.specs.Memory.{Takes, TakesLine};
 ghost use Rattle.rw_world.specs.Openings.{has_bad_capacity, kind_of_spec};
-ghost use Rattle.rw_script.specs.Kept.{IsStep};
+ghost use Rattle.rw_script.specs.Kept.{IsScriptStep};
 ghost use Rattle.rw_script.specs.Script.{actors_of, after_line, ended, is_broadcast, is_in_head, is_mark, opening, spec_for, with_head, with_line, with_said, with_spec, with_step};
 ghost use Rattle.rw_script.specs.StepLines.{kind_if, said_of, target_in};
 ghost use Rattle.rw_words.specs.Words.{map_ok};
 
 use crate::faults::{ScriptFault, ScriptFaultKind};
 use crate::fields::fields_of;
-use crate::head::Head;
+use crate::head::HeadLine;
 use crate::names::Names;
 use crate::said::{SaidCall, read_said};
 use crate::script::Script;
-use crate::steps::Step;
+use crate::steps::ScriptStep;
 use rw_law::MOST_ACTORS;
 use rw_lines::{LONGEST_LINE, is_skipped};
 use rw_world::{MOST_CAPACITY, MOST_CHANNELS, Spec};
@@ -33,7 +35,7 @@ pub struct ScriptReader {
     specs: Vec<Spec<u64>>,
     /// `None` before the actors line.
     actors: Option<u32>,
-    steps: Vec<Step>,
+    steps: Vec<ScriptStep>,
     names: Names,
 }
 
@@ -126,7 +128,7 @@ impl ScriptReader {
             return Ok(());
         }
         if self.is_in_head() {
-            match Head::of(line) {
+            match HeadLine::of(line) {
                 Some(head) => self.take_head(head),
                 None => self.take_step(line),
             }
@@ -143,21 +145,21 @@ impl ScriptReader {
     }
 
     /// Takes a channel line or the actors line.
-    fn take_head(&mut self, head: Head) -> Result<(), ScriptFaultKind>
+    fn take_head(&mut self, head: HeadLine) -> Result<(), ScriptFaultKind>
         requires { is_in_head self.old ≡ true }
         ensures taken { TakesLine result self.old self.new (with_head self.old head) }
         ensures unchanged { OnErr result (self.new ≡ self.old) }
         ensures lines { self.new.lines ≡ self.old.lines }
     {
         match head {
-            Head::Broadcast(capacity) => {
+            HeadLine::Broadcast(capacity) => {
                 if capacity < 1 || capacity > u64::from(MOST_CAPACITY) {
                     return Err(ScriptFaultKind::BadCapacity);
                 }
                 self.take_spec(Spec::Broadcast(capacity as u32))
             }
-            Head::Watch(value) => self.take_spec(Spec::Watch(value)),
-            Head::Actors(actors) => {
+            HeadLine::Watch(value) => self.take_spec(Spec::Watch(value)),
+            HeadLine::Actors(actors) => {
                 if actors < 1 || actors > u64::from(MOST_ACTORS) {
                     return Err(ScriptFaultKind::BadActors);
                 }
@@ -206,7 +208,7 @@ impl ScriptReader {
         ensures kind { result ≡ map_ok is_broadcast (spec_for self.now actor channel) }
         ensures actor { OnOk result (actor < actors_of self.now) }
         ensures channel { IfOk result (λ b. slice_get (map kind_of_spec self.now.specs) channel ≡ Some (kind_if b)) }
-        ensures small { OnOk result ((actor < 64) × (channel < 64)) }
+        ensures small { OnOk result ((actor < MOST_ACTORS) × (channel < MOST_CHANNELS)) }
     {
         if actor >= u64::from(self.actors.unwrap_or(1)) {
             return Err(ScriptFaultKind::UnknownActor);
@@ -244,7 +246,7 @@ impl ScriptReader {
         said: &SaidCall<'_>,
         target: Option<u32>,
     ) -> Result<(), ScriptFaultKind>
-        requires step { IsStep self.old.specs (actors_of self.old) (record { line = self.old.lines; actor = actor; channel = channel; call = said.now.call; target = target; binds = false }) }
+        requires step { IsScriptStep self.old.specs (actors_of self.old) (record { line = self.old.lines; actor = actor; channel = channel; call = said.now.call; target = target; binds = false }) }
         ensures taken { TakesLine result self.old self.new (with_said self.old actor channel (said_of said.now) target) }
         ensures unchanged { OnErr result (self.new ≡ self.old) }
         ensures lines { self.new.lines ≡ self.old.lines }
@@ -262,7 +264,7 @@ impl ScriptReader {
         if self.names.bind(alloc, said.bound, actor, channel).is_err() {
             return Err(ScriptFaultKind::NoMemory);
         }
-        self.steps.push_reserved(Step {
+        self.steps.push_reserved(ScriptStep {
             line: self.lines,
             actor,
             channel,

@@ -1,6 +1,8 @@
 //! The run of a script, on one book.
 
 ghost use Rattle.std.specs.Prelude.{◌≡◌, ◌<◌, ◌^◌, ◌++◌, ◌∷◌, [], None, false, if◌then◌else◌, length, IfErr, IfOk, OnOk, IsTrue, MatchOption};
+ghost use Rattle.rw_law.specs.declared.limits.TheConstants.{MOST_ACTORS, MOST_STAMP};
+ghost use Rattle.rw_journal.specs.declared.book.TheConstants.{MOST_ENTRIES};
 ghost use Rattle.rw_journal.specs.Book.{last_stamp, opening_of, reply_to};
 ghost use Rattle.rw_journal.specs.Interleaving.{CountsFrom, interleaving_of, journal_of};
 ghost use Rattle.rw_world.specs.Machines.{of_world};
@@ -8,7 +10,7 @@ ghost use Rattle.rw_world.specs.Openings.{opened, refusal};
 ghost use Rattle.rw_script.specs.Running.{IsMade, call_of, filled, made_by, run_of, with_handle};
 
 use crate::script::Script;
-use crate::steps::Step;
+use crate::steps::ScriptStep;
 use rw_broadcast::BReply;
 use rw_journal::laws::journal_of_an_interleaving;
 use rw_journal::{Book, Run, TakeFault};
@@ -58,7 +60,7 @@ fn with_handle(call: ChanCall<u64>, handle: u32) -> ChanCall<u64>
 }
 
 /// The step's call, with the handle that its name stands for.
-pub(crate) fn filled(step: &Step, made: &[u32]) -> ChanCall<u64>
+pub(crate) fn filled(step: &ScriptStep, made: &[u32]) -> ChanCall<u64>
     ensures { result ≡ filled step.now.call step.now.target made.now }
 {
     match step.target {
@@ -82,10 +84,14 @@ pub(crate) fn made_by(reply: &ChanReply<u64>) -> u32
 }
 
 /// Makes the call of a step, and gives the handle that it made. A call that would wait isn't made, and gives none.
-fn run_step(book: &mut Book<World<u64>>, step: &Step, made: &[u32]) -> Result<Option<u32>, NoMemory>
-    requires few { length book.old.entries < 1_048_576 }
-    requires stamps { last_stamp book.old.entries < 2 ^ 62 }
-    requires actor { step.now.actor < 64 }
+fn run_step(
+    book: &mut Book<World<u64>>,
+    step: &ScriptStep,
+    made: &[u32],
+) -> Result<Option<u32>, NoMemory>
+    requires few { length book.old.entries < MOST_ENTRIES }
+    requires stamps { last_stamp book.old.entries < MOST_STAMP }
+    requires actor { step.now.actor < MOST_ACTORS }
     requires no_stray { of_world.is_straying (reply_to of_world book.old (call_of step.now made.now).1) ≡ false }
     ensures { let c = call_of step.now made.now in IfOk result (λ o. MatchOption o (IsTrue (of_world.is_waiting (reply_to of_world book.old c.1)) × (book.new.entries ≡ book.old.entries) × (book.new.opening ≡ book.old.opening)) (IsMade of_world book.old book.new c)) }
 {

@@ -1,16 +1,18 @@
 //! Scripts.
 
 ghost use Rattle.std.specs.Prelude.{◌≡◌, ◌≤◌, ◌<◌, ◌∷◌, None, All, length, IfErr};
+ghost use Rattle.rw_law.specs.declared.limits.TheConstants.{MOST_ACTORS};
+ghost use Rattle.rw_script.specs.declared.reader.TheConstants.{MOST_STEPS};
 ghost use Rattle.rw_lines.specs.Lines.{lines};
 ghost use Rattle.rw_world.specs.Openings.{refusal};
 ghost use Rattle.rw_script.specs.Faults.{Gives};
-ghost use Rattle.rw_script.specs.Kept.{IsScript, IsStep};
+ghost use Rattle.rw_script.specs.Kept.{IsScript, IsScriptStep};
 ghost use Rattle.rw_script.specs.Memory.{AsksMemory};
 ghost use Rattle.rw_script.specs.Script.{script_in};
 
 use crate::faults::{ScriptFault, ScriptFaultKind};
 use crate::reader::{ScriptReader, is_mark};
-use crate::steps::Step;
+use crate::steps::ScriptStep;
 use rw_lines::cut;
 use rw_world::Spec;
 use std::alloc::Global;
@@ -21,7 +23,7 @@ use std::marker::Model;
 pub struct Script {
     specs: Vec<Spec<u64>>,
     actors: u32,
-    steps: Vec<Step>,
+    steps: Vec<ScriptStep>,
 }
 
 impl Model for Script {
@@ -55,7 +57,7 @@ impl Script {
         reader.finish()
     }
 
-    pub(crate) fn of(specs: Vec<Spec<u64>>, actors: u32, steps: Vec<Step>) -> Script
+    pub(crate) fn of(specs: Vec<Spec<u64>>, actors: u32, steps: Vec<ScriptStep>) -> Script
         requires { IsScript (record { specs = specs.items; actors = actors; steps = steps.items }) }
         ensures { result ≡ record { specs = specs.items; actors = actors; steps = steps.items } }
     {
@@ -85,16 +87,16 @@ impl Script {
     pub fn actors(&self) -> u32
         ensures actors { result ≡ self.now.actors }
         ensures some { 1 ≤ result }
-        ensures few { result ≤ 64 }
+        ensures few { result ≤ MOST_ACTORS }
     {
         self.actors
     }
 
     /// The calls, in the order of their lines.
-    pub fn steps(&self) -> &[Step]
+    pub fn steps(&self) -> &[ScriptStep]
         ensures steps { result.now ≡ self.now.steps }
-        ensures few { length result.now ≤ 1_048_576 }
-        ensures each { All (IsStep self.now.specs self.now.actors) result.now }
+        ensures few { length result.now ≤ MOST_STEPS }
+        ensures each { All (IsScriptStep self.now.specs self.now.actors) result.now }
     {
         self.steps.as_slice()
     }

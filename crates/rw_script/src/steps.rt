@@ -4,7 +4,7 @@ use rw_world::ChanCall;
 
 /// A call that a line of a script makes.
 #[derive(Clone, Copy)]
-pub struct Step {
+pub struct ScriptStep {
     /// The number of the line, counted from 1.
     pub line: u64,
     pub actor: u32,

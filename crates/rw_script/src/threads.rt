@@ -9,7 +9,7 @@ use crate::gate::Gate;
 use crate::running::{NEVER_MADE, RunFault, filled, keep_handle, made_by};
 use crate::script::Script;
 use crate::start::Start;
-use crate::steps::Step;
+use crate::steps::ScriptStep;
 use rw_desk::{CloseFault, Desk, DeskFault, Pass};
 use rw_journal::Run;
 use rw_law::Entry;
@@ -56,7 +56,7 @@ fn make_call<D: Calls, G: Gate, R: Wait>(
     desk: &D,
     gate: &G,
     pass: &mut Pass<u64>,
-    step: &Step,
+    step: &ScriptStep,
     made: &[u32],
 ) -> Result<u32, RunFault> {
     let call = filled(step, made);
@@ -77,7 +77,7 @@ fn make_calls<D: Calls, G: Gate, R: Wait>(
     rt: &R,
     desk: &D,
     gate: &G,
-    steps: &[Step],
+    steps: &[ScriptStep],
     pass: &mut Pass<u64>,
     made: &mut Vec<u32>,
 ) -> Result<(), RunFault> {
@@ -98,7 +98,7 @@ fn play_actor<D: Calls, G: Gate, R: Wait>(
     start: &Start,
     desk: &D,
     gate: &G,
-    steps: &[Step],
+    steps: &[ScriptStep],
     mut pass: Pass<u64>,
     mut made: Vec<u32>,
 ) -> (Pass<u64>, Result<(), RunFault>) {
@@ -123,7 +123,7 @@ fn play_all<D: Calls + Sync, G: Gate + Sync, R: Threads + Wait + Sync>(
     alloc: Global,
     desk: &D,
     gate: &G,
-    steps: &[Step],
+    steps: &[ScriptStep],
     passes: Vec<Pass<u64>>,
 ) -> Result<Vec<Pass<u64>>, RunFault> {
     let start = Start::new();

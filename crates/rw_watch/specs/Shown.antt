@@ -28,8 +28,8 @@ abbrev pub raised : ℕ → (told : Bool) → ℕ
 raised version told = if told then version + 1 else version
 
 -- the version before it
-abbrev pub lowered : ℕ → (told : Bool) → ℕ
-lowered version told = if told then version - 1 else version
+abbrev pub version_before : ℕ → (told : Bool) → ℕ
+version_before version told = if told then version - 1 else version
 
 -- what is shown after a change
 abbrev pub changed : {V : Type 0} → Shown V → Change V → Shown V
@@ -80,7 +80,7 @@ patch_of x call = (outcome x call).patch
 -- what was shown before this call, which left this patch
 abbrev pub back : {V : Type 0} → Shown V → WCall V → WPatch V → Shown V
 back x call Same = x
-back x call (Wrote told before) = record x { version = lowered x.version told; value = before }
+back x call (Wrote told before) = record x { version = version_before x.version told; value = before }
 back x call Made = record x { slots = take (length x.slots - 1) x.slots }
 back x call (Marked mark) = record x { slots = slice_set x.slots (handle_of call) (Live Receiver (Some mark)) }
 back x call Unmarked = record x { slots = slice_set x.slots (handle_of call) (Live Receiver None) }

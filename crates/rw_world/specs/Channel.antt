@@ -1,7 +1,7 @@
 -- The steps of a channel of either kind: a call of its own kind goes to its machine, one of the other kind strays.
 use Rattle.std.specs.Prelude.{ℕ, Bool, true, false}
 use Rattle.rw_law.specs.declared.machine.Reversible.{Ghosts}
-use Rattle.rw_world.specs.Kinds.{Kind, broadcast, watch, Shown, broadcast_shown, watch_shown}
+use Rattle.rw_world.specs.Kinds.{ChannelKind, broadcast, watch, Shown, broadcast_shown, watch_shown}
 use Rattle.rw_world.specs.declared.channels.Chan.{Chan}
 use Rattle.rw_world.specs.declared.channels.Chan.TheVariants as machine
 use Rattle.rw_world.specs.declared.channels.ChanCall.{ChanCall}
@@ -32,7 +32,7 @@ abbrev pub no_channel : {V : Type 0} → Missing (ChanReply V) (ChanPatch V)
 no_channel = record { reply = reply.NoChannel; patch = patch.NoChannel }
 
 -- whether a call is of the other kind
-abbrev pub strays_at : {V : Type 0} → Kind → ChanCall V → Bool
+abbrev pub strays_at : {V : Type 0} → ChannelKind → ChanCall V → Bool
 strays_at broadcast (call.B c) = false
 strays_at broadcast (call.W d) = true
 strays_at watch (call.B c) = true

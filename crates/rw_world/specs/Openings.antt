@@ -11,7 +11,7 @@ use Rattle.rw_world.specs.declared.opening.Spec.{Spec}
 use Rattle.rw_world.specs.declared.opening.Spec.TheVariants.{Broadcast, Watch}
 use Rattle.rw_world.specs.declared.opening.OpenFault.{OpenFault}
 use Rattle.rw_world.specs.declared.opening.OpenFault.TheVariants.{NoChannels, TooManyChannels, BadCapacity}
-use Rattle.rw_world.specs.Kinds.{Kind, broadcast, watch, broadcast_shown, watch_shown}
+use Rattle.rw_world.specs.Kinds.{ChannelKind, broadcast, watch, broadcast_shown, watch_shown}
 use Rattle.rw_world.specs.Machines.{ChanShown}
 
 module _ {V : Type 0} where
@@ -25,7 +25,7 @@ module _ {V : Type 0} where
   opened specs = map opened_channel specs
 
   -- the kind of channel that is opened
-  abbrev pub kind_of_spec : Spec V → Kind
+  abbrev pub kind_of_spec : Spec V → ChannelKind
   kind_of_spec (Broadcast capacity) = broadcast
   kind_of_spec (Watch init) = watch
 

@@ -1,7 +1,7 @@
 //! Rows of a broadcast channel.
 ghost use Rattle.std.specs.Prelude.{◌<◌, length};
 
-use crate::channels::playing::{Shows, Step, play, record_and_walk};
+use crate::channels::playing::{Expected, Shows, play, record_and_walk};
 use rw_broadcast::{BCall, BReply, Broadcast};
 use rw_handles::Kind;
 use std::alloc::Global;
@@ -58,7 +58,7 @@ fn play_at(rt: &impl Abort, alloc: Global, capacity: u32, steps: &[Row]) -> Resu
     play(rt, alloc, recorded, walked, steps)
 }
 
-type Row = Step<BCall<u64>, BReply<u64>, Place>;
+type Row = Expected<BCall<u64>, BReply<u64>, Place>;
 
 /// What a channel of this capacity shows at its opening.
 pub fn opening(capacity: u64) -> Place {
@@ -95,13 +95,13 @@ fn overrun_walked_back(rt: HostRuntime) -> Result<(), Fail> {
         ..overrun
     };
     let steps: &[Row] = &[
-        Step::new(BCall::Send(0, 1), BReply::Sent(1)),
-        Step::to(BCall::Send(0, 2), BReply::Sent(1), full),
-        Step::to(BCall::Send(0, 3), BReply::Sent(1), overrun),
-        Step::new(BCall::TryRecv(1), BReply::Lagged(1)),
-        Step::new(BCall::TryRecv(1), BReply::Value(2)),
-        Step::new(BCall::TryRecv(1), BReply::Value(3)),
-        Step::to(BCall::TryRecv(1), BReply::Empty, read),
+        Expected::new(BCall::Send(0, 1), BReply::Sent(1)),
+        Expected::to(BCall::Send(0, 2), BReply::Sent(1), full),
+        Expected::to(BCall::Send(0, 3), BReply::Sent(1), overrun),
+        Expected::new(BCall::TryRecv(1), BReply::Lagged(1)),
+        Expected::new(BCall::TryRecv(1), BReply::Value(2)),
+        Expected::new(BCall::TryRecv(1), BReply::Value(3)),
+        Expected::to(BCall::TryRecv(1), BReply::Empty, read),
     ];
     play_at(&rt, rt.alloc(), 2, steps)
 }
@@ -120,12 +120,12 @@ fn capacity_is_rounded_up(rt: HostRuntime) -> Result<(), Fail> {
         ..overrun
     };
     let steps: &[Row] = &[
-        Step::new(BCall::Send(0, 1), BReply::Sent(1)),
-        Step::new(BCall::Send(0, 2), BReply::Sent(1)),
-        Step::new(BCall::Send(0, 3), BReply::Sent(1)),
-        Step::new(BCall::Send(0, 4), BReply::Sent(1)),
-        Step::to(BCall::Send(0, 5), BReply::Sent(1), overrun),
-        Step::to(BCall::TryRecv(1), BReply::Lagged(1), moved),
+        Expected::new(BCall::Send(0, 1), BReply::Sent(1)),
+        Expected::new(BCall::Send(0, 2), BReply::Sent(1)),
+        Expected::new(BCall::Send(0, 3), BReply::Sent(1)),
+        Expected::new(BCall::Send(0, 4), BReply::Sent(1)),
+        Expected::to(BCall::Send(0, 5), BReply::Sent(1), overrun),
+        Expected::to(BCall::TryRecv(1), BReply::Lagged(1), moved),
     ];
     play_at(&rt, rt.alloc(), 3, steps)
 }
@@ -141,12 +141,12 @@ fn lagged_then_closed(rt: HostRuntime) -> Result<(), Fail> {
         ..opening(1)
     };
     let steps: &[Row] = &[
-        Step::new(BCall::Send(0, 1), BReply::Sent(1)),
-        Step::new(BCall::Send(0, 2), BReply::Sent(1)),
-        Step::new(BCall::DropHandle(0), BReply::Dropped),
-        Step::new(BCall::TryRecv(1), BReply::Lagged(1)),
-        Step::new(BCall::TryRecv(1), BReply::Value(2)),
-        Step::to(BCall::TryRecv(1), BReply::Closed, closed),
+        Expected::new(BCall::Send(0, 1), BReply::Sent(1)),
+        Expected::new(BCall::Send(0, 2), BReply::Sent(1)),
+        Expected::new(BCall::DropHandle(0), BReply::Dropped),
+        Expected::new(BCall::TryRecv(1), BReply::Lagged(1)),
+        Expected::new(BCall::TryRecv(1), BReply::Value(2)),
+        Expected::to(BCall::TryRecv(1), BReply::Closed, closed),
     ];
     play_at(&rt, rt.alloc(), 1, steps)
 }
@@ -159,13 +159,13 @@ fn send_without_receivers(rt: HostRuntime) -> Result<(), Fail> {
         ..opening(4)
     };
     let steps: &[Row] = &[
-        Step::to(BCall::DropHandle(1), BReply::Dropped, alone),
-        Step::to(BCall::Send(0, 9), BReply::NoReceivers(9), alone),
-        Step::new(BCall::Subscribe(0), BReply::New(2)),
-        Step::new(BCall::ReceiverCount(0), BReply::Count(1)),
-        Step::new(BCall::Send(0, 9), BReply::Sent(1)),
-        Step::new(BCall::Recv(2), BReply::Value(9)),
-        Step::new(BCall::Recv(2), BReply::Waits),
+        Expected::to(BCall::DropHandle(1), BReply::Dropped, alone),
+        Expected::to(BCall::Send(0, 9), BReply::NoReceivers(9), alone),
+        Expected::new(BCall::Subscribe(0), BReply::New(2)),
+        Expected::new(BCall::ReceiverCount(0), BReply::Count(1)),
+        Expected::new(BCall::Send(0, 9), BReply::Sent(1)),
+        Expected::new(BCall::Recv(2), BReply::Value(9)),
+        Expected::new(BCall::Recv(2), BReply::Waits),
     ];
     play_at(&rt, rt.alloc(), 4, steps)
 }
@@ -186,9 +186,9 @@ fn drop_reads_the_rest(rt: HostRuntime) -> Result<(), Fail> {
         ..unread
     };
     let steps: &[Row] = &[
-        Step::new(BCall::Send(0, 5), BReply::Sent(1)),
-        Step::to(BCall::Send(0, 6), BReply::Sent(1), unread),
-        Step::to(BCall::DropHandle(1), BReply::Dropped, dropped),
+        Expected::new(BCall::Send(0, 5), BReply::Sent(1)),
+        Expected::to(BCall::Send(0, 6), BReply::Sent(1), unread),
+        Expected::to(BCall::DropHandle(1), BReply::Dropped, dropped),
     ];
     play_at(&rt, rt.alloc(), 4, steps)
 }
@@ -209,15 +209,15 @@ fn resubscribe_skips_the_backlog(rt: HostRuntime) -> Result<(), Fail> {
         ..opening(2)
     };
     let steps: &[Row] = &[
-        Step::new(BCall::Send(0, 1), BReply::Sent(1)),
-        Step::new(BCall::Send(0, 2), BReply::Sent(1)),
-        Step::new(BCall::Send(0, 3), BReply::Sent(1)),
-        Step::new(BCall::Send(0, 4), BReply::Sent(1)),
-        Step::new(BCall::Send(0, 5), BReply::Sent(1)),
-        Step::to(BCall::Resubscribe(1), BReply::New(2), resubscribed),
-        Step::new(BCall::Send(0, 6), BReply::Sent(2)),
-        Step::new(BCall::ReceiverLen(1), BReply::Count(6)),
-        Step::new(BCall::ReceiverLen(2), BReply::Count(1)),
+        Expected::new(BCall::Send(0, 1), BReply::Sent(1)),
+        Expected::new(BCall::Send(0, 2), BReply::Sent(1)),
+        Expected::new(BCall::Send(0, 3), BReply::Sent(1)),
+        Expected::new(BCall::Send(0, 4), BReply::Sent(1)),
+        Expected::new(BCall::Send(0, 5), BReply::Sent(1)),
+        Expected::to(BCall::Resubscribe(1), BReply::New(2), resubscribed),
+        Expected::new(BCall::Send(0, 6), BReply::Sent(2)),
+        Expected::new(BCall::ReceiverLen(1), BReply::Count(6)),
+        Expected::new(BCall::ReceiverLen(2), BReply::Count(1)),
     ];
     play_at(&rt, rt.alloc(), 2, steps)
 }
@@ -225,15 +225,15 @@ fn resubscribe_skips_the_backlog(rt: HostRuntime) -> Result<(), Fail> {
 #[test]
 fn sender_len_counts_the_slowest(rt: HostRuntime) -> Result<(), Fail> {
     let steps: &[Row] = &[
-        Step::new(BCall::Subscribe(0), BReply::New(2)),
-        Step::new(BCall::Send(0, 10), BReply::Sent(2)),
-        Step::new(BCall::Send(0, 20), BReply::Sent(2)),
-        Step::new(BCall::Send(0, 30), BReply::Sent(2)),
-        Step::new(BCall::SenderLen(0), BReply::Count(3)),
-        Step::new(BCall::Recv(1), BReply::Value(10)),
-        Step::new(BCall::SenderLen(0), BReply::Count(3)),
-        Step::new(BCall::Recv(2), BReply::Value(10)),
-        Step::new(BCall::SenderLen(0), BReply::Count(2)),
+        Expected::new(BCall::Subscribe(0), BReply::New(2)),
+        Expected::new(BCall::Send(0, 10), BReply::Sent(2)),
+        Expected::new(BCall::Send(0, 20), BReply::Sent(2)),
+        Expected::new(BCall::Send(0, 30), BReply::Sent(2)),
+        Expected::new(BCall::SenderLen(0), BReply::Count(3)),
+        Expected::new(BCall::Recv(1), BReply::Value(10)),
+        Expected::new(BCall::SenderLen(0), BReply::Count(3)),
+        Expected::new(BCall::Recv(2), BReply::Value(10)),
+        Expected::new(BCall::SenderLen(0), BReply::Count(2)),
     ];
     play_at(&rt, rt.alloc(), 16, steps)
 }
@@ -241,11 +241,11 @@ fn sender_len_counts_the_slowest(rt: HostRuntime) -> Result<(), Fail> {
 #[test]
 fn refused_handles(rt: HostRuntime) -> Result<(), Fail> {
     let steps: &[Row] = &[
-        Step::to(BCall::Send(5, 1), BReply::Unknown, opening(2)),
-        Step::to(BCall::Send(1, 1), BReply::WrongKind, opening(2)),
-        Step::to(BCall::Recv(0), BReply::WrongKind, opening(2)),
-        Step::new(BCall::DropHandle(1), BReply::Dropped),
-        Step::new(BCall::Recv(1), BReply::Gone),
+        Expected::to(BCall::Send(5, 1), BReply::Unknown, opening(2)),
+        Expected::to(BCall::Send(1, 1), BReply::WrongKind, opening(2)),
+        Expected::to(BCall::Recv(0), BReply::WrongKind, opening(2)),
+        Expected::new(BCall::DropHandle(1), BReply::Dropped),
+        Expected::new(BCall::Recv(1), BReply::Gone),
     ];
     play_at(&rt, rt.alloc(), 2, steps)
 }
@@ -258,11 +258,11 @@ fn handle_limit(rt: HostRuntime) -> Result<(), Fail> {
     };
     let mut steps: Vec<Row> = Vec::new(rt.alloc());
     for number in 2..65_536 {
-        steps.push(Step::new(BCall::CloneSender(0), BReply::New(number)))?;
+        steps.push(Expected::new(BCall::CloneSender(0), BReply::New(number)))?;
     }
-    steps.push(Step::new(BCall::CloneSender(0), BReply::TooManyHandles))?;
-    steps.push(Step::to(BCall::DropHandle(2), BReply::Dropped, full))?;
-    steps.push(Step::to(BCall::CloneSender(0), BReply::TooManyHandles, full))?;
+    steps.push(Expected::new(BCall::CloneSender(0), BReply::TooManyHandles))?;
+    steps.push(Expected::to(BCall::DropHandle(2), BReply::Dropped, full))?;
+    steps.push(Expected::to(BCall::CloneSender(0), BReply::TooManyHandles, full))?;
     let recorded = Broadcast::open(rt.alloc(), 1)?;
     let walked = Broadcast::open(rt.alloc(), 1)?;
     record_and_walk(&rt, rt.alloc(), recorded, walked, &steps)
@@ -286,10 +286,10 @@ fn greatest_capacity_overrun_by_one(rt: HostRuntime) -> Result<(), Fail> {
     };
     let mut steps: Vec<Row> = Vec::new(rt.alloc());
     for value in 0..65_535 {
-        steps.push(Step::new(BCall::Send(0, value), BReply::Sent(1)))?;
+        steps.push(Expected::new(BCall::Send(0, value), BReply::Sent(1)))?;
     }
-    steps.push(Step::to(BCall::Send(0, 65_535), BReply::Sent(1), full))?;
-    steps.push(Step::to(BCall::Send(0, 65_536), BReply::Sent(1), overrun))?;
+    steps.push(Expected::to(BCall::Send(0, 65_535), BReply::Sent(1), full))?;
+    steps.push(Expected::to(BCall::Send(0, 65_536), BReply::Sent(1), overrun))?;
     let recorded = Broadcast::open(rt.alloc(), 65_536)?;
     let walked = Broadcast::open(rt.alloc(), 65_536)?;
     record_and_walk(&rt, rt.alloc(), recorded, walked, &steps)

@@ -12,23 +12,23 @@ use std::test::Fail;
 
 /// A call, its reply, and what is shown after it, where the row says so.
 #[derive(Clone, Copy)]
-pub struct Step<C, R, P> {
+pub struct Expected<C, R, P> {
     pub call: C,
     pub reply: R,
     pub place: Option<P>,
 }
 
-impl<C, R, P> Step<C, R, P> {
-    pub fn new(call: C, reply: R) -> Step<C, R, P> {
-        Step {
+impl<C, R, P> Expected<C, R, P> {
+    pub fn new(call: C, reply: R) -> Expected<C, R, P> {
+        Expected {
             call,
             reply,
             place: None,
         }
     }
 
-    pub fn to(call: C, reply: R, place: P) -> Step<C, R, P> {
-        Step {
+    pub fn to(call: C, reply: R, place: P) -> Expected<C, R, P> {
+        Expected {
             call,
             reply,
             place: Some(place),
@@ -47,7 +47,7 @@ pub trait Shows {
 fn make_and_undo<M: Reversible + Shows>(
     rt: &impl Abort,
     machine: &mut M,
-    steps: &[Step<M::Call, M::Reply, M::Place>],
+    steps: &[Expected<M::Call, M::Reply, M::Place>],
 )
 where
     M::Reply: PartialEq + Debug,
@@ -70,7 +70,7 @@ fn record<M: Reversible + Drop + Shows>(
     rt: &impl Abort,
     alloc: Global,
     start: M,
-    steps: &[Step<M::Call, M::Reply, M::Place>],
+    steps: &[Expected<M::Call, M::Reply, M::Place>],
 ) -> Result<Book<M>, NoMemory>
 where
     M::Reply: PartialEq + Debug,
@@ -88,7 +88,7 @@ where
 fn take<M: Reversible + Shows>(
     rt: &impl Abort,
     book: &mut Book<M>,
-    step: &Step<M::Call, M::Reply, M::Place>,
+    step: &Expected<M::Call, M::Reply, M::Place>,
 ) -> Result<(), NoMemory>
 where
     M::Reply: PartialEq + Debug,
@@ -108,7 +108,7 @@ pub fn play<M: Reversible + Drop + Shows>(
     alloc: Global,
     mut recorded: M,
     walked: M,
-    steps: &[Step<M::Call, M::Reply, M::Place>],
+    steps: &[Expected<M::Call, M::Reply, M::Place>],
 ) -> Result<(), Fail>
 where
     M::Reply: PartialEq + Debug,
@@ -129,7 +129,7 @@ pub fn record_and_walk<M: Reversible + Drop + Shows>(
     alloc: Global,
     recorded: M,
     walked: M,
-    steps: &[Step<M::Call, M::Reply, M::Place>],
+    steps: &[Expected<M::Call, M::Reply, M::Place>],
 ) -> Result<(), Fail>
 where
     M::Reply: PartialEq + Debug,
@@ -163,7 +163,7 @@ where
 fn is_at<M: Reversible + Shows>(
     rt: &impl Abort,
     machine: &M,
-    step: &Step<M::Call, M::Reply, M::Place>,
+    step: &Expected<M::Call, M::Reply, M::Place>,
 ) {
     if let Some(place) = step.place {
         assert_eq!(rt; machine.place(), place);

@@ -1,7 +1,7 @@
 //! Rows of a watch channel.
 ghost use Rattle.std.specs.Prelude.{◌<◌, length};
 
-use crate::channels::playing::{Shows, Step, play};
+use crate::channels::playing::{Expected, Shows, play};
 use rw_handles::Kind;
 use rw_watch::{WCall, WReply, Watch};
 use std::alloc::Global;
@@ -49,7 +49,7 @@ fn play_at(rt: &impl Abort, alloc: Global, init: u64, steps: &[Row]) -> Result<(
     play(rt, alloc, recorded, walked, steps)
 }
 
-type Row = Step<WCall<u64>, WReply<u64>, Place>;
+type Row = Expected<WCall<u64>, WReply<u64>, Place>;
 
 /// What a channel of this value shows at its opening.
 pub fn opening(value: u64) -> Place {
@@ -75,11 +75,11 @@ fn same_value_is_a_change(rt: HostRuntime) -> Result<(), Fail> {
         ..unseen
     };
     let steps: &[Row] = &[
-        Step::new(WCall::HasChanged(1), WReply::Flag(false)),
-        Step::new(WCall::Send(0, 7), WReply::Stored),
-        Step::to(WCall::HasChanged(1), WReply::Flag(true), unseen),
-        Step::new(WCall::Changed(1), WReply::Done),
-        Step::to(WCall::HasChanged(1), WReply::Flag(false), seen),
+        Expected::new(WCall::HasChanged(1), WReply::Flag(false)),
+        Expected::new(WCall::Send(0, 7), WReply::Stored),
+        Expected::to(WCall::HasChanged(1), WReply::Flag(true), unseen),
+        Expected::new(WCall::Changed(1), WReply::Done),
+        Expected::to(WCall::HasChanged(1), WReply::Flag(false), seen),
     ];
     play_at(&rt, rt.alloc(), 7, steps)
 }
@@ -95,12 +95,12 @@ fn last_change_of_a_closed_watch(rt: HostRuntime) -> Result<(), Fail> {
         ..opening(7)
     };
     let steps: &[Row] = &[
-        Step::new(WCall::Send(0, 8), WReply::Stored),
-        Step::new(WCall::DropHandle(0), WReply::Dropped),
-        Step::new(WCall::HasChanged(1), WReply::Closed),
-        Step::new(WCall::Changed(1), WReply::Done),
-        Step::new(WCall::Changed(1), WReply::Closed),
-        Step::to(WCall::Borrow(1), WReply::Value(8), closed),
+        Expected::new(WCall::Send(0, 8), WReply::Stored),
+        Expected::new(WCall::DropHandle(0), WReply::Dropped),
+        Expected::new(WCall::HasChanged(1), WReply::Closed),
+        Expected::new(WCall::Changed(1), WReply::Done),
+        Expected::new(WCall::Changed(1), WReply::Closed),
+        Expected::to(WCall::Borrow(1), WReply::Value(8), closed),
     ];
     play_at(&rt, rt.alloc(), 7, steps)
 }
@@ -108,16 +108,16 @@ fn last_change_of_a_closed_watch(rt: HostRuntime) -> Result<(), Fail> {
 #[test]
 fn watch_without_receivers(rt: HostRuntime) -> Result<(), Fail> {
     let steps: &[Row] = &[
-        Step::new(WCall::DropHandle(1), WReply::Dropped),
-        Step::new(WCall::IsClosed(0), WReply::Flag(true)),
-        Step::new(WCall::AwaitClosed(0), WReply::Done),
-        Step::new(WCall::ReceiverCount(0), WReply::Count(0)),
-        Step::new(WCall::Send(0, 2), WReply::NoReceivers(2)),
-        Step::new(WCall::Borrow(0), WReply::Value(1)),
-        Step::new(WCall::SendReplace(0, 3), WReply::Old(1)),
-        Step::new(WCall::Subscribe(0), WReply::New(2)),
-        Step::new(WCall::HasChanged(2), WReply::Flag(false)),
-        Step::new(WCall::Borrow(2), WReply::Value(3)),
+        Expected::new(WCall::DropHandle(1), WReply::Dropped),
+        Expected::new(WCall::IsClosed(0), WReply::Flag(true)),
+        Expected::new(WCall::AwaitClosed(0), WReply::Done),
+        Expected::new(WCall::ReceiverCount(0), WReply::Count(0)),
+        Expected::new(WCall::Send(0, 2), WReply::NoReceivers(2)),
+        Expected::new(WCall::Borrow(0), WReply::Value(1)),
+        Expected::new(WCall::SendReplace(0, 3), WReply::Old(1)),
+        Expected::new(WCall::Subscribe(0), WReply::New(2)),
+        Expected::new(WCall::HasChanged(2), WReply::Flag(false)),
+        Expected::new(WCall::Borrow(2), WReply::Value(3)),
     ];
     play_at(&rt, rt.alloc(), 1, steps)
 }
@@ -129,7 +129,7 @@ fn silent_modification(rt: HostRuntime) -> Result<(), Fail> {
         ..opening(1)
     };
     let steps: &[Row] = &[
-        Step::new(
+        Expected::new(
             WCall::Modify {
                 told: false,
                 handle: 0,
@@ -137,8 +137,8 @@ fn silent_modification(rt: HostRuntime) -> Result<(), Fail> {
             },
             WReply::Told(false),
         ),
-        Step::new(WCall::Borrow(1), WReply::Value(5)),
-        Step::to(WCall::HasChanged(1), WReply::Flag(false), silent),
+        Expected::new(WCall::Borrow(1), WReply::Value(5)),
+        Expected::to(WCall::HasChanged(1), WReply::Flag(false), silent),
     ];
     play_at(&rt, rt.alloc(), 1, steps)
 }
@@ -160,13 +160,13 @@ fn marks_are_cloned(rt: HostRuntime) -> Result<(), Fail> {
         ..cloned
     };
     let steps: &[Row] = &[
-        Step::new(WCall::MarkChanged(1), WReply::Done),
-        Step::new(WCall::MarkChanged(1), WReply::Done),
-        Step::new(WCall::CloneReceiver(1), WReply::New(2)),
-        Step::to(WCall::MarkUnchanged(1), WReply::Done, cloned),
-        Step::new(WCall::HasChanged(1), WReply::Flag(false)),
-        Step::new(WCall::HasChanged(2), WReply::Flag(true)),
-        Step::to(WCall::Changed(2), WReply::Done, seen),
+        Expected::new(WCall::MarkChanged(1), WReply::Done),
+        Expected::new(WCall::MarkChanged(1), WReply::Done),
+        Expected::new(WCall::CloneReceiver(1), WReply::New(2)),
+        Expected::to(WCall::MarkUnchanged(1), WReply::Done, cloned),
+        Expected::new(WCall::HasChanged(1), WReply::Flag(false)),
+        Expected::new(WCall::HasChanged(2), WReply::Flag(true)),
+        Expected::to(WCall::Changed(2), WReply::Done, seen),
     ];
     play_at(&rt, rt.alloc(), 4, steps)
 }
@@ -187,8 +187,8 @@ fn four_steps_back(rt: HostRuntime) -> Result<(), Fail> {
         ..alone
     };
     let steps: &[Row] = &[
-        Step::to(WCall::DropHandle(1), WReply::Dropped, alone),
-        Step::new(
+        Expected::to(WCall::DropHandle(1), WReply::Dropped, alone),
+        Expected::new(
             WCall::Modify {
                 told: true,
                 handle: 0,
@@ -196,9 +196,9 @@ fn four_steps_back(rt: HostRuntime) -> Result<(), Fail> {
             },
             WReply::Told(true),
         ),
-        Step::new(WCall::Subscribe(0), WReply::New(2)),
-        Step::new(WCall::HasChanged(2), WReply::Flag(false)),
-        Step::to(WCall::Borrow(2), WReply::Value(9), modified),
+        Expected::new(WCall::Subscribe(0), WReply::New(2)),
+        Expected::new(WCall::HasChanged(2), WReply::Flag(false)),
+        Expected::to(WCall::Borrow(2), WReply::Value(9), modified),
     ];
     play_at(&rt, rt.alloc(), 7, steps)
 }
@@ -206,16 +206,16 @@ fn four_steps_back(rt: HostRuntime) -> Result<(), Fail> {
 #[test]
 fn refused_and_waiting_calls(rt: HostRuntime) -> Result<(), Fail> {
     let steps: &[Row] = &[
-        Step::to(WCall::Send(5, 1), WReply::Unknown, opening(3)),
-        Step::to(WCall::Update(0), WReply::WrongKind, opening(3)),
-        Step::to(WCall::Changed(1), WReply::Waits, opening(3)),
-        Step::to(WCall::AwaitClosed(0), WReply::Waits, opening(3)),
-        Step::new(WCall::CloneSender(0), WReply::New(2)),
-        Step::new(WCall::DropHandle(2), WReply::Dropped),
-        Step::new(WCall::Borrow(2), WReply::Gone),
-        Step::new(WCall::Send(0, 4), WReply::Stored),
-        Step::new(WCall::Update(1), WReply::Value(4)),
-        Step::new(WCall::HasChanged(1), WReply::Flag(false)),
+        Expected::to(WCall::Send(5, 1), WReply::Unknown, opening(3)),
+        Expected::to(WCall::Update(0), WReply::WrongKind, opening(3)),
+        Expected::to(WCall::Changed(1), WReply::Waits, opening(3)),
+        Expected::to(WCall::AwaitClosed(0), WReply::Waits, opening(3)),
+        Expected::new(WCall::CloneSender(0), WReply::New(2)),
+        Expected::new(WCall::DropHandle(2), WReply::Dropped),
+        Expected::new(WCall::Borrow(2), WReply::Gone),
+        Expected::new(WCall::Send(0, 4), WReply::Stored),
+        Expected::new(WCall::Update(1), WReply::Value(4)),
+        Expected::new(WCall::HasChanged(1), WReply::Flag(false)),
     ];
     play_at(&rt, rt.alloc(), 3, steps)
 }

@@ -3,7 +3,7 @@
 ghost use Rattle.std.specs.Prelude.{◌≡◌, ◌≤◌, length};
 
 use super::plain::{differs, receipts};
-use crate::journals::by_channel::{Step, settled};
+use crate::journals::by_channel::{StampedCall, settled};
 use rw_broadcast::BCall;
 use rw_desk::{CloseFault, Pass};
 use rw_journal::Book;
@@ -13,20 +13,20 @@ use std::alloc::Global;
 use std::test::Fail;
 
 /// What is called, by actor 0.
-const CALLS: [Step<u64>; 3] = [
+const CALLS: [StampedCall<u64>; 3] = [
     (0, 1, ChanCall::B(BCall::Send(0, 4))),
     (0, 2, ChanCall::B(BCall::TryRecv(1))),
     (0, 3, ChanCall::B(BCall::TryRecv(1))),
 ];
 
 /// Calls by actor 5, with the same stamp.
-const TWICE: [Step<u64>; 2] = [
+const TWICE: [StampedCall<u64>; 2] = [
     (5, 2, ChanCall::B(BCall::TryRecv(1))),
     (5, 2, ChanCall::B(BCall::TryRecv(1))),
 ];
 
 /// The pass of actor 0 that made the calls.
-fn pass_of<V: Payload>(alloc: Global, steps: &[Step<V>]) -> Result<Pass<V>, Fail> {
+fn pass_of<V: Payload>(alloc: Global, steps: &[StampedCall<V>]) -> Result<Pass<V>, Fail> {
     let mut book = Book::open(alloc, open_channel(alloc, &Spec::Broadcast(2))?)?;
     let mut pass = Pass::new(alloc, 0);
     for (_, _, call) in steps {
@@ -39,7 +39,7 @@ fn pass_of<V: Payload>(alloc: Global, steps: &[Step<V>]) -> Result<Pass<V>, Fail
 fn settle_row<V: Payload>(
     alloc: Global,
     specs: &[Spec<V>],
-    steps: &[Step<V>],
+    steps: &[StampedCall<V>],
     passes: &[Pass<V>],
 ) -> Result<Result<(u64, Option<u64>), CloseFault>, Fail>
     requires one { length specs.now ≡ 1 }

@@ -13,13 +13,13 @@ use rw_world::{Chan, ChanCall, OpenFault, Spec, open_channel, refusal_of};
 use std::alloc::Global;
 
 /// A call, by its actor and at its stamp.
-pub type Step<V> = (u32, u64, ChanCall<V>);
+pub type StampedCall<V> = (u32, u64, ChanCall<V>);
 
 /// The journal of a channel that is opened from this spec, of a hundred steps at most.
 fn journal_of<V: Copy>(
     alloc: Global,
     spec: &Spec<V>,
-    steps: &[Step<V>],
+    steps: &[StampedCall<V>],
 ) -> Result<Vec<Entry<Chan<V>>>, NoMemory>
     requires { has_bad_capacity spec.now ≡ false }
     ensures { IfOk result (λ journal. IsJournalFrom spec.now journal.items) }
@@ -34,7 +34,7 @@ fn journal_of<V: Copy>(
 fn journals_of<V: Copy>(
     alloc: Global,
     specs: &[Spec<V>],
-    steps: &[&[Step<V>]],
+    steps: &[&[StampedCall<V>]],
 ) -> Result<Vec<Vec<Entry<Chan<V>>>>, NoMemory>
     requires good { All (λ spec. has_bad_capacity spec ≡ false) specs.now }
     requires same { length steps.now ≡ length specs.now }
@@ -52,7 +52,7 @@ fn journals_of<V: Copy>(
 fn parts_of<V: Copy>(
     alloc: Global,
     specs: &[Spec<V>],
-    steps: &[&[Step<V>]],
+    steps: &[&[StampedCall<V>]],
 ) -> Result<(Vec<Spec<V>>, Vec<Vec<Entry<Chan<V>>>>), OpenFault>
     requires { length steps.now ≡ length specs.now }
     ensures opens { IfOk result (λ parts. refusal parts.0.items ≡ None) }
@@ -72,7 +72,7 @@ fn parts_of<V: Copy>(
 pub fn merged<V: Copy>(
     alloc: Global,
     specs: &[Spec<V>],
-    steps: &[&[Step<V>]],
+    steps: &[&[StampedCall<V>]],
 ) -> Result<Result<Run<V>, MergeFault>, OpenFault>
     requires { length steps.now ≡ length specs.now }
 {
@@ -84,7 +84,7 @@ pub fn merged<V: Copy>(
 pub fn settled<V: Payload>(
     alloc: Global,
     specs: &[Spec<V>],
-    steps: &[&[Step<V>]],
+    steps: &[&[StampedCall<V>]],
     passes: &[Pass<V>],
 ) -> Result<Result<Run<V>, CloseFault>, OpenFault>
     requires same { length steps.now ≡ length specs.now }

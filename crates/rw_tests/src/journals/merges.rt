@@ -1,6 +1,6 @@
 //! Journals of two channels, merged.
 
-use super::by_channel::{Step, merged};
+use super::by_channel::{StampedCall, merged};
 use crate::desks::plain::order;
 use rw_broadcast::BCall;
 use rw_journal::MergeFault;
@@ -10,7 +10,7 @@ use std::process::Abort;
 use std::test::Fail;
 
 /// Calls that each state answers alike, by these actors and at these stamps.
-fn steps(alloc: Global, marks: &[(u32, u64)]) -> Result<Vec<Step<u64>>, AllocError> {
+fn steps(alloc: Global, marks: &[(u32, u64)]) -> Result<Vec<StampedCall<u64>>, AllocError> {
     let mut steps = Vec::new(alloc);
     for (actor, stamp) in marks {
         steps.push((*actor, *stamp, ChanCall::B(BCall::ReceiverCount(0))))?;

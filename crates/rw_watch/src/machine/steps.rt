@@ -6,7 +6,7 @@ ghost use Rattle.rw_handles.specs.declared.kinds.Found.TheVariants.{Handle};
 ghost use Rattle.rw_handles.specs.Slots.{found};
 ghost use Rattle.rw_handles.specs.declared.table.TheConstants.{MOST_HANDLES};
 ghost use Rattle.rw_watch.specs.Channel.{Keep, Write, Make, Mark, Leave, receivers, has_no_receiver, is_unseen, send, see, has_changed, changed, await_closed, effect, effect_with, handle_of, wanted, makes};
-ghost use Rattle.rw_watch.specs.Shown.{CanUntell, IsAllowed, IsMark, IsMarked, weight, lowered};
+ghost use Rattle.rw_watch.specs.Shown.{CanUntell, IsAllowed, IsMark, IsMarked, weight, version_before};
 ghost use Rattle.rw_watch.specs.Machine.{Takes};
 
 use super::Watch;
@@ -196,7 +196,7 @@ impl<V: Copy> Watch<V> {
     /// Takes back the last write, given the value from before it.
     pub(super) fn unwrite(&mut self, before: V, told: bool)
         requires { IsTrue told → CanUntell self.old.shown }
-        ensures shown { self.new.shown ≡ record self.old.shown { version = lowered self.old.shown.version told; value = before } }
+        ensures shown { self.new.shown ≡ record self.old.shown { version = version_before self.old.shown.version told; value = before } }
         ensures room { self.new.limit ≡ self.old.limit }
     {
         self.value = before;
