@@ -2,6 +2,7 @@
 
 ghost use Rattle.std.specs.Prelude.{◌≡◌, ◌↔◌, ◌<◌, ◌≤◌, ℕ, false, None, Some, All, length, map, slice_get, IfNone, IfOk, IfSome, IsErrOf, IsNone, IsTrue, MatchResult};
 ghost use Rattle.rw_law.specs.declared.limits.TheConstants.{MOST_ACTORS};
+ghost use Rattle.rw_world.specs.declared.opening.TheConstants.{MOST_CHANNELS};
 ghost use Rattle.rw_world.specs.Channel.{strays_at};
 ghost use Rattle.rw_world.specs.Openings.{has_bad_capacity, kind_of_spec, refusal};
 ghost use Rattle.rw_world.specs.Shapes.{stray_of};
@@ -173,7 +174,7 @@ fn fresh_passes<V: Copy>(alloc: Global, actors: u32) -> Result<Vec<Pass<V>>, NoM
 
 /// The handles that each channel has from the beginning.
 fn first_ends<V: Copy>(alloc: Global, specs: &[Spec<V>]) -> Result<Vec<Ends>, NoMemory>
-    requires { length specs.now ≤ 64 }
+    requires { length specs.now ≤ MOST_CHANNELS }
     ensures { IfOk result (λ ends. (length ends.items ≡ length specs.now) × ((c : ℕ) → c < length specs.now → slice_get ends.items c ≡ ends_at c (slice_get specs.now c))) }
 {
     let mut ends = Vec::new(alloc);

@@ -53,7 +53,7 @@ fn follow_all<V: Payload>(
     entries: &[Entry<World<V>>],
     places: &mut [usize],
 ) -> Front
-    requires places { places.old ≡ replicate 64 0 }
+    requires places { places.old ≡ replicate MOST_ACTORS 0 }
     ensures places { length places.new ≡ MOST_ACTORS }
     ensures few { result.actor ≤ MOST_ACTORS }
     ensures at { AreAt passes.now entries.now places.new result.actor }
@@ -97,7 +97,7 @@ pub(crate) fn strayed<V: Payload>(
     ensures none { IfNone result (AreAllTheirs passes.now entries.now) }
     ensures some { IfSome result (λ r. IsStray passes.now entries.now r.0 r.1) }
 {
-    let mut places = [0usize; 64];
+    let mut places = [0usize; MOST_ACTORS as usize];
     let front = follow_all(passes, entries, &mut places);
     if let Some(actor) = first_left(passes, &places, front.actor) {
         return Some((actor, places[actor as usize] as u64));

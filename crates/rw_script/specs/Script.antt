@@ -8,6 +8,7 @@ use Rattle.rw_lines.specs.Numerals.{numeral_in}
 use Rattle.rw_world.specs.declared.opening.Spec.{Spec}
 use Rattle.rw_world.specs.declared.opening.Spec.TheVariants as spec
 use Rattle.rw_law.specs.declared.limits.TheConstants.{MOST_ACTORS}
+use Rattle.rw_ring.specs.declared.ring.TheConstants.{MOST_CAPACITY}
 use Rattle.rw_world.specs.declared.opening.TheConstants.{MOST_CHANNELS}
 use Rattle.rw_script.specs.declared.reader.TheConstants.{MOST_STEPS}
 use Rattle.rw_script.specs.declared.faults.ScriptFaultKind.{ScriptFaultKind}
@@ -71,7 +72,7 @@ abbrev pub with_spec : Reading → Spec ℕ → Result Reading ScriptFaultKind
 with_spec r s = if nat_lt (length r.specs) MOST_CHANNELS then Ok (record r { specs = r.specs ++ s ∷ [] }) else Err TooManyChannels
 
 abbrev pub with_head : Reading → HeadLine → Result Reading ScriptFaultKind
-with_head r (Broadcast n) = if nat_le 1 n && nat_le n 65536 then with_spec r (spec.Broadcast n) else Err BadCapacity
+with_head r (Broadcast n) = if nat_le 1 n && nat_le n MOST_CAPACITY then with_spec r (spec.Broadcast n) else Err BadCapacity
 with_head r (Watch v) = with_spec r (spec.Watch v)
 with_head r (Actors n) = if nat_le 1 n && nat_le n MOST_ACTORS then Ok (record r { actors = Some n }) else Err BadActors
 

@@ -1,6 +1,8 @@
 //! A script, read line by line: channel lines, an actors line, then step lines.
 
 ghost use Rattle.std.specs.Prelude.{◌≡◌, ◌+◌, ◌-◌, ◌^◌, ◌<◌, ◌≤◌, true, false, Some, length, map, option_map, slice_get, IfErr, OnErr, IfOk, OnOk};
+ghost use Rattle.rw_law.specs.declared.limits.TheConstants.{MOST_ACTORS};
+ghost use Rattle.rw_world.specs.declared.opening.TheConstants.{MOST_CHANNELS};
 ghost use Rattle.rw_script.specs.Memory.{Takes, TakesLine};
 ghost use Rattle.rw_world.specs.Openings.{has_bad_capacity, kind_of_spec};
 ghost use Rattle.rw_script.specs.Kept.{IsScriptStep};
@@ -206,7 +208,7 @@ impl ScriptReader {
         ensures kind { result ≡ map_ok is_broadcast (spec_for self.now actor channel) }
         ensures actor { OnOk result (actor < actors_of self.now) }
         ensures channel { IfOk result (λ b. slice_get (map kind_of_spec self.now.specs) channel ≡ Some (kind_if b)) }
-        ensures small { OnOk result ((actor < 64) × (channel < 64)) }
+        ensures small { OnOk result ((actor < MOST_ACTORS) × (channel < MOST_CHANNELS)) }
     {
         if actor >= u64::from(self.actors.unwrap_or(1)) {
             return Err(ScriptFaultKind::UnknownActor);

@@ -1,6 +1,8 @@
 //! The run of a script, on one book.
 
 ghost use Rattle.std.specs.Prelude.{◌≡◌, ◌<◌, ◌^◌, ◌++◌, ◌∷◌, [], None, false, if◌then◌else◌, length, IfErr, IfOk, OnOk, IsTrue, MatchOption};
+ghost use Rattle.rw_law.specs.declared.limits.TheConstants.{MOST_ACTORS, MOST_STAMP};
+ghost use Rattle.rw_journal.specs.declared.book.TheConstants.{MOST_ENTRIES};
 ghost use Rattle.rw_journal.specs.Book.{last_stamp, opening_of, reply_to};
 ghost use Rattle.rw_journal.specs.Interleaving.{CountsFrom, interleaving_of, journal_of};
 ghost use Rattle.rw_world.specs.Machines.{of_world};
@@ -87,9 +89,9 @@ fn run_step(
     step: &ScriptStep,
     made: &[u32],
 ) -> Result<Option<u32>, NoMemory>
-    requires few { length book.old.entries < 1_048_576 }
-    requires stamps { last_stamp book.old.entries < 2 ^ 62 }
-    requires actor { step.now.actor < 64 }
+    requires few { length book.old.entries < MOST_ENTRIES }
+    requires stamps { last_stamp book.old.entries < MOST_STAMP }
+    requires actor { step.now.actor < MOST_ACTORS }
     requires no_stray { of_world.is_straying (reply_to of_world book.old (call_of step.now made.now).1) ≡ false }
     ensures { let c = call_of step.now made.now in IfOk result (λ o. MatchOption o (IsTrue (of_world.is_waiting (reply_to of_world book.old c.1)) × (book.new.entries ≡ book.old.entries) × (book.new.opening ≡ book.old.opening)) (IsMade of_world book.old book.new c)) }
 {

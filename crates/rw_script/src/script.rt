@@ -1,6 +1,8 @@
 //! Scripts.
 
 ghost use Rattle.std.specs.Prelude.{◌≡◌, ◌≤◌, ◌<◌, ◌∷◌, None, All, length, IfErr};
+ghost use Rattle.rw_law.specs.declared.limits.TheConstants.{MOST_ACTORS};
+ghost use Rattle.rw_script.specs.declared.reader.TheConstants.{MOST_STEPS};
 ghost use Rattle.rw_lines.specs.Lines.{lines};
 ghost use Rattle.rw_world.specs.Openings.{refusal};
 ghost use Rattle.rw_script.specs.Faults.{Gives};
@@ -85,7 +87,7 @@ impl Script {
     pub fn actors(&self) -> u32
         ensures actors { result ≡ self.now.actors }
         ensures some { 1 ≤ result }
-        ensures few { result ≤ 64 }
+        ensures few { result ≤ MOST_ACTORS }
     {
         self.actors
     }
@@ -93,7 +95,7 @@ impl Script {
     /// The calls, in the order of their lines.
     pub fn steps(&self) -> &[ScriptStep]
         ensures steps { result.now ≡ self.now.steps }
-        ensures few { length result.now ≤ 1_048_576 }
+        ensures few { length result.now ≤ MOST_STEPS }
         ensures each { All (IsScriptStep self.now.specs self.now.actors) result.now }
     {
         self.steps.as_slice()
