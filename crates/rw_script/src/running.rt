@@ -132,7 +132,6 @@ fn run_steps(
 {
     specified::<u64>();
     documented::<u64>();
-    script.kept();
     let mut made = Vec::new(alloc);
     'each_step: for step in script.steps() {
         let Some(handle) = run_step(book, step, &made)? else {

@@ -68,13 +68,6 @@ impl Script {
         }
     }
 
-    /// Says to a caller what every script keeps.
-    pub fn kept(&self)
-        ensures { IsScript self.now }
-    {
-        let _ = &self.steps;
-    }
-
     /// What the channels are opened as.
     pub fn specs(&self) -> &[Spec<u64>]
         ensures specs { result.now ≡ self.now.specs }
@@ -97,6 +90,8 @@ impl Script {
         ensures steps { result.now ≡ self.now.steps }
         ensures few { length result.now ≤ MOST_STEPS }
         ensures each { All (IsScriptStep self.now.specs self.now.actors) result.now }
+        // What every script keeps.
+        ensures script { IsScript self.now }
     {
         self.steps.as_slice()
     }

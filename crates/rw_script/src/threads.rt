@@ -197,7 +197,6 @@ fn played(
     requires actors { desk.actors ≡ script.now.actors }
     ensures { IfOk result (IsRunOf script.now) }
 {
-    script.kept();
     follow_all(alloc, script.steps(), &passes)?;
     let run = close(alloc, desk, passes)?;
     if !are_of(run.entries(), script.actors()) {

@@ -7,7 +7,7 @@ pub run_step-requires-clause-stamps : goal.run_step-requires-clause-stamps
 run_step-requires-clause-stamps c = omega (arith, last_counted _ c.each_step.invariant.counts, c.each_step.invariant.count, c.each_step-test.true, c.steps-step-items.ensures.few)
 
 pub run_step-requires-clause-actor : goal.run_step-requires-clause-actor
-run_step-requires-clause-actor c = actor_at _ _ _ _ _ c.steps-step-items.ensures.each c.each_step-test.true c.kept.ensures.few_actors
+run_step-requires-clause-actor c = actor_at _ _ _ _ _ c.steps-step-items.ensures.each c.each_step-test.true c.steps-step-items.ensures.script.few_actors
 
 pub run_step-requires-clause-no_stray : goal.run_step-requires-clause-no_stray
 run_step-requires-clause-no_stray c =
