@@ -26,18 +26,13 @@ module _ {V : Type 0} (word_of : V → ℕ) (value_of : ℕ → Option V) (is_va
   broadcast_of (b.SenderLen h) = Some (b.SenderLen h)
   broadcast_of (b.ReceiverCount h) = Some (b.ReceiverCount h)
   broadcast_of (b.ReceiverLen h) = Some (b.ReceiverLen h)
+  broadcast_of (b.Downgrade h) = Some (b.Downgrade h)
+  broadcast_of (b.Upgrade h) = Some (b.Upgrade h)
+  broadcast_of (b.CloneWeak h) = Some (b.CloneWeak h)
 
   broadcast_back : (c : BCall V) → OfBroadcastValue is_value c → broadcast_of (of_broadcast word_of c) ≡ Some c
   broadcast_back (b.Send h v) known = ap (λ o. option_map (λ v. b.Send h v) o) (gives v known)
-  broadcast_back (b.Subscribe h) known = refl
-  broadcast_back (b.CloneSender h) known = refl
-  broadcast_back (b.Resubscribe h) known = refl
-  broadcast_back (b.TryRecv h) known = refl
-  broadcast_back (b.Recv h) known = refl
-  broadcast_back (b.DropHandle h) known = refl
-  broadcast_back (b.SenderLen h) known = refl
-  broadcast_back (b.ReceiverCount h) known = refl
-  broadcast_back (b.ReceiverLen h) known = refl
+  broadcast_back _ known = refl
 
   -- calls of broadcasts with the same words are one
   pub one_broadcast : (c d : BCall V) → OfBroadcastValue is_value c → OfBroadcastValue is_value d → of_broadcast word_of c ≡ of_broadcast word_of d → c ≡ d

@@ -17,6 +17,9 @@ of_broadcast word_of (b.DropHandle h) = b.DropHandle h
 of_broadcast word_of (b.SenderLen h) = b.SenderLen h
 of_broadcast word_of (b.ReceiverCount h) = b.ReceiverCount h
 of_broadcast word_of (b.ReceiverLen h) = b.ReceiverLen h
+of_broadcast word_of (b.Downgrade h) = b.Downgrade h
+of_broadcast word_of (b.Upgrade h) = b.Upgrade h
+of_broadcast word_of (b.CloneWeak h) = b.CloneWeak h
 
 -- P holds of the value of a broadcast's call, if it has one
 abbrev pub OfBroadcastValue : {V : Type 0} → (V → Type 0) → BCall V → Type 0

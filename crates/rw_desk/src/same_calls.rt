@@ -24,6 +24,9 @@ fn broadcast_in_words<V: Payload>(call: &BCall<V>) -> BCall<u64>
         BCall::SenderLen(handle) => BCall::SenderLen(*handle),
         BCall::ReceiverCount(handle) => BCall::ReceiverCount(*handle),
         BCall::ReceiverLen(handle) => BCall::ReceiverLen(*handle),
+        BCall::Downgrade(handle) => BCall::Downgrade(*handle),
+        BCall::Upgrade(handle) => BCall::Upgrade(*handle),
+        BCall::CloneWeak(handle) => BCall::CloneWeak(*handle),
     }
 }
 
