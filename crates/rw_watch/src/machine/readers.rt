@@ -1,6 +1,6 @@
 //! What a watch channel shows.
 ghost use Rattle.std.specs.Prelude.{◌≡◌, ◌≢◌, Some, length, slice_get};
-ghost use Rattle.rw_handles.specs.Slots.{kind_at};
+ghost use Rattle.rw_handles.specs.Slots.{alive, kind_at};
 ghost use Rattle.rw_watch.specs.Channel.{is_closed};
 ghost use Rattle.rw_watch.specs.Machine.{mark_at, is_seen_at};
 
@@ -50,6 +50,13 @@ impl<V: Copy> Watch<V> {
         ensures strong { result ≢ Some Kind.Weak }
     {
         self.handles.kind(id)
+    }
+
+    /// How many handles of this kind are alive.
+    pub fn alive(&self, kind: Kind) -> u64
+        ensures { result ≡ alive kind self.now.shown.slots }
+    {
+        self.handles.alive(kind)
     }
 
     /// Whether no sender is alive.

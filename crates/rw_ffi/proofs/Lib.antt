@@ -1,0 +1,5 @@
+pub mod HeldAsBox
+pub mod HeldCutAsBox
+pub mod Recordings
+pub mod Refusals
+pub mod Sends
