@@ -50,12 +50,12 @@ def library(name, top, kit, uses):
     return f"{top}/crates/{name}/out/rlib/{name}.rlib" if name in uses else f"{kit}/rlibs/{name}.rlib"
 
 
-def library_words(top, kit):
+def library_words(top, kit, crate):
     uses = uses_of(top)
     words = ["--extern", f"std={kit}/rlibs/std.rlib", "-L", f"dependency={kit}/rlibs"]
-    for name in uses[CRATE]:
+    for name in uses[crate]:
         words += ["--extern", f"{name}={library(name, top, kit, uses)}"]
-    for name in below(CRATE, uses):
+    for name in below(crate, uses):
         words += ["-L", f"dependency={top}/crates/{name}/out/rlib"]
     return words
 
@@ -75,26 +75,36 @@ def toolchain(kit, work):
     return folder
 
 
-def are_left(top):
+def are_left(top, crate):
     """Whether the libraries below are there as `rt ci` leaves them: without the stamps by which `rt lib` knows its own."""
-    folders = [f"{top}/crates/{name}/out/rlib" for name in below(CRATE, uses_of(top))]
+    folders = [f"{top}/crates/{name}/out/rlib" for name in below(crate, uses_of(top))]
     return all(os.path.isdir(it) and not os.path.exists(f"{it}/stamp") for it in folders)
 
 
-def build_module(top, work, are_proved):
-    """The module's bytes. `work` is an empty folder. The libraries below are proved and built first, unless `rt ci` has just done
-    that: what it leaves of them suffices here, but `rt lib` would prove them all once more."""
+def kit_of_rt():
     rt = shutil.which("rt")
     if rt is None:
         raise Refused("rt, Rattle's command, isn't on the PATH")
-    kit = os.path.dirname(os.path.dirname(os.path.realpath(rt)))
-    crate, archive, heap, module = f"{top}/crates/{CRATE}", f"{work}/page.a", f"{work}/heap.o", f"{work}/page.wasm"
-    if not (are_proved and are_left(top)):
-        run(rt, "lib", cwd=crate)
-    run(f"{kit}/bin/rattle", "build", "--crate-name", CRATE, "src/lib.rt", *library_words(top, kit),
+    return os.path.dirname(os.path.dirname(os.path.realpath(rt)))
+
+
+def build_archive(top, crate, archive, toolchain_folder, are_proved):
+    """Builds a static library of the repository for plain x86-64, by the tools of a toolchain folder. The libraries below it are proved
+    and built first, unless `rt ci` has just done that: what it leaves of them suffices here, but `rt lib` would prove them all once more."""
+    kit, folder = kit_of_rt(), f"{top}/crates/{crate}"
+    if not (are_proved and are_left(top, crate)):
+        run(f"{kit}/bin/rt", "lib", cwd=folder)
+    run(f"{kit}/bin/rattle", "build", "--crate-name", crate, "src/lib.rt", *library_words(top, kit, crate),
         "--antt-project", f"{kit}/rattle/logic/antt-project.json", "--logic-built", f"{kit}/logic_built", "--jobs", "1",
-        "--links", f"{CRATE}=", "--crate-type", "staticlib", "--cpu", "x86-64", "--backend", "llvm",
-        "--incremental", "out/incremental", "--toolchain", toolchain(kit, work), "-o", archive, cwd=crate)
+        "--links", f"{crate}=", "--crate-type", "staticlib", "--cpu", "x86-64", "--backend", "llvm",
+        "--incremental", "out/incremental", "--toolchain", toolchain_folder, "-o", archive, cwd=folder)
+
+
+def build_module(top, work, are_proved):
+    """The module's bytes. `work` is an empty folder."""
+    kit = kit_of_rt()
+    archive, heap, module = f"{work}/page.a", f"{work}/heap.o", f"{work}/page.wasm"
+    build_archive(top, CRATE, archive, toolchain(kit, work), are_proved)
     run(*clang.command(kit), "-ffreestanding", "-nostdinc", "-Wall", "-Werror", "-c", "heap.c", "-o", heap, cwd=f"{top}/page/module")
     run(f"{kit}/toolchain/bin/llvm-ar", "rs", archive, heap)
     run(f"{kit}/bin/rattle-link", "--target", clang.TARGET, "--toolchain", f"{kit}/toolchain", "-o", module, archive)

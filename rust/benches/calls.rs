@@ -1,0 +1,129 @@
+//! Nanoseconds a recorded call, the cases those of tokio's own bench: `cargo bench -- CALLS REPEATS`.
+
+use std::hint::black_box;
+use std::thread;
+use std::time::{Duration, Instant};
+use yovanelum::{Recorder, broadcast, watch};
+
+type Timed = (u64, Duration);
+type Case = (&'static str, fn(u64) -> Timed);
+
+fn timed(calls: u64, run: impl FnOnce()) -> Timed {
+    let start = Instant::now();
+    run();
+    (calls, start.elapsed())
+}
+
+fn pairs(calls: u64, receivers: usize) -> Timed {
+    let (tx, rx) = broadcast::channel(1024);
+    let mut all = vec![rx];
+    all.resize_with(receivers, || tx.subscribe());
+    let round = receivers as u64 + 1;
+    let rounds = calls / round;
+    timed(rounds * round, || {
+        for value in 0..rounds {
+            black_box(tx.send(black_box(value)).unwrap());
+            for rx in &mut all {
+                black_box(rx.try_recv().unwrap());
+            }
+        }
+    })
+}
+
+fn overrun(calls: u64) -> Timed {
+    let (tx, _rx) = broadcast::channel(2);
+    timed(calls, || {
+        for value in 0..calls {
+            black_box(tx.send(black_box(value)).unwrap());
+        }
+    })
+}
+
+fn empty(calls: u64) -> Timed {
+    let (_tx, mut rx) = broadcast::channel::<u64>(1024);
+    timed(calls, || {
+        for _ in 0..calls {
+            assert!(black_box(&mut rx).try_recv().is_err());
+        }
+    })
+}
+
+fn watch_pairs(calls: u64) -> Timed {
+    let (tx, mut rx) = watch::channel(0);
+    timed(calls / 2 * 2, || {
+        for value in 0..calls / 2 {
+            tx.send(black_box(value)).unwrap();
+            black_box(*rx.borrow_and_update());
+        }
+    })
+}
+
+fn two_threads(calls: u64) -> Timed {
+    let each = calls / 4;
+    let made: Vec<_> = (0..2).map(|_| broadcast::channel(1024)).collect();
+    timed(each * 4, || {
+        thread::scope(|scope| {
+            for (tx, mut rx) in made {
+                scope.spawn(move || {
+                    for value in 0..each {
+                        black_box(tx.send(black_box(value)).unwrap());
+                        black_box(rx.try_recv().unwrap());
+                    }
+                });
+            }
+        })
+    })
+}
+
+fn resident() -> u64 {
+    let status = std::fs::read_to_string("/proc/self/status").unwrap();
+    let line = status
+        .lines()
+        .find_map(|line| line.strip_prefix("VmRSS:"))
+        .unwrap();
+    line.trim().trim_end_matches(" kB").parse::<u64>().unwrap() * 1024
+}
+
+fn main() {
+    let numbers: Vec<u64> = std::env::args()
+        .filter_map(|word| word.parse().ok())
+        .collect();
+    let calls = numbers.first().copied().unwrap_or(1_000_000).min(1_048_000);
+    let repeats = numbers.get(1).copied().unwrap_or(5);
+    let cases: [Case; 6] = [
+        ("broadcast-1024-pairs-1rx", |calls| pairs(calls, 1)),
+        ("broadcast-1024-pairs-8rx", |calls| pairs(calls, 8)),
+        ("broadcast-2-overrun", overrun),
+        ("broadcast-1024-empty", empty),
+        ("watch-pairs-1rx", watch_pairs),
+        ("2t-own-channels-pairs", two_threads),
+    ];
+    println!(
+        "{:28} {:>9} {:>9} {:>10} {:>13} {:>9}",
+        "case", "calls", "least ns", "median ns", "save ns/call", "bytes"
+    );
+    for (name, case) in cases {
+        let (mut times, mut made, mut save, mut bytes) = (Vec::new(), 0, 0.0, 0);
+        for repeat in 0..repeats {
+            let recorder = Recorder::new();
+            let entered = recorder.enter();
+            let before = resident();
+            let (calls, took) = case(calls);
+            if repeat == 0 {
+                bytes = resident().saturating_sub(before) / calls;
+            }
+            drop(entered);
+            made = calls;
+            times.push(took.as_nanos() as f64 / calls as f64);
+            let start = Instant::now();
+            black_box(recorder.journal().unwrap().len());
+            save = start.elapsed().as_nanos() as f64 / calls as f64;
+        }
+        times.sort_by(f64::total_cmp);
+        println!(
+            "{name:28} {made:>9} {:>9.1} {:>10.1} {save:>13.1} {bytes:>9}",
+            times[0],
+            times[times.len() / 2]
+        );
+    }
+}

@@ -1,0 +1,140 @@
+//! Who makes a call: the innermost named future, or else the thread.
+
+use crate::proved::Actor;
+use std::cell::{Cell, RefCell};
+use std::collections::HashMap;
+use std::future::Future;
+use std::pin::Pin;
+use std::sync::Arc;
+use std::task::{Context, Poll};
+use std::thread;
+
+/// The actor who calls now, as one recorder numbers it. The recorder 0 is none.
+type Known = (u64, Actor);
+
+const NOBODY: Known = (0, Actor::FIRST);
+
+thread_local! {
+    static KNOWN: Cell<Known> = const { Cell::new(NOBODY) };
+    static NAME: RefCell<Option<Arc<str>>> = const { RefCell::new(None) };
+}
+
+/// The names of a recorder's actors by number.
+#[derive(Default)]
+pub(crate) struct Actors {
+    names: Vec<String>,
+    numbers: HashMap<String, Actor>,
+}
+
+/// The actor who calls now, for the recorder of this number; `find` numbers it on its first call.
+#[inline]
+pub(crate) fn current(recorder: u64, find: impl FnOnce() -> Actor) -> Actor {
+    let (known, actor) = KNOWN.get();
+    if known == recorder {
+        return actor;
+    }
+    let actor = find();
+    KNOWN.set((recorder, actor));
+    actor
+}
+
+fn current_name() -> String {
+    // Where a thread ends, what is dropped then finds no name any more.
+    if let Some(name) = NAME.try_with(|name| name.borrow().clone()).ok().flatten() {
+        return name.to_string();
+    }
+    let thread = thread::current();
+    match thread.name() {
+        Some(name) => name.to_string(),
+        None => format!("{:?}", thread.id()),
+    }
+}
+
+impl Actors {
+    /// Numbers who calls now. Who comes after the 64th shares its number; the first time that this is so is told by `true`.
+    pub(crate) fn find(&mut self) -> (Actor, bool) {
+        let name = current_name();
+        if let Some(actor) = self.numbers.get(&name) {
+            return (*actor, false);
+        }
+        let number = self.names.len();
+        let actor = Actor::of(number);
+        let is_shared = number >= Actor::MOST;
+        if !is_shared {
+            self.names.push(name.clone());
+        }
+        let is_first = is_shared && self.numbers.len() == Actor::MOST;
+        self.numbers.insert(name, actor);
+        (actor, is_first)
+    }
+
+    /// The names by number; that of the last one says where it stands for others too.
+    pub(crate) fn names(&self) -> Vec<String> {
+        let mut names = self.names.clone();
+        let others = self.numbers.len() - names.len();
+        if let Some(last) = names.last_mut().filter(|_| others > 0) {
+            *last = format!("{last} and {others} others");
+        }
+        names
+    }
+}
+
+/// A future whose calls are an actor's of this name.
+///
+/// ```
+/// use yovanelum::{block_on, broadcast, named, Recorder};
+///
+/// let recorder = Recorder::new();
+/// let _entered = recorder.enter();
+/// let (tx, _rx) = broadcast::channel(4);
+/// block_on(named("ticker", async move { tx.send(1) })).unwrap();
+/// assert!(recorder.names().contains(r#""ticker""#));
+/// ```
+pub fn named<F: Future>(name: &str, future: F) -> Named<F> {
+    Named {
+        name: Some(name.into()),
+        known: NOBODY,
+        future: Box::pin(future),
+    }
+}
+
+/// The future of [`named`].
+#[must_use = "futures do nothing unless polled"]
+pub struct Named<F> {
+    name: Option<Arc<str>>,
+    known: Known,
+    future: Pin<Box<F>>,
+}
+
+/// Swaps a future's name with that of who calls now.
+fn swap<F>(future: &mut Named<F>) {
+    future.known = KNOWN.replace(future.known);
+    NAME.with_borrow_mut(|name| std::mem::swap(name, &mut future.name));
+}
+
+impl<F: Future> Future for Named<F> {
+    type Output = F::Output;
+
+    fn poll(mut self: Pin<&mut Self>, context: &mut Context<'_>) -> Poll<F::Output> {
+        struct Back<'a, F>(&'a mut Named<F>);
+
+        impl<F> Drop for Back<'_, F> {
+            fn drop(&mut self) {
+                swap(self.0);
+            }
+        }
+
+        swap(&mut self);
+        // Also where the poll panics, the thread gets its own name back.
+        let back = Back(&mut self);
+        back.0.future.as_mut().poll(context)
+    }
+}
+
+impl<F> std::fmt::Debug for Named<F> {
+    fn fmt(&self, f: &mut std::fmt::Formatter<'_>) -> std::fmt::Result {
+        f.debug_struct("Named")
+            .field("name", &self.name)
+            .finish_non_exhaustive()
+    }
+}

@@ -1,0 +1,269 @@
+//! A channel as its recorder sees it, with no value of it: the core's channel and who waits for it, under one lock.
+
+use crate::proved::{Actor, Caller, Channel, Cut, CutFault, Reply};
+use crate::recorder::Shared;
+use crate::wait::{Queue, Ticket, Woken, lock};
+use std::collections::BTreeMap;
+use std::sync::{Arc, Mutex, MutexGuard};
+use std::task::{Context, Poll};
+
+/// What is kept of a channel beside its values.
+pub(crate) struct Line(Mutex<Inner>);
+
+struct Inner {
+    channel: Channel,
+    is_recorded: bool,
+    // How many values were handed to the core: the number that stands for the next one.
+    values: u64,
+    // Who waits for a value, and who until no receiver is alive.
+    receivers: Queue,
+    senders: Queue,
+    name: Option<String>,
+    texts: BTreeMap<u64, String>,
+}
+
+impl Line {
+    /// The channel of the core, which was handed so many values at its opening.
+    pub(crate) fn new(channel: Channel, values: u64) -> Line {
+        Line(Mutex::new(Inner {
+            channel,
+            is_recorded: true,
+            values,
+            receivers: Queue::default(),
+            senders: Queue::default(),
+            name: None,
+            texts: BTreeMap::new(),
+        }))
+    }
+
+    /// Leaves no entry from now on.
+    pub(crate) fn end(&self) {
+        lock(&self.0).end();
+    }
+
+    /// Adds the entries up to this stamp to a cut.
+    pub(crate) fn add_to(&self, cut: &mut Cut, last: u64) -> Result<(), CutFault> {
+        cut.add(&mut lock(&self.0).channel, last)
+    }
+
+    pub(crate) fn set_name(&self, name: &str) {
+        lock(&self.0).name = Some(name.to_string());
+    }
+
+    pub(crate) fn name(&self) -> Option<String> {
+        lock(&self.0).name.clone()
+    }
+
+    /// Keeps the text of the value that a channel was opened with, as long as no other was handed to the core.
+    pub(crate) fn keep_first_text(&self, text: String) {
+        let mut inner = lock(&self.0);
+        if inner.values == 1 {
+            inner.texts.insert(0, text);
+        }
+    }
+
+    pub(crate) fn texts(&self) -> BTreeMap<u64, String> {
+        lock(&self.0).texts.clone()
+    }
+
+    pub(crate) fn entries(&self) -> u64 {
+        lock(&self.0).channel.entries()
+    }
+}
+
+impl Inner {
+    fn end(&mut self) {
+        if std::mem::take(&mut self.is_recorded) {
+            self.channel.end();
+        }
+    }
+}
+
+/// A channel with its recorder: where all its calls are made.
+pub struct Tap {
+    pub(crate) recorder: Arc<Shared>,
+    pub(crate) line: Arc<Line>,
+}
+
+/// A channel whose lock is held, for the calls of one actor.
+pub(crate) struct Turn<'a> {
+    inner: MutexGuard<'a, Inner>,
+    recorder: &'a Shared,
+    actor: Actor,
+}
+
+impl Tap {
+    /// Takes the channel's lock.
+    #[inline]
+    pub(crate) fn turn(&self) -> Turn<'_> {
+        let actor = self.recorder.actor();
+        Turn {
+            inner: lock(&self.line.0),
+            recorder: &self.recorder,
+            actor,
+        }
+    }
+
+    /// Makes a call.
+    #[inline]
+    pub(crate) fn call(&self, call: impl Fn(&mut Channel, Caller) -> Reply) -> Reply {
+        self.turn().call(call)
+    }
+
+    /// Asks what leaves no entry.
+    #[inline]
+    pub(crate) fn ask<R>(&self, question: impl FnOnce(&mut Channel) -> R) -> R {
+        question(&mut lock(&self.line.0).channel)
+    }
+}
+
+impl Turn<'_> {
+    /// Makes a call. It takes the recorder's next number under the channel's lock, so stamps differ, and stand in the order in which the
+    /// calls were made, on each channel and wherever one call returned before another began.
+    #[inline]
+    pub(crate) fn call(&mut self, call: impl Fn(&mut Channel, Caller) -> Reply) -> Reply {
+        if self.inner.is_recorded && self.recorder.has_ended() {
+            self.inner.end();
+        }
+        let caller = Caller {
+            actor: self.actor,
+            clock: self.recorder.tick(),
+        };
+        match call(&mut self.inner.channel, caller) {
+            Reply::JournalFull => self.call_unrecorded(caller, call),
+            Reply::NoMemory => panic!("yovanelum: no memory for a call"),
+            Reply::TooManyHandles => {
+                panic!("yovanelum: a channel makes at most 65536 senders and receivers")
+            }
+            reply => reply,
+        }
+    }
+
+    /// The journal has no room for the call: recording ends, of all channels at this call.
+    #[cold]
+    fn call_unrecorded(
+        &mut self,
+        caller: Caller,
+        call: impl Fn(&mut Channel, Caller) -> Reply,
+    ) -> Reply {
+        self.recorder.end_at(caller.clock);
+        self.inner.end();
+        match call(&mut self.inner.channel, caller) {
+            Reply::JournalFull | Reply::NoMemory => panic!("yovanelum: no memory for a call"),
+            Reply::TooManyHandles => {
+                panic!("yovanelum: a channel makes at most 65536 senders and receivers")
+            }
+            reply => reply,
+        }
+    }
+
+    /// Asks what leaves no entry.
+    #[inline]
+    pub(crate) fn ask<R>(&mut self, question: impl FnOnce(&mut Channel) -> R) -> R {
+        question(&mut self.inner.channel)
+    }
+
+    /// The number that stands for the next value.
+    #[inline]
+    pub(crate) fn next_value(&mut self) -> u64 {
+        let value = self.inner.values;
+        self.inner.values += 1;
+        value
+    }
+
+    /// Keeps the text of a value, if there is one.
+    #[inline]
+    pub(crate) fn keep_text(&mut self, value: u64, text: Option<String>) {
+        if let Some(text) = text {
+            self.inner.texts.insert(value, text);
+        }
+    }
+
+    /// Those who wait for a value.
+    #[inline]
+    pub(crate) fn waiting_receivers(&mut self) -> Woken {
+        self.inner.receivers.take()
+    }
+
+    /// Those who wait until no receiver is alive.
+    pub(crate) fn waiting_senders(&mut self) -> Woken {
+        self.inner.senders.take()
+    }
+}
+
+/// For what a future waits.
+#[derive(Clone, Copy)]
+pub(crate) enum For {
+    /// A value, or the end.
+    Value,
+    /// That no receiver is alive.
+    NoReceiver,
+}
+
+impl Inner {
+    fn queue(&mut self, what: For) -> &mut Queue {
+        match what {
+            For::Value => &mut self.receivers,
+            For::NoReceiver => &mut self.senders,
+        }
+    }
+}
+
+/// A call that waits. Where it is dropped before it is answered, nothing was done and nothing recorded, and nobody is woken for it.
+pub(crate) struct Waiting<'a> {
+    tap: &'a Tap,
+    what: For,
+    ticket: Option<Ticket>,
+}
+
+impl<'a> Waiting<'a> {
+    pub(crate) fn new(tap: &'a Tap, what: For) -> Waiting<'a> {
+        Waiting {
+            tap,
+            what,
+            ticket: None,
+        }
+    }
+
+    /// Tries, and waits where there is no answer yet. It is tried and put into the queue under one lock, so no call between the two is
+    /// missed; the waker is cloned and dropped where no lock is held.
+    pub(crate) fn poll<R>(
+        &mut self,
+        context: &Context<'_>,
+        attempt: impl Fn(&mut Turn<'_>) -> Option<R>,
+    ) -> Poll<R> {
+        let mut spare: Option<std::task::Waker> = None;
+        loop {
+            let mut turn = self.tap.turn();
+            if let Some(answer) = attempt(&mut turn) {
+                let left = turn.inner.queue(self.what).leave(&mut self.ticket);
+                drop(turn);
+                drop(left);
+                return Poll::Ready(answer);
+            }
+            let queue = turn.inner.queue(self.what);
+            if queue.has(self.ticket.as_ref(), context.waker()) {
+                return Poll::Pending;
+            }
+            if let Some(waker) = spare.take() {
+                let left = queue.wait(&mut self.ticket, waker);
+                drop(turn);
+                drop(left);
+                return Poll::Pending;
+            }
+            drop(turn);
+            spare = Some(context.waker().clone());
+        }
+    }
+}
+
+impl Drop for Waiting<'_> {
+    fn drop(&mut self) {
+        if self.ticket.is_some() {
+            let left = lock(&self.tap.line.0)
+                .queue(self.what)
+                .leave(&mut self.ticket);
+            drop(left);
+        }
+    }
+}

@@ -1,0 +1,69 @@
+//! The names beside a journal, as JSON: those of actors and channels, and the texts of values.
+
+use std::fmt::Write;
+
+/// A string of JSON.
+fn push_string(out: &mut String, text: &str) {
+    out.push('"');
+    for c in text.chars() {
+        match c {
+            '"' => out.push_str("\\\""),
+            '\\' => out.push_str("\\\\"),
+            '\n' => out.push_str("\\n"),
+            '\r' => out.push_str("\\r"),
+            '\t' => out.push_str("\\t"),
+            // A line of JSON keeps to one line also where these two end one.
+            c if c < ' ' || c == '\u{2028}' || c == '\u{2029}' => {
+                let _ = write!(out, "\\u{:04x}", c as u32);
+            }
+            c => out.push(c),
+        }
+    }
+    out.push('"');
+}
+
+/// An object of JSON whose keys are numbers.
+pub(crate) fn object<V>(
+    items: impl IntoIterator<Item = (u64, V)>,
+    mut push: impl FnMut(&mut String, V),
+) -> String {
+    let mut out = String::from("{");
+    for (number, item) in items {
+        let comma = if out.len() > 1 { ", " } else { "" };
+        let _ = write!(out, "{comma}\"{number}\": ");
+        push(&mut out, item);
+    }
+    out.push('}');
+    out
+}
+
+/// An object of texts by number.
+pub(crate) fn texts<S: AsRef<str>>(items: impl IntoIterator<Item = (u64, S)>) -> String {
+    object(items, |out, text| push_string(out, text.as_ref()))
+}
+
+/// The whole, from its three objects.
+pub(crate) fn document(actors: &str, channels: &str, values: &str) -> String {
+    format!(
+        "{{\n  \"actors\": {actors},\n  \"channels\": {channels},\n  \"values\": {values}\n}}\n"
+    )
+}
+
+#[cfg(test)]
+mod tests {
+    use super::*;
+
+    #[test]
+    fn strings_are_escaped() {
+        let text = texts([(7, "a \"b\" \\ \n\u{1}\u{2028}é")]);
+        assert_eq!(text, r#"{"7": "a \"b\" \\ \n\u0001\u2028é"}"#);
+    }
+
+    #[test]
+    fn nothing_is_an_empty_object() {
+        assert_eq!(
+            document(&texts::<&str>([]), "{}", "{}"),
+            "{\n  \"actors\": {},\n  \"channels\": {},\n  \"values\": {}\n}\n"
+        );
+    }
+}

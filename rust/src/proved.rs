@@ -1,0 +1,450 @@
+//! The proved core behind its C functions. All `unsafe` of this crate stands here.
+//!
+//! The declarations below are those of `crates/rw_ffi` of the repository, word for word; nothing compares the two but the tests. What the
+//! exports require is kept by the types here: a [`Channel`] always holds a channel and a [`Cut`] a cut, each is given to one call at a time
+//! (`&mut`), and the number of an actor is an [`Actor`], which is below 64.
+#![allow(unsafe_code)]
+
+use std::alloc::{Layout, alloc, dealloc, realloc};
+use std::fmt;
+use std::ptr;
+
+/// `Held` of the core: the address of a channel with its journal, or null.
+#[repr(C)]
+struct Held(*mut u8);
+
+/// `HeldCut` of the core: the address of a cut, or null.
+#[repr(C)]
+struct HeldCut(*mut u8);
+
+/// `Answer` of the core: a kind of reply, and what the reply carries.
+#[repr(C)]
+#[derive(Clone, Copy)]
+struct Answer {
+    kind: u32,
+    number: u64,
+}
+
+/// `Found` of the core: a number that there may be.
+#[repr(C)]
+#[derive(Clone, Copy)]
+struct Found {
+    is_some: u32,
+    number: u64,
+}
+
+impl Found {
+    fn number(self) -> Option<u64> {
+        (self.is_some != 0).then_some(self.number)
+    }
+}
+
+// A parameter of the core's type `Global` takes no bytes, so nothing is passed for it.
+unsafe extern "C" {
+    fn yovanelum_open_broadcast(held: &mut Held, capacity: u32) -> u32;
+    fn yovanelum_open_watch(held: &mut Held, value: u64) -> u32;
+    fn yovanelum_end(held: &mut Held);
+    fn yovanelum_free(held: &mut Held);
+
+    fn yovanelum_entries(held: &mut Held) -> u64;
+    fn yovanelum_senders(held: &mut Held) -> u64;
+    fn yovanelum_receivers(held: &mut Held) -> u64;
+    fn yovanelum_queued(held: &mut Held) -> u64;
+    fn yovanelum_unread(held: &mut Held, receiver: u32) -> Found;
+    fn yovanelum_seen(held: &mut Held, receiver: u32) -> Found;
+
+    fn yovanelum_cut_open(cut: &mut HeldCut) -> bool;
+    fn yovanelum_cut_add(cut: &mut HeldCut, held: &mut Held, last: u64) -> u32;
+    fn yovanelum_cut_merge(cut: &mut HeldCut) -> u32;
+    fn yovanelum_cut_text_len(cut: &mut HeldCut) -> u64;
+    fn yovanelum_cut_text(cut: &mut HeldCut, room: *mut u8, len: usize) -> bool;
+    fn yovanelum_cut_free(cut: &mut HeldCut);
+}
+
+/// The number of an actor, below 64.
+#[derive(Clone, Copy, Debug, PartialEq, Eq)]
+pub(crate) struct Actor(u32);
+
+impl Actor {
+    /// The actor 0.
+    pub(crate) const FIRST: Actor = Actor(0);
+
+    /// How many actors there can be.
+    pub(crate) const MOST: usize = 64;
+
+    /// The actor of this number, the last one of all where the number is too great.
+    pub(crate) fn of(number: usize) -> Actor {
+        Actor(number.min(Actor::MOST - 1) as u32)
+    }
+}
+
+/// Who makes a call, and its recorder's clock: the call's stamp is one more, if it is recorded.
+#[derive(Clone, Copy)]
+pub(crate) struct Caller {
+    pub(crate) actor: Actor,
+    pub(crate) clock: u64,
+}
+
+/// What a call answers.
+#[derive(Clone, Copy, Debug, PartialEq, Eq)]
+pub(crate) enum Reply {
+    Sent(u64),
+    NoReceivers,
+    Value(u64),
+    Lagged(u64),
+    Empty,
+    Closed,
+    Waits,
+    New(u32),
+    Dropped,
+    Count(u64),
+    TooManyHandles,
+    Stored,
+    Old,
+    Told(bool),
+    Flag(bool),
+    Done,
+    JournalFull,
+    NoMemory,
+}
+
+impl Answer {
+    fn reply(self) -> Reply {
+        let n = self.number;
+        match self.kind {
+            0 => Reply::Sent(n),
+            1 => Reply::NoReceivers,
+            2 => Reply::Value(n),
+            3 => Reply::Lagged(n),
+            4 => Reply::Empty,
+            5 => Reply::Closed,
+            6 => Reply::Waits,
+            7 => Reply::New(n as u32),
+            8 => Reply::Dropped,
+            9 => Reply::Count(n),
+            13 => Reply::TooManyHandles,
+            14 => Reply::Stored,
+            15 => Reply::Old,
+            16 => Reply::Told(n != 0),
+            17 => Reply::Flag(n != 0),
+            18 => Reply::Done,
+            20 => Reply::JournalFull,
+            21 => Reply::NoMemory,
+            // 10 to 12 are of a handle that isn't there, was dropped or is of the other kind, 19 is of a call to a channel of the other
+            // kind: the types of this crate make no such call.
+            kind => unreachable!("the core answered {kind}"),
+        }
+    }
+}
+
+/// A channel of the core with its journal.
+pub(crate) struct Channel(Held);
+
+// SAFETY: that what a `Held` owns may go from thread to thread is proved of it in `crates/rw_ffi`.
+unsafe impl Send for Channel {}
+
+/// Why no channel is opened.
+#[derive(Clone, Copy, Debug, PartialEq, Eq)]
+pub(crate) enum OpenFault {
+    BadCapacity,
+    NoMemory,
+}
+
+impl Channel {
+    /// A broadcast with a sender, 0, and a receiver, 1.
+    pub(crate) fn broadcast(capacity: u32) -> Result<Channel, OpenFault> {
+        let mut held = Held(ptr::null_mut());
+        // SAFETY: nothing is held.
+        let code = unsafe { yovanelum_open_broadcast(&mut held, capacity) };
+        Channel::opened(held, code)
+    }
+
+    /// A watch with a sender, 0, and a receiver, 1.
+    pub(crate) fn watch(value: u64) -> Result<Channel, OpenFault> {
+        let mut held = Held(ptr::null_mut());
+        // SAFETY: nothing is held.
+        let code = unsafe { yovanelum_open_watch(&mut held, value) };
+        Channel::opened(held, code)
+    }
+
+    fn opened(held: Held, code: u32) -> Result<Channel, OpenFault> {
+        match code {
+            0 => Ok(Channel(held)),
+            1 => Err(OpenFault::BadCapacity),
+            _ => Err(OpenFault::NoMemory),
+        }
+    }
+
+    /// Ends recording: calls are made as before, and leave no entry any more.
+    pub(crate) fn end(&mut self) {
+        // SAFETY: a channel is held.
+        unsafe { yovanelum_end(&mut self.0) }
+    }
+
+    /// How many entries the journal has.
+    pub(crate) fn entries(&mut self) -> u64 {
+        // SAFETY: a channel is held.
+        unsafe { yovanelum_entries(&mut self.0) }
+    }
+
+    /// How many senders are alive.
+    pub(crate) fn senders(&mut self) -> u64 {
+        // SAFETY: a channel is held.
+        unsafe { yovanelum_senders(&mut self.0) }
+    }
+
+    /// How many receivers are alive.
+    pub(crate) fn receivers(&mut self) -> u64 {
+        // SAFETY: a channel is held.
+        unsafe { yovanelum_receivers(&mut self.0) }
+    }
+
+    /// How many values a broadcast retains for some receiver.
+    pub(crate) fn queued(&mut self) -> u64 {
+        // SAFETY: a channel is held.
+        unsafe { yovanelum_queued(&mut self.0) }
+    }
+
+    /// How many values a receiver of a broadcast has yet to receive.
+    pub(crate) fn unread(&mut self, receiver: u32) -> u64 {
+        // SAFETY: a channel is held.
+        let found = unsafe { yovanelum_unread(&mut self.0, receiver) };
+        found.number().expect("a live receiver of a broadcast")
+    }
+
+    /// Whether a receiver of a watch has seen its value.
+    pub(crate) fn seen(&mut self, receiver: u32) -> bool {
+        // SAFETY: a channel is held.
+        let found = unsafe { yovanelum_seen(&mut self.0, receiver) };
+        found.number().expect("a live receiver of a watch") != 0
+    }
+}
+
+impl Drop for Channel {
+    fn drop(&mut self) {
+        // SAFETY: a channel is held, and isn't used again.
+        unsafe { yovanelum_free(&mut self.0) }
+    }
+}
+
+/// The calls of the core by name: each becomes a declaration and a method.
+macro_rules! calls {
+    ($($(#[$doc:meta])* $method:ident = $export:ident($($arg:ident: $type:ty),*);)*) => {
+        unsafe extern "C" {
+            $(fn $export(held: &mut Held, actor: u32, clock: u64, $($arg: $type),*) -> Answer;)*
+        }
+
+        impl Channel {
+            $($(#[$doc])*
+            #[inline]
+            pub(crate) fn $method(&mut self, caller: Caller, $($arg: $type),*) -> Reply {
+                // SAFETY: a channel is held, and an `Actor` is below 64.
+                unsafe { $export(&mut self.0, caller.actor.0, caller.clock, $($arg),*) }.reply()
+            })*
+        }
+    };
+}
+
+calls! {
+    broadcast_send = yovanelum_broadcast_send(sender: u32, value: u64);
+    broadcast_subscribe = yovanelum_broadcast_subscribe(sender: u32);
+    broadcast_clone_sender = yovanelum_broadcast_clone_sender(sender: u32);
+    broadcast_resubscribe = yovanelum_broadcast_resubscribe(receiver: u32);
+    broadcast_try_recv = yovanelum_broadcast_try_recv(receiver: u32);
+    broadcast_recv = yovanelum_broadcast_recv(receiver: u32);
+    broadcast_drop = yovanelum_broadcast_drop(handle: u32);
+    broadcast_sender_len = yovanelum_broadcast_sender_len(sender: u32);
+    broadcast_receiver_count = yovanelum_broadcast_receiver_count(sender: u32);
+    broadcast_receiver_len = yovanelum_broadcast_receiver_len(receiver: u32);
+    watch_send = yovanelum_watch_send(sender: u32, value: u64);
+    watch_send_replace = yovanelum_watch_send_replace(sender: u32, value: u64);
+    watch_modify = yovanelum_watch_modify(told: bool, sender: u32, value: u64);
+    watch_subscribe = yovanelum_watch_subscribe(sender: u32);
+    watch_clone_sender = yovanelum_watch_clone_sender(sender: u32);
+    watch_clone_receiver = yovanelum_watch_clone_receiver(receiver: u32);
+    watch_borrow = yovanelum_watch_borrow(handle: u32);
+    watch_update = yovanelum_watch_update(receiver: u32);
+    watch_has_changed = yovanelum_watch_has_changed(receiver: u32);
+    watch_changed = yovanelum_watch_changed(receiver: u32);
+    watch_mark_changed = yovanelum_watch_mark_changed(receiver: u32);
+    watch_mark_unchanged = yovanelum_watch_mark_unchanged(receiver: u32);
+    watch_drop = yovanelum_watch_drop(handle: u32);
+    watch_receiver_count = yovanelum_watch_receiver_count(sender: u32);
+    watch_is_closed = yovanelum_watch_is_closed(sender: u32);
+    watch_closed = yovanelum_watch_closed(sender: u32);
+}
+
+/// Why there is no journal.
+#[derive(Clone, Copy, Debug, PartialEq, Eq)]
+pub(crate) enum CutFault {
+    NoMemory,
+    NoChannels,
+    /// The stamps don't put the entries into one order. No recorder of this crate leads there.
+    OutOfOrder,
+}
+
+impl fmt::Display for CutFault {
+    fn fmt(&self, f: &mut fmt::Formatter<'_>) -> fmt::Result {
+        f.write_str(match self {
+            CutFault::NoMemory => "no memory for the journal",
+            CutFault::NoChannels => "no channel is recorded",
+            CutFault::OutOfOrder => "the entries don't stand in one order",
+        })
+    }
+}
+
+/// What channels have recorded up to one stamp.
+pub(crate) struct Cut(HeldCut);
+
+impl Cut {
+    pub(crate) fn new() -> Result<Cut, CutFault> {
+        let mut held = HeldCut(ptr::null_mut());
+        // SAFETY: nothing is held.
+        match unsafe { yovanelum_cut_open(&mut held) } {
+            true => Ok(Cut(held)),
+            false => Err(CutFault::NoMemory),
+        }
+    }
+
+    /// Adds a channel, with its entries up to the first that is stamped above `last`.
+    pub(crate) fn add(&mut self, channel: &mut Channel, last: u64) -> Result<(), CutFault> {
+        // SAFETY: both hold something.
+        fault_of(unsafe { yovanelum_cut_add(&mut self.0, &mut channel.0, last) })
+    }
+
+    /// The text of the run of all channels that were added.
+    pub(crate) fn text(mut self) -> Result<Vec<u8>, CutFault> {
+        // SAFETY: a cut is held.
+        fault_of(unsafe { yovanelum_cut_merge(&mut self.0) })?;
+        // SAFETY: a cut is held.
+        let len = unsafe { yovanelum_cut_text_len(&mut self.0) } as usize;
+        let mut text = vec![0; len];
+        // SAFETY: a cut is held, and the room is borrowed for the call.
+        let copied = unsafe { yovanelum_cut_text(&mut self.0, text.as_mut_ptr(), len) };
+        assert!(copied, "the room has the text's length");
+        Ok(text)
+    }
+}
+
+impl Drop for Cut {
+    fn drop(&mut self) {
+        // SAFETY: a cut is held, and isn't used again.
+        unsafe { yovanelum_cut_free(&mut self.0) }
+    }
+}
+
+fn fault_of(code: u32) -> Result<(), CutFault> {
+    match code {
+        0 => Ok(()),
+        3 => Err(CutFault::NoChannels),
+        5 => Err(CutFault::OutOfOrder),
+        _ => Err(CutFault::NoMemory),
+    }
+}
+
+// ---- the heap of the core: three functions over `std::alloc`
+
+/// What an allotment answers: whether there is memory, and where.
+#[repr(C)]
+struct Tried {
+    ok: bool,
+    p: *mut u8,
+}
+
+/// The core's blocks are aligned to 16 bytes at most. The first 16 bytes hold the size, which `dealloc` of `std` wants to know.
+const ALIGN: usize = 16;
+
+/// From this size on large pages are asked for, so that a journal that grows by millions of entries doesn't fault in each 4 KiB.
+const LARGE: usize = 4 << 20;
+
+fn layout(size: usize) -> Option<Layout> {
+    Layout::from_size_align(size.checked_add(ALIGN)?, ALIGN).ok()
+}
+
+/// # Safety
+///
+/// `block` is null, or of `size` bytes and the header's.
+unsafe fn tried(block: *mut u8, size: usize) -> Tried {
+    if block.is_null() {
+        return Tried {
+            ok: false,
+            p: ptr::without_provenance_mut(ALIGN),
+        };
+    }
+    if size >= LARGE {
+        ask_for_large_pages(block, size);
+    }
+    // SAFETY: the block has room for a number at its front, and its alignment is 16.
+    unsafe {
+        block.cast::<usize>().write(size);
+        Tried {
+            ok: true,
+            p: block.add(ALIGN),
+        }
+    }
+}
+
+/// Asks the system to back what was just allotted by large pages. Whether it does changes speed alone.
+fn ask_for_large_pages(block: *mut u8, size: usize) {
+    unsafe extern "C" {
+        fn madvise(addr: *mut u8, len: usize, advice: i32) -> i32;
+    }
+    const PAGE: usize = 2 << 20;
+    const MADV_HUGEPAGE: i32 = 14;
+    let skip = block.align_offset(PAGE);
+    let len = size.saturating_sub(skip) & !(PAGE - 1);
+    if len > 0 {
+        // SAFETY: the range lies within the block, and the advice changes no byte of it.
+        unsafe { madvise(block.wrapping_add(skip), len, MADV_HUGEPAGE) };
+    }
+}
+
+// SAFETY of the names: they are Rattle's for these functions. Where a program links another library of Rattle's, either definition serves both.
+/// # Safety
+///
+/// The core keeps what its contract of this function requires.
+#[unsafe(no_mangle)]
+unsafe extern "C" fn rattle_alloc(size: usize, _align: usize) -> Tried {
+    let Some(layout) = layout(size) else {
+        return Tried {
+            ok: false,
+            p: ptr::without_provenance_mut(ALIGN),
+        };
+    };
+    // SAFETY: the size isn't 0.
+    unsafe { tried(alloc(layout), size) }
+}
+
+/// # Safety
+///
+/// `p` is of a block of these functions.
+#[unsafe(no_mangle)]
+unsafe extern "C" fn rattle_realloc(p: *mut u8, _old: usize, new: usize, _align: usize) -> Tried {
+    // SAFETY: the block has its header.
+    unsafe {
+        let block = p.sub(ALIGN);
+        let (Some(old), Some(wanted)) = (layout(block.cast::<usize>().read()), layout(new)) else {
+            return Tried {
+                ok: false,
+                p: ptr::without_provenance_mut(ALIGN),
+            };
+        };
+        tried(realloc(block, old, wanted.size()), new)
+    }
+}
+
+/// # Safety
+///
+/// `p` is of a block of these functions, and isn't used again.
+#[unsafe(no_mangle)]
+unsafe extern "C" fn rattle_dealloc(p: *mut u8) {
+    // SAFETY: the block has its header, with the size that it was allotted with.
+    unsafe {
+        let block = p.sub(ALIGN);
+        let size = block.cast::<usize>().read();
+        dealloc(
+            block,
+            Layout::from_size_align_unchecked(size + ALIGN, ALIGN),
+        );
+    }
+}

@@ -1,0 +1,92 @@
+//! Waiting: who waits for a channel, and a thread that waits for a future.
+
+use std::future::Future;
+use std::pin::pin;
+use std::sync::{Arc, Mutex, MutexGuard, PoisonError};
+use std::task::{Context, Poll, Wake, Waker};
+use std::thread::{self, Thread};
+
+/// A lock that isn't closed by a panic: what it keeps is whole between calls, and a test's panic is no reason to lose the run.
+pub(crate) fn lock<T>(mutex: &Mutex<T>) -> MutexGuard<'_, T> {
+    mutex.lock().unwrap_or_else(PoisonError::into_inner)
+}
+
+/// The place of a waiting future in its queue.
+#[derive(Debug, PartialEq, Eq)]
+pub(crate) struct Ticket(u64);
+
+/// The wakers of the futures that wait for one thing.
+#[derive(Default)]
+pub(crate) struct Queue {
+    next: u64,
+    wakers: Vec<(u64, Waker)>,
+}
+
+impl Queue {
+    /// Whether the future of this ticket is waiting already, and would be woken by this waker.
+    pub(crate) fn has(&self, ticket: Option<&Ticket>, waker: &Waker) -> bool {
+        ticket.is_some_and(|ticket| {
+            self.wakers
+                .iter()
+                .any(|(number, kept)| *number == ticket.0 && kept.will_wake(waker))
+        })
+    }
+
+    /// Waits, in place of the waker of this ticket, if there is one, which comes back.
+    pub(crate) fn wait(&mut self, ticket: &mut Option<Ticket>, waker: Waker) -> Option<Waker> {
+        let before = self.leave(ticket);
+        self.wakers.push((self.next, waker));
+        *ticket = Some(Ticket(self.next));
+        self.next += 1;
+        before
+    }
+
+    /// Waits no longer. The waker comes back, to be dropped where no lock is held.
+    pub(crate) fn leave(&mut self, ticket: &mut Option<Ticket>) -> Option<Waker> {
+        let ticket = ticket.take()?;
+        let at = self
+            .wakers
+            .iter()
+            .position(|(number, _)| *number == ticket.0)?;
+        Some(self.wakers.swap_remove(at).1)
+    }
+
+    /// All who wait, who wait no longer. They are to be woken where no lock is held.
+    pub(crate) fn take(&mut self) -> Woken {
+        Woken(std::mem::take(&mut self.wakers))
+    }
+}
+
+/// Futures that are to be woken.
+#[must_use]
+#[derive(Default)]
+pub(crate) struct Woken(Vec<(u64, Waker)>);
+
+impl Woken {
+    pub(crate) fn wake(self) {
+        for (_, waker) in self.0 {
+            waker.wake();
+        }
+    }
+}
+
+struct Unpark(Thread);
+
+impl Wake for Unpark {
+    fn wake(self: Arc<Self>) {
+        self.0.unpark();
+    }
+}
+
+/// Blocks this thread until the future is ready: for tests that have threads and no runtime.
+pub fn block_on<F: Future>(future: F) -> F::Output {
+    let mut future = pin!(future);
+    let waker = Waker::from(Arc::new(Unpark(thread::current())));
+    let mut context = Context::from_waker(&waker);
+    loop {
+        match future.as_mut().poll(&mut context) {
+            Poll::Ready(output) => return output,
+            Poll::Pending => thread::park(),
+        }
+    }
+}

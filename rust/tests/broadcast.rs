@@ -1,0 +1,257 @@
+//! What tokio's documentation says of `sync::broadcast`.
+
+mod support;
+
+use std::sync::Arc;
+use std::sync::atomic::{AtomicUsize, Ordering};
+use std::task::{Context, Poll, Wake, Waker};
+use std::{pin::pin, thread};
+use support::poll_once;
+use yovanelum::broadcast::{self, error::RecvError, error::SendError, error::TryRecvError};
+use yovanelum::{Recorder, block_on};
+
+#[test]
+fn every_receiver_gets_every_value_in_order() {
+    let (tx, mut first) = broadcast::channel(16);
+    let mut second = tx.subscribe();
+    assert_eq!(tx.send(10).unwrap(), 2);
+    assert_eq!(tx.send(20).unwrap(), 2);
+    for rx in [&mut first, &mut second] {
+        assert_eq!(block_on(rx.recv()), Ok(10));
+        assert_eq!(block_on(rx.recv()), Ok(20));
+        assert_eq!(rx.try_recv(), Err(TryRecvError::Empty));
+    }
+}
+
+#[test]
+fn a_receiver_gets_what_is_sent_after_it_was_made() {
+    let (tx, mut first) = broadcast::channel(4);
+    tx.send(1).unwrap();
+    let mut second = tx.subscribe();
+    let mut third = first.resubscribe();
+    tx.send(2).unwrap();
+    assert_eq!(first.try_recv(), Ok(1));
+    assert_eq!(
+        [first.try_recv(), second.try_recv(), third.try_recv()],
+        [Ok(2), Ok(2), Ok(2)]
+    );
+}
+
+#[test]
+fn a_receiver_that_lags_is_told_how_much_it_lost() {
+    let (tx, mut rx) = broadcast::channel(2);
+    for value in [10, 20, 30] {
+        tx.send(value).unwrap();
+    }
+    assert_eq!(rx.len(), 3);
+    assert_eq!(block_on(rx.recv()), Err(RecvError::Lagged(1)));
+    assert_eq!(rx.len(), 2);
+    assert_eq!(block_on(rx.recv()), Ok(20));
+    assert_eq!(block_on(rx.recv()), Ok(30));
+}
+
+#[test]
+fn the_capacity_is_rounded_up_to_a_power_of_two() {
+    let (tx, mut rx) = broadcast::channel(3);
+    for value in 0..5 {
+        tx.send(value).unwrap();
+    }
+    assert_eq!(rx.try_recv(), Err(TryRecvError::Lagged(1)));
+    assert_eq!(
+        (0..4).map(|_| rx.try_recv().unwrap()).collect::<Vec<_>>(),
+        [1, 2, 3, 4]
+    );
+}
+
+#[test]
+fn a_closed_channel_gives_its_values_first() {
+    let (tx, mut rx) = broadcast::channel(2);
+    let other = tx.clone();
+    for value in 1..=3 {
+        tx.send(value).unwrap();
+    }
+    drop(tx);
+    assert!(!rx.is_closed());
+    drop(other);
+    assert!(rx.is_closed());
+    assert_eq!(rx.try_recv(), Err(TryRecvError::Lagged(1)));
+    assert_eq!(rx.try_recv(), Ok(2));
+    assert_eq!(rx.blocking_recv(), Ok(3));
+    assert_eq!(rx.try_recv(), Err(TryRecvError::Closed));
+    assert_eq!(rx.blocking_recv(), Err(RecvError::Closed));
+}
+
+#[test]
+fn a_send_without_receivers_gives_the_value_back() {
+    let (tx, rx) = broadcast::channel(2);
+    drop(rx);
+    let SendError(value) = tx.send(String::from("x")).unwrap_err();
+    assert_eq!(value, "x");
+    let mut rx = tx.subscribe();
+    assert_eq!(rx.try_recv(), Err(TryRecvError::Empty));
+    assert_eq!(tx.send(value).unwrap(), 1);
+    assert_eq!(rx.try_recv().unwrap(), "x");
+}
+
+#[test]
+fn a_sender_made_alone_has_no_receiver() {
+    let tx = broadcast::Sender::new(4);
+    assert_eq!(tx.receiver_count(), 0);
+    assert!(tx.send(1).is_err());
+    let mut rx = tx.subscribe();
+    assert_eq!(tx.send(2).unwrap(), 1);
+    assert_eq!(rx.try_recv(), Ok(2));
+}
+
+#[test]
+fn lengths_and_counts() {
+    let (tx, mut rx) = broadcast::channel(4);
+    assert!(tx.is_empty() && rx.is_empty());
+    let slow = tx.subscribe();
+    tx.send(1).unwrap();
+    tx.send(2).unwrap();
+    assert_eq!((tx.len(), rx.len(), slow.len()), (2, 2, 2));
+    rx.try_recv().unwrap();
+    assert_eq!((tx.len(), rx.len(), slow.len()), (2, 1, 2));
+    drop(slow);
+    assert_eq!((tx.len(), rx.len()), (1, 1));
+    assert_eq!(
+        (
+            tx.receiver_count(),
+            tx.strong_count(),
+            rx.sender_strong_count()
+        ),
+        (1, 1, 1)
+    );
+    let other = tx.clone();
+    assert_eq!((tx.strong_count(), other.strong_count()), (2, 2));
+}
+
+#[test]
+fn handles_know_their_channel() {
+    let (tx, rx) = broadcast::channel::<u8>(4);
+    let (other_tx, other_rx) = broadcast::channel::<u8>(4);
+    assert!(tx.same_channel(&tx.clone()) && !tx.same_channel(&other_tx));
+    assert!(rx.same_channel(&tx.subscribe()) && !rx.same_channel(&other_rx));
+}
+
+#[test]
+fn texts_of_errors_and_handles() {
+    let (tx, rx) = broadcast::channel::<u8>(4);
+    assert_eq!(
+        format!("{tx:?} {rx:?}"),
+        "broadcast::Sender broadcast::Receiver"
+    );
+    assert_eq!(SendError(1).to_string(), "channel closed");
+    assert_eq!(format!("{:?}", SendError(1)), "SendError(1)");
+    assert_eq!(RecvError::Closed.to_string(), "channel closed");
+    assert_eq!(RecvError::Lagged(3).to_string(), "channel lagged by 3");
+    assert_eq!(TryRecvError::Empty.to_string(), "channel empty");
+    assert_eq!(TryRecvError::Closed.to_string(), "channel closed");
+    assert_eq!(TryRecvError::Lagged(3).to_string(), "channel lagged by 3");
+}
+
+struct Count(AtomicUsize);
+
+impl Wake for Count {
+    fn wake(self: Arc<Self>) {
+        self.0.fetch_add(1, Ordering::SeqCst);
+    }
+}
+
+#[test]
+fn a_receive_that_waits_is_woken_by_a_send_and_by_the_end() {
+    let (tx, mut rx) = broadcast::channel(4);
+    let count = Arc::new(Count(AtomicUsize::new(0)));
+    let waker = Waker::from(count.clone());
+    let mut context = Context::from_waker(&waker);
+    {
+        let mut recv = pin!(rx.recv());
+        assert_eq!(recv.as_mut().poll(&mut context), Poll::Pending);
+        assert_eq!(recv.as_mut().poll(&mut context), Poll::Pending);
+        assert_eq!(count.0.load(Ordering::SeqCst), 0);
+        tx.send(7).unwrap();
+        assert_eq!(count.0.load(Ordering::SeqCst), 1);
+        assert_eq!(recv.as_mut().poll(&mut context), Poll::Ready(Ok(7)));
+    }
+    let mut recv = pin!(rx.recv());
+    assert_eq!(recv.as_mut().poll(&mut context), Poll::Pending);
+    drop(tx);
+    assert_eq!(count.0.load(Ordering::SeqCst), 2);
+    assert_eq!(
+        recv.as_mut().poll(&mut context),
+        Poll::Ready(Err(RecvError::Closed))
+    );
+}
+
+#[test]
+fn a_dropped_receive_has_received_nothing_and_is_woken_no_more() {
+    let recorder = Recorder::new();
+    let _entered = recorder.enter();
+    let (tx, mut rx) = broadcast::channel(4);
+    let count = Arc::new(Count(AtomicUsize::new(0)));
+    let waker = Waker::from(count.clone());
+    assert!(
+        pin!(rx.recv())
+            .poll(&mut Context::from_waker(&waker))
+            .is_pending()
+    );
+    assert_eq!(poll_once(rx.recv()), None);
+    tx.send(7).unwrap();
+    assert_eq!(count.0.load(Ordering::SeqCst), 0);
+    assert_eq!(poll_once(rx.recv()), Some(Ok(7)));
+    // The two that waited left no entry.
+    assert_eq!(recorder.len(), 2);
+}
+
+#[test]
+fn closed_waits_until_no_receiver_is_alive() {
+    let (tx, rx) = broadcast::channel::<u8>(4);
+    let other = tx.subscribe();
+    assert_eq!(poll_once(tx.closed()), None);
+    let dropping = thread::spawn(move || drop((rx, other)));
+    block_on(tx.closed());
+    dropping.join().unwrap();
+    assert_eq!(poll_once(tx.closed()), Some(()));
+    let _rx = tx.subscribe();
+    assert_eq!(poll_once(tx.closed()), None);
+}
+
+#[test]
+fn values_need_be_neither_send_nor_static() {
+    let text = String::from("a b");
+    let (tx, mut rx) = broadcast::channel::<&str>(4);
+    for word in text.split(' ') {
+        tx.send(word).unwrap();
+    }
+    assert_eq!((rx.try_recv(), rx.try_recv()), (Ok("a"), Ok("b")));
+    let (tx, mut rx) = broadcast::channel(4);
+    tx.send(std::rc::Rc::new(1)).unwrap();
+    assert_eq!(*rx.try_recv().unwrap(), 1);
+}
+
+#[test]
+fn handles_and_futures_cross_threads_as_tokios_do() {
+    fn send<T: Send>(_: &T) {}
+    fn sync<T: Sync>(_: &T) {}
+    // A cell may be sent to another thread, but not be shared.
+    let (tx, mut rx) = broadcast::channel::<std::cell::Cell<u8>>(4);
+    send(&tx);
+    sync(&tx);
+    send(&rx);
+    sync(&rx);
+    send(&tx.closed());
+    send(&rx.recv());
+}
+
+#[test]
+#[should_panic(expected = "capacity of 1 or more")]
+fn a_capacity_of_nothing() {
+    broadcast::channel::<u8>(0);
+}
+
+#[test]
+#[should_panic(expected = "65536")]
+fn a_capacity_beyond_the_limit() {
+    broadcast::channel::<u8>(65_537);
+}

@@ -1,0 +1,85 @@
+//! An event bus whose slow subscriber lags, as a test that fails and leaves its journal, and the step found in it.
+
+mod support;
+
+use std::io::Write;
+use std::process::{Command, Stdio};
+use support::poll_once;
+use yovanelum::broadcast::{self, error::RecvError};
+use yovanelum::{Recorder, block_on, named};
+
+/// What `ttd debug` writes for these commands over the journal so far, where the variable `YOVANELUM_TTD` names the program.
+fn walked(recorder: &Recorder, commands: &str) -> Option<String> {
+    let ttd = std::env::var_os("YOVANELUM_TTD")?;
+    let path = std::env::temp_dir().join(format!("yovanelum-bus-{}.journal", std::process::id()));
+    recorder.save(&path).unwrap();
+    let mut walk = Command::new(ttd)
+        .arg("debug")
+        .arg(&path)
+        .stdin(Stdio::piped())
+        .stdout(Stdio::piped())
+        .spawn()
+        .unwrap();
+    walk.stdin
+        .take()
+        .unwrap()
+        .write_all(commands.as_bytes())
+        .unwrap();
+    let written = walk.wait_with_output().unwrap().stdout;
+    std::fs::remove_file(&path).unwrap();
+    std::fs::remove_file(path.with_extension("names")).unwrap();
+    Some(String::from_utf8(written).unwrap())
+}
+
+#[derive(Clone, Debug, PartialEq)]
+enum Event {
+    Opened,
+    Price(u32),
+}
+
+#[test]
+fn a_slow_subscriber_lags() {
+    let recorder = Recorder::for_test("a_slow_subscriber_lags");
+    let (bus, mut screen) = broadcast::channel(2);
+    recorder
+        .name(&bus, "events")
+        .show(&bus, |event| format!("{event:?}"));
+    let mut audit = bus.subscribe();
+    let screen = named("screen", async move {
+        let mut seen = Vec::new();
+        while let Ok(event) = screen.recv().await {
+            seen.push(event);
+        }
+        seen
+    });
+    let mut screen = Box::pin(screen);
+    for event in [Event::Opened, Event::Price(101), Event::Price(102)] {
+        poll_once(named("ticker", async { bus.send(event).unwrap() })).unwrap();
+        assert!(poll_once(screen.as_mut()).is_none());
+    }
+    drop(bus);
+    assert_eq!(
+        block_on(screen),
+        [Event::Opened, Event::Price(101), Event::Price(102)]
+    );
+    let audited = block_on(named("auditor", async { audit.recv().await }));
+    assert_eq!(audited, Err(RecvError::Lagged(1)));
+    assert_eq!(audit.try_recv(), Ok(Event::Price(101)));
+    assert!(
+        recorder.names().contains(r#""1": "Price(101)""#),
+        "{}",
+        recorder.names()
+    );
+    if let Some(written) = walked(
+        &recorder,
+        "rback reply lagged\nstep\nrback lagging 0 2\nback\nrforward lagging 0 2\nstep\n",
+    ) {
+        let lines: Vec<_> = written.lines().collect();
+        assert!(lines[1].contains(" recv 2 = lagged 1"), "{written}");
+        // The third send is the step at which receiver 2 began to lag.
+        assert!(
+            lines.last().unwrap().ends_with("send 0 2 = sent 2"),
+            "{written}"
+        );
+    }
+}

@@ -1,0 +1,276 @@
+//! What a recorder keeps, and where it ends.
+
+mod support;
+
+use std::fs;
+use std::panic::{AssertUnwindSafe, catch_unwind};
+use std::process::Command;
+use std::thread;
+use support::{accepted, poll_once};
+use yovanelum::{Recorder, broadcast, named, watch};
+
+#[test]
+fn the_journal_of_a_run() {
+    let recorder = Recorder::new();
+    let _entered = recorder.enter();
+    let (tx, mut rx) = broadcast::channel(2);
+    for price in [10, 20, 30] {
+        tx.send(price).unwrap();
+    }
+    assert!(rx.try_recv().is_err());
+    let (level, _seen) = watch::channel(5);
+    level.send(6).unwrap();
+    assert_eq!(rx.try_recv(), Ok(20));
+    assert_eq!(poll_once(rx.recv()), Some(Ok(30)));
+    assert_eq!(poll_once(rx.recv()), None);
+    drop(tx);
+    let wanted = "ttd-journal 1\nbroadcast 2\nwatch 0\nsteps\n\
+        1 0 0 send 0 0 = sent 1\n2 0 0 send 0 1 = sent 1\n3 0 0 send 0 2 = sent 1\n4 0 0 try-recv 1 = lagged 1\n\
+        5 0 1 send 0 1 = stored\n6 0 0 try-recv 1 = value 1\n7 0 0 recv 1 = value 2\n\
+        9 0 0 drop 0 = dropped\nend\n";
+    let journal = recorder.journal().unwrap();
+    // The call that would have waited took a number, or two, and left no entry.
+    let (start, end) = journal.split_at(journal.rfind(" 0 0 drop").unwrap());
+    let number = start.rfind('\n').unwrap() + 1;
+    assert_eq!(format!("{}9{end}", &start[..number]), wanted);
+    assert_eq!(accepted(&recorder, "run"), 8);
+}
+
+#[test]
+fn a_channel_made_in_mid_run_is_recorded_too() {
+    let recorder = Recorder::new();
+    let entered = recorder.enter();
+    let (tx, _rx) = broadcast::channel(4);
+    tx.send(1).unwrap();
+    let (late, _late_rx) = broadcast::channel(1);
+    tx.send(2).unwrap();
+    late.send(3).unwrap();
+    drop(entered);
+    let (other, _other_rx) = broadcast::channel(1);
+    other.send(4).unwrap();
+    assert_eq!(accepted(&recorder, "late"), 3);
+    // The last one has a recorder of its own.
+    assert_eq!(Recorder::of(&other).len(), 1);
+    assert_eq!(Recorder::of(&late).len(), 3);
+}
+
+#[test]
+fn names_stand_beside_the_journal() {
+    let recorder = Recorder::new();
+    let _entered = recorder.enter();
+    let (tx, mut rx) = broadcast::channel::<u32>(2);
+    let (level, _seen) = watch::channel(1.5);
+    recorder
+        .name(&tx, "prices")
+        .show(&tx, |price| format!("{price} EUR"));
+    recorder
+        .name(&level, "level")
+        .show(&level, |level| format!("{level:.2}"));
+    let task = named("ticker", async move {
+        tx.send(7).unwrap();
+        level.send_modify(|level| *level *= 2.0);
+    });
+    poll_once(task).unwrap();
+    rx.try_recv().unwrap();
+    let folder = std::env::temp_dir().join(format!("yovanelum-names-{}", std::process::id()));
+    fs::create_dir_all(&folder).unwrap();
+    recorder.save(folder.join("run.journal")).unwrap();
+    let thread = thread::current().name().unwrap().to_string();
+    let wanted = format!(
+        r#"{{
+  "actors": {{"0": "ticker", "1": "{thread}"}},
+  "channels": {{"0": "prices", "1": "level"}},
+  "values": {{"0": {{"0": "7 EUR"}}, "1": {{"0": "1.50", "1": "3.00"}}}}
+}}
+"#
+    );
+    assert_eq!(
+        fs::read_to_string(folder.join("run.names")).unwrap(),
+        wanted
+    );
+    assert_eq!(
+        fs::read_to_string(folder.join("run.journal")).unwrap(),
+        recorder.journal().unwrap()
+    );
+    fs::remove_dir_all(folder).unwrap();
+}
+
+#[test]
+fn quiet_questions_leave_no_entry() {
+    let recorder = Recorder::new();
+    let _entered = recorder.enter();
+    let (tx, rx) = broadcast::channel::<u8>(2);
+    let (level, seen) = watch::channel(0);
+    let ask = || {
+        let counts = (tx.len(), tx.receiver_count(), rx.len());
+        let flags = (
+            *level.borrow(),
+            *seen.borrow(),
+            level.is_closed(),
+            seen.has_changed().unwrap(),
+            level.receiver_count(),
+        );
+        (counts, flags)
+    };
+    let first = ask();
+    assert_eq!(
+        (first, recorder.len()),
+        (((0, 1, 0), (0, 0, false, false, 1)), 8)
+    );
+    recorder.quiet_questions();
+    assert_eq!((ask(), recorder.len()), (first, 8));
+}
+
+#[test]
+fn installed_recorders_have_the_channels_of_all_threads() {
+    // In a process of its own, since other tests make channels that would be recorded too.
+    if std::env::var_os("YOVANELUM_TEST_INSTALL").is_none() {
+        let program = std::env::current_exe().unwrap();
+        let ran = Command::new(program)
+            .args([
+                "--exact",
+                "installed_recorders_have_the_channels_of_all_threads",
+            ])
+            .env("YOVANELUM_TEST_INSTALL", "1")
+            .output()
+            .unwrap();
+        assert!(
+            ran.status.success(),
+            "{}",
+            String::from_utf8_lossy(&ran.stdout)
+        );
+        return;
+    }
+    let recorder = Recorder::new();
+    recorder.install();
+    thread::spawn(|| broadcast::channel(2).0.send(1).unwrap())
+        .join()
+        .unwrap();
+    let entered = Recorder::new();
+    let _entered = entered.enter();
+    let (tx, _rx) = broadcast::channel(2);
+    tx.send(1).unwrap();
+    assert_eq!((recorder.is_empty(), entered.len()), (false, 1));
+}
+
+#[test]
+fn a_failing_test_keeps_its_journal() {
+    let name = format!("failing-{}", std::process::id());
+    let failed = thread::spawn({
+        let name = name.clone();
+        move || {
+            let _recorder = Recorder::for_test(&name);
+            let (tx, _rx) = broadcast::channel(2);
+            tx.send(1).unwrap();
+            panic!("the test fails");
+        }
+    });
+    assert!(failed.join().is_err());
+    let program = std::env::current_exe().unwrap();
+    let target = std::env::var_os("CARGO_TARGET_DIR").map(Into::into);
+    let target = target.unwrap_or_else(|| {
+        program
+            .ancestors()
+            .find(|folder| folder.ends_with("target"))
+            .unwrap()
+            .to_path_buf()
+    });
+    let path = target.join("yovanelum").join(format!("{name}.journal"));
+    let journal = fs::read_to_string(&path).unwrap();
+    assert!(journal.contains("send 0 0 = sent 1"), "{journal}");
+    assert!(journal.contains("drop 0 = dropped"), "{journal}");
+    fs::remove_file(path.with_extension("names")).unwrap();
+    fs::remove_file(path).unwrap();
+}
+
+#[test]
+fn a_test_that_passes_leaves_nothing() {
+    let name = format!("passing-{}", std::process::id());
+    drop(Recorder::for_test(&name));
+    let found = std::env::current_exe().unwrap().ancestors().any(|folder| {
+        folder
+            .join("yovanelum")
+            .join(format!("{name}.journal"))
+            .exists()
+    });
+    assert!(!found);
+}
+
+#[test]
+fn a_hundred_actors_share_64_numbers() {
+    let recorder = Recorder::new();
+    let _entered = recorder.enter();
+    let (tx, _rx) = broadcast::channel(4);
+    for number in 0..100 {
+        let tx = tx.clone();
+        let thread = thread::Builder::new()
+            .name(format!("actor {number}"))
+            .spawn(move || tx.send(number).unwrap())
+            .unwrap();
+        thread.join().unwrap();
+    }
+    let journal = recorder.journal().unwrap();
+    assert!(journal.contains(" 63 0 send"), "{journal}");
+    assert!(!journal.contains(" 64 0 send"), "{journal}");
+    assert!(
+        recorder.names().contains(" and 37 others"),
+        "{}",
+        recorder.names()
+    );
+    assert_eq!(accepted(&recorder, "hundred"), 300);
+}
+
+#[test]
+fn the_65th_channel_is_recorded_by_none_and_works() {
+    let recorder = Recorder::new();
+    let _entered = recorder.enter();
+    let channels: Vec<_> = (0..70).map(|_| broadcast::channel(2)).collect();
+    for (number, (tx, _)) in channels.iter().enumerate() {
+        assert_eq!(tx.send(number).unwrap(), 1);
+    }
+    for (number, (_, rx)) in channels.into_iter().enumerate() {
+        assert_eq!({ rx }.try_recv(), Ok(number));
+    }
+    let entries = accepted(&recorder, "channels");
+    assert_eq!((entries, recorder.len()), (64 * 4, 64 * 4));
+}
+
+#[test]
+fn at_a_full_journal_recording_ends_and_calls_go_on() {
+    let recorder = Recorder::new();
+    let _entered = recorder.enter();
+    let (tx, mut rx) = broadcast::channel(2);
+    let (other, mut from_other) = broadcast::channel(2);
+    for value in 0..1_048_577u64 {
+        assert_eq!(tx.send(value).unwrap(), 1);
+        if value % 100_000 == 0 {
+            other.send(value).unwrap();
+        }
+    }
+    assert_eq!((tx.len(), rx.len()), (2, 1_048_577));
+    assert_eq!(
+        rx.try_recv(),
+        Err(broadcast::error::TryRecvError::Lagged(1_048_575))
+    );
+    assert_eq!(rx.try_recv(), Ok(1_048_575));
+    assert_eq!(rx.try_recv(), Ok(1_048_576));
+    // What the other channel does behind the cut isn't recorded either.
+    let before = recorder.len();
+    assert!(from_other.try_recv().is_err());
+    drop((tx, rx, other, from_other));
+    assert_eq!(recorder.len(), before);
+    assert_eq!(accepted(&recorder, "full"), 1_048_576 + 11);
+}
+
+#[test]
+fn too_many_receivers_are_a_panic() {
+    let (tx, _rx) = broadcast::channel::<u8>(2);
+    for _ in 0..65_534 {
+        drop(tx.subscribe());
+    }
+    let refused = catch_unwind(AssertUnwindSafe(|| tx.subscribe()));
+    let message = refused.unwrap_err().downcast::<&str>().unwrap();
+    assert!(message.contains("65536"), "{message}");
+    // The channel goes on.
+    assert_eq!(tx.send(1).unwrap(), 1);
+}

@@ -1,0 +1,185 @@
+//! Random calls on a broadcast beside a plain model: all values that were ever sent, and where each receiver stands in them.
+
+mod support;
+
+use std::rc::{Rc, Weak};
+use support::{Random, accepted, poll_once};
+use yovanelum::Recorder;
+use yovanelum::broadcast::{self, Receiver, Sender, error::RecvError, error::TryRecvError};
+
+/// The channel as tokio's documentation has it.
+struct Model {
+    retained: usize,
+    sent: usize,
+    senders: usize,
+    // The place of each live receiver: how many values were sent before the one that it gets next.
+    places: Vec<usize>,
+}
+
+impl Model {
+    fn oldest(&self) -> usize {
+        self.sent.saturating_sub(self.retained)
+    }
+
+    fn queued(&self) -> usize {
+        let least = self.places.iter().min().copied().unwrap_or(self.sent);
+        self.sent - least.max(self.oldest())
+    }
+
+    /// Whether the value of this number has still to be received by somebody.
+    fn is_wanted(&self, value: usize) -> bool {
+        value >= self.oldest() && self.places.iter().any(|place| *place <= value)
+    }
+
+    fn receive(&mut self, receiver: usize) -> Result<usize, TryRecvError> {
+        let oldest = self.oldest();
+        let place = &mut self.places[receiver];
+        if *place < oldest {
+            let lost = (oldest - *place) as u64;
+            *place = oldest;
+            Err(TryRecvError::Lagged(lost))
+        } else if *place < self.sent {
+            *place += 1;
+            Ok(*place - 1)
+        } else if self.senders == 0 {
+            Err(TryRecvError::Closed)
+        } else {
+            Err(TryRecvError::Empty)
+        }
+    }
+}
+
+struct Pair {
+    model: Model,
+    senders: Vec<Sender<Rc<usize>>>,
+    receivers: Vec<Receiver<Rc<usize>>>,
+    // The values that were sent, each to see whether it was dropped.
+    values: Vec<Weak<usize>>,
+}
+
+impl Pair {
+    fn open(capacity: usize) -> Pair {
+        let (tx, rx) = broadcast::channel(capacity);
+        let mut retained = 1;
+        while retained < capacity {
+            retained *= 2;
+        }
+        let model = Model {
+            retained,
+            sent: 0,
+            senders: 1,
+            places: vec![0],
+        };
+        Pair {
+            model,
+            senders: vec![tx],
+            receivers: vec![rx],
+            values: vec![],
+        }
+    }
+
+    /// One call of both, chosen at random.
+    fn step(&mut self, random: &mut Random) {
+        let (s, r) = (self.senders.len(), self.receivers.len());
+        match random.below(16) {
+            0..=4 if s > 0 => self.send(random.below(s)),
+            5..=7 if r > 0 => self.try_recv(random.below(r)),
+            8..=9 if r > 0 => self.recv(random.below(r)),
+            10 if s > 0 => {
+                self.receivers
+                    .push(self.senders[random.below(s)].subscribe());
+                self.model.places.push(self.model.sent);
+            }
+            11 if r > 0 => {
+                self.receivers
+                    .push(self.receivers[random.below(r)].resubscribe());
+                self.model.places.push(self.model.sent);
+            }
+            12 if s > 0 => {
+                self.senders.push(self.senders[random.below(s)].clone());
+                self.model.senders += 1;
+            }
+            13 if r > 0 && random.below(2) == 0 => {
+                let dropped = random.below(r);
+                drop(self.receivers.swap_remove(dropped));
+                self.model.places.swap_remove(dropped);
+            }
+            14 if s > 0 && random.below(4) == 0 => {
+                drop(self.senders.swap_remove(random.below(s)));
+                self.model.senders -= 1;
+            }
+            _ => self.ask(),
+        }
+        for (number, value) in self.values.iter().enumerate() {
+            assert_eq!(
+                value.strong_count() > 0,
+                self.model.is_wanted(number),
+                "value {number} of {}",
+                self.model.sent
+            );
+        }
+    }
+
+    fn send(&mut self, sender: usize) {
+        let value = Rc::new(self.model.sent);
+        let kept = Rc::downgrade(&value);
+        let answer = self.senders[sender].send(value);
+        if self.model.places.is_empty() {
+            assert_eq!(*answer.unwrap_err().0, self.model.sent);
+        } else {
+            assert_eq!(answer.unwrap(), self.model.places.len());
+            self.model.sent += 1;
+            self.values.push(kept);
+        }
+    }
+
+    fn try_recv(&mut self, receiver: usize) {
+        let answer = self.receivers[receiver].try_recv().map(|value| *value);
+        assert_eq!(answer, self.model.receive(receiver));
+    }
+
+    fn recv(&mut self, receiver: usize) {
+        let answer =
+            poll_once(self.receivers[receiver].recv()).map(|answer| answer.map(|value| *value));
+        let wanted = match self.model.receive(receiver) {
+            Ok(value) => Some(Ok(value)),
+            Err(TryRecvError::Lagged(n)) => Some(Err(RecvError::Lagged(n))),
+            Err(TryRecvError::Closed) => Some(Err(RecvError::Closed)),
+            Err(TryRecvError::Empty) => None,
+        };
+        assert_eq!(answer, wanted);
+    }
+
+    fn ask(&mut self) {
+        for sender in &self.senders {
+            assert_eq!(sender.len(), self.model.queued());
+            assert_eq!(sender.receiver_count(), self.model.places.len());
+            assert_eq!(sender.strong_count(), self.model.senders);
+        }
+        for (receiver, place) in self.receivers.iter().zip(&self.model.places) {
+            assert_eq!(receiver.len(), self.model.sent - place);
+            assert_eq!(receiver.is_closed(), self.model.senders == 0);
+        }
+    }
+}
+
+#[test]
+fn random_calls_answer_as_the_model() {
+    for seed in 0..200 {
+        let mut random = Random::new(seed);
+        let recorder = Recorder::new();
+        if seed % 2 == 1 {
+            recorder.quiet_questions();
+        }
+        let entered = recorder.enter();
+        let mut pair = Pair::open(1 + random.below(6));
+        drop(entered);
+        for _ in 0..300 {
+            pair.step(&mut random);
+        }
+        drop(pair);
+        if seed < 20 {
+            assert!(accepted(&recorder, &format!("model-broadcast-{seed}")) > 0);
+        }
+    }
+}

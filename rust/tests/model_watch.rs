@@ -1,0 +1,229 @@
+//! Random calls on a watch beside a plain model: all values that receivers were told of, and how many of them each has seen.
+
+mod support;
+
+use std::rc::{Rc, Weak};
+use support::{Random, accepted, poll_once};
+use yovanelum::Recorder;
+use yovanelum::watch::{self, Receiver, Sender};
+
+/// The channel as tokio's documentation has it.
+struct Model {
+    value: usize,
+    changes: usize,
+    senders: usize,
+    // For each live receiver the changes that there had been when it last saw the value; none where it was marked as unseen.
+    seen: Vec<Option<usize>>,
+}
+
+impl Model {
+    fn has_changed(&self, receiver: usize) -> bool {
+        self.seen[receiver] != Some(self.changes)
+    }
+
+    fn write(&mut self, value: usize, told: bool) {
+        self.value = value;
+        self.changes += usize::from(told);
+    }
+}
+
+struct Pair {
+    model: Model,
+    senders: Vec<Sender<Rc<usize>>>,
+    receivers: Vec<Receiver<Rc<usize>>>,
+    next: usize,
+    last: Weak<usize>,
+}
+
+impl Pair {
+    fn open() -> Pair {
+        let value = Rc::new(0);
+        let last = Rc::downgrade(&value);
+        let (tx, rx) = watch::channel(value);
+        let model = Model {
+            value: 0,
+            changes: 0,
+            senders: 1,
+            seen: vec![Some(0)],
+        };
+        Pair {
+            model,
+            senders: vec![tx],
+            receivers: vec![rx],
+            next: 0,
+            last,
+        }
+    }
+
+    fn value(&mut self) -> (Rc<usize>, Weak<usize>) {
+        self.next += 1;
+        let value = Rc::new(self.next);
+        let weak = Rc::downgrade(&value);
+        (value, weak)
+    }
+
+    /// One call of both, chosen at random.
+    fn step(&mut self, random: &mut Random) {
+        let (s, r) = (self.senders.len(), self.receivers.len());
+        match random.below(20) {
+            0..=2 if s > 0 => self.send(random.below(s)),
+            3 if s > 0 => self.send_replace(random.below(s)),
+            4..=5 if s > 0 => self.modify(random.below(s), random.below(2) == 0),
+            6..=8 if r > 0 => self.changed(random.below(r)),
+            9..=10 if r > 0 => self.update(random.below(r)),
+            11 if r > 0 => self.wait_for(random.below(r), random.below(self.next + 2)),
+            12 if r > 0 => {
+                let receiver = random.below(r);
+                self.receivers[receiver].mark_changed();
+                self.model.seen[receiver] = None;
+            }
+            13 if r > 0 => {
+                let receiver = random.below(r);
+                self.receivers[receiver].mark_unchanged();
+                self.model.seen[receiver] = Some(self.model.changes);
+            }
+            14 if s > 0 => {
+                self.receivers
+                    .push(self.senders[random.below(s)].subscribe());
+                self.model.seen.push(Some(self.model.changes));
+            }
+            15 if r > 0 => {
+                let source = random.below(r);
+                self.receivers.push(self.receivers[source].clone());
+                self.model.seen.push(self.model.seen[source]);
+            }
+            16 if s > 0 => {
+                self.senders.push(self.senders[random.below(s)].clone());
+                self.model.senders += 1;
+            }
+            17 if r > 0 && random.below(2) == 0 => {
+                let dropped = random.below(r);
+                drop(self.receivers.swap_remove(dropped));
+                self.model.seen.swap_remove(dropped);
+            }
+            18 if s > 0 && random.below(4) == 0 => {
+                drop(self.senders.swap_remove(random.below(s)));
+                self.model.senders -= 1;
+            }
+            _ => self.ask(),
+        }
+        // The last value alone is kept, as long as there is a handle.
+        let is_kept = !self.senders.is_empty() || !self.receivers.is_empty();
+        assert_eq!(self.last.strong_count() > 0, is_kept);
+    }
+
+    fn send(&mut self, sender: usize) {
+        let (value, weak) = self.value();
+        let before = self.last.clone();
+        match self.senders[sender].send(value) {
+            Ok(()) => {
+                assert!(!self.model.seen.is_empty());
+                self.model.write(self.next, true);
+                assert_eq!(before.strong_count(), 0);
+                self.last = weak;
+            }
+            Err(error) => {
+                assert!(self.model.seen.is_empty());
+                assert_eq!(*error.0, self.next);
+            }
+        }
+    }
+
+    fn send_replace(&mut self, sender: usize) {
+        let (value, weak) = self.value();
+        assert_eq!(*self.senders[sender].send_replace(value), self.model.value);
+        self.model.write(self.next, true);
+        self.last = weak;
+    }
+
+    fn modify(&mut self, sender: usize, told: bool) {
+        let (value, weak) = self.value();
+        let answer = self.senders[sender].send_if_modified(|now| {
+            *now = value;
+            told
+        });
+        assert_eq!(answer, told);
+        self.model.write(self.next, told);
+        self.last = weak;
+    }
+
+    fn changed(&mut self, receiver: usize) {
+        let answer = poll_once(self.receivers[receiver].changed()).map(|answer| answer.is_ok());
+        let wanted = match (self.model.has_changed(receiver), self.model.senders) {
+            (true, _) => Some(true),
+            (false, 0) => Some(false),
+            (false, _) => None,
+        };
+        assert_eq!(answer, wanted);
+        if wanted == Some(true) {
+            self.model.seen[receiver] = Some(self.model.changes);
+        }
+    }
+
+    fn update(&mut self, receiver: usize) {
+        let seen = self.receivers[receiver].borrow_and_update();
+        assert_eq!(
+            (**seen, seen.has_changed()),
+            (self.model.value, self.model.has_changed(receiver))
+        );
+        drop(seen);
+        self.model.seen[receiver] = Some(self.model.changes);
+    }
+
+    fn wait_for(&mut self, receiver: usize, least: usize) {
+        let answer = poll_once(self.receivers[receiver].wait_for(|value| **value >= least));
+        let answer = answer.map(|answer| answer.map(|value| (**value, value.has_changed())).ok());
+        let wanted = match (self.model.value >= least, self.model.senders) {
+            (true, _) => Some(Some((self.model.value, self.model.has_changed(receiver)))),
+            (false, 0) => Some(None),
+            (false, _) => None,
+        };
+        assert_eq!(answer, wanted);
+        self.model.seen[receiver] = Some(self.model.changes);
+    }
+
+    fn ask(&mut self) {
+        for sender in &self.senders {
+            assert_eq!(**sender.borrow(), self.model.value);
+            assert!(!sender.borrow().has_changed());
+            assert_eq!(sender.receiver_count(), self.model.seen.len());
+            assert_eq!(sender.sender_count(), self.model.senders);
+            assert_eq!(sender.is_closed(), self.model.seen.is_empty());
+            assert_eq!(
+                poll_once(sender.closed()).is_some(),
+                self.model.seen.is_empty()
+            );
+        }
+        for (receiver, handle) in self.receivers.iter().enumerate() {
+            let looked = handle.borrow();
+            assert_eq!(
+                (**looked, looked.has_changed()),
+                (self.model.value, self.model.has_changed(receiver))
+            );
+            drop(looked);
+            let wanted = (self.model.senders > 0).then(|| self.model.has_changed(receiver));
+            assert_eq!(handle.has_changed().ok(), wanted);
+        }
+    }
+}
+
+#[test]
+fn random_calls_answer_as_the_model() {
+    for seed in 0..200 {
+        let mut random = Random::new(seed + 1000);
+        let recorder = Recorder::new();
+        if seed % 2 == 1 {
+            recorder.quiet_questions();
+        }
+        let entered = recorder.enter();
+        let mut pair = Pair::open();
+        drop(entered);
+        for _ in 0..300 {
+            pair.step(&mut random);
+        }
+        drop(pair);
+        if seed < 20 {
+            assert!(accepted(&recorder, &format!("model-watch-{seed}")) > 0);
+        }
+    }
+}

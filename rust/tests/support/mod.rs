@@ -1,0 +1,55 @@
+//! What several tests share.
+#![allow(dead_code)]
+
+use std::future::Future;
+use std::pin::pin;
+use std::process::Command;
+use std::task::{Context, Poll, Waker};
+use yovanelum::Recorder;
+
+/// Numbers from a seed (xorshift64*).
+pub struct Random(u64);
+
+impl Random {
+    pub fn new(seed: u64) -> Random {
+        Random(seed.wrapping_mul(0x9E37_79B9_7F4A_7C15) | 1)
+    }
+
+    /// A number below n.
+    pub fn below(&mut self, n: usize) -> usize {
+        self.0 ^= self.0 >> 12;
+        self.0 ^= self.0 << 25;
+        self.0 ^= self.0 >> 27;
+        (self.0.wrapping_mul(0x2545_F491_4F6C_DD1D) >> 33) as usize % n
+    }
+}
+
+/// What a future answers at its first poll, after which it is dropped.
+pub fn poll_once<F: Future>(future: F) -> Option<F::Output> {
+    match pin!(future).poll(&mut Context::from_waker(Waker::noop())) {
+        Poll::Ready(output) => Some(output),
+        Poll::Pending => None,
+    }
+}
+
+/// How many entries the journal has that the proved debugger, `ttd check`, accepts. The variable `YOVANELUM_TTD` names the program; without it
+/// nobody judges the journal, and its entries are counted.
+pub fn accepted(recorder: &Recorder, name: &str) -> u64 {
+    let path =
+        std::env::temp_dir().join(format!("yovanelum-{name}-{}.journal", std::process::id()));
+    recorder.save(&path).unwrap();
+    let text = std::fs::read_to_string(&path).unwrap();
+    let entries = text.lines().filter(|line| line.contains(" = ")).count() as u64;
+    if let Some(ttd) = std::env::var_os("YOVANELUM_TTD") {
+        let judged = Command::new(ttd).arg("check").arg(&path).output().unwrap();
+        assert_eq!(
+            String::from_utf8_lossy(&judged.stdout),
+            format!("ok {entries}\n"),
+            "{}",
+            path.display()
+        );
+    }
+    std::fs::remove_file(&path).unwrap();
+    std::fs::remove_file(path.with_extension("names")).unwrap();
+    entries
+}

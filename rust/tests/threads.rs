@@ -1,0 +1,198 @@
+//! Both channels under eight threads.
+
+mod support;
+
+use std::sync::Arc;
+use std::sync::atomic::{AtomicBool, Ordering};
+use std::thread;
+use std::time::{Duration, Instant};
+use support::accepted;
+use yovanelum::broadcast::{self, Receiver, error::RecvError};
+use yovanelum::{Recorder, block_on, named, watch};
+
+/// For how long the threads send, at most.
+const LIMIT: Duration = Duration::from_millis(400);
+
+/// How many values each thread sends, at most.
+const MOST: u64 = 20_000;
+
+/// What a receiver came to: how many values it got and lost.
+#[derive(Default, Debug)]
+struct Came {
+    got: u64,
+    lost: u64,
+}
+
+/// Receives to the end. Of each sender the values rise, and all that was sent was got or counted as lost.
+fn receive_all(mut rx: Receiver<(usize, u64)>) -> Came {
+    let mut came = Came::default();
+    let mut last = [None; 4];
+    loop {
+        match rx.blocking_recv() {
+            Ok((sender, value)) => {
+                assert!(
+                    last[sender] < Some(value),
+                    "{:?} before {value} of {sender}",
+                    last[sender]
+                );
+                last[sender] = Some(value);
+                came.got += 1;
+            }
+            Err(RecvError::Lagged(n)) => came.lost += n,
+            Err(RecvError::Closed) => return came,
+        }
+    }
+}
+
+#[test]
+fn a_broadcast_of_four_senders_and_four_receivers() {
+    let recorder = Recorder::new();
+    let _entered = recorder.enter();
+    let (tx, rx) = broadcast::channel(64);
+    let end = Instant::now() + LIMIT;
+    let receivers: Vec<_> = (0..4).map(|_| tx.subscribe()).collect();
+    drop(rx);
+    let readers: Vec<_> = receivers
+        .into_iter()
+        .map(|rx| thread::spawn(move || receive_all(rx)))
+        .collect();
+    let senders: Vec<_> = (0..4)
+        .map(|sender| {
+            let tx = tx.clone();
+            thread::spawn(move || {
+                let mut sent = 0;
+                while sent < MOST && Instant::now() < end {
+                    assert_eq!(tx.send((sender, sent)).unwrap(), 4);
+                    sent += 1;
+                }
+                sent
+            })
+        })
+        .collect();
+    drop(tx);
+    let sent: u64 = senders
+        .into_iter()
+        .map(|sender| sender.join().unwrap())
+        .sum();
+    for reader in readers {
+        let came = reader.join().unwrap();
+        assert_eq!(came.got + came.lost, sent, "{came:?}");
+    }
+    assert!(accepted(&recorder, "threads-broadcast") >= sent);
+}
+
+#[test]
+fn a_watch_of_four_senders_and_four_receivers() {
+    let recorder = Recorder::new();
+    let _entered = recorder.enter();
+    let (tx, rx) = watch::channel([0u64; 4]);
+    let end = Instant::now() + LIMIT;
+    let readers: Vec<_> = (0..4)
+        .map(|_| {
+            let mut rx = rx.clone();
+            thread::spawn(move || {
+                let mut last = [0; 4];
+                while block_on(rx.changed()).is_ok() {
+                    let now = *rx.borrow_and_update();
+                    assert!(
+                        last.iter().zip(&now).all(|(before, now)| before <= now),
+                        "{last:?} before {now:?}"
+                    );
+                    last = now;
+                }
+                last
+            })
+        })
+        .collect();
+    drop(rx);
+    let senders: Vec<_> = (0..4)
+        .map(|sender| {
+            let tx = tx.clone();
+            thread::spawn(move || {
+                let mut sent = 0;
+                while sent < MOST && Instant::now() < end {
+                    tx.send_modify(|counts| counts[sender] += 1);
+                    sent += 1;
+                }
+                sent
+            })
+        })
+        .collect();
+    drop(tx);
+    let sent: Vec<u64> = senders
+        .into_iter()
+        .map(|sender| sender.join().unwrap())
+        .collect();
+    for reader in readers {
+        assert_eq!(reader.join().unwrap().to_vec(), sent);
+    }
+    assert!(accepted(&recorder, "threads-watch") >= sent.iter().sum::<u64>());
+}
+
+#[test]
+fn a_journal_saved_while_others_call_is_a_run() {
+    let recorder = Recorder::new();
+    let _entered = recorder.enter();
+    let stop = Arc::new(AtomicBool::new(false));
+    let (first, from_first) = broadcast::channel(8);
+    let (second, from_second) = broadcast::channel(8);
+    let threads: Vec<_> = [(first, from_second), (second, from_first)]
+        .into_iter()
+        .map(|(tx, mut rx)| {
+            let stop = stop.clone();
+            thread::spawn(move || {
+                let mut sent = 0;
+                while !stop.load(Ordering::Relaxed) && sent < MOST && tx.send(sent).is_ok() {
+                    let _ = rx.try_recv();
+                    sent += 1;
+                }
+            })
+        })
+        .collect();
+    let mut before = 0;
+    for save in 0..5 {
+        let entries = accepted(&recorder, &format!("mid-run-{save}"));
+        assert!(entries >= before);
+        before = entries;
+    }
+    stop.store(true, Ordering::Relaxed);
+    for thread in threads {
+        thread.join().unwrap();
+    }
+    assert_eq!(accepted(&recorder, "mid-run-end"), recorder.len());
+}
+
+#[test]
+fn tasks_on_threads_of_their_own() {
+    let recorder = Recorder::new();
+    let _entered = recorder.enter();
+    let (settings, mut set) = watch::channel(0u32);
+    let (tx, mut rx) = broadcast::channel(8);
+    let bus = named("bus", async move {
+        while set.changed().await.is_ok() {
+            let value = *set.borrow_and_update();
+            let _ = tx.send(value);
+        }
+    });
+    let reader = named("reader", async move {
+        let mut last = 0;
+        while let Ok(value) = rx.recv().await {
+            last = value;
+        }
+        last
+    });
+    let bus = thread::spawn(move || block_on(bus));
+    let reader = thread::spawn(move || block_on(reader));
+    let feed = thread::Builder::new().name("feed".into()).spawn(move || {
+        for value in 1..=5 {
+            settings.send(value).unwrap();
+        }
+    });
+    feed.unwrap().join().unwrap();
+    bus.join().unwrap();
+    assert_eq!(reader.join().unwrap(), 5);
+    for name in [r#""bus""#, r#""reader""#, r#""feed""#] {
+        assert!(recorder.names().contains(name), "{}", recorder.names());
+    }
+    assert_eq!(accepted(&recorder, "tasks"), recorder.len());
+}

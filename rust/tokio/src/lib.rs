@@ -1,0 +1,1 @@
+//! Nothing: the tests beside tokio stand in `tests/`.
