@@ -1,0 +1,163 @@
+//! The calls of a player, chosen by a generator from a seed.
+
+ghost use Rattle.std.specs.Prelude.{◌≡◌};
+ghost use Rattle.rw_broadcast.specs.Channel.{handle_of};
+ghost use Rattle.rw_watch.specs.Channel.{handle_of as handle_at_watch};
+
+use super::channels::{AWAITED_BROADCAST, AWAITED_WATCH, PLAYED, own_handle};
+use rand_core::{Rng, SeedableRng};
+use rand_xoshiro::Xoshiro256PlusPlus;
+use rw_broadcast::{BCall, BReply};
+use rw_watch::{WCall, WReply};
+use rw_world::{ChanCall, ChanReply};
+
+/// A call that is to be made.
+#[derive(Clone, Copy)]
+pub struct Choice {
+    pub channel: u32,
+    pub call: ChanCall<u64>,
+    /// Whether it is made by a call that waits. No call is that might have to wait.
+    pub waits: bool,
+}
+
+/// What chooses the calls of one player.
+#[derive(Drop)]
+pub struct Generator {
+    words: Xoshiro256PlusPlus,
+    // The player's own handle of each channel that others wait for.
+    own: u32,
+    // Of each channel that is played on the numbers of handles that this player may name: they are below this.
+    handles: [u32; PLAYED],
+}
+
+impl Generator {
+    /// The generator of a player.
+    pub fn new(seed: u64, player: u32) -> Generator {
+        let mut words = Xoshiro256PlusPlus::seed_from_u64(seed);
+        for _ in 0..player {
+            words.jump();
+        }
+        Generator {
+            words,
+            own: own_handle(player),
+            handles: [3; PLAYED],
+        }
+    }
+
+    /// The next call: a value for those that wait, or any call on a channel that is played on.
+    pub fn choose(&mut self) -> Choice {
+        let word = self.words.next_u64();
+        let value = self.words.next_u64();
+        let (channel, call) = match word % 16 {
+            0 => (AWAITED_BROADCAST, ChanCall::B(BCall::Send(self.own, value))),
+            1 => (AWAITED_WATCH, ChanCall::W(WCall::Send(self.own, value))),
+            _ => {
+                let channel = ((word >> 4) % PLAYED as u64) as u32;
+                (channel, self.any_call(channel as usize, value))
+            }
+        };
+        Choice {
+            channel,
+            call,
+            waits: value % 2 == 0 && !may_wait(&call),
+        }
+    }
+
+    /// Any call on a channel that is played on.
+    fn any_call(&mut self, channel: usize, value: u64) -> ChanCall<u64> {
+        let handle = self.handle(channel);
+        let kind = self.words.next_u64();
+        let call = if channel % 2 == 0 {
+            ChanCall::B(to_broadcast(kind, handle, value))
+        } else {
+            ChanCall::W(to_watch(kind, handle, value))
+        };
+        spared(channel, call)
+    }
+
+    /// A handle of a channel: one of the first four, or any, or one that nobody may have made yet.
+    fn handle(&mut self, channel: usize) -> u32 {
+        let word = self.words.next_u64();
+        let below = match self.handles.get(channel) {
+            Some(below) if word % 2 == 0 => *below,
+            _ => 4,
+        };
+        ((word >> 1) % u64::from(below.max(1))) as u32
+    }
+
+    /// Hears of a reply, so that later calls name the handle that it made.
+    pub fn hear(&mut self, channel: u32, reply: &ChanReply<u64>) {
+        if let ChanReply::B(BReply::New(number)) | ChanReply::W(WReply::New(number)) = reply {
+            if let Some(below) = self.handles.get_mut(channel as usize) {
+                *below = (*below).max(number.saturating_add(2));
+            }
+        }
+    }
+}
+
+/// A call of a broadcast with this handle.
+fn to_broadcast(kind: u64, handle: u32, value: u64) -> BCall<u64>
+    ensures { handle_of result ≡ handle }
+{
+    match kind % 10 {
+        0 => BCall::Send(handle, value),
+        1 => BCall::Subscribe(handle),
+        2 => BCall::CloneSender(handle),
+        3 => BCall::Resubscribe(handle),
+        4 => BCall::TryRecv(handle),
+        5 => BCall::Recv(handle),
+        6 => BCall::DropHandle(handle),
+        7 => BCall::SenderLen(handle),
+        8 => BCall::ReceiverCount(handle),
+        _ => BCall::ReceiverLen(handle),
+    }
+}
+
+/// A call of a watch with this handle.
+fn to_watch(kind: u64, handle: u32, value: u64) -> WCall<u64>
+    ensures { handle_at_watch result ≡ handle }
+{
+    match kind % 16 {
+        0 => WCall::Send(handle, value),
+        1 => WCall::SendReplace(handle, value),
+        2 => WCall::Modify {
+            told: value % 2 == 0,
+            handle,
+            value,
+        },
+        3 => WCall::Subscribe(handle),
+        4 => WCall::CloneSender(handle),
+        5 => WCall::CloneReceiver(handle),
+        6 => WCall::Borrow(handle),
+        7 => WCall::Update(handle),
+        8 => WCall::HasChanged(handle),
+        9 => WCall::Changed(handle),
+        10 => WCall::MarkChanged(handle),
+        11 => WCall::MarkUnchanged(handle),
+        12 => WCall::DropHandle(handle),
+        13 => WCall::ReceiverCount(handle),
+        14 => WCall::IsClosed(handle),
+        _ => WCall::AwaitClosed(handle),
+    }
+}
+
+/// The first two handles of channels 0 and 1 aren't dropped, so that these stay open. The others may close.
+fn spared(channel: usize, call: ChanCall<u64>) -> ChanCall<u64> {
+    match call {
+        ChanCall::B(BCall::DropHandle(handle)) if channel < 2 && handle < 2 => {
+            ChanCall::B(BCall::DropHandle(handle + 2))
+        }
+        ChanCall::W(WCall::DropHandle(handle)) if channel < 2 && handle < 2 => {
+            ChanCall::W(WCall::DropHandle(handle + 2))
+        }
+        call => call,
+    }
+}
+
+/// Whether a call may have to wait.
+fn may_wait(call: &ChanCall<u64>) -> bool {
+    matches!(
+        call,
+        ChanCall::B(BCall::Recv(_)) | ChanCall::W(WCall::Changed(_) | WCall::AwaitClosed(_))
+    )
+}

@@ -1,0 +1,125 @@
+//! The threads of a storm, one for each actor.
+
+use super::channels::{FIRST_DROPS, OWN_HANDLES, PLAYERS, SECOND_HANDLES, own_drops};
+use super::generator::Generator;
+use super::waiting::wait_for_end;
+use crate::shared::Calls;
+use anyhow::{Result, bail};
+use rw_desk::{DeskFault, Pass};
+use rw_world::ChanCall;
+use std::alloc::Global;
+use std::sync::Wait;
+use std::thread;
+use std::thread::Threads;
+
+/// An actor's pass, beside how many values it was told of; `None` where not all its calls were made.
+#[derive(Drop)]
+pub struct Played {
+    pub pass: Pass<u64>,
+    pub told: Option<u64>,
+}
+
+/// Makes these calls, without waiting, whatever becomes of them. Says whether all were made.
+fn make_all<D: Calls, R: Wait>(
+    rt: &R,
+    desk: &D,
+    pass: &mut Pass<u64>,
+    calls: &[(u32, ChanCall<u64>)],
+) -> bool {
+    let mut all = true;
+    for (channel, call) in calls {
+        all &= desk.make(rt, pass, *channel, *call, false).is_ok();
+    }
+    all
+}
+
+/// Makes the handles that waiters and players need, and drops those that would keep a channel from its end.
+pub fn prepare<D: Calls, R: Wait>(rt: &R, desk: &D, pass: &mut Pass<u64>) -> bool {
+    let mut all = make_all(rt, desk, pass, &SECOND_HANDLES);
+    for _ in 0..PLAYERS {
+        all &= make_all(rt, desk, pass, &OWN_HANDLES);
+    }
+    all & make_all(rt, desk, pass, &FIRST_DROPS)
+}
+
+/// Makes a player's calls. One that would wait isn't made.
+fn make_calls<D: Calls, R: Wait>(
+    rt: &R,
+    desk: &D,
+    pass: &mut Pass<u64>,
+    generator: &mut Generator,
+    calls: u64,
+) -> Result<(), DeskFault> {
+    for _ in 0..calls {
+        let choice = generator.choose();
+        match desk.make(rt, pass, choice.channel, choice.call, choice.waits) {
+            Ok(reply) => generator.hear(choice.channel, &reply),
+            Err(DeskFault::Waits) => {}
+            Err(fault) => return Err(fault),
+        }
+    }
+    Ok(())
+}
+
+/// What a player does: its calls, and then, whatever became of them, it drops its own handles.
+fn play<D: Calls, R: Wait>(
+    rt: &R,
+    desk: &D,
+    pass: &mut Pass<u64>,
+    seed: u64,
+    calls: u64,
+) -> Option<u64> {
+    let player = pass.actor();
+    let mut generator = Generator::new(seed, player);
+    let made = make_calls(rt, desk, pass, &mut generator, calls);
+    if make_all(rt, desk, pass, &own_drops(player)) && made.is_ok() {
+        Some(0)
+    } else {
+        None
+    }
+}
+
+/// What an actor's thread does: it plays, or it waits.
+fn act<D: Calls, R: Wait>(rt: &R, desk: &D, mut pass: Pass<u64>, seed: u64, calls: u64) -> Played {
+    let told = match pass.actor().checked_sub(PLAYERS) {
+        None => play(rt, desk, &mut pass, seed, calls),
+        Some(waiter) => wait_for_end(rt, desk, &mut pass, waiter),
+    };
+    Played { pass, told }
+}
+
+/// Has each actor act in a thread of its own, and gives the passes back. The players' threads are started first, and the waiters'
+/// only where all of these were.
+pub fn act_all<D: Calls + Sync, R: Threads + Wait + Sync>(
+    rt: &R,
+    alloc: Global,
+    desk: &D,
+    passes: Vec<Pass<u64>>,
+    seed: u64,
+    calls: u64,
+) -> Result<Vec<Played>> {
+    let mut back = Vec::with_capacity(alloc, passes.len())?;
+    let mut threads = Vec::with_capacity(alloc, passes.len())?;
+    let mut started = true;
+    thread::scope(thread::scope_env(), rt, |scope| {
+        for pass in passes {
+            // There is room for each, here and below.
+            match scope.spawn(move || act(rt, desk, pass, seed, calls)) {
+                Ok(thread) => {
+                    let _ = threads.push(thread);
+                }
+                Err(_) => {
+                    started = false;
+                    break;
+                }
+            }
+        }
+        for thread in threads {
+            let _ = back.push(thread.join(rt));
+        }
+    });
+    if !started {
+        bail!("a thread was not started");
+    }
+    Ok(back)
+}
