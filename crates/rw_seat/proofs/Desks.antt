@@ -1,0 +1,201 @@
+-- Seats of a desk, after a call or a look at one of its channels.
+use Rattle.std.proofs.Common.{◌≡◌, ◌≢◌, ◌↔◌, ℕ, zero, suc, ◌<◌, true, false, true≢false, List, [], ◌∷◌, ◌++◌, map, length, get_or, Option, Some, None, Result, Ok, Err, IfOk, IfErr, IfSome, MatchOption, refl, sym, ap, ◌∙◌, subst, inl, inr, arith}
+use Rattle.std.specs.List.{insert, remove}
+use Rattle.std.specs.Prelude.{slice_get, MatchResult, IsErrOf, IsTrue}
+use Rattle.std.specs.Option.{option_map, option_map_or}
+use Rattle.std.proofs.lemmas.List.{get_or-map, length-append, length-map}
+use Rattle.std.proofs.lemmas.Option.{get_or_from_slice_get, slice_get_within, slice_get-map}
+use Rattle.rw_law.specs.Journal.{IsLegal, after_all}
+use Rattle.rw_world.specs.declared.opening.Spec.{Spec}
+use Rattle.rw_world.specs.declared.opening.Spec.TheVariants.{Broadcast, Watch}
+use Rattle.rw_world.specs.declared.channels.Chan.{Chan}
+use Rattle.rw_world.specs.declared.channels.ChanCall.{ChanCall}
+use Rattle.rw_world.specs.Channel.{strays_at}
+use Rattle.rw_world.specs.ChannelLaws.{kind_stays, strays_by_kind}
+use Rattle.rw_world.specs.Kinds.{kind_of}
+use Rattle.rw_world.specs.Machines.{ChanShown, of_broadcast, of_chan, of_watch}
+use Rattle.rw_world.specs.Openings.{kind_of_spec, opened_channel}
+use Rattle.rw_world.specs.Shapes.{stray_of}
+use Rattle.rw_world.specs.Specified.{ChanEntry}
+use Rattle.rw_journal.specs.Book.{IsBook, RisesFrom}
+use Rattle.rw_desk.specs.declared.faults.DeskFault.{DeskFault}
+use Rattle.rw_desk.specs.declared.faults.DeskFault.TheVariants.{NoChannel}
+use Rattle.rw_desk.specs.Desks.{row_call}
+use Rattle.rw_desk.specs.Passes.{Pass}
+use Rattle.rw_seat.specs.declared.answered.Answered.{Answered}
+use Rattle.rw_seat.specs.Hands.{Home, HandOff}
+use Rattle.rw_seat.specs.Journals.{StartsWith}
+use Rattle.rw_seat.proofs.Journals.{quiet_self}
+use Rattle.rw_seat.specs.Fronts.{author_of, HasGoneOn, IsFaultAfter, IsFrontOf}
+use Rattle.rw_seat.specs.Calls.{IsMade, IsNotMade, OfOpening}
+use Rattle.rw_seat.specs.DeskSeats.{Hand, DeskSeat, front_at, IsDeskSeat, IsElsewhereAsBefore, HasCalled, HasSeen}
+use Rattle.rw_seat.specs.SeatDesks.{SeatDesk, IsAnswered, IsRefused, IsSeatOf, opening_at}
+use Rattle.rw_seat.proofs.Reaching.{each_front, elsewhere, front_here, has_called, has_seen, homes_still, seat_called, seat_looked}
+
+module _ {V : Type 0} where
+  -- what holds of a book's opening holds of what the book is known to have shown first
+  pub of_opening : (P : ChanShown V → Type 0) (home : Home (Chan V)) (x : ChanShown V) → OfOpening home P → opening_at home ≡ Some x → P x
+  of_opening P home x holds from = go home.start holds from
+    where
+      go : (o : Option (Chan V)) → IfSome o (λ channel. P ((of_chan {V = V}).shown channel)) → option_map (of_chan {V = V}).shown o ≡ Some x → P x
+      go None holds from = absurd (cc)
+      go (Some m) holds from = let same : (of_chan {V = V}).shown m ≡ x = cc in subst P same holds
+
+  -- a seat of the desk whose hand at one channel was put back, with a front of that channel
+  pub still_of : (desk : SeatDesk V) (pass new : Pass V) (hands : List (Hand V)) (at : ℕ) (hand h : Hand V) → at < length hands → hand ≡ get_or hands at hand → h.home ≡ hand.home
+      → IsFrontOf desk.specs at h.front → IsSeatOf desk (record { pass = pass; hands = hands }) → IsSeatOf desk (record { pass = new; hands = insert (remove hands at) at h })
+  still_of desk pass new hands at hand h within is home front seat = record {
+    homes = homes_still hands at hand h within is home ∙ seat.homes;
+    fronts = each_front hands at hand h within is (λ c es. IsFrontOf desk.specs c es) front (λ c other. seat.fronts c);
+  }
+
+  -- the book of the channel that a spec opens has a front of that channel
+  pub front_of_spec : (specs : List (Spec V)) (c : ℕ) (spec : Spec V) (home : Home (Chan V)) (es : List (ChanEntry V)) → slice_get specs c ≡ Some spec → opening_at home ≡ Some (opened_channel spec)
+      → OfOpening home (λ x. IsBook of_chan x es) → IsFrontOf specs c es
+  front_of_spec specs c spec home es at from book =
+      subst (λ o. MatchOption o (es ≡ []) (λ s. IsBook of_chan (opened_channel s) es)) (sym at) (of_opening (λ x. IsBook of_chan x es) home (opened_channel spec) book from)
+
+  -- each hand-off has its spec
+  pub spec_of : (specs : List (Spec V)) (hand_offs : List (HandOff (Chan V))) (c : ℕ) (h : HandOff (Chan V)) → map (λ (x : HandOff (Chan V)). opening_at x.home) hand_offs ≡ map (λ spec. Some (opened_channel spec)) specs
+      → slice_get hand_offs c ≡ Some h → (spec : Spec V) × (slice_get specs c ≡ Some spec) × (opening_at h.home ≡ Some (opened_channel spec))
+  spec_of specs [] c h opened at = absurd (cc)
+  spec_of [] (x ∷ xs) c h opened at = absurd (cc)
+  spec_of (s ∷ specs) (x ∷ xs) zero h opened at =
+      let same : x ≡ h = cc in
+      let first : opening_at x.home ≡ Some (opened_channel s) = cc in
+      (s, refl, subst (λ (y : HandOff (Chan V)). opening_at y.home ≡ Some (opened_channel s)) same first)
+  spec_of (s ∷ specs) (x ∷ xs) (suc c) h opened at =
+      let rest : map (λ (y : HandOff (Chan V)). opening_at y.home) xs ≡ map (λ spec. Some (opened_channel spec)) specs = cc in
+      spec_of specs xs c h rest at
+
+  module _ (hands : List (Hand V)) (homes : List (Home (Chan V))) (at : ℕ) (home : Home (Chan V)) (same : map (λ (x : Hand V). x.home) hands ≡ homes) (there : slice_get homes at ≡ Some home) where
+    -- a seat of a desk has a hand for each of its channels
+    pub within_hands : at < length hands
+    within_hands =
+        let within : at < length homes = slice_get_within homes at home there in
+        omega (arith, within, ap length same, length-map hands (λ (x : Hand V). x.home))
+
+    -- which is of the channel's hand-off
+    pub home_at : (hand : Hand V) → hand ≡ get_or hands at hand → hand.home ≡ home
+    home_at hand is =
+        ap (λ (x : Hand V). x.home) is
+        ∙ (sym (get_or-map (λ (x : Hand V). x.home) hands at hand hand.home within_hands)
+        ∙ (ap (λ (hs : List (Home (Chan V))). get_or hs at hand.home) same ∙ get_or_from_slice_get homes at home hand.home there))
+
+  kind_after : (x : ChanShown V) (es : List (ChanEntry V)) → kind_of (after_all of_chan x es) ≡ kind_of x
+  kind_after x [] = refl
+  kind_after x (e ∷ es) = kind_after ((of_chan {V = V}).next x e.call) es ∙ kind_stays of_broadcast of_watch x e.call
+
+  kind_opened : (spec : Spec V) → kind_of (opened_channel spec) ≡ kind_of_spec spec
+  kind_opened (Broadcast capacity) = refl
+  kind_opened (Watch init) = refl
+
+  -- after any front a call strays exactly by the spec
+  strays_after : (spec : Spec V) (es : List (ChanEntry V)) (call : ChanCall V) → (of_chan {V = V}).is_straying ((of_chan {V = V}).reply_of (after_all of_chan (opened_channel spec) es) call) ≡ strays_at (kind_of_spec spec) call
+  strays_after spec es call =
+      strays_by_kind of_broadcast of_watch (after_all of_chan (opened_channel spec) es) call ∙ ap (λ k. strays_at k call) (kind_after (opened_channel spec) es ∙ kind_opened spec)
+
+  -- a call that isn't of the other kind than the channel has no such fault
+  no_stray : (spec : Spec V) (home : Home (Chan V)) (old new : Pass V) (seen now : List (ChanEntry V)) (call : ChanCall V) → opening_at home ≡ Some (opened_channel spec) → strays_at (kind_of_spec spec) call ≡ false
+      → IsNotMade home old new seen now call NoChannel → ⊥
+  no_stray spec home old new seen now call from stays refused =
+      let strays = of_opening (λ x. IsFaultAfter x now old.clock call NoChannel) home (opened_channel spec) refused.reason from in
+      true≢false (sym strays ∙ (strays_after spec now call ∙ stays))
+
+  -- where a call has no channel, nothing was seen
+  pub refused_stray : (specs : List (Spec V)) (seat : DeskSeat V) (at : ℕ) (call : ChanCall V) → IsTrue (stray_of strays_at (map kind_of_spec specs) (row_call at call)) → IsAnswered specs seat seat at call (Err NoChannel)
+  refused_stray specs seat at call strays = record {
+    made = record {
+      seen = record { pass = refl; fronts = λ c. quiet_self author_of (seat.pass.actor ∷ []) (front_at seat.hands c) };
+      reason = why (slice_get specs at) (subst (λ o. IsTrue (option_map_or (λ k. strays_at k call) o true)) (slice_get-map kind_of_spec specs at) strays);
+    };
+    elsewhere = λ c other. refl;
+    no_channel = ((λ no. strays), (λ t. refl));
+  }
+    where
+      why : (o : Option (Spec V)) → IsTrue (option_map_or (λ k. strays_at k call) (option_map kind_of_spec o) true)
+          → MatchOption o (NoChannel ≡ NoChannel) (λ spec. IsFaultAfter (opened_channel spec) (front_at seat.hands at) seat.pass.clock call NoChannel)
+      why None t = refl
+      why (Some spec) t = strays_after spec (front_at seat.hands at) call ∙ t
+
+  stays_in : (specs : List (Spec V)) (at : ℕ) (spec : Spec V) (call : ChanCall V) → slice_get specs at ≡ Some spec → strays_at (kind_of_spec spec) call ≡ false
+      → stray_of strays_at (map kind_of_spec specs) (row_call at call) ≡ false
+  stays_in specs at spec call there stays = rw (slice_get-map, there) stays
+
+  legal_begins : (x : ChanShown V) (f rest : List (ChanEntry V)) → IsLegal of_chan x (f ++ rest) → IsLegal of_chan x f
+  legal_begins x [] rest legal = tt
+  legal_begins x (e ∷ f) rest legal = (legal.0, legal_begins ((of_chan {V = V}).next x e.call) f rest legal.1)
+
+  rises_begins : (s : ℕ) (f rest : List (ChanEntry V)) → RisesFrom s (f ++ rest) → RisesFrom s f
+  rises_begins s [] rest rises = tt
+  rises_begins s (e ∷ f) rest rises = (rises.0, rises_begins e.stamp f rest rises.1)
+
+  -- what begins a front is a front
+  pub front_begins : (specs : List (Spec V)) (c : ℕ) (spec : Spec V) (f h : List (ChanEntry V)) → slice_get specs c ≡ Some spec → StartsWith h f → IsFrontOf specs c h → IsFrontOf specs c f
+  front_begins specs c spec f h at begins front =
+      let book : IsBook of_chan (opened_channel spec) (f ++ begins.0) =
+      subst (IsBook of_chan (opened_channel spec)) begins.1 (subst (λ o. MatchOption o (h ≡ []) (λ s. IsBook of_chan (opened_channel s) h)) at front) in
+      subst (λ o. MatchOption o (f ≡ []) (λ s. IsBook of_chan (opened_channel s) f)) (sym at) (record {
+        legal = legal_begins (opened_channel spec) f begins.0 book.legal;
+        ordered = rises_begins 0 f begins.0 book.ordered;
+        short = omega (arith, length-append f begins.0, book.short);
+      })
+
+  -- a seat that looked at one channel, before it is put together again
+  module _ (seat : DeskSeat V) (pass : Pass V) (others : List (Hand V)) (at : ℕ) (hand h : Hand V) (within : at < length seat.hands) (same : pass ≡ seat.pass) (out : others ≡ remove seat.hands at)
+      (is : hand ≡ get_or seat.hands at hand) (kept : IsDeskSeat seat.pass seat.hands) (number : h.number ≡ hand.number) (on : HasGoneOn hand.number hand.front h.front) where
+    gone_on : HasGoneOn seat.pass.actor hand.front h.front
+    gone_on =
+        let mine : hand.number ≡ seat.pass.actor = ap (λ (x : Hand V). x.number) is ∙ kept.numbers at hand within in
+        subst (λ (n : ℕ). HasGoneOn n hand.front h.front) mine on
+
+    pub looked_seat : IsDeskSeat pass (insert others at h)
+    looked_seat = subst (λ (z : Pass V × List (Hand V)). IsDeskSeat z.0 (insert z.1 at h)) (λ i. (sym same i, sym out i)) (seat_looked seat.hands at hand h within is seat.pass kept number gone_on)
+
+    -- and after
+    pub looked : (desk : SeatDesk V) (whole : DeskSeat V) → whole ≡ record { pass = pass; hands = insert others at h } → h.home ≡ hand.home → IsFrontOf desk.specs at h.front → IsSeatOf desk seat
+        → IsSeatOf desk whole × HasSeen seat whole × IsElsewhereAsBefore at seat whole × (front_at whole.hands at ≡ h.front)
+    looked desk whole put home front of_desk =
+        let now : DeskSeat V = record { pass = pass; hands = insert (remove seat.hands at) at h } in
+        let eq : whole ≡ now = put ∙ ap (λ (hs : List (Hand V)). record { pass = pass; hands = insert hs at h }) out in
+        subst (λ (w : DeskSeat V). IsSeatOf desk w × HasSeen seat w × IsElsewhereAsBefore at seat w × (front_at w.hands at ≡ h.front)) (sym eq) (
+          still_of desk seat.pass pass seat.hands at hand h within is home front of_desk,
+          has_seen seat.hands at hand h within is seat.pass pass same gone_on,
+          elsewhere seat.hands at hand h within is seat.pass pass,
+          front_here seat.hands at hand h within is,
+        )
+
+  pub seen_nothing : (s : DeskSeat V) → HasSeen s s
+  seen_nothing s = record { pass = refl; fronts = λ c. quiet_self author_of (s.pass.actor ∷ []) (front_at s.hands c) }
+
+  -- the seat that a call leaves keeps what a seat keeps
+  pub seat_after : (pass new : Pass V) (hands : List (Hand V)) (at : ℕ) (hand h : Hand V) (home : Home (Chan V)) (call : ChanCall V) (answer : Result (Answered V) DeskFault) → at < length hands → hand ≡ get_or hands at hand
+      → IsDeskSeat pass hands → h.number ≡ hand.number → IfOk answer (IsMade pass new hand.front h.front at call) → IfErr answer (IsNotMade home pass new hand.front h.front call) → IsDeskSeat new (insert (remove hands at) at h)
+  seat_after pass new hands at hand h home call (Ok a) within is seat number made refused = seat_called hands at hand h within is pass new call a seat number made
+  seat_after pass new hands at hand h home call (Err fault) within is seat number made refused =
+      subst (λ (p : Pass V). IsDeskSeat p (insert (remove hands at) at h)) (sym refused.pass) (seat_looked hands at hand h within is pass seat number refused.front)
+
+  -- what a desk answers, from what the hand's call came to
+  pub answered : (specs : List (Spec V)) (pass new : Pass V) (hands : List (Hand V)) (at : ℕ) (hand h : Hand V) (home : Home (Chan V)) (spec : Spec V) (call : ChanCall V) (answer : Result (Answered V) DeskFault)
+      → at < length hands → hand ≡ get_or hands at hand → slice_get specs at ≡ Some spec → opening_at home ≡ Some (opened_channel spec) → strays_at (kind_of_spec spec) call ≡ false
+      → IsDeskSeat new (insert (remove hands at) at h)
+      → IfOk answer (IsMade pass new hand.front h.front at call) → IfErr answer (IsNotMade home pass new hand.front h.front call)
+      → IsAnswered specs (record { pass = pass; hands = hands }) (record { pass = new; hands = insert (remove hands at) at h }) at call answer
+  answered specs pass new hands at hand h home spec call (Ok a) within is there from stays seat made refused = record {
+    made = has_called hands at hand h within is pass new call a seat made;
+    elsewhere = elsewhere hands at hand h within is pass new;
+    no_channel = ((λ no. absurd (cc)), (λ strays. absurd (true≢false (sym strays ∙ stays_in specs at spec call there stays))));
+  }
+  answered specs pass new hands at hand h home spec call (Err fault) within is there from stays seat made refused = record {
+    made = record {
+      seen = has_seen hands at hand h within is pass new refused.pass refused.front;
+      reason = subst (λ o. MatchOption o (fault ≡ NoChannel) (λ s. IsFaultAfter (opened_channel s) (front_at (insert (remove hands at) at h) at) pass.clock call fault)) (sym there)
+          (subst (λ (es : List (ChanEntry V)). IsFaultAfter (opened_channel spec) es pass.clock call fault) (sym (front_here hands at hand h within is))
+          (of_opening (λ x. IsFaultAfter x h.front pass.clock call fault) home (opened_channel spec) refused.reason from));
+    };
+    elsewhere = elsewhere hands at hand h within is pass new;
+    no_channel = (
+      (λ no. let is_no : fault ≡ NoChannel = cc in absurd (no_stray spec home pass new hand.front h.front call from stays (subst (IsNotMade home pass new hand.front h.front call) is_no refused))),
+      (λ strays. absurd (true≢false (sym strays ∙ stays_in specs at spec call there stays))),
+    );
+  }

@@ -1,0 +1,12 @@
+pub mod Journals
+pub mod Views
+pub mod Steps
+pub mod Dealing
+pub mod Sets
+pub mod Closes
+pub mod Owning
+pub mod Reaching
+pub mod Handing
+pub mod Desks
+pub mod Closings
+pub mod Giving

@@ -1,0 +1,122 @@
+//! An actor's seat at a desk.
+
+ghost use Rattle.std.specs.Prelude.{◌≡◌, ◌<◌, ◌≤◌, [], length, get_or, vec_len, vec_capacity, OnOk};
+ghost use Rattle.std.specs.List.{insert, remove};
+ghost use Rattle.rw_law.specs.declared.limits.TheConstants.{MOST_ACTORS};
+ghost use Rattle.rw_desk.specs.Passes.{IsPass, fresh_pass};
+ghost use Rattle.rw_seat.specs.DeskSeats.{IsDeskSeat, with_hand};
+
+use crate::hand_off::HandSeat;
+use rw_desk::{Kept, Pass};
+use rw_journal::Book;
+use rw_law::{NoMemory, Payload};
+use rw_world::Chan;
+use std::alloc::Global;
+use std::marker::Model;
+
+/// A seat of a channel's hand-off.
+pub(crate) type Hand<V> = HandSeat<Book<Chan<V>>>;
+
+/// An actor's seat at a desk: its clock and receipts, and what it has seen of each channel.
+#[derive(Drop)]
+pub struct DeskSeat<V: Payload> {
+    pass: Pass<V>,
+    hands: Vec<HandSeat<Book<Chan<V>>>>,
+}
+
+impl<V: Payload> Model for DeskSeat<V> {
+    ghost use Rattle.rw_seat.specs.DeskSeats.{DeskSeat as Seen, IsDeskSeat};
+
+    ghost Value = { Seen V };
+
+    ghost view = { λ s. record { pass = s.pass; hands = s.hands.items } };
+
+    ghost invariant = { λ s. IsDeskSeat s.pass s.hands.items };
+}
+
+impl<V: Payload> DeskSeat<V> {
+    /// An actor's seat without hands.
+    pub(crate) fn new(alloc: Global, actor: u32) -> DeskSeat<V>
+        requires { actor < MOST_ACTORS }
+        ensures { result ≡ record { pass = fresh_pass actor; hands = [] } }
+    {
+        DeskSeat {
+            pass: Pass::new(alloc, actor),
+            hands: Vec::new(alloc),
+        }
+    }
+
+    /// The actor's number.
+    pub fn actor(&self) -> u32
+        ensures actor { result ≡ self.now.pass.actor }
+        ensures known { result < MOST_ACTORS }
+    {
+        self.pass.actor()
+    }
+
+    /// The stamp of its last call.
+    pub fn stamp(&self) -> u64
+        ensures { result ≡ self.now.pass.clock }
+    {
+        self.pass.stamp()
+    }
+
+    /// The receipts of its calls, in order.
+    pub fn kept(&self) -> &[Kept<V>]
+        ensures kept { result.now ≡ self.now.pass.kept }
+        ensures pass { IsPass self.now.pass.actor self.now.pass.clock result.now }
+        ensures seat { IsDeskSeat self.now.pass self.now.hands }
+    {
+        self.pass.kept()
+    }
+
+    /// Gives a seat that made no call a hand more, which has seen nothing.
+    pub(crate) fn add(&mut self, hand: HandSeat<Book<Chan<V>>>) -> Result<(), NoMemory>
+        requires pass { self.old.pass ≡ fresh_pass hand.number }
+        requires front { hand.front ≡ [] }
+        ensures { OnOk result (self.new ≡ with_hand self.old hand) }
+    {
+        self.hands.push(hand)?;
+        Ok(())
+    }
+
+    /// Takes the seat apart: its pass, its other hands, and its hand at a channel.
+    pub(crate) fn reach(
+        self,
+        at: usize,
+    ) -> (
+        Pass<V>,
+        Vec<HandSeat<Book<Chan<V>>>>,
+        HandSeat<Book<Chan<V>>>,
+    )
+        requires { at < length self.hands }
+        ensures pass { result.0 ≡ self.pass }
+        ensures others { result.1.items ≡ remove self.hands at }
+        ensures within { at ≤ vec_len result.1 }
+        ensures room { vec_len result.1 < vec_capacity result.1 }
+        ensures hand { result.2 ≡ get_or self.hands at result.2 }
+        ensures seat { IsDeskSeat self.pass self.hands }
+    {
+        let DeskSeat { pass, mut hands } = self;
+        let hand = hands.remove(at);
+        (pass, hands, hand)
+    }
+
+    /// Puts a seat together again.
+    pub(crate) fn whole(
+        pass: Pass<V>,
+        mut hands: Vec<HandSeat<Book<Chan<V>>>>,
+        at: usize,
+        hand: HandSeat<Book<Chan<V>>>,
+    ) -> DeskSeat<V>
+        requires within { at ≤ vec_len hands }
+        requires room { vec_len hands < vec_capacity hands }
+        requires seat { IsDeskSeat pass (insert hands.items at hand) }
+        ensures { result ≡ record { pass = pass; hands = insert hands.items at hand } }
+    {
+        let Ok(()) = hands.insert(at, hand) else {
+            unreachable!()
+        };
+        DeskSeat { pass, hands }
+    }
+}

@@ -1,0 +1,41 @@
+//! The book, while a seat has it.
+
+ghost use Rattle.std.specs.Prelude.{◌≡◌, ◌∷◌, [], Some};
+ghost use Rattle.rw_seat.specs.Journals.{Adds};
+ghost use Rattle.rw_seat.specs.Rule.{Holds};
+
+use crate::hand_off::{HandOff, HandSeat};
+use crate::taking::{Chair, put_back};
+use rw_journal::Keeps;
+
+/// The book, lent to a seat. Who drops it keeps the book for ever: no other seat gets it.
+#[derive(Drop)]
+pub struct Lent<'a, B: Keeps + Drop> {
+    pub(crate) from: &'a HandOff<B>,
+    pub(crate) number: u32,
+    pub(crate) seat: Chair<B>,
+    pub(crate) book: B,
+    ghost mine: { Holds number seat.me },
+    ghost place: { seat.table_id ≡ from.now.home.table },
+    ghost start: { seat.me.0.start ≡ from.now.home.start },
+}
+
+impl<'a, B: Keeps + Drop> Lent<'a, B> {
+    /// Gives the book back. The seat has then seen its whole journal.
+    pub fn give(self) -> HandSeat<B>
+        requires start { Some (B.start self.book) ≡ self.from.now.home.start }
+        requires adds { Adds B.author (self.number ∷ []) self.seat.me.0.front (B.journal self.book) }
+        ensures number { result.number ≡ self.entry.number }
+        ensures home { result.home ≡ self.entry.from.now.home }
+        ensures front { result.front ≡ B.journal self.entry.book }
+    {
+        let Lent {
+            from,
+            number,
+            mut seat,
+            book,
+        } = self;
+        put_back(&from.table.shared, &mut seat, book);
+        HandSeat { number, seat }
+    }
+}

@@ -1,0 +1,133 @@
+//! Opening desks with seats.
+
+ghost use Rattle.std.specs.Prelude.{◌≡◌, ◌<◌, ◌≤◌, ℕ, false, [], None, Some, All, length, map, slice_get, IfNone, IfOk, IfSome, IsNone, MatchResult, OnOk};
+ghost use Rattle.rw_law.specs.declared.limits.TheConstants.{MOST_ACTORS};
+ghost use Rattle.rw_world.specs.Openings.{has_bad_capacity, opened_channel, refusal};
+ghost use Rattle.rw_desk.specs.Desks.{refusal_to_open};
+ghost use Rattle.rw_desk.specs.Passes.{fresh_pass};
+ghost use Rattle.rw_seat.specs.DeskSeats.{Hand, fresh_hand, with_hand, DeskSeat as Seated};
+ghost use Rattle.rw_seat.specs.Rule.{numbers_from};
+ghost use Rattle.rw_seat.specs.SeatDesks.{HasOpened, opening_at};
+
+use crate::desk_seat::DeskSeat;
+use crate::hand_off::{HandOff, HandSeat};
+use crate::seat_desk::SeatDesk;
+use rw_desk::DeskOpenFault;
+use rw_journal::Book;
+use rw_law::{MOST_ACTORS, NoMemory, Payload};
+use rw_world::{Chan, OpenFault, Spec, open_channel, refusal_of};
+use std::alloc::Global;
+
+impl<V: Payload> SeatDesk<V> {
+    /// A desk with a channel for each spec, under the numbers 0, 1, 2, .., and a seat for each actor, in the order of their
+    /// numbers.
+    pub fn open(
+        alloc: Global,
+        specs: &[Spec<V>],
+        actors: u32,
+    ) -> Result<(SeatDesk<V>, Vec<DeskSeat<V>>), DeskOpenFault>
+        ensures refused { IfSome (refusal_to_open specs.now actors) (λ fault. result ≡ Err fault) }
+        ensures opened { IfNone (refusal_to_open specs.now actors) (MatchResult result (λ r. HasOpened specs.now actors r.0 r.1.items) (λ fault. fault ≡ DeskOpenFault.World OpenFault.NoMemory)) }
+    {
+        if let Some(fault) = refusal_to_open(specs, actors) {
+            return Err(fault);
+        }
+        match open_all(alloc, specs, actors) {
+            Ok(opened) => Ok(opened),
+            Err(NoMemory) => Err(DeskOpenFault::World(OpenFault::NoMemory)),
+        }
+    }
+}
+
+/// Why no desk of these specs and so many actors is opened, if there is such a cause.
+fn refusal_to_open<V: Copy>(specs: &[Spec<V>], actors: u32) -> Option<DeskOpenFault>
+    ensures refusal { result ≡ refusal_to_open specs.now actors }
+    ensures opens { IsNone result → refusal specs.now ≡ None }
+    ensures good { IsNone result → All (λ spec. has_bad_capacity spec ≡ false) specs.now }
+    ensures some { IsNone result → 0 < actors }
+    ensures few { IsNone result → actors ≤ MOST_ACTORS }
+{
+    if actors == 0 || actors > MOST_ACTORS {
+        return Some(DeskOpenFault::BadActors);
+    }
+    match refusal_of(specs) {
+        Some(fault) => Some(DeskOpenFault::World(fault)),
+        None => None,
+    }
+}
+
+/// Opens a desk of specs that open, and of a good number of actors.
+fn open_all<V: Payload>(
+    alloc: Global,
+    specs: &[Spec<V>],
+    actors: u32,
+) -> Result<(SeatDesk<V>, Vec<DeskSeat<V>>), NoMemory>
+    requires opens { refusal specs.now ≡ None }
+    requires good { All (λ spec. has_bad_capacity spec ≡ false) specs.now }
+    requires some { 0 < actors }
+    requires few { actors ≤ MOST_ACTORS }
+    ensures { IfOk result (λ r. HasOpened specs.now actors r.0 r.1.items) }
+{
+    let mut seats = seats_without_hands(alloc, actors)?;
+    let mut hand_offs = Vec::new(alloc);
+    for spec in specs {
+        let (hand_off, hands) = open_hand_off(alloc, spec, actors)?;
+        hand_out(&mut seats, hands)?;
+        hand_offs.push(hand_off)?;
+    }
+    let Ok(specs) = Vec::from_slice(alloc, specs) else {
+        return Err(NoMemory);
+    };
+    let desk = SeatDesk {
+        specs,
+        actors,
+        hand_offs,
+    };
+    Ok((desk, seats))
+}
+
+/// A seat for each actor, without hands.
+fn seats_without_hands<V: Payload>(alloc: Global, actors: u32) -> Result<Vec<DeskSeat<V>>, NoMemory>
+    requires { actors ≤ MOST_ACTORS }
+    ensures { IfOk result (λ seats. (length seats.items ≡ actors) × ((a : ℕ) → a < actors → slice_get seats.items a ≡ Some (record { pass = fresh_pass a; hands = [] }))) }
+{
+    let mut seats = Vec::new(alloc);
+    for actor in 0..actors {
+        seats.push(DeskSeat::new(alloc, actor))?;
+    }
+    Ok(seats)
+}
+
+/// Opens a channel, and hands its book off.
+fn open_hand_off<V: Payload>(
+    alloc: Global,
+    spec: &Spec<V>,
+    seats: u32,
+) -> Result<(HandOff<Book<Chan<V>>>, Vec<HandSeat<Book<Chan<V>>>>), NoMemory>
+    requires good { has_bad_capacity spec.now ≡ false }
+    requires some { 0 < seats }
+    requires few { seats ≤ MOST_ACTORS }
+    ensures opened { IfOk result (λ r. opening_at r.0.home ≡ Some (opened_channel spec.now)) }
+    ensures seats { IfOk result (λ r. r.1.items ≡ map (λ n. fresh_hand n r.0.home) (numbers_from 0 seats)) }
+{
+    let channel = open_channel(alloc, spec)?;
+    let book = Book::open(alloc, channel)?;
+    HandOff::open(alloc, book, seats)
+}
+
+/// Gives each hand to the seat of its number.
+fn hand_out<V: Payload>(
+    seats: &mut [DeskSeat<V>],
+    mut hands: Vec<HandSeat<Book<Chan<V>>>>,
+) -> Result<(), NoMemory>
+    requires all { length seats.old ≡ length hands.items }
+    requires fresh { (a : ℕ) → IfSome (slice_get seats.old a) (λ s. s.pass ≡ fresh_pass a) }
+    requires hands { (a : ℕ) → IfSome (slice_get hands.items a) (λ h. (h.number ≡ a) × (h.front ≡ [])) }
+    ensures length { length seats.new ≡ length seats.old }
+    ensures each { OnOk result ((a : ℕ) (s : Seated V) (h : Hand V) → slice_get seats.old a ≡ Some s → slice_get hands.items a ≡ Some h → slice_get seats.new a ≡ Some (with_hand s h)) }
+{
+    while let Some(hand) = hands.pop() {
+        seats[hands.len()].add(hand)?;
+    }
+    Ok(())
+}

@@ -1,0 +1,56 @@
+//! The rule of the table under a hand-off, and what its steps tell. `specs/Rule.antt` has both in words.
+
+ghost use Rattle.std.specs.Prelude.{Some};
+ghost use Rattle.rw_seat.specs.Rule.{Kept, Takes, Gives, resting, numbers_from, first_part, other_part, joined, spent};
+
+use crate::view::{Opening, View};
+use atomic_table::{Join, Play, Split, TableRule};
+use rw_journal::Keeps;
+use std::marker::PhantomData;
+
+/// One book goes round.
+pub struct OneBook<B> {
+    marker: PhantomData<B>,
+}
+
+impl<B: Keeps> TableRule<Option<B>, View<B::Entry, B::Start>, Opening<B>> for OneBook<B> {
+    ghost holds = { λ key. Kept B.author B.start B.journal (B.start key.book.value) key.seats };
+
+    ghost first = { λ key. resting (numbers_from 0 key.seats) (Some (B.start key.book.value)) (B.journal key.book.value) };
+}
+
+/// A taking, which wins or loses.
+pub struct Take<B> {
+    marker: PhantomData<B>,
+}
+
+impl<B: Keeps> Play<Option<B>, View<B::Entry, B::Start>> for Take<B> {
+    ghost then = { Takes B.author B.start B.journal };
+}
+
+/// A giving back.
+pub struct Give<B> {
+    marker: PhantomData<B>,
+}
+
+impl<B: Keeps> Play<Option<B>, View<B::Entry, B::Start>> for Give<B> {
+    ghost then = { Gives B.author B.start B.journal };
+}
+
+/// A splitting: the first number stays, the others go.
+pub struct Deal;
+
+impl<E, S> Split<View<E, S>> for Deal {
+    ghost left = { first_part };
+
+    ghost right = { other_part };
+}
+
+/// A joining.
+pub struct Meet;
+
+impl<E, S> Join<View<E, S>> for Meet {
+    ghost both = { joined };
+
+    ghost spent = { spent };
+}

@@ -1,0 +1,133 @@
+//! Desks whose channels are handed from seat to seat: a call's answer says what its caller has seen.
+
+ghost use Rattle.std.specs.Prelude.{◌≡◌, ◌↔◌, ◌≤◌, false, Some, length, map, slice_get, IfNone, IfSome, IsNone, IsTrue};
+ghost use Rattle.rw_world.specs.Channel.{strays_at};
+ghost use Rattle.rw_world.specs.declared.opening.Spec.{Spec as Specs};
+ghost use Rattle.rw_world.specs.Openings.{kind_of_spec, opened_channel};
+ghost use Rattle.rw_world.specs.Shapes.{stray_of};
+ghost use Rattle.rw_desk.specs.Desks.{row_call};
+ghost use Rattle.rw_seat.specs.Journals.{StartsWith};
+ghost use Rattle.rw_seat.specs.DeskSeats.{HasSeen, IsElsewhereAsBefore, front_at};
+ghost use Rattle.rw_seat.specs.SeatDesks.{IsAnswered, IsSeatOf, opening_at};
+
+use crate::answered::Answered;
+use crate::calling::{call_by_hand, look_by_hand};
+use crate::desk_seat::DeskSeat;
+use crate::hand_off::HandOff;
+use rw_desk::DeskFault;
+use rw_journal::Book;
+use rw_law::Payload;
+use rw_world::{Chan, ChanCall, Spec};
+use std::marker::Model;
+use std::sync::Wait;
+
+/// Channels that threads share by reference, each with its book handed from seat to seat, and how many actors there are.
+#[derive(Drop)]
+pub struct SeatDesk<V: Payload> {
+    pub(crate) specs: Vec<Spec<V>>,
+    pub(crate) actors: u32,
+    pub(crate) hand_offs: Vec<HandOff<Book<Chan<V>>>>,
+}
+
+impl<V: Payload> Model for SeatDesk<V> {
+    ghost use Rattle.std.specs.Prelude.{map};
+    ghost use Rattle.rw_seat.specs.SeatDesks.{IsSeatDesk, SeatDesk as Seen};
+
+    ghost Value = { Seen V };
+
+    ghost view = { λ d. record { specs = d.specs.items; actors = d.actors; homes = map (λ h. h.home) d.hand_offs.items } };
+
+    ghost invariant = { λ d. IsSeatDesk d.specs.items d.actors d.hand_offs.items };
+}
+
+impl<V: Payload> SeatDesk<V> {
+    /// One call. It waits for the channel's book, and for no value.
+    pub fn call<R: Wait>(
+        &self,
+        rt: &R,
+        seat: DeskSeat<V>,
+        channel: u32,
+        call: ChanCall<V>,
+    ) -> (DeskSeat<V>, Result<Answered<V>, DeskFault>)
+        requires { IsSeatOf self.now seat }
+        ensures seat { IsSeatOf self.now result.0 }
+        ensures answered { IsAnswered self.now.specs seat result.0 channel call result.1 }
+    {
+        let Some(hand_off) = self.hand_off(channel, &call) else {
+            return (seat, Err(DeskFault::NoChannel));
+        };
+        let at = channel as usize;
+        let (mut pass, hands, hand) = seat.reach(at);
+        let (hand, answer) = call_by_hand(rt, hand_off, hand, &mut pass, channel, call);
+        (DeskSeat::whole(pass, hands, at, hand), answer)
+    }
+
+    /// Lets two seats meet on a channel: what the second has then seen of it, the first has seen too. The length of what the
+    /// first has seen is answered. `None`: there is no such channel.
+    pub fn meet<R: Wait>(
+        &self,
+        rt: &R,
+        one: DeskSeat<V>,
+        two: DeskSeat<V>,
+        channel: u32,
+    ) -> (DeskSeat<V>, DeskSeat<V>, Option<u64>)
+        requires one { IsSeatOf self.now one }
+        requires two { IsSeatOf self.now two }
+        ensures seats { IsSeatOf self.now result.0 × IsSeatOf self.now result.1 }
+        ensures seen { HasSeen one result.0 × HasSeen two result.1 }
+        ensures elsewhere { IsElsewhereAsBefore channel one result.0 × IsElsewhereAsBefore channel two result.1 }
+        ensures none { IsNone result.2 ↔ length self.now.specs ≤ channel }
+        ensures nothing { IfNone result.2 ((result.0 ≡ one) × (result.1 ≡ two)) }
+        ensures met { IfSome result.2 (λ n. (n ≡ length (front_at result.0.hands channel)) × StartsWith (front_at result.0.hands channel) (front_at result.1.hands channel)) }
+    {
+        let at = channel as usize;
+        let Some(hand_off) = self.hand_off_at(at) else {
+            return (one, two, None);
+        };
+        let (first, ours, one) = one.reach(at);
+        let (second, theirs, two) = two.reach(at);
+        let (one, two) = hand_off.meet(rt, one, two);
+        let (one, length) = look_by_hand(rt, hand_off, one);
+        (
+            DeskSeat::whole(first, ours, at, one),
+            DeskSeat::whole(second, theirs, at, two),
+            Some(length),
+        )
+    }
+
+    /// The hand-off of a channel, if there is one for this call.
+    fn hand_off(&self, channel: u32, call: &ChanCall<V>) -> Option<&HandOff<Book<Chan<V>>>>
+        ensures none { IsNone result ↔ IsTrue (stray_of strays_at (map kind_of_spec self.now.specs) (row_call channel call.now)) }
+        ensures home { IfSome result (λ h. slice_get self.now.homes channel ≡ Some h.now.home) }
+        ensures spec { IfSome result (λ h. (spec : Specs V) × (slice_get self.now.specs channel ≡ Some spec) × (opening_at h.now.home ≡ Some (opened_channel spec)) × (strays_at (kind_of_spec spec) call.now ≡ false)) }
+    {
+        let at = channel as usize;
+        if strays(self.specs.get(at)?, call) {
+            return None;
+        }
+        self.hand_off_at(at)
+    }
+
+    /// The hand-off of a channel, if there is one.
+    pub(crate) fn hand_off_at(&self, at: usize) -> Option<&HandOff<Book<Chan<V>>>>
+        ensures none { IsNone result ↔ length self.now.specs ≤ at }
+        ensures home { IfSome result (λ h. slice_get self.now.homes at ≡ Some h.now.home) }
+        ensures spec { IfSome result (λ h. (spec : Specs V) × (slice_get self.now.specs at ≡ Some spec) × (opening_at h.now.home ≡ Some (opened_channel spec))) }
+    {
+        if at >= self.specs.len() {
+            return None;
+        }
+        Some(&self.hand_offs[at])
+    }
+}
+
+/// Whether a call is of the other kind than the channel of this spec.
+fn strays<V: Copy>(spec: &Spec<V>, call: &ChanCall<V>) -> bool
+    ensures { result ≡ strays_at (kind_of_spec spec.now) call.now }
+{
+    match (spec, call) {
+        (Spec::Broadcast(_), ChanCall::B(_)) => false,
+        (Spec::Watch(_), ChanCall::W(_)) => false,
+        _ => true,
+    }
+}
