@@ -1,9 +1,9 @@
 //! Desks of one actor, and what is refused.
 
 use super::plain::{
-    b_clone_sender, b_receiver_count, b_send, b_try_recv, call, close, differs, open, order,
-    receipts, w_clone_sender, w_drop_sender, w_send, w_send_if_modified, w_send_modify, w_update,
-    w_wait_for,
+    b_clone_sender, b_drop_sender, b_receiver_count, b_receiver_len, b_recv, b_send, b_try_recv,
+    call, close, differs, open, order, receipts, w_clone_sender, w_drop_sender, w_send,
+    w_send_if_modified, w_send_modify, w_update, w_wait_for, wait_call,
 };
 use rw_broadcast::{BCall, BReply};
 use rw_desk::{CloseFault, DeskFault, DeskOpenFault, Ends, Kept, Made};
@@ -206,5 +206,134 @@ fn senders_that_are_cloned_and_closures(rt: HostRuntime) -> Result<(), Fail> {
         value: 4,
     };
     assert_eq!(rt; last.call, ChanCall::W(unchanged));
+    Ok(())
+}
+
+#[test]
+fn ring_of_the_greatest_capacity(rt: HostRuntime) -> Result<(), Fail> {
+    let alloc = rt.alloc();
+    let (desk, mut passes, mut ends) = open::<u64>(alloc, &[Spec::Broadcast(65_536)], 1)?;
+    let Some(Ends::Broadcast(sender, receiver)) = ends.pop() else {
+        return Err(Fail::from("no broadcast"));
+    };
+    let pass = &mut passes.pop().ok_or("no pass")?;
+    for value in 0..=65_536 {
+        let sent = b_send(&desk, &rt, pass, &sender, value);
+        assert_eq!(rt; sent, Ok(BReply::Sent(1)));
+    }
+    let unread = b_receiver_len(&desk, &rt, pass, &receiver);
+    assert_eq!(rt; unread, Ok(BReply::Count(65_537)));
+    for reply in [BReply::Lagged(1), BReply::Value(1), BReply::Value(2)] {
+        assert_eq!(rt; b_try_recv(&desk, &rt, pass, &receiver), Ok(reply));
+    }
+    Ok(())
+}
+
+#[test]
+fn handle_limit_at_a_desk(rt: HostRuntime) -> Result<(), Fail> {
+    let alloc = rt.alloc();
+    let (desk, mut passes, mut ends) = open::<u64>(alloc, &[Spec::Broadcast(1)], 1)?;
+    let Some(Ends::Broadcast(sender, _receiver)) = ends.pop() else {
+        return Err(Fail::from("no broadcast"));
+    };
+    let pass = &mut passes.pop().ok_or("no pass")?;
+    let mut last = None;
+    for number in 2..65_536 {
+        let Ok(Made::New(clone)) = b_clone_sender(&desk, &rt, pass, &sender) else {
+            return Err(Fail::from("no clone"));
+        };
+        assert_eq!(rt; clone.number(), number);
+        last = Some(clone);
+    }
+    let refused = b_clone_sender(&desk, &rt, pass, &sender);
+    assert_eq!(rt; refused, Ok(Made::Refused(BReply::TooManyHandles)));
+    let dropped = b_drop_sender(&desk, &rt, pass, last.ok_or("no clone")?);
+    assert_eq!(rt; dropped, Ok(BReply::Dropped));
+    let refused = b_clone_sender(&desk, &rt, pass, &sender);
+    assert_eq!(rt; refused, Ok(Made::Refused(BReply::TooManyHandles)));
+    Ok(())
+}
+
+#[test]
+fn handles_of_another_desk(rt: HostRuntime) -> Result<(), Fail> {
+    let alloc = rt.alloc();
+    let specs = [Spec::Broadcast(2), Spec::Broadcast(2)];
+    let (other, mut others, mut ends) = open::<u64>(alloc, &specs, 1)?;
+    let Some(Ends::Broadcast(beyond, _)) = ends.pop() else {
+        return Err(Fail::from("no broadcast"));
+    };
+    let Some(Ends::Broadcast(sender, receiver)) = ends.pop() else {
+        return Err(Fail::from("no broadcast"));
+    };
+    let there = &mut others.pop().ok_or("no pass")?;
+    let Ok(Made::New(second)) = b_clone_sender(&other, &rt, there, &sender) else {
+        return Err(Fail::from("no clone"));
+    };
+    let (desk, mut passes, _ends) = open::<u64>(alloc, &[Spec::Broadcast(2)], 1)?;
+    let pass = &mut passes.pop().ok_or("no pass")?;
+    // What was made on the other desk is no handle here, until this desk makes one of its number: it may be of another kind, and
+    // may be dropped.
+    assert_eq!(rt; b_send(&desk, &rt, pass, &second, 1), Ok(BReply::Unknown));
+    let subscribe = ChanCall::B(BCall::Subscribe(0));
+    let made = call(&desk, &rt, pass, 0, subscribe);
+    assert_eq!(rt; made, Ok(ChanReply::B(BReply::New(2))));
+    assert_eq!(rt; b_send(&desk, &rt, pass, &second, 1), Ok(BReply::WrongKind));
+    let dropped = call(&desk, &rt, pass, 0, ChanCall::B(BCall::DropHandle(1)));
+    assert_eq!(rt; dropped, Ok(ChanReply::B(BReply::Dropped)));
+    assert_eq!(rt; b_recv(&desk, &rt, pass, &receiver), Ok(BReply::Gone));
+    // A channel that this desk doesn't have.
+    assert_eq!(rt;
+        b_send(&desk, &rt, pass, &beyond, 1),
+        Err(DeskFault::NoChannel)
+    );
+    let Err((fault, back)) = b_drop_sender(&desk, &rt, pass, beyond) else {
+        return Err(Fail::from("dropped"));
+    };
+    assert_eq!(rt; (fault, back.channel()), (DeskFault::NoChannel, 1));
+    Ok(())
+}
+
+#[test]
+fn no_stamp_is_left_at_a_desk(rt: HostRuntime) -> Result<(), Fail> {
+    let alloc = rt.alloc();
+    for heeded in [1 << 62, u64::MAX] {
+        let specs = [Spec::Broadcast(2), Spec::Watch(1u64)];
+        let (desk, mut passes, mut ends) = open(alloc, &specs, 1)?;
+        let Some(Ends::Watch(writer, reader)) = ends.pop() else {
+            return Err(Fail::from("no watch"));
+        };
+        let Some(Ends::Broadcast(sender, receiver)) = ends.pop() else {
+            return Err(Fail::from("no broadcast"));
+        };
+        let mut pass = passes.pop().ok_or("no pass")?;
+        pass.heed(heeded);
+        let full = DeskFault::JournalFull;
+        assert_eq!(rt; b_send(&desk, &rt, &mut pass, &sender, 4), Err(full));
+        assert_eq!(rt; b_recv(&desk, &rt, &mut pass, &receiver), Err(full));
+        let mut was_called = false;
+        let modified = w_send_if_modified(&desk, &rt, &mut pass, &writer, |_| {
+            was_called = true;
+            true
+        });
+        assert_eq!(rt; (modified, was_called), (Err(full), false));
+        let waited = w_wait_for(&desk, &rt, &mut pass, &reader, |_| true);
+        assert_eq!(rt; waited, Err(full));
+        let recv = ChanCall::B(BCall::Recv(1));
+        assert_eq!(rt; wait_call(&desk, &rt, &mut pass, 0, recv), Err(full));
+        assert_eq!(rt;
+            call(&desk, &rt, &mut pass, 1, recv),
+            Err(DeskFault::NoChannel)
+        );
+        let Err((fault, writer)) = w_drop_sender(&desk, &rt, &mut pass, writer) else {
+            return Err(Fail::from("dropped"));
+        };
+        assert_eq!(rt; (fault, writer.number()), (full, 0));
+        assert_eq!(rt; (pass.stamp(), receipts(&pass).len()), (heeded, 0));
+        passes.push(pass)?;
+        let Ok(run) = close(desk, alloc, passes) else {
+            return Err(Fail::from("not closed"));
+        };
+        assert_eq!(rt; run.len(), 0);
+    }
     Ok(())
 }

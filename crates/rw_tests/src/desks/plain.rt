@@ -40,6 +40,17 @@ pub fn call<V: Payload, R: Wait>(
     desk.call(rt, pass, channel, call)
 }
 
+/// One call, which waits.
+pub fn wait_call<V: Payload, R: Wait>(
+    desk: &Desk<V>,
+    rt: &R,
+    pass: &mut Pass<V>,
+    channel: u32,
+    call: ChanCall<V>,
+) -> Result<ChanReply<V>, DeskFault> {
+    desk.wait_call(rt, pass, channel, call)
+}
+
 /// The receipts of a pass.
 pub fn receipts<V: Payload>(pass: &Pass<V>) -> &[Kept<V>] {
     pass.kept()
@@ -91,6 +102,26 @@ pub fn b_recv<V: Payload, R: Wait>(
     receiver: &BRx,
 ) -> Result<BReply<V>, DeskFault> {
     desk.b_recv(rt, pass, receiver)
+}
+
+/// Counts the values that a receiver has not received.
+pub fn b_receiver_len<V: Payload, R: Wait>(
+    desk: &Desk<V>,
+    rt: &R,
+    pass: &mut Pass<V>,
+    receiver: &BRx,
+) -> Result<BReply<V>, DeskFault> {
+    desk.b_receiver_len(rt, pass, receiver)
+}
+
+/// Drops a sender of a broadcast channel.
+pub fn b_drop_sender<V: Payload, R: Wait>(
+    desk: &Desk<V>,
+    rt: &R,
+    pass: &mut Pass<V>,
+    sender: BTx,
+) -> Result<BReply<V>, (DeskFault, BTx)> {
+    desk.b_drop_sender(rt, pass, sender)
 }
 
 /// Makes another sender of a broadcast channel.
@@ -162,6 +193,26 @@ pub fn w_drop_sender<V: Payload, R: Wait>(
     sender: WTx,
 ) -> Result<WReply<V>, (DeskFault, WTx)> {
     desk.w_drop_sender(rt, pass, sender)
+}
+
+/// Drops a receiver of a watch channel.
+pub fn w_drop_receiver<V: Payload, R: Wait>(
+    desk: &Desk<V>,
+    rt: &R,
+    pass: &mut Pass<V>,
+    receiver: WRx,
+) -> Result<WReply<V>, (DeskFault, WRx)> {
+    desk.w_drop_receiver(rt, pass, receiver)
+}
+
+/// Waits until no receiver of a watch channel is alive.
+pub fn w_closed<V: Payload, R: Wait>(
+    desk: &Desk<V>,
+    rt: &R,
+    pass: &mut Pass<V>,
+    sender: &WTx,
+) -> Result<WReply<V>, DeskFault> {
+    desk.w_closed(rt, pass, sender)
 }
 
 /// Stores what f makes of the value of a watch channel.

@@ -13,7 +13,7 @@ use std::sync::Wait;
 use std::test::Fail;
 
 /// Rows of broadcasts: the capacity, and what is called and answered.
-const BROADCASTS: [(u32, &str); 7] = [
+const BROADCASTS: [(u32, &str); 10] = [
     // A receiver is overrun.
     (
         2,
@@ -49,6 +49,15 @@ const BROADCASTS: [(u32, &str); 7] = [
         16,
         "subscribe 0=new 2/send 0 10=sent 2/send 0 20=sent 2/send 0 30=sent 2/sender-len 0=count 3/recv 1=value 10/sender-len 0=count 3/recv 2=value 10/sender-len 0=count 2",
     ),
+    // Values are received in turn with sends.
+    (
+        4,
+        "send 0 1=sent 1/send 0 2=sent 1/send 0 3=sent 1/recv 1=value 1/send 0 4=sent 1/recv 1=value 2",
+    ),
+    // The only sender goes behind its value.
+    (4, "send 0 7=sent 1/try-recv 1=value 7/drop 0=dropped"),
+    // A new receiver gets the next value.
+    (2, "subscribe 0=new 2/send 0 3=sent 2/try-recv 2=value 3"),
 ];
 
 /// Rows of watches: the first value, and what is called and answered.

@@ -1,11 +1,14 @@
 //! Desks that threads share.
 
-use super::plain::{b_recv, b_send, close, open, order, w_peek, w_send, w_send_if_modified};
+use super::plain::{
+    b_drop_sender, b_recv, b_send, close, open, order, receipts, w_closed, w_drop_receiver, w_peek,
+    w_send, w_send_if_modified, w_wait_for,
+};
 use crate::flags::is_set_in_time;
-use rw_broadcast::BReply;
-use rw_desk::{BRx, BTx, Desk, Ends, Pass, WTx};
-use rw_watch::WReply;
-use rw_world::Spec;
+use rw_broadcast::{BCall, BReply};
+use rw_desk::{BRx, BTx, Desk, Ends, Pass, WRx, WTx};
+use rw_watch::{WCall, WReply};
+use rw_world::{ChanCall, ChanReply, Spec};
 use std::sync::Wait;
 use std::sync::atomic::{AtomicBool, Ordering};
 use std::test::Fail;
@@ -110,10 +113,7 @@ fn a_value_for_a_thread_that_waits(rt: HostRuntime) -> Result<(), Fail> {
     assert_eq!(rt; order(alloc, &run)?.as_slice(), stamps.as_slice());
     let replies = [(1, BReply::Sent(1)), (0, BReply::Value(5))];
     for (entry, (actor, reply)) in run.entries().iter().zip(replies) {
-        assert_eq!(rt;
-            (entry.actor, entry.reply),
-            (actor, rw_world::ChanReply::B(reply))
-        );
+        assert_eq!(rt; (entry.actor, entry.reply), (actor, ChanReply::B(reply)));
     }
     Ok(())
 }
@@ -173,5 +173,170 @@ fn a_call_beside_a_closure_of_another_channel(rt: HostRuntime) -> Result<(), Fai
     passes.push(first)?;
     passes.push(second)?;
     assert!(rt; close(desk, alloc, passes).is_ok());
+    Ok(())
+}
+
+/// A send on a broadcast, in another thread, that is held until this one has written to a watch. Says whether it was held no longer
+/// than the limit.
+fn send_held<R: Threads + Wait + Sync>(
+    rt: &R,
+    desk: &Desk<u64>,
+    mut first: Pass<u64>,
+    second: &mut Pass<u64>,
+    sender: &BTx,
+    writer: &WTx,
+) -> Option<(Pass<u64>, bool)> {
+    let written = AtomicBool::new(false);
+    let is_written = &written;
+    let mut back = None;
+    thread::scope(thread::scope_env(), rt, |scope| {
+        let held = scope.spawn(move || {
+            let in_time = is_set_in_time(is_written);
+            let _ = b_send(desk, rt, &mut first, sender, 1);
+            (first, in_time)
+        });
+        if let Ok(other) = held {
+            let _ = w_send(desk, rt, second, writer, 6);
+            is_written.store(true, Ordering::SeqCst);
+            back = Some(other.join(rt));
+        }
+    });
+    back
+}
+
+#[test]
+fn calls_of_two_threads_on_two_channels(rt: HostRuntime) -> Result<(), Fail> {
+    let alloc = rt.alloc();
+    let (desk, mut passes, mut ends) = open(alloc, &[Spec::Broadcast(2), Spec::Watch(5u64)], 2)?;
+    let Some(Ends::Watch(writer, _reader)) = ends.pop() else {
+        return Err(Fail::from("no watch"));
+    };
+    let Some(Ends::Broadcast(sender, _receiver)) = ends.pop() else {
+        return Err(Fail::from("no broadcast"));
+    };
+    let mut second = passes.pop().ok_or("no second pass")?;
+    let first = passes.pop().ok_or("no first pass")?;
+    let Some((first, in_time)) = send_held(&rt, &desk, first, &mut second, &sender, &writer) else {
+        return Err(Fail::from("no thread"));
+    };
+    assert!(rt; in_time);
+    passes.push(first)?;
+    passes.push(second)?;
+    let Ok(run) = close(desk, alloc, passes) else {
+        return Err(Fail::from("not closed"));
+    };
+    // The send came later, and stands first: by its stamp, and then by its channel.
+    let stamps = [(1, 0), (1, 1)];
+    assert_eq!(rt; order(alloc, &run)?.as_slice(), stamps.as_slice());
+    let replies = [ChanReply::B(BReply::Sent(1)), ChanReply::W(WReply::Stored)];
+    for (entry, reply) in run.entries().iter().zip(replies) {
+        assert_eq!(rt; entry.reply, reply);
+    }
+    Ok(())
+}
+
+/// What a thread waits by: for the value 3 of a watch, for the end of a broadcast, and for that of another watch.
+#[derive(Drop)]
+struct Waits {
+    reader: WRx,
+    receiver: BRx,
+    writer: WTx,
+}
+
+/// What ends these waits in another thread.
+#[derive(Drop)]
+struct Ending {
+    writer: WTx,
+    sender: BTx,
+    reader: WRx,
+}
+
+/// Waits by all three in turn.
+fn wait_thrice<R: Wait>(rt: &R, desk: &Desk<u64>, mut pass: Pass<u64>, waits: &Waits) -> Pass<u64> {
+    let _ = w_wait_for(desk, rt, &mut pass, &waits.reader, |value| *value == 3);
+    let _ = b_recv(desk, rt, &mut pass, &waits.receiver);
+    let _ = w_closed(desk, rt, &mut pass, &waits.writer);
+    pass
+}
+
+/// Writes 1, 2 and 3, drops the only sender of the broadcast, and the only receiver of the other watch.
+fn end_waits<R: Wait>(rt: &R, desk: &Desk<u64>, pass: &mut Pass<u64>, ending: Ending) {
+    let Ending {
+        writer,
+        sender,
+        reader,
+    } = ending;
+    for value in 1..=3 {
+        let _ = w_send(desk, rt, pass, &writer, value);
+    }
+    let _ = b_drop_sender(desk, rt, pass, sender);
+    let _ = w_drop_receiver(desk, rt, pass, reader);
+}
+
+/// The waits in another thread, and what ends them in this one.
+fn wait_beside<R: Threads + Wait + Sync>(
+    rt: &R,
+    desk: &Desk<u64>,
+    first: Pass<u64>,
+    second: &mut Pass<u64>,
+    waits: &Waits,
+    ending: Ending,
+) -> Option<Pass<u64>> {
+    let mut back = None;
+    thread::scope(thread::scope_env(), rt, |scope| {
+        if let Ok(other) = scope.spawn(move || wait_thrice(rt, desk, first, waits)) {
+            end_waits(rt, desk, second, ending);
+            back = Some(other.join(rt));
+        }
+    });
+    back
+}
+
+/// The handles of a watch, a broadcast and another watch, as they wait and as they end that.
+fn roles(mut ends: Vec<Ends>) -> Option<(Waits, Ending)> {
+    let (
+        Some(Ends::Watch(waiting, dropped)),
+        Some(Ends::Broadcast(sender, receiver)),
+        Some(Ends::Watch(writer, reader)),
+    ) = (ends.pop(), ends.pop(), ends.pop()) else {
+        return None;
+    };
+    let waits = Waits {
+        reader,
+        receiver,
+        writer: waiting,
+    };
+    let ending = Ending {
+        writer,
+        sender,
+        reader: dropped,
+    };
+    Some((waits, ending))
+}
+
+#[test]
+fn waits_that_another_thread_ends(rt: HostRuntime) -> Result<(), Fail> {
+    let specs = [Spec::Watch(0u64), Spec::Broadcast(2), Spec::Watch(0)];
+    let (desk, mut passes, ends) = open(rt.alloc(), &specs, 2)?;
+    let (waits, ending) = roles(ends).ok_or("other ends")?;
+    let mut second = passes.pop().ok_or("no second pass")?;
+    let first = passes.pop().ok_or("no first pass")?;
+    let back = wait_beside(&rt, &desk, first, &mut second, &waits, ending);
+    let first = back.ok_or("no thread")?;
+    let last_first = [
+        (
+            ChanCall::W(WCall::AwaitClosed(0)),
+            ChanReply::W(WReply::Done),
+        ),
+        (ChanCall::B(BCall::Recv(1)), ChanReply::B(BReply::Closed)),
+        (
+            ChanCall::W(WCall::Update(1)),
+            ChanReply::W(WReply::Value(3)),
+        ),
+    ];
+    assert!(rt; receipts(&first).len() >= last_first.len());
+    for (kept, wanted) in receipts(&first).iter().rev().zip(last_first) {
+        assert_eq!(rt; (kept.call, kept.reply), wanted);
+    }
     Ok(())
 }
