@@ -1,21 +1,21 @@
 -- The JSON of a world has no number with a fraction, so serde_json says exactly what its text is.
-use Rattle.std.proofs.Common.{◌≡◌, ℕ, false, List, [], ◌∷◌, Option, Some, None, refl, map}
-use Rattle.std.specs.Prelude.{option_map, slice_get}
+use Rattle.std.proofs.Common.{◌≡◌, ℕ, Bool, true, false, cond, eqb, List, [], ◌∷◌, Option, Some, None, refl, map, length}
+use Rattle.std.specs.Prelude.{codes, option_map, slice_get}
 use Rattle.std.specs.List.{cons_option, filter_map}
 use Rattle.serde_json.specs.Data.{Data}
 use Rattle.serde_json.specs.View.{items_of}
 use Rattle.serde_json.specs.Written.{has_float, items_have_float}
 use Rattle.rw_handles.specs.declared.kinds.Kind.{Kind}
-use Rattle.rw_handles.specs.declared.kinds.Kind.TheVariants.{Sender, Receiver}
+use Rattle.rw_handles.specs.declared.kinds.Kind.TheVariants.{Sender, Weak}
 use Rattle.rw_handles.specs.declared.kinds.Slot.{Slot}
-use Rattle.rw_handles.specs.Slots.{kind_at}
+use Rattle.rw_handles.specs.Slots.{alive, kind_at, same_kind}
 use Rattle.rw_broadcast.specs.Machine.{position_at}
 use Rattle.rw_broadcast.specs.Shown.{Shown as Broadcast}
 use Rattle.rw_watch.specs.Machine.{mark_at}
 use Rattle.rw_watch.specs.Shown.{Shown as Watch}
 use Rattle.rw_world.specs.Kinds.{broadcast_shown, watch_shown}
 use Rattle.rw_world.specs.Machines.{ChanShown}
-use Rattle.rw_console.specs.Json.{natural, sender_json, senders_json, reader_json, readers_json, watcher_json, watchers_json, channel_json, world_json}
+use Rattle.rw_console.specs.Json.{natural, handle_json, handles_json, reader_json, readers_json, watcher_json, watchers_json, weak_member, broadcast_with, channel_json, row_of, world_json}
 
 abbrev is_floatless : List Data → Type 0
 is_floatless ds = items_have_float (items_of ds) ≡ false
@@ -39,14 +39,17 @@ of_filter_map : {X : Type 0} (f : X → Option Data) → ((x : X) → IsFloatles
 of_filter_map f each [] = refl
 of_filter_map f each (x ∷ xs) = of_filter_at f (f x) (filter_map f xs) (each x) (of_filter_map f each xs)
 
-sender_at : (h : ℕ) (kind : Option Kind) → IsFloatlessIfThere (sender_json h kind)
-sender_at h (Some Sender) = refl
-sender_at h (Some Receiver) = tt
-sender_at h None = tt
+number_if : (b : Bool) (h : ℕ) → IsFloatlessIfThere (cond b (Some (natural h)) None)
+number_if true h = refl
+number_if false h = tt
 
-senders : {X : Type 0} (slots : List (Slot X)) (n : ℕ) → is_floatless (senders_json slots n)
-unfolding senders_json
-senders slots n = of_filter_map _ (λ h. sender_at h (kind_at (slice_get slots h))) _
+handle_at : (kind : Kind) (h : ℕ) (own : Option Kind) → IsFloatlessIfThere (handle_json kind h own)
+handle_at kind h None = tt
+handle_at kind h (Some own) = number_if (same_kind kind own) h
+
+handles : {X : Type 0} (kind : Kind) (slots : List (Slot X)) (n : ℕ) → is_floatless (handles_json kind slots n)
+unfolding handles_json
+handles kind slots n = of_filter_map _ (λ h. handle_at kind h (kind_at (slice_get slots h))) _
 
 reader_at : (x : Broadcast ℕ) (h : ℕ) (position : Option ℕ) → IsFloatlessIfThere (option_map (reader_json x h) position)
 reader_at x h None = tt
@@ -66,8 +69,11 @@ unfolding watchers_json
 watchers x n = of_filter_map _ (λ h. watcher_at x h (mark_at (slice_get x.slots h))) _
 
 of_channel : (x : ChanShown ℕ) → has_float (channel_json x) ≡ false
-of_channel (broadcast_shown x) = rw (readers x _, senders x.slots _, of_map natural (λ n. refl) x.window) refl
-of_channel (watch_shown x) = rw (watchers x _, senders x.slots _) refl
+of_channel (broadcast_shown x) = of_weak (eqb (alive Weak x.slots) 0) where
+  of_weak : (b : Bool) → has_float (broadcast_with x (cond b [] (weak_member x ∷ []))) ≡ false
+  of_weak true = rw (readers x _, handles Sender x.slots _, of_map natural (λ n. refl) x.window) refl
+  of_weak false = rw (readers x _, handles Sender x.slots _, handles Weak x.slots _, of_map natural (λ n. refl) x.window) refl
+of_channel (watch_shown x) = rw (watchers x _, handles Sender x.slots _) refl
 
 pub of_world : (xs : List (ChanShown ℕ)) (len place : ℕ) → has_float (world_json xs len place) ≡ false
 unfolding world_json

@@ -5,13 +5,14 @@ use Rattle.std.specs.List.{filter_map, range_with_len}
 use Rattle.std.proofs.lemmas.List.Elements.{filter_map-append}
 use Rattle.std.proofs.lemmas.Grind.{common_steps}
 use Rattle.serde_json.specs.Data.{Data}
+use Rattle.rw_handles.specs.declared.kinds.Kind.{Kind}
 use Rattle.rw_handles.specs.declared.kinds.Slot.{Slot}
 use Rattle.rw_handles.specs.Slots.{kind_at}
 use Rattle.rw_broadcast.specs.Machine.{position_at}
 use Rattle.rw_broadcast.specs.Shown.{Shown as Broadcast}
 use Rattle.rw_watch.specs.Machine.{mark_at}
 use Rattle.rw_watch.specs.Shown.{Shown as Watch}
-use Rattle.rw_console.specs.Json.{of_handles, sender_json, senders_json, reader_json, readers_json, watcher_json, watchers_json}
+use Rattle.rw_console.specs.Json.{of_handles, handle_json, handles_json, reader_json, readers_json, watcher_json, watchers_json}
 
 range_more : (a n : ℕ) → range_with_len a (suc n) ≡ range_with_len a n ++ (a + n) ∷ []
 range_more a zero = let e : a ≡ a + 0 = omega arith in ap (λ (x : ℕ). x ∷ []) e
@@ -31,13 +32,13 @@ of_one (Some d) = refl
 of_handles-more : (f : ℕ → Option Data) (n : ℕ) → of_handles f (n + 1) ≡ of_handles f n ++ option_to_list (f n)
 of_handles-more f n = ap (filter_map f) (first_more n) ∙ filter_map-append f (range_with_len 0 n) (n ∷ []) ∙ ap (λ (ds : List Data). of_handles f n ++ ds) (of_one (f n))
 
-pub senders_json-more : {X : Type 0} (slots : List (Slot X)) (n : ℕ) → senders_json slots (n + 1) ≡ senders_json slots n ++ option_to_list (sender_json n (kind_at (slice_get slots n)))
-unfolding senders_json
-senders_json-more slots n = of_handles-more (λ h. sender_json h (kind_at (slice_get slots h))) n
+pub handles_json-more : {X : Type 0} (kind : Kind) (slots : List (Slot X)) (n : ℕ) → handles_json kind slots (n + 1) ≡ handles_json kind slots n ++ option_to_list (handle_json kind n (kind_at (slice_get slots n)))
+unfolding handles_json
+handles_json-more kind slots n = of_handles-more (λ h. handle_json kind h (kind_at (slice_get slots h))) n
 
-pub senders_json-none : {X : Type 0} (slots : List (Slot X)) → senders_json slots 0 ≡ []
-unfolding senders_json
-senders_json-none slots = refl
+pub handles_json-none : {X : Type 0} (kind : Kind) (slots : List (Slot X)) → handles_json kind slots 0 ≡ []
+unfolding handles_json
+handles_json-none kind slots = refl
 
 pub readers_json-more : (x : Broadcast ℕ) (n : ℕ) → readers_json x (n + 1) ≡ readers_json x n ++ option_to_list (option_map (reader_json x n) (position_at (slice_get x.slots n)))
 unfolding readers_json
@@ -55,4 +56,4 @@ pub watchers_json-none : (x : Watch ℕ) → watchers_json x 0 ≡ []
 unfolding watchers_json
 watchers_json-none x = refl
 
-pub ruleset handle_lists = (senders_json-more, senders_json-none, readers_json-more, readers_json-none, watchers_json-more, watchers_json-none, common_steps)
+pub ruleset handle_lists = (handles_json-more, handles_json-none, readers_json-more, readers_json-none, watchers_json-more, watchers_json-none, common_steps)

@@ -5,6 +5,7 @@ use Rattle.std.specs.List.{flat_map, range_with_len}
 use Rattle.std.proofs.lemmas.Grind.{common_steps}
 use Rattle.std.proofs.lemmas.List.{append-nil, flat_map_more, length-map, take_all, take_more}
 use Rattle.std.proofs.lemmas.Option.{slice_get_within, get_or_from_slice_get, slice_get-map}
+use Rattle.rw_handles.specs.declared.kinds.Kind.{Kind}
 use Rattle.rw_handles.specs.declared.kinds.Slot.{Slot}
 use Rattle.rw_handles.specs.Slots.{kind_at}
 use Rattle.rw_broadcast.specs.Machine.{position_at}
@@ -12,7 +13,7 @@ use Rattle.rw_broadcast.specs.Shown as b
 use Rattle.rw_watch.specs.Machine.{mark_at}
 use Rattle.rw_watch.specs.Shown as w
 use Rattle.rw_world.specs.Machines.{ChanShown}
-use Rattle.rw_console.specs.Handles.{sender_word, sender_words}
+use Rattle.rw_console.specs.Handles.{handle_word, handle_words}
 use Rattle.rw_console.specs.BroadcastBlock as broadcast
 use Rattle.rw_console.specs.WatchBlock as watch
 use Rattle.rw_console.specs.Blocks.{block_of, channel_block, first_blocks, world_blocks}
@@ -52,13 +53,13 @@ first_more n =
 numbers_more : (f : ℕ → List ℕ) (n : ℕ) → flat_map f (range_with_len 0 (n + 1)) ≡ flat_map f (range_with_len 0 n) ++ f n
 numbers_more f n = ap (flat_map f) (first_more n) ∙ sym (flat_map_more f [] (range_with_len 0 n) n)
 
-pub sender_words-more : {X : Type 0} (slots : List (Slot X)) (n : ℕ) → sender_words slots (n + 1) ≡ sender_words slots n ++ sender_word n (kind_at (slice_get slots n))
-unfolding sender_words
-sender_words-more slots n = numbers_more (λ h. sender_word h (kind_at (slice_get slots h))) n
+pub handle_words-more : {X : Type 0} (kind : Kind) (slots : List (Slot X)) (n : ℕ) → handle_words kind slots (n + 1) ≡ handle_words kind slots n ++ handle_word kind n (kind_at (slice_get slots n))
+unfolding handle_words
+handle_words-more kind slots n = numbers_more (λ h. handle_word kind h (kind_at (slice_get slots h))) n
 
-pub sender_words-none : {X : Type 0} (slots : List (Slot X)) → sender_words slots 0 ≡ []
-unfolding sender_words
-sender_words-none slots = refl
+pub handle_words-none : {X : Type 0} (kind : Kind) (slots : List (Slot X)) → handle_words kind slots 0 ≡ []
+unfolding handle_words
+handle_words-none kind slots = refl
 
 pub broadcast_lines-more : (x : b.Shown ℕ) (n : ℕ) → broadcast.receiver_lines x (n + 1) ≡ broadcast.receiver_lines x n ++ broadcast.receiver_line x n (position_at (slice_get x.slots n))
 unfolding broadcast.receiver_lines
@@ -97,7 +98,7 @@ blocks_go f cs i c start out out' so here more =
 pub blocks_end : {C : Type 0} (f : C → ChanShown ℕ) (cs : List C) (i : ℕ) (start out : List ℕ) → out ≡ start ++ first_blocks (map f cs) i → i ≡ length cs → out ≡ start ++ world_blocks (map f cs)
 blocks_end f cs i start out so all = so ∙ ap (λ (n : ℕ). start ++ first_blocks (map f cs) n) (all ∙ sym (length-map cs f))
 
-pub ruleset by_number = (sender_words-more, sender_words-none, broadcast_lines-more, broadcast_lines-none, watch_lines-more, watch_lines-none, common_steps)
+pub ruleset by_number = (handle_words-more, handle_words-none, broadcast_lines-more, broadcast_lines-none, watch_lines-more, watch_lines-none, common_steps)
 
 -- ---- four and five pieces, one behind the other
 

@@ -6,7 +6,7 @@ use Rattle.rw_broadcast.specs.Shown.{Shown, channel_of}
 use Rattle.rw_broadcast.specs.Channel.{oldest, queued, is_closed}
 use Rattle.rw_broadcast.specs.Machine.{position_at}
 use Rattle.rw_console.specs.Texts.{with_number, open_or_closed}
-use Rattle.rw_console.specs.Handles.{senders_line}
+use Rattle.rw_console.specs.Handles.{senders_line, weak_line}
 
 -- the numbers of the channel that has number i
 unfoldable pub channel_numbers : ℕ → Shown ℕ → List ℕ
@@ -32,4 +32,4 @@ receiver_lines x n = flat_map (λ h. receiver_line x h (position_at (slice_get x
 
 -- all that is shown of the channel that has number i
 abbrev pub broadcast_block : ℕ → Shown ℕ → List ℕ
-broadcast_block i x = channel_line i x ++ window_line x ++ senders_line x.slots ++ receiver_lines x (length x.slots)
+broadcast_block i x = channel_line i x ++ window_line x ++ senders_line x.slots ++ weak_line x.slots ++ receiver_lines x (length x.slots)

@@ -1,22 +1,29 @@
--- The line that lists a channel's senders.
-use Rattle.std.specs.Prelude.{ℕ, List, [], ◌++◌, length, Option, None, Some, codes, slice_get}
+-- The lines that list a channel's live handles of a kind.
+use Rattle.std.specs.Prelude.{ℕ, List, [], ◌++◌, length, Option, None, Some, codes, slice_get, ◌==◌, if◌then◌else◌}
 use Rattle.std.specs.List.{flat_map, range_with_len}
 use Rattle.rw_handles.specs.declared.kinds.Kind.{Kind}
-use Rattle.rw_handles.specs.declared.kinds.Kind.TheVariants.{Sender, Receiver}
+use Rattle.rw_handles.specs.declared.kinds.Kind.TheVariants.{Sender, Weak}
 use Rattle.rw_handles.specs.declared.kinds.Slot.{Slot}
-use Rattle.rw_handles.specs.Slots.{kind_at}
+use Rattle.rw_handles.specs.Slots.{alive, kind_at, same_kind}
 use Rattle.rw_console.specs.Texts.{with_number}
 
--- handle h, if it is a live sender
-abbrev pub sender_word : ℕ → Option Kind → List ℕ
-sender_word h (Some Sender) = with_number (codes " ") h
-sender_word h (Some Receiver) = []
-sender_word h None = []
+-- handle h, if it is alive and of this kind
+abbrev pub handle_word : Kind → ℕ → Option Kind → List ℕ
+handle_word kind h None = []
+handle_word kind h (Some own) = if same_kind kind own then with_number (codes " ") h else []
 
 module _ {X : Type 0} where
-  -- the live senders among the first n handles, in order of number
-  unfoldable pub sender_words : List (Slot X) → ℕ → List ℕ
-  sender_words slots n = flat_map (λ h. sender_word h (kind_at (slice_get slots h))) (range_with_len 0 n)
+  -- the live handles of this kind among the first n, in order of number
+  unfoldable pub handle_words : Kind → List (Slot X) → ℕ → List ℕ
+  handle_words kind slots n = flat_map (λ h. handle_word kind h (kind_at (slice_get slots h))) (range_with_len 0 n)
 
-  unfoldable pub senders_line : List (Slot X) → List ℕ
-  senders_line slots = codes "senders" ++ sender_words slots (length slots) ++ codes "\n"
+  -- a line of a word and all live handles of this kind
+  unfoldable pub handles_line : List ℕ → Kind → List (Slot X) → List ℕ
+  handles_line word kind slots = word ++ handle_words kind slots (length slots) ++ codes "\n"
+
+  abbrev pub senders_line : List (Slot X) → List ℕ
+  senders_line slots = handles_line (codes "senders") Sender slots
+
+  -- there is a line for weak senders only where there are any
+  abbrev pub weak_line : List (Slot X) → List ℕ
+  weak_line slots = if alive Weak slots == 0 then [] else handles_line (codes "weak") Weak slots

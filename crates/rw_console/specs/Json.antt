@@ -1,14 +1,14 @@
 -- The state of a world as JSON. A value is serde_json's `Data`, and its text is serde_json's `compact_text`: with no space, and with the members of an
 -- object in the order of the list that stands here, which is that of their keys' bytes.
-use Rattle.std.specs.Prelude.{ℕ, List, [], ◌∷◌, not, map, length, Option, None, Some, option_map, codes, slice_get}
+use Rattle.std.specs.Prelude.{ℕ, List, [], ◌∷◌, ◌++◌, ◌==◌, not, map, length, Option, None, Some, option_map, codes, slice_get, if◌then◌else◌}
 use Rattle.std.specs.List.{filter_map, range_with_len}
 use Rattle.serde_json.specs.Data.{Data, Members, null, boolean, number, string, array, object, unsigned, member, no_members}
 use Rattle.serde_json.specs.View.{items_of}
 use Rattle.serde_json.specs.Written.{compact_text}
 use Rattle.rw_handles.specs.declared.kinds.Kind.{Kind}
-use Rattle.rw_handles.specs.declared.kinds.Kind.TheVariants.{Sender, Receiver}
+use Rattle.rw_handles.specs.declared.kinds.Kind.TheVariants.{Sender, Weak}
 use Rattle.rw_handles.specs.declared.kinds.Slot.{Slot}
-use Rattle.rw_handles.specs.Slots.{kind_at}
+use Rattle.rw_handles.specs.Slots.{alive, kind_at, same_kind}
 use Rattle.rw_broadcast.specs.Arithmetic.{lag, unread}
 use Rattle.rw_broadcast.specs.Channel as broadcast
 use Rattle.rw_broadcast.specs.Machine.{position_at}
@@ -39,17 +39,16 @@ object_of ms = object (members_in ms)
 abbrev pub of_handles : (ℕ → Option Data) → ℕ → List Data
 of_handles f n = filter_map f (range_with_len 0 n)
 
--- ---- senders
+-- ---- handles of a kind
 
--- handle h, if it is a live sender
-abbrev pub sender_json : ℕ → Option Kind → Option Data
-sender_json h (Some Sender) = Some (natural h)
-sender_json h (Some Receiver) = None
-sender_json h None = None
+-- handle h, if it is alive and of this kind
+abbrev pub handle_json : Kind → ℕ → Option Kind → Option Data
+handle_json kind h None = None
+handle_json kind h (Some own) = if same_kind kind own then Some (natural h) else None
 
--- the live senders among the first n handles
-unfoldable pub senders_json : {X : Type 0} → List (Slot X) → ℕ → List Data
-senders_json slots n = of_handles (λ h. sender_json h (kind_at (slice_get slots h))) n
+-- the live handles of this kind among the first n
+unfoldable pub handles_json : {X : Type 0} → Kind → List (Slot X) → ℕ → List Data
+handles_json kind slots n = of_handles (λ h. handle_json kind h (kind_at (slice_get slots h))) n
 
 -- ---- a broadcast
 
@@ -66,18 +65,28 @@ reader_json x h position = object_of (
 unfoldable pub readers_json : Broadcast ℕ → ℕ → List Data
 readers_json x n = of_handles (λ h. option_map (reader_json x h) (position_at (slice_get x.slots h))) n
 
-abbrev pub broadcast_json : Broadcast ℕ → Data
-broadcast_json x = object_of (
+-- a broadcast, with these members behind `sent`
+abbrev pub broadcast_with : Broadcast ℕ → List (List ℕ × Data) → Data
+broadcast_with x weak = object_of (
     (codes "capacity", natural x.capacity)
     ∷ (codes "closed", boolean (broadcast.is_closed (channel_of x)))
     ∷ (codes "kind", string (codes "broadcast"))
     ∷ (codes "made", natural (length x.slots))
     ∷ (codes "queued", natural (broadcast.queued (channel_of x)))
     ∷ (codes "receivers", row_of (readers_json x (length x.slots)))
-    ∷ (codes "senders", row_of (senders_json x.slots (length x.slots)))
+    ∷ (codes "senders", row_of (handles_json Sender x.slots (length x.slots)))
     ∷ (codes "sent", natural x.sent)
-    ∷ (codes "window", row_of (map natural x.window))
-    ∷ [])
+    ∷ (weak ++ (codes "window", row_of (map natural x.window)) ∷ []))
+
+abbrev pub weak_member : Broadcast ℕ → List ℕ × Data
+weak_member x = (codes "weak", row_of (handles_json Weak x.slots (length x.slots)))
+
+-- there is a member for weak senders only where there are any
+abbrev pub weak_json : Broadcast ℕ → List (List ℕ × Data)
+weak_json x = if alive Weak x.slots == 0 then [] else weak_member x ∷ []
+
+abbrev pub broadcast_json : Broadcast ℕ → Data
+broadcast_json x = broadcast_with x (weak_json x)
 
 -- ---- a watch
 
@@ -104,7 +113,7 @@ watch_json x = object_of (
     ∷ (codes "kind", string (codes "watch"))
     ∷ (codes "made", natural (length x.slots))
     ∷ (codes "receivers", row_of (watchers_json x (length x.slots)))
-    ∷ (codes "senders", row_of (senders_json x.slots (length x.slots)))
+    ∷ (codes "senders", row_of (handles_json Sender x.slots (length x.slots)))
     ∷ (codes "value", natural x.value)
     ∷ (codes "version", natural x.version)
     ∷ [])

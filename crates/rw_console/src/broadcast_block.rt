@@ -2,12 +2,13 @@
 
 ghost use Rattle.std.specs.Prelude.{◌≡◌, ◌++◌, OnOk, length, slice_get};
 ghost use Rattle.rw_broadcast.specs.Machine.{position_at};
-ghost use Rattle.rw_console.specs.Handles.{senders_line};
+ghost use Rattle.rw_console.specs.Handles.{handles_line, weak_line};
 ghost use Rattle.rw_console.specs.BroadcastBlock.{channel_numbers, channel_line, window_line, receiver_line, receiver_lines, broadcast_block};
 
-use crate::handles::push_sender;
+use crate::handles::push_handle;
 use crate::text::{open_or_closed, push_with_number};
 use rw_broadcast::Broadcast;
+use rw_handles::Kind;
 use rw_law::Reversible;
 use std::alloc::AllocError;
 
@@ -17,7 +18,8 @@ pub fn push_broadcast(out: &mut Vec<u8>, i: u64, channel: &Broadcast<u64>) -> Re
 {
     push_summary(out, i, channel)?;
     push_window(out, channel)?;
-    push_senders(out, channel)?;
+    push_handles(out, channel, b"senders", Kind::Sender)?;
+    push_weak(out, channel)?;
     push_receivers(out, channel)
 }
 
@@ -56,16 +58,31 @@ fn push_window(out: &mut Vec<u8>, channel: &Broadcast<u64>) -> Result<(), AllocE
     out.extend_from_slice(b"\n")
 }
 
-/// The live senders.
-#[tactic(auto, using(crate::proofs::Written::by_number), unfolding(crate::specs::Handles::senders_line))]
-fn push_senders(out: &mut Vec<u8>, channel: &Broadcast<u64>) -> Result<(), AllocError>
-    ensures { OnOk result (out.new.items ≡ out.old.items ++ senders_line channel.now.shown.slots) }
+/// A line of a word and the live handles of a kind.
+#[tactic(auto, using(crate::proofs::Written::by_number), unfolding(crate::specs::Handles::handles_line))]
+fn push_handles(
+    out: &mut Vec<u8>,
+    channel: &Broadcast<u64>,
+    word: &[u8],
+    kind: Kind,
+) -> Result<(), AllocError>
+    ensures { OnOk result (out.new.items ≡ out.old.items ++ handles_line word.now kind channel.now.shown.slots) }
 {
-    out.extend_from_slice(b"senders")?;
+    out.extend_from_slice(word)?;
     'each_handle: for h in 0..channel.made() {
-        push_sender(out, h, channel.kind(h))?;
+        push_handle(out, kind, h, channel.kind(h))?;
     }
     out.extend_from_slice(b"\n")
+}
+
+/// The live weak senders, if there are any.
+fn push_weak(out: &mut Vec<u8>, channel: &Broadcast<u64>) -> Result<(), AllocError>
+    ensures { OnOk result (out.new.items ≡ out.old.items ++ weak_line channel.now.shown.slots) }
+{
+    if channel.alive(Kind::Weak) == 0 {
+        return Ok(());
+    }
+    push_handles(out, channel, b"weak", Kind::Weak)
 }
 
 #[tactic(auto, unfolding(crate::specs::BroadcastBlock::receiver_line))]

@@ -1,8 +1,8 @@
 //! The state of a world as JSON.
 
-ghost use Rattle.std.specs.Prelude.{◌≡◌, ◌++◌, codes, length, map, option_map, option_to_list, IfOk, OnOk};
+ghost use Rattle.std.specs.Prelude.{◌≡◌, ◌++◌, ◌∷◌, [], codes, length, map, option_map, option_to_list, IfOk, OnOk};
 ghost use Rattle.serde_json.specs.View.{view};
-ghost use Rattle.rw_console.specs.Json.{broadcast_json, channel_json, json_text, reader_json, readers_json, sender_json, senders_json, watch_json, watcher_json, watchers_json, world_json, natural};
+ghost use Rattle.rw_console.specs.Json.{broadcast_json, broadcast_with, channel_json, json_text, reader_json, readers_json, handle_json, handles_json, watch_json, watcher_json, watchers_json, weak_member, world_json, natural};
 ghost use Rattle.rw_broadcast.specs.Machine.{position_at};
 ghost use Rattle.rw_watch.specs.Machine.{mark_at};
 ghost use Rattle.std.specs.Prelude.{slice_get};
@@ -81,21 +81,31 @@ fn push_some(list: &mut Vec<Value>, value: Option<Value>) -> Result<(), AllocErr
     Ok(())
 }
 
-/// A handle's number, if it is a live sender.
-fn sender_value(h: u32, kind: Option<Kind>) -> Option<Value>
-    ensures { option_map view result ≡ sender_json h kind }
+/// The number of a live handle of its own kind, if that is the wanted one.
+fn handle_value(wanted: Kind, h: u32, own: Option<Kind>) -> Option<Value>
+    ensures { option_map view result ≡ handle_json wanted h own }
 {
-    match kind {
-        Some(Kind::Sender) => Some(Value::from(h)),
-        Some(Kind::Receiver) | None => None,
+    match own {
+        Some(kind) if kind == wanted => Some(Value::from(h)),
+        _ => None,
     }
 }
 
 fn broadcast_value(alloc: Global, channel: &Broadcast<u64>) -> Result<Value, AllocError>
     ensures { IfOk result (λ value. view value ≡ broadcast_json channel.now.shown) }
 {
+    if channel.alive(Kind::Weak) == 0 {
+        return strong_value(alloc, channel);
+    }
+    weak_value(alloc, channel)
+}
+
+/// A broadcast, with no member for weak senders.
+fn strong_value(alloc: Global, channel: &Broadcast<u64>) -> Result<Value, AllocError>
+    ensures { IfOk result (λ value. view value ≡ broadcast_with channel.now.shown []) }
+{
     let receivers = reader_values(alloc, channel)?;
-    let senders = broadcast_senders(alloc, channel)?;
+    let senders = broadcast_handles(alloc, channel, Kind::Sender)?;
     let window = window_values(alloc, channel)?;
     json!(in alloc; {
         "capacity": channel.capacity(),
@@ -106,6 +116,28 @@ fn broadcast_value(alloc: Global, channel: &Broadcast<u64>) -> Result<Value, All
         "receivers": receivers,
         "senders": senders,
         "sent": channel.sent(),
+        "window": window
+    })
+}
+
+/// A broadcast, with the member for weak senders.
+fn weak_value(alloc: Global, channel: &Broadcast<u64>) -> Result<Value, AllocError>
+    ensures { IfOk result (λ value. view value ≡ broadcast_with channel.now.shown (weak_member channel.now.shown ∷ [])) }
+{
+    let receivers = reader_values(alloc, channel)?;
+    let senders = broadcast_handles(alloc, channel, Kind::Sender)?;
+    let weak = broadcast_handles(alloc, channel, Kind::Weak)?;
+    let window = window_values(alloc, channel)?;
+    json!(in alloc; {
+        "capacity": channel.capacity(),
+        "closed": channel.closed(),
+        "kind": "broadcast",
+        "made": channel.made(),
+        "queued": channel.queued(),
+        "receivers": receivers,
+        "senders": senders,
+        "sent": channel.sent(),
+        "weak": weak,
         "window": window
     })
 }
@@ -126,12 +158,16 @@ fn window_values(alloc: Global, channel: &Broadcast<u64>) -> Result<Vec<Value>, 
 }
 
 #[tactic(auto, using(crate::proofs::HandleLists::handle_lists))]
-fn broadcast_senders(alloc: Global, channel: &Broadcast<u64>) -> Result<Vec<Value>, AllocError>
-    ensures { IfOk result (λ list. map view list.items ≡ senders_json channel.now.shown.slots (length channel.now.shown.slots)) }
+fn broadcast_handles(
+    alloc: Global,
+    channel: &Broadcast<u64>,
+    kind: Kind,
+) -> Result<Vec<Value>, AllocError>
+    ensures { IfOk result (λ list. map view list.items ≡ handles_json kind channel.now.shown.slots (length channel.now.shown.slots)) }
 {
     let mut list = Vec::new(alloc);
     'each_handle: for h in 0..channel.made() {
-        push_some(&mut list, sender_value(h, channel.kind(h)))?;
+        push_some(&mut list, handle_value(kind, h, channel.kind(h)))?;
     }
     Ok(list)
 }
@@ -182,11 +218,11 @@ fn watch_value(alloc: Global, channel: &Watch<u64>) -> Result<Value, AllocError>
 
 #[tactic(auto, using(crate::proofs::HandleLists::handle_lists))]
 fn watch_senders(alloc: Global, channel: &Watch<u64>) -> Result<Vec<Value>, AllocError>
-    ensures { IfOk result (λ list. map view list.items ≡ senders_json channel.now.shown.slots (length channel.now.shown.slots)) }
+    ensures { IfOk result (λ list. map view list.items ≡ handles_json Kind.Sender channel.now.shown.slots (length channel.now.shown.slots)) }
 {
     let mut list = Vec::new(alloc);
     'each_handle: for h in 0..channel.made() {
-        push_some(&mut list, sender_value(h, channel.kind(h)))?;
+        push_some(&mut list, handle_value(Kind::Sender, h, channel.kind(h)))?;
     }
     Ok(list)
 }

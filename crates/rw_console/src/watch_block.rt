@@ -5,8 +5,9 @@ ghost use Rattle.rw_watch.specs.Machine.{mark_at};
 ghost use Rattle.rw_console.specs.Handles.{senders_line};
 ghost use Rattle.rw_console.specs.WatchBlock.{channel_numbers, channel_line, mark_text, seen_or_unseen, receiver_line, receiver_lines, watch_block};
 
-use crate::handles::push_sender;
+use crate::handles::push_handle;
 use crate::text::{open_or_closed, push_with_number};
+use rw_handles::Kind;
 use rw_lines::push_number;
 use rw_watch::Watch;
 use std::alloc::AllocError;
@@ -40,13 +41,13 @@ fn push_summary(out: &mut Vec<u8>, i: u64, channel: &Watch<u64>) -> Result<(), A
 }
 
 /// The live senders.
-#[tactic(auto, using(crate::proofs::Written::by_number), unfolding(crate::specs::Handles::senders_line))]
+#[tactic(auto, using(crate::proofs::Written::by_number), unfolding(crate::specs::Handles::handles_line))]
 fn push_senders(out: &mut Vec<u8>, channel: &Watch<u64>) -> Result<(), AllocError>
     ensures { OnOk result (out.new.items ≡ out.old.items ++ senders_line channel.now.shown.slots) }
 {
     out.extend_from_slice(b"senders")?;
     'each_handle: for h in 0..channel.made() {
-        push_sender(out, h, channel.kind(h))?;
+        push_handle(out, Kind::Sender, h, channel.kind(h))?;
     }
     out.extend_from_slice(b"\n")
 }

@@ -13,7 +13,7 @@ use Rattle.rw_script.specs.Script.{Script}
 use Rattle.rw_law.specs.Numbers.{numbers}
 use Rattle.rw_text.specs.declared.faults.TextFault.{TextFault}
 use Rattle.rw_text.specs.Salvaging.{salvage_of}
-use Rattle.rw_text.specs.Texts.{text}
+use Rattle.rw_text.specs.Texts.{text, text_of}
 use Rattle.rw_program.specs.declared.reading.Refusal.{Refusal}
 use Rattle.rw_program.specs.declared.reading.Refusal.TheVariants as refusal
 use Rattle.rw_program.specs.Contents.{HasNoScript, HasNoText, IsNoScript, IsNoText, ReadsWhole}
@@ -69,8 +69,8 @@ some_front front rest some = omega (arith, length-append front rest)
 
 -- a journal text has its first line
 some_text : (run : Run ℕ) → 0 < length (text numbers run)
-unfolding text
-some_text run = some_front (codes "ttd-journal 1\n") _ (lit< tt)
+unfolding text_of
+some_text run = some_front (codes "ttd-journal 2\n") _ (lit< tt)
 
 -- the writer failed when a front of a journal was written
 pub unwritten : {out out' : Option (List ℕ)} {line : List ℕ} {status : ℕ} (run : Run ℕ) (told : List ℕ) (answered : ℕ) (fault : StreamFault) → fault ≡ Write → WritesFront out out' (text numbers run) → Tells line status (Err fault)

@@ -31,6 +31,23 @@ fn a_short_life(rt: HostRuntime) -> Result<(), Fail> {
 }
 
 #[test]
+fn a_weak_handle(rt: HostRuntime) -> Result<(), Fail> {
+    let mut table: Table<u64> = Table::of_two(rt.alloc(), 0, 0)?;
+    table.ready(1)?;
+    assert_eq!(rt; table.make(Kind::Weak, 0), 2);
+    assert_eq!(rt; table.look(2, Kind::Weak), Ok(()));
+    assert_eq!(rt; table.look(2, Kind::Sender), Err(HandleFault::WrongKind));
+    assert_eq!(rt; table.look(0, Kind::Weak), Err(HandleFault::WrongKind));
+    for kind in [Kind::Sender, Kind::Receiver, Kind::Weak] {
+        assert_eq!(rt; table.alive(kind), 1);
+    }
+    assert_eq!(rt; table.drop_one(2), (Kind::Weak, 0));
+    assert_eq!(rt; table.look(2, Kind::Weak), Err(HandleFault::Gone));
+    assert_eq!(rt; table.alive(Kind::Weak), 0);
+    Ok(())
+}
+
+#[test]
 fn the_first_two(rt: HostRuntime) -> Result<(), Fail> {
     let table: Table<u64> = Table::of_two(rt.alloc(), 3, 4)?;
     assert_eq!(rt; table.made(), 2);

@@ -87,9 +87,9 @@ const WORDS: &str = "\
 broadcast 2/0 0 changed 1=2 wrong-word
 watch 0/0 0 recv 1=2 wrong-word
 watch 0/broadcast 2/0 1 borrow 1=3 wrong-word
-broadcast 2/0 0 downgrade 0=2 wrong-word
-broadcast 2/0 0 upgrade 0=2 wrong-word
-broadcast 2/0 0 clone-weak 0=2 wrong-word
+watch 0/0 0 downgrade 0=2 wrong-word
+watch 0/0 0 upgrade 0=2 wrong-word
+watch 0/0 0 clone-weak 0=2 wrong-word
 watch 0/0 0 -=2 wrong-word";
 
 /// What follows the word.
@@ -118,7 +118,10 @@ broadcast 2/0 0 subscribe 0 as r as s=2 bad-arguments
 broadcast 2/0 0 subscribe 0 as abcdefghijklmnopq=2 bad-arguments
 broadcast 2/0 0 subscribe as=2 bad-arguments
 broadcast 2/0 0 subscribe as as r=2 bad-arguments
-broadcast 2/0 0 subscribe r1-x=2 bad-arguments";
+broadcast 2/0 0 subscribe r1-x=2 bad-arguments
+broadcast 2/0 0 downgrade=2 bad-arguments
+broadcast 2/0 0 upgrade 2 as=2 bad-arguments
+broadcast 2/0 0 clone-weak 2 as as=2 bad-arguments";
 
 /// Names.
 const NAMES: &str = "\

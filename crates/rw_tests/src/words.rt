@@ -9,7 +9,7 @@ use std::alloc::Global;
 use std::process::Abort;
 use std::test::Fail;
 
-const BROADCAST_CALLS: [(&[u8], BCall<u64>); 10] = [
+const BROADCAST_CALLS: [(&[u8], BCall<u64>); 13] = [
     (b"send 0 7", BCall::Send(0, 7)),
     (b"subscribe 0", BCall::Subscribe(0)),
     (b"clone-sender 0", BCall::CloneSender(0)),
@@ -20,6 +20,9 @@ const BROADCAST_CALLS: [(&[u8], BCall<u64>); 10] = [
     (b"sender-len 0", BCall::SenderLen(0)),
     (b"receiver-count 0", BCall::ReceiverCount(0)),
     (b"receiver-len 1", BCall::ReceiverLen(1)),
+    (b"downgrade 0", BCall::Downgrade(0)),
+    (b"upgrade 2", BCall::Upgrade(2)),
+    (b"clone-weak 2", BCall::CloneWeak(2)),
 ];
 
 const WATCH_CALLS: [(&[u8], WCall<u64>); 17] = [
@@ -59,7 +62,7 @@ const WATCH_CALLS: [(&[u8], WCall<u64>); 17] = [
     (b"closed 0", WCall::AwaitClosed(0)),
 ];
 
-const BROADCAST_REPLIES: [(&[u8], BReply<u64>); 13] = [
+const BROADCAST_REPLIES: [(&[u8], BReply<u64>); 14] = [
     (b"sent 2", BReply::Sent(2)),
     (b"no-receivers 9", BReply::NoReceivers(9)),
     (b"value 7", BReply::Value(7)),
@@ -73,6 +76,7 @@ const BROADCAST_REPLIES: [(&[u8], BReply<u64>); 13] = [
     (b"gone", BReply::Gone),
     (b"wrong-kind", BReply::WrongKind),
     (b"too-many-handles", BReply::TooManyHandles),
+    (b"no-sender", BReply::NoSender),
 ];
 
 const WATCH_REPLIES: [(&[u8], WReply<u64>); 17] = [
@@ -196,12 +200,15 @@ fn longest_line_has_123_bytes(rt: HostRuntime) {
 
 #[test]
 fn names_the_first_fault_of_a_call(rt: HostRuntime) {
-    let cases: [(bool, &[u8], WordFault); 22] = [
+    let cases: [(bool, &[u8], WordFault); 25] = [
         (true, b"", WordFault::WrongWord),
         (true, b" send 0 1", WordFault::WrongWord),
         (true, b"sends 0 07", WordFault::WrongWord),
         (true, b"changed 1", WordFault::WrongWord),
-        (true, b"downgrade 0", WordFault::WrongWord),
+        (false, b"downgrade 0", WordFault::WrongWord),
+        (true, b"downgraded 0", WordFault::WrongWord),
+        (true, b"upgrade", WordFault::BadArguments),
+        (true, b"clone-weak 0 1", WordFault::BadArguments),
         (false, b"recv 1", WordFault::WrongWord),
         (false, b"recv 4294967296 x", WordFault::WrongWord),
         (true, b"send", WordFault::BadArguments),
@@ -241,7 +248,7 @@ fn names_the_first_fault_of_a_reply(rt: HostRuntime) {
         (false, b"waits", WordFault::WrongWord),
         (true, b"stored", WordFault::WrongWord),
         (false, b"sent 1", WordFault::WrongWord),
-        (true, b"no-sender", WordFault::WrongWord),
+        (false, b"no-sender", WordFault::WrongWord),
         (true, b"dropped ", WordFault::BadArguments),
         (true, b"sent", WordFault::BadArguments),
         (true, b"value 07", WordFault::BadArguments),

@@ -2,8 +2,8 @@
 ghost use Rattle.std.specs.Prelude.{◌<◌, length};
 
 use crate::channels::playing::{Expected, Shows, play, record_and_walk};
-use rw_broadcast::{BCall, BReply, Broadcast};
-use rw_handles::Kind;
+use rw_broadcast::{BCall, BReply, Broadcast, Refusal};
+use rw_handles::{HandleFault, Kind};
 use std::alloc::Global;
 use std::process::Abort;
 use std::test::Fail;
@@ -15,6 +15,7 @@ pub struct Place {
     sent: u64,
     queued: u64,
     made: u32,
+    weak: u64,
     closed: bool,
     window: [Option<u64>; 5],
     kinds: [Option<Kind>; 3],
@@ -35,6 +36,7 @@ impl Shows for Broadcast<u64> {
             sent: self.sent(),
             queued: self.queued(),
             made: self.made(),
+            weak: self.alive(Kind::Weak),
             closed: self.closed(),
             window: [
                 self.window(0),
@@ -67,6 +69,7 @@ pub fn opening(capacity: u64) -> Place {
         sent: 0,
         queued: 0,
         made: 2,
+        weak: 0,
         closed: false,
         window: [None; 5],
         kinds: [Some(Kind::Sender), Some(Kind::Receiver), None],
@@ -248,6 +251,77 @@ fn refused_handles(rt: HostRuntime) -> Result<(), Fail> {
         Expected::new(BCall::Recv(1), BReply::Gone),
     ];
     play_at(&rt, rt.alloc(), 2, steps)
+}
+
+#[test]
+fn weak_senders(rt: HostRuntime) -> Result<(), Fail> {
+    let downgraded = Place {
+        made: 3,
+        weak: 1,
+        kinds: [Some(Kind::Sender), Some(Kind::Receiver), Some(Kind::Weak)],
+        ..opening(2)
+    };
+    let closed = Place {
+        made: 4,
+        closed: true,
+        kinds: [None, Some(Kind::Receiver), Some(Kind::Weak)],
+        ..downgraded
+    };
+    let steps: &[Row] = &[
+        Expected::to(BCall::Downgrade(0), BReply::New(2), downgraded),
+        Expected::new(BCall::Upgrade(2), BReply::New(3)),
+        Expected::new(BCall::DropHandle(0), BReply::Dropped),
+        Expected::new(BCall::TryRecv(1), BReply::Empty),
+        Expected::to(BCall::DropHandle(3), BReply::Dropped, closed),
+        Expected::to(BCall::Upgrade(2), BReply::NoSender, closed),
+        Expected::to(BCall::TryRecv(1), BReply::Closed, closed),
+    ];
+    play_at(&rt, rt.alloc(), 2, steps)
+}
+
+#[test]
+fn weak_senders_refused(rt: HostRuntime) -> Result<(), Fail> {
+    let steps: &[Row] = &[
+        Expected::new(BCall::Downgrade(0), BReply::New(2)),
+        Expected::new(BCall::CloneWeak(2), BReply::New(3)),
+        Expected::new(BCall::Send(2, 1), BReply::WrongKind),
+        Expected::new(BCall::Downgrade(2), BReply::WrongKind),
+        Expected::new(BCall::Upgrade(0), BReply::WrongKind),
+        Expected::new(BCall::CloneWeak(1), BReply::WrongKind),
+        Expected::new(BCall::DropHandle(2), BReply::Dropped),
+        Expected::new(BCall::Upgrade(2), BReply::Gone),
+        Expected::new(BCall::Upgrade(3), BReply::New(4)),
+        Expected::new(BCall::Upgrade(5), BReply::Unknown),
+    ];
+    play_at(&rt, rt.alloc(), 2, steps)
+}
+
+/// That too many handles were made is seen before it is that there is no sender.
+#[test]
+fn upgrade_at_the_handle_limit(rt: HostRuntime) -> Result<(), Fail> {
+    let mut steps: Vec<Row> = Vec::new(rt.alloc());
+    steps.push(Expected::new(BCall::Downgrade(0), BReply::New(2)))?;
+    for number in 3..65_536 {
+        steps.push(Expected::new(BCall::CloneWeak(2), BReply::New(number)))?;
+    }
+    steps.push(Expected::new(BCall::DropHandle(0), BReply::Dropped))?;
+    steps.push(Expected::new(BCall::Upgrade(2), BReply::TooManyHandles))?;
+    let recorded = Broadcast::open(rt.alloc(), 1)?;
+    let walked = Broadcast::open(rt.alloc(), 1)?;
+    record_and_walk(&rt, rt.alloc(), recorded, walked, &steps)
+}
+
+#[test]
+fn upgraded_senders(rt: HostRuntime) {
+    let refused = Refusal::Handle(HandleFault::WrongKind);
+    let replies: [(BReply<u64>, Result<Option<u32>, Refusal>); 3] = [
+        (BReply::New(3), Ok(Some(3))),
+        (BReply::NoSender, Ok(None)),
+        (BReply::WrongKind, Err(refused)),
+    ];
+    for (reply, sender) in replies {
+        assert_eq!(rt; reply.upgraded(), sender);
+    }
 }
 
 #[test]

@@ -1,7 +1,7 @@
 //! Worked rows of both channels, made by handles at a desk of one actor. In a row `/` stands for a line's end.
 
 use super::by_handles::{Hand, hands_of, make};
-use super::plain::{close, open};
+use super::plain::{call, close, open};
 use rw_desk::{Desk, Pass};
 use rw_law::Payload;
 use rw_words::{WordFault, read_call, read_reply};
@@ -94,6 +94,10 @@ const WATCHES: [(u64, &str); 6] = [
     ),
 ];
 
+/// Weak senders, whose calls are made by the channel's number.
+const WEAK_SENDERS: &str =
+    "downgrade 0=new 2/upgrade 2=new 3/drop 0=dropped/try-recv 1=empty/drop 3=dropped/upgrade 2=no-sender/try-recv 1=closed/clone-weak 2=new 4";
+
 /// The number of the handle in the words of a call.
 fn handle_in(words: &str) -> Result<usize, Fail> {
     let number = words.split(' ').nth(1).ok_or("no handle")?;
@@ -163,5 +167,34 @@ fn rows_of_watches(rt: HostRuntime) -> Result<(), Fail> {
     for (value, row) in WATCHES {
         play(&rt, rt.alloc(), &[Spec::Watch(value)], false, row)?;
     }
+    Ok(())
+}
+
+/// Makes the calls of a row of a broadcast by the channel's number, and compares the replies.
+fn call_all<V: Payload + PartialEq + Debug, R: Wait + Abort>(
+    rt: &R,
+    desk: &Desk<V>,
+    pass: &mut Pass<V>,
+    row: &str,
+) -> Result<(), Fail> {
+    for line in row.split('/') {
+        let (words, reply) = line.split_once('=').ok_or("no reply")?;
+        let (asked, reply) = line_of(true, words, reply)?;
+        assert_eq!(rt; call(desk, rt, pass, 0, asked)?, reply, "{line}");
+    }
+    Ok(())
+}
+
+#[test]
+fn weak_senders(rt: HostRuntime) -> Result<(), Fail> {
+    let alloc = rt.alloc();
+    let (desk, mut passes, _ends) = open::<u64>(alloc, &[Spec::Broadcast(2)], 1)?;
+    let mut pass = passes.pop().ok_or("no pass")?;
+    call_all(&rt, &desk, &mut pass, WEAK_SENDERS)?;
+    passes.push(pass)?;
+    let Ok(run) = close(desk, alloc, passes) else {
+        return Err(Fail::from("not closed"));
+    };
+    assert_eq!(rt; run.len(), 8);
     Ok(())
 }

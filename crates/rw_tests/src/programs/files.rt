@@ -6,7 +6,12 @@ use std::test::Fail;
 
 pub const SCRIPT: &[u8] = b"broadcast 4\n0 0 send 0 7\n0 0 try-recv 1\n0 0 drop 0\n";
 
+/// The journal of the script's run, as it is written.
 pub const JOURNAL: &[u8] =
+    b"ttd-journal 2\nbroadcast 4\nsteps\n1 0 0 send 0 7 = sent 1\n2 0 0 try-recv 1 = value 7\n3 0 0 drop 0 = dropped\nend\n";
+
+/// The same in version 1.
+const OLD_JOURNAL: &[u8] =
     b"ttd-journal 1\nbroadcast 4\nsteps\n1 0 0 send 0 7 = sent 1\n2 0 0 try-recv 1 = value 7\n3 0 0 drop 0 = dropped\nend\n";
 
 /// A file, the answered status, what is written, and what is told on the stream for errors.
@@ -19,7 +24,7 @@ fn records_scripts(rt: HostRuntime) -> Result<(), Fail> {
         (
             b"broadcast 2\n0 0 recv 1\n0 0 send 0 1\n---\nlist\n",
             3,
-            b"ttd-journal 1\nbroadcast 2\nsteps\nend\n",
+            b"ttd-journal 2\nbroadcast 2\nsteps\nend\n",
             b"would wait 2\n",
         ),
         (b"broadcast 0\n", 1, b"", b"script fault 1 bad-capacity\n"),
@@ -28,7 +33,7 @@ fn records_scripts(rt: HostRuntime) -> Result<(), Fail> {
         (
             b"watch 3\n---\nno command",
             0,
-            b"ttd-journal 1\nwatch 3\nsteps\nend\n",
+            b"ttd-journal 2\nwatch 3\nsteps\nend\n",
             b"",
         ),
     ];
@@ -52,7 +57,7 @@ fn records_scripts_with_threads(rt: HostRuntime) -> Result<(), Fail> {
         (
             b"broadcast 2\nactors 2\n0 0 recv 1\n1 0 send 0 5\n",
             0,
-            b"ttd-journal 1\nbroadcast 2\nsteps\n1 1 0 send 0 5 = sent 1\n2 0 0 recv 1 = value 5\nend\n",
+            b"ttd-journal 2\nbroadcast 2\nsteps\n1 1 0 send 0 5 = sent 1\n2 0 0 recv 1 = value 5\nend\n",
             b"",
         ),
         (b"broadcast 0\n", 1, b"", b"script fault 1 bad-capacity\n"),
@@ -71,8 +76,9 @@ fn records_scripts_with_threads(rt: HostRuntime) -> Result<(), Fail> {
 
 #[test]
 fn checks_journals(rt: HostRuntime) -> Result<(), Fail> {
-    let cases: [Case; 6] = [
+    let cases: [Case; 7] = [
         (JOURNAL, 0, b"ok 3\n", b""),
+        (OLD_JOURNAL, 0, b"ok 3\n", b""),
         (
             b"ttd-journal 1\nbroadcast 4\nsteps\n1 0 0 send 0 7 = sent 1\n2 0 0 try-recv 1 = value 8\n3 0 0 drop 0 = dropped\nend\n",
             1,
@@ -113,18 +119,19 @@ fn checks_journals(rt: HostRuntime) -> Result<(), Fail> {
 
 #[test]
 fn salvages_journals(rt: HostRuntime) -> Result<(), Fail> {
-    let cases: [Case; 6] = [
+    let cases: [Case; 7] = [
         (JOURNAL, 0, JOURNAL, b"kept 110 bytes\n"),
+        (OLD_JOURNAL, 0, JOURNAL, b"kept 110 bytes\n"),
         (
-            &JOURNAL[..90],
+            &OLD_JOURNAL[..90],
             0,
-            b"ttd-journal 1\nbroadcast 4\nsteps\n1 0 0 send 0 7 = sent 1\n2 0 0 try-recv 1 = value 7\nend\n",
+            b"ttd-journal 2\nbroadcast 4\nsteps\n1 0 0 send 0 7 = sent 1\n2 0 0 try-recv 1 = value 7\nend\n",
             b"kept 83 bytes\n",
         ),
         (
             &JOURNAL[..32],
             0,
-            b"ttd-journal 1\nbroadcast 4\nsteps\nend\n",
+            b"ttd-journal 2\nbroadcast 4\nsteps\nend\n",
             b"kept 32 bytes\n",
         ),
         (&JOURNAL[..31], 1, b"", b"journal fault truncated\n"),
@@ -232,7 +239,7 @@ fn each_write_of_a_told_line_fails(rt: HostRuntime) -> Result<(), Fail> {
         assert_eq!(rt; answered, 3, "{k}");
         assert_eq!(rt;
             out.handed_on(),
-            b"ttd-journal 1\nbroadcast 2\nsteps\nend\n".as_slice()
+            b"ttd-journal 2\nbroadcast 2\nsteps\nend\n".as_slice()
         );
         // Three bytes a write: five writes take the line.
         assert_eq!(rt; err.written().len(), line.len().min(3 * k as usize), "{k}");

@@ -60,3 +60,25 @@ fn handles(rt: HostRuntime) {
     ];
     play(&rt, rt.alloc(), &sessions);
 }
+
+#[test]
+fn weak_senders(rt: HostRuntime) {
+    let sessions: [(&str, &[u8], &[u8]); 3] = [
+        (
+            "weak_senders",
+            b"broadcast 2\n0 0 downgrade 0\n0 0 upgrade 2\n0 0 drop 0\n0 0 try-recv 1\n0 0 drop 3\n0 0 upgrade 2\n0 0 try-recv 1\n---\nlist\nstate\ngoto 1\nstate\nstate json\nrforward reply no-sender\n",
+            b"#1 1 0 0 downgrade 0 = new 2\n#2 2 0 0 upgrade 2 = new 3\n#3 3 0 0 drop 0 = dropped\n#4 4 0 0 try-recv 1 = empty\n#5 5 0 0 drop 3 = dropped\n#6 6 0 0 upgrade 2 = no-sender\n#7 7 0 0 try-recv 1 = closed\nplace 7 of 7\nchannel 0 broadcast capacity 2 sent 0 queued 0 made 4 closed\nwindow\nsenders\nweak 2\nreceiver 1 position 0 unread 0 lag 0\nplace 1 of 7\nplace 1 of 7\nchannel 0 broadcast capacity 2 sent 0 queued 0 made 3 open\nwindow\nsenders 0\nweak 2\nreceiver 1 position 0 unread 0 lag 0\n{\"channels\":[{\"capacity\":2,\"closed\":false,\"kind\":\"broadcast\",\"made\":3,\"queued\":0,\"receivers\":[{\"handle\":1,\"lag\":0,\"position\":0,\"unread\":0}],\"senders\":[0],\"sent\":0,\"weak\":[2],\"window\":[]}],\"len\":7,\"place\":1}\nhit 6 of 7\n",
+        ),
+        (
+            "weak_senders_refused",
+            b"broadcast 2\n0 0 downgrade 0\n0 0 clone-weak 2\n0 0 send 2 1\n0 0 drop 2\n0 0 upgrade 2\n0 0 upgrade 3\n---\nlist\ngoto 2\nstate\nend\nstate\n",
+            b"#1 1 0 0 downgrade 0 = new 2\n#2 2 0 0 clone-weak 2 = new 3\n#3 3 0 0 send 2 1 = wrong-kind\n#4 4 0 0 drop 2 = dropped\n#5 5 0 0 upgrade 2 = gone\n#6 6 0 0 upgrade 3 = new 4\nplace 2 of 6\nplace 2 of 6\nchannel 0 broadcast capacity 2 sent 0 queued 0 made 4 open\nwindow\nsenders 0\nweak 2 3\nreceiver 1 position 0 unread 0 lag 0\nplace 6 of 6\nplace 6 of 6\nchannel 0 broadcast capacity 2 sent 0 queued 0 made 5 open\nwindow\nsenders 0 4\nweak 3\nreceiver 1 position 0 unread 0 lag 0\n",
+        ),
+        (
+            "names_of_weak_senders",
+            b"broadcast 2\n0 0 downgrade 0 as w\n0 0 clone-weak w as v\n0 0 upgrade v as s\n0 0 send s 5\n---\nlist\n",
+            b"#1 1 0 0 downgrade 0 = new 2\n#2 2 0 0 clone-weak 2 = new 3\n#3 3 0 0 upgrade 3 = new 4\n#4 4 0 0 send 4 5 = sent 1\n",
+        ),
+    ];
+    play(&rt, rt.alloc(), &sessions);
+}

@@ -1,5 +1,6 @@
 //! Texts of runs and of none.
 
+use super::writing::{OLD, SMALL};
 use crate::plain::{entries_of, run_in};
 use rw_text::TextFault;
 use std::alloc::Global;
@@ -13,11 +14,10 @@ fn length(alloc: Global, bytes: &[u8]) -> Result<usize, TextFault> {
 
 #[test]
 fn the_text_of_a_run_is_read(rt: HostRuntime) -> Result<(), Fail> {
-    let small =
-        b"ttd-journal 1\nbroadcast 4\nsteps\n1 0 0 send 0 7 = sent 1\n2 0 0 try-recv 1 = value 7\n3 0 0 drop 0 = dropped\nend\n";
-    assert_eq!(rt; small.len(), 110);
+    assert_eq!(rt; (OLD.len(), SMALL.len()), (110, 110));
     for (text, entries) in [
-        (small.as_slice(), 3),
+        (OLD, 3),
+        (SMALL, 3),
         (
             b"ttd-journal 1\nwatch 18446744073709551615\nsteps\nend\n",
             0,
@@ -33,11 +33,62 @@ fn the_text_of_a_run_is_read(rt: HostRuntime) -> Result<(), Fail> {
     Ok(())
 }
 
+/// An entry's line is read so behind the first lines of each version.
+#[test]
+fn a_version_has_its_words(rt: HostRuntime) -> Result<(), Fail> {
+    for (line, old, new) in [
+        (
+            b"1 0 0 downgrade 0 = new 2".as_slice(),
+            Err(TextFault::Malformed(4)),
+            Ok(1),
+        ),
+        (
+            b"1 0 0 upgrade 1 = wrong-kind",
+            Err(TextFault::Malformed(4)),
+            Ok(1),
+        ),
+        (
+            b"1 0 0 clone-weak 2 = unknown",
+            Err(TextFault::Malformed(4)),
+            Ok(1),
+        ),
+        // A word that the version doesn't have comes before a handle that is too large, and before the reply.
+        (
+            b"1 0 0 downgrade 4294967296 = new 2",
+            Err(TextFault::Malformed(4)),
+            Err(TextFault::LimitExceeded(4)),
+        ),
+        (
+            b"1 0 0 upgrade 2 = no-sender",
+            Err(TextFault::Malformed(4)),
+            Err(TextFault::WrongReply(4)),
+        ),
+        (
+            b"1 0 0 try-recv 1 = no-sender",
+            Err(TextFault::Malformed(4)),
+            Err(TextFault::WrongReply(4)),
+        ),
+        (b"1 0 0 try-recv 1 = empty", Ok(1), Ok(1)),
+    ] {
+        for (first, answer) in [(b'1', old), (b'2', new)] {
+            let mut text = Vec::from_slice(rt.alloc(), b"ttd-journal ")?;
+            text.push(first)?;
+            text.extend_from_slice(b"\nbroadcast 2\nsteps\n")?;
+            text.extend_from_slice(line)?;
+            text.extend_from_slice(b"\nend\n")?;
+            assert_eq!(rt; length(rt.alloc(), &text), answer);
+        }
+    }
+    Ok(())
+}
+
 #[test]
 fn the_first_fault_is_answered(rt: HostRuntime) -> Result<(), Fail> {
     for (text, fault) in [
         (b"".as_slice(), TextFault::Truncated),
+        (b"ttd-journal 2\n", TextFault::Truncated),
         (b"ttd-journal 3\n", TextFault::Malformed(1)),
+        (b"ttd-journal\n", TextFault::Malformed(1)),
         (b"ttd-journal 1\nsteps\n", TextFault::Malformed(2)),
         (b"ttd-journal 1\nbroadcast 0\n", TextFault::LimitExceeded(2)),
         (

@@ -23,7 +23,7 @@ pub const TWO_CHANNELS: &[u8] = b"broadcast 2\nwatch 5\nactors 2\n0 0 send 0 1\n
 
 /// A script for each row: what it is about, its lines, and how many entries its run has. That of the handle limit is
 /// `handle_limit`.
-pub const SCRIPTS: [(&str, &[u8], u64); 19] = [
+pub const SCRIPTS: [(&str, &[u8], u64); 20] = [
     ("empty_session", b"broadcast 4\n", 0),
     ("overrun_walked_back", OVERRUN, 7),
     (
@@ -103,6 +103,11 @@ pub const SCRIPTS: [(&str, &[u8], u64); 19] = [
         3,
     ),
     ("two_channels", TWO_CHANNELS, 2),
+    (
+        "weak_senders",
+        b"broadcast 2\n0 0 downgrade 0\n0 0 upgrade 2\n0 0 drop 0\n0 0 try-recv 1\n0 0 drop 3\n0 0 upgrade 2\n0 0 try-recv 1\n",
+        7,
+    ),
 ];
 
 /// All the senders that a channel makes, two that it doesn't, and a drop in between.

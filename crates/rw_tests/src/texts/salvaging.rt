@@ -1,7 +1,7 @@
 //! Journal texts that were cut off, and other damage.
 
 use super::rows::run_of;
-use super::writing::SMALL;
+use super::writing::{OLD, SMALL};
 use crate::plain::{entries_of, run_in, salvage_in, write_run};
 use rw_devices::FailingWriter;
 use rw_text::TextFault;
@@ -32,6 +32,7 @@ fn a_text_is_cut_at_each_byte(rt: HostRuntime) -> Result<(), Fail> {
             _ => Ok((3, 110)),
         };
         assert_eq!(rt; held(rt.alloc(), &SMALL[..n]), answer, "{n}");
+        assert_eq!(rt; held(rt.alloc(), &OLD[..n]), answer, "{n}");
     }
     Ok(())
 }

@@ -5,13 +5,17 @@ use rw_devices::FailingWriter;
 use rw_text::WriteFault;
 use std::test::Fail;
 
-/// The text of three entries.
+/// The text of three entries, as it is written.
 pub const SMALL: &[u8] =
+    b"ttd-journal 2\nbroadcast 4\nsteps\n1 0 0 send 0 7 = sent 1\n2 0 0 try-recv 1 = value 7\n3 0 0 drop 0 = dropped\nend\n";
+
+/// The same in version 1.
+pub const OLD: &[u8] =
     b"ttd-journal 1\nbroadcast 4\nsteps\n1 0 0 send 0 7 = sent 1\n2 0 0 try-recv 1 = value 7\n3 0 0 drop 0 = dropped\nend\n";
 
 /// Two channels, with most of the words.
 const LARGE: &[u8] =
-    b"ttd-journal 1\nbroadcast 3\nwatch 1\nsteps\n1 0 0 send 0 1 = sent 1\n1 1 1 drop 1 = dropped\n2 0 0 send 0 2 = sent 1\n3 0 0 send 0 3 = sent 1\n4 0 0 send 0 4 = sent 1\n5 0 0 send 0 5 = sent 1\n6 0 0 try-recv 1 = lagged 1\n6 1 1 is-closed 0 = flag yes\n7 0 0 sender-len 0 = count 4\n7 1 1 closed 0 = done\n8 1 1 send 0 2 = no-receivers 2\n9 1 1 send-replace 0 3 = old 1\n10 1 1 modify 0 5 no = told no\n11 1 1 subscribe 0 = new 2\n12 1 1 borrow 2 = value 5\n13 63 0 subscribe 9 = unknown\nend\n";
+    b"ttd-journal 2\nbroadcast 3\nwatch 1\nsteps\n1 0 0 send 0 1 = sent 1\n1 1 1 drop 1 = dropped\n2 0 0 send 0 2 = sent 1\n3 0 0 send 0 3 = sent 1\n4 0 0 send 0 4 = sent 1\n5 0 0 send 0 5 = sent 1\n6 0 0 try-recv 1 = lagged 1\n6 1 1 is-closed 0 = flag yes\n7 0 0 sender-len 0 = count 4\n7 1 1 closed 0 = done\n8 1 1 send 0 2 = no-receivers 2\n9 1 1 send-replace 0 3 = old 1\n10 1 1 modify 0 5 no = told no\n11 1 1 subscribe 0 = new 2\n12 1 1 borrow 2 = value 5\n13 63 0 subscribe 9 = unknown\nend\n";
 
 #[test]
 fn what_is_read_is_written_again(rt: HostRuntime) -> Result<(), Fail> {
@@ -21,6 +25,15 @@ fn what_is_read_is_written_again(rt: HostRuntime) -> Result<(), Fail> {
         assert_eq!(rt; write_run(&run, &mut writer), Ok(text.len() as u64));
         assert!(rt; writer.written() == text);
     }
+    Ok(())
+}
+
+#[test]
+fn an_old_text_is_written_in_the_new_version(rt: HostRuntime) -> Result<(), Fail> {
+    let run = run_in::<u64>(rt.alloc(), OLD)?;
+    let mut writer = FailingWriter::new(rt.alloc(), 100, None);
+    assert_eq!(rt; write_run(&run, &mut writer), Ok(110));
+    assert!(rt; writer.written() == SMALL);
     Ok(())
 }
 

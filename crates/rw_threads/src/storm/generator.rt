@@ -99,7 +99,7 @@ impl Generator {
 fn to_broadcast(kind: u64, handle: u32, value: u64) -> BCall<u64>
     ensures { handle_of result ≡ handle }
 {
-    match kind % 10 {
+    match kind % 13 {
         0 => BCall::Send(handle, value),
         1 => BCall::Subscribe(handle),
         2 => BCall::CloneSender(handle),
@@ -109,7 +109,10 @@ fn to_broadcast(kind: u64, handle: u32, value: u64) -> BCall<u64>
         6 => BCall::DropHandle(handle),
         7 => BCall::SenderLen(handle),
         8 => BCall::ReceiverCount(handle),
-        _ => BCall::ReceiverLen(handle),
+        9 => BCall::ReceiverLen(handle),
+        10 => BCall::Downgrade(handle),
+        11 => BCall::Upgrade(handle),
+        _ => BCall::CloneWeak(handle),
     }
 }
 
