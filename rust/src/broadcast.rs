@@ -42,24 +42,24 @@
 pub mod error;
 mod values;
 
-use crate::line::{For, Tap, Turn, Waiting};
-use crate::proved::{self, OpenFault, Reply};
+use crate::line::{For, Inner, Tap, Turn, Waiting};
+use crate::proved::{self, Beside, OpenFault, Reply};
 use crate::recorder::{Handle, Recorder, Show, sealed};
-use crate::wait::{block_on, lock};
+use crate::wait::block_on;
 use error::{RecvError, SendError, TryRecvError};
 use std::fmt;
 use std::future::poll_fn;
 use std::panic::{RefUnwindSafe, UnwindSafe};
-use std::sync::{Arc, Mutex, OnceLock};
-use values::{Shared, Values};
+use std::sync::{Arc, OnceLock};
+use values::{Value, Values};
 
 /// The greatest capacity.
 const MOST_CAPACITY: usize = 65_536;
 
 struct Channel<T> {
     tap: Tap,
-    // Its lock is taken while the tap's is held.
-    values: Mutex<Values<T>>,
+    // Under the tap's lock.
+    values: Beside<Inner, Values<T>>,
     show: OnceLock<Show<T>>,
 }
 
@@ -93,9 +93,10 @@ fn open<T>(capacity: usize) -> Arc<Channel<T>> {
         Err(OpenFault::NoMemory) => panic!("yovanelum: no memory for a channel"),
     };
     let tap = Recorder::current().0.add(channel, 0);
+    let values = tap.line.beside(Values::new(capacity));
     Arc::new(Channel {
         tap,
-        values: Mutex::new(Values::new(capacity)),
+        values,
         show: OnceLock::new(),
     })
 }
@@ -160,7 +161,7 @@ impl<T> Sender<T> {
         turn.keep_text(number, text);
         match reply {
             Reply::Sent(receivers) => {
-                let evicted = lock(&channel.values).push(number, value, receivers);
+                let evicted = turn.reach(&channel.values).push(number, value, receivers);
                 let woken = turn.waiting_receivers();
                 drop(turn);
                 woken.wake();
@@ -326,7 +327,7 @@ pub struct Receiver<T> {
 }
 
 /// What a receiver gets, before the value is cloned.
-type Got<T> = Result<Shared<T>, TryRecvError>;
+type Got<T> = Result<Value<T>, TryRecvError>;
 
 impl<T> Receiver<T> {
     /// How many values were sent to it that it has yet to receive. Those that were overwritten count too, until it is told that it lags.
@@ -371,7 +372,7 @@ impl<T> Receiver<T> {
         call: impl Fn(&mut proved::Channel, proved::Caller, u32) -> Reply,
     ) -> Option<Got<T>> {
         match turn.call(|channel, caller| call(channel, caller, self.handle)) {
-            Reply::Value(number) => Some(Ok(lock(&self.channel.values).get(number))),
+            Reply::Value(number) => Some(Ok(turn.reach(&self.channel.values).get(number))),
             Reply::Lagged(n) => Some(Err(TryRecvError::Lagged(n))),
             Reply::Empty => Some(Err(TryRecvError::Empty)),
             Reply::Closed => Some(Err(TryRecvError::Closed)),
@@ -428,7 +429,7 @@ impl<T: Clone> Receiver<T> {
         })
         .await;
         match got {
-            Ok(value) => Ok(cloned(value)),
+            Ok(value) => Ok(value.cloned()),
             Err(TryRecvError::Lagged(n)) => Err(RecvError::Lagged(n)),
             Err(TryRecvError::Closed) => Err(RecvError::Closed),
             Err(TryRecvError::Empty) => {
@@ -448,7 +449,7 @@ impl<T: Clone> Receiver<T> {
         let got = self.receive(&mut turn, proved::Channel::broadcast_try_recv);
         drop(turn);
         got.expect("a receive that doesn't wait is answered")
-            .map(cloned)
+            .map(Value::cloned)
     }
 
     /// Receives the next value, and blocks this thread until there is one. Not for use within a runtime.
@@ -461,17 +462,12 @@ impl<T: Clone> Receiver<T> {
     }
 }
 
-/// A clone of a value, also for the last receiver, as in tokio. Where it is the last, the value is dropped with it.
-fn cloned<T: Clone>(value: Shared<T>) -> T {
-    lock(&value).clone()
-}
-
 impl<T> Drop for Receiver<T> {
     fn drop(&mut self) {
         let mut turn = self.channel.tap.turn();
         let unread = turn.ask(|channel| channel.unread(self.handle));
         turn.call(|channel, caller| channel.broadcast_drop(caller, self.handle));
-        let unwanted = lock(&self.channel.values).leave(unread);
+        let unwanted = turn.reach(&self.channel.values).leave(unread);
         let is_last = turn.ask(|channel| channel.receivers()) == 0;
         let woken = if is_last {
             turn.waiting_senders()

@@ -1,6 +1,6 @@
 //! A channel as its recorder sees it, with no value of it: the core's channel and who waits for it, under one lock.
 
-use crate::proved::{Actor, Caller, Channel, Cut, CutFault, Reply};
+use crate::proved::{Actor, Beside, Caller, Channel, Cut, CutFault, Reply};
 use crate::recorder::Shared;
 use crate::wait::{Queue, Ticket, Woken, lock};
 use std::collections::BTreeMap;
@@ -10,7 +10,8 @@ use std::task::{Context, Poll};
 /// What is kept of a channel beside its values.
 pub(crate) struct Line(Mutex<Inner>);
 
-struct Inner {
+/// What the lock of a channel keeps.
+pub(crate) struct Inner {
     channel: Channel,
     is_recorded: bool,
     // How many values were handed to the core: the number that stands for the next one.
@@ -44,6 +45,11 @@ impl Line {
     /// Adds the entries up to this stamp to a cut.
     pub(crate) fn add_to(&self, cut: &mut Cut, last: u64) -> Result<(), CutFault> {
         cut.add(&mut lock(&self.0).channel, last)
+    }
+
+    /// Puts a value under the channel's lock.
+    pub(crate) fn beside<T>(&self, value: T) -> Beside<Inner, T> {
+        Beside::new(&*lock(&self.0), value)
     }
 
     pub(crate) fn set_name(&self, name: &str) {
@@ -161,6 +167,12 @@ impl Turn<'_> {
     #[inline]
     pub(crate) fn ask<R>(&mut self, question: impl FnOnce(&mut Channel) -> R) -> R {
         question(&mut self.inner.channel)
+    }
+
+    /// A value under the channel's lock.
+    #[inline]
+    pub(crate) fn reach<'b, T>(&'b mut self, value: &'b Beside<Inner, T>) -> &'b mut T {
+        value.reach(&mut self.inner)
     }
 
     /// The number that stands for the next value.

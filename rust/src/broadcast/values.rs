@@ -3,9 +3,25 @@
 use std::collections::VecDeque;
 use std::sync::{Arc, Mutex};
 
-/// A value that several receivers clone. A clone runs under the lock of this one value, which nothing else takes: a `T` may be cloned by
-/// one thread at a time, as it need not be `Sync`.
-pub(super) type Shared<T> = Arc<Mutex<T>>;
+use crate::wait::lock;
+
+/// A value that receivers have yet to get.
+pub(super) enum Value<T> {
+    /// One receiver has.
+    Own(T),
+    /// Several have, and clone it one at a time, as a `T` need not be `Sync`: under the lock of this one value, which nothing else takes.
+    Shared(Arc<Mutex<T>>),
+}
+
+impl<T: Clone> Value<T> {
+    /// A clone, also for the last receiver, as in tokio. What nobody wants any more is dropped with it.
+    pub(super) fn cloned(self) -> T {
+        match self {
+            Value::Own(value) => value.clone(),
+            Value::Shared(value) => lock(&value).clone(),
+        }
+    }
+}
 
 /// The values that a receiver may still get, the oldest first.
 pub(super) struct Values<T> {
@@ -19,7 +35,18 @@ struct Slot<T> {
     // How many receivers have yet to get it: at 0 it is dropped, as in tokio, while its slot stays until it is evicted. The core can tell
     // whether a value is still wanted, by a look at every handle; this makes it one step.
     rest: u64,
-    value: Option<Shared<T>>,
+    value: Option<Value<T>>,
+}
+
+impl<T> Slot<T> {
+    /// One receiver less has yet to get the value, which it gets.
+    fn get(&mut self) -> Option<Value<T>> {
+        self.rest -= 1;
+        match &self.value {
+            Some(Value::Shared(value)) if self.rest > 0 => Some(Value::Shared(value.clone())),
+            _ => self.value.take(),
+        }
+    }
 }
 
 impl<T> Values<T> {
@@ -32,40 +59,37 @@ impl<T> Values<T> {
     }
 
     /// A value was sent to so many receivers. What is evicted for it comes back, to be dropped where no lock is held.
-    pub(super) fn push(&mut self, number: u64, value: T, receivers: u64) -> Option<Shared<T>> {
+    #[inline]
+    pub(super) fn push(&mut self, number: u64, value: T, receivers: u64) -> Option<Value<T>> {
         let evicted = if self.slots.len() == self.most {
             self.slots.pop_front()
         } else {
             None
         };
+        let value = match receivers {
+            1 => Value::Own(value),
+            _ => Value::Shared(Arc::new(Mutex::new(value))),
+        };
         self.slots.push_back(Slot {
             number,
             rest: receivers,
-            value: Some(Arc::new(Mutex::new(value))),
+            value: Some(value),
         });
         evicted?.value
     }
 
     /// A receiver gets the value of this number.
-    pub(super) fn get(&mut self, number: u64) -> Shared<T> {
+    #[inline]
+    pub(super) fn get(&mut self, number: u64) -> Value<T> {
         let at = self.place(number);
-        let slot = &mut self.slots[at];
-        slot.rest -= 1;
-        let value = if slot.rest == 0 {
-            slot.value.take()
-        } else {
-            slot.value.clone()
-        };
+        let value = self.slots[at].get();
         value.expect("a value that a receiver has yet to get")
     }
 
     /// Where the value of this number is. Numbers rise, by more than one only where a value came back to its sender.
+    #[inline]
     fn place(&self, number: u64) -> usize {
-        let first = self
-            .slots
-            .front()
-            .expect("a value that a receiver has yet to get")
-            .number;
+        let first = self.slots.front().map_or(number, |slot| slot.number);
         let guess = (number - first) as usize;
         if self
             .slots
@@ -78,7 +102,7 @@ impl<T> Values<T> {
     }
 
     /// A receiver that has yet to get so many values is gone. What nobody wants any more comes back.
-    pub(super) fn leave(&mut self, unread: u64) -> Vec<Shared<T>> {
+    pub(super) fn leave(&mut self, unread: u64) -> Vec<Value<T>> {
         let from = self.slots.len() - self.slots.len().min(unread as usize);
         let mut unwanted = Vec::new();
         for slot in self.slots.iter_mut().skip(from) {
