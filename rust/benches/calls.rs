@@ -75,6 +75,25 @@ fn two_threads(calls: u64) -> Timed {
     })
 }
 
+fn ping(calls: u64) -> Timed {
+    let rounds = calls / 80;
+    let (tx, mut there) = broadcast::channel(16);
+    let (back, mut rx) = broadcast::channel(16);
+    let answering = thread::spawn(move || {
+        for _ in 0..rounds {
+            back.send(there.blocking_recv().unwrap()).unwrap();
+        }
+    });
+    let timed = timed(rounds * 4, || {
+        for value in 0..rounds {
+            tx.send(value).unwrap();
+            assert_eq!(rx.blocking_recv(), Ok(value));
+        }
+    });
+    answering.join().unwrap();
+    timed
+}
+
 fn resident() -> u64 {
     let status = std::fs::read_to_string("/proc/self/status").unwrap();
     let line = status
@@ -90,12 +109,13 @@ fn main() {
         .collect();
     let calls = numbers.first().copied().unwrap_or(1_000_000).min(1_048_000);
     let repeats = numbers.get(1).copied().unwrap_or(5);
-    let cases: [Case; 6] = [
+    let cases: [Case; 7] = [
         ("broadcast-1024-pairs-1rx", |calls| pairs(calls, 1)),
         ("broadcast-1024-pairs-8rx", |calls| pairs(calls, 8)),
         ("broadcast-2-overrun", overrun),
         ("broadcast-1024-empty", empty),
         ("watch-pairs-1rx", watch_pairs),
+        ("2t-broadcast-16-ping", ping),
         ("2t-own-channels-pairs", two_threads),
     ];
     println!(
