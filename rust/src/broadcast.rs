@@ -191,9 +191,19 @@ impl<T> Sender<T> {
     }
 
     /// Makes a weak sender, which doesn't keep the channel open.
+    ///
+    /// # Panics
+    ///
+    /// Where the channel has made 65,536 senders, weak senders and receivers.
     #[must_use = "a weak sender that isn't used does nothing"]
     pub fn downgrade(&self) -> WeakSender<T> {
-        todo!("weak senders: the core has no such call yet")
+        let tap = &self.channel.tap;
+        let handle =
+            made(tap.call(|channel, caller| channel.broadcast_downgrade(caller, self.handle)));
+        WeakSender {
+            channel: self.channel.clone(),
+            handle,
+        }
     }
 
     /// How many values are kept that some receiver has yet to receive.
@@ -257,8 +267,7 @@ impl<T> Sender<T> {
 
     /// How many weak senders are alive.
     pub fn weak_count(&self) -> usize {
-        // There is none, as long as none can be made.
-        0
+        self.channel.tap.ask(|channel| channel.weak_senders()) as usize
     }
 }
 
@@ -292,15 +301,37 @@ impl<T> Drop for Sender<T> {
 }
 
 /// A sender that doesn't keep the channel open: the channel is closed when every [`Sender`] is gone, whatever weak ones there are.
+///
+/// ```
+/// use yovanelum::broadcast;
+///
+/// let (tx, _rx) = broadcast::channel::<u32>(4);
+/// let weak = tx.downgrade();
+/// weak.upgrade().unwrap().send(1).unwrap();
+/// drop(tx);
+/// assert!(weak.upgrade().is_none());
+/// ```
 pub struct WeakSender<T> {
     channel: Arc<Channel<T>>,
+    handle: u32,
 }
 
 impl<T> WeakSender<T> {
     /// A sender, unless every sender is gone.
+    ///
+    /// # Panics
+    ///
+    /// Where the channel has made 65,536 senders, weak senders and receivers.
     #[must_use]
     pub fn upgrade(&self) -> Option<Sender<T>> {
-        todo!("weak senders: the core has no such call yet")
+        let tap = &self.channel.tap;
+        match tap.call(|channel, caller| channel.broadcast_upgrade(caller, self.handle)) {
+            Reply::NoSender => None,
+            reply => Some(Sender {
+                channel: self.channel.clone(),
+                handle: made(reply),
+            }),
+        }
     }
 
     /// How many senders are alive.
@@ -310,13 +341,30 @@ impl<T> WeakSender<T> {
 
     /// How many weak senders are alive.
     pub fn weak_count(&self) -> usize {
-        todo!("weak senders: the core has no such call yet")
+        self.channel.tap.ask(|channel| channel.weak_senders()) as usize
     }
 }
 
 impl<T> Clone for WeakSender<T> {
+    /// # Panics
+    ///
+    /// Where the channel has made 65,536 senders, weak senders and receivers.
     fn clone(&self) -> WeakSender<T> {
-        todo!("weak senders: the core has no such call yet")
+        let tap = &self.channel.tap;
+        let handle =
+            made(tap.call(|channel, caller| channel.broadcast_clone_weak(caller, self.handle)));
+        WeakSender {
+            channel: self.channel.clone(),
+            handle,
+        }
+    }
+}
+
+impl<T> Drop for WeakSender<T> {
+    fn drop(&mut self) {
+        self.channel
+            .tap
+            .call(|channel, caller| channel.broadcast_drop(caller, self.handle));
     }
 }
 
@@ -356,8 +404,7 @@ impl<T> Receiver<T> {
 
     /// How many weak senders are alive.
     pub fn sender_weak_count(&self) -> usize {
-        // There is none, as long as none can be made.
-        0
+        self.channel.tap.ask(|channel| channel.weak_senders()) as usize
     }
 
     /// Whether every sender is gone. There may be values to receive all the same.
@@ -513,6 +560,20 @@ impl<T> sealed::Tapped for Sender<T> {
 }
 
 impl<T> Handle for Sender<T> {
+    type Value = T;
+
+    fn show(&self, text: Show<T>) {
+        let _ = self.channel.show.set(text);
+    }
+}
+
+impl<T> sealed::Tapped for WeakSender<T> {
+    fn tap(&self) -> &Tap {
+        &self.channel.tap
+    }
+}
+
+impl<T> Handle for WeakSender<T> {
     type Value = T;
 
     fn show(&self, text: Show<T>) {

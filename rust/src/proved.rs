@@ -49,6 +49,7 @@ unsafe extern "C" {
 
     fn yovanelum_entries(held: &mut Held) -> u64;
     fn yovanelum_senders(held: &mut Held) -> u64;
+    fn yovanelum_weak_senders(held: &mut Held) -> u64;
     fn yovanelum_receivers(held: &mut Held) -> u64;
     fn yovanelum_queued(held: &mut Held) -> u64;
     fn yovanelum_unread(held: &mut Held, receiver: u32) -> Found;
@@ -107,6 +108,7 @@ pub(crate) enum Reply {
     Done,
     JournalFull,
     NoMemory,
+    NoSender,
 }
 
 impl Answer {
@@ -131,7 +133,8 @@ impl Answer {
             18 => Reply::Done,
             20 => Reply::JournalFull,
             21 => Reply::NoMemory,
-            // 10 to 12 are of a handle that isn't there, was dropped or is of the other kind, 19 is of a call to a channel of the other
+            22 => Reply::NoSender,
+            // 10 to 12 are of a handle that isn't there, was dropped or is of another kind, 19 is of a call to a channel of the other
             // kind: the types of this crate make no such call.
             kind => unreachable!("the core answered {kind}"),
         }
@@ -192,6 +195,12 @@ impl Channel {
     pub(crate) fn senders(&mut self) -> u64 {
         // SAFETY: a channel is held.
         unsafe { yovanelum_senders(&mut self.0) }
+    }
+
+    /// How many weak senders are alive.
+    pub(crate) fn weak_senders(&mut self) -> u64 {
+        // SAFETY: a channel is held.
+        unsafe { yovanelum_weak_senders(&mut self.0) }
     }
 
     /// How many receivers are alive.
@@ -257,6 +266,9 @@ calls! {
     broadcast_sender_len = yovanelum_broadcast_sender_len(sender: u32);
     broadcast_receiver_count = yovanelum_broadcast_receiver_count(sender: u32);
     broadcast_receiver_len = yovanelum_broadcast_receiver_len(receiver: u32);
+    broadcast_downgrade = yovanelum_broadcast_downgrade(sender: u32);
+    broadcast_upgrade = yovanelum_broadcast_upgrade(weak: u32);
+    broadcast_clone_weak = yovanelum_broadcast_clone_weak(weak: u32);
     watch_send = yovanelum_watch_send(sender: u32, value: u64);
     watch_send_replace = yovanelum_watch_send_replace(sender: u32, value: u64);
     watch_modify = yovanelum_watch_modify(told: bool, sender: u32, value: u64);

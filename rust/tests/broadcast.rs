@@ -128,6 +128,27 @@ fn lengths_and_counts() {
 }
 
 #[test]
+fn weak_senders_do_not_keep_the_channel_open() {
+    let (tx, mut rx) = broadcast::channel(4);
+    let weak = tx.downgrade();
+    let other = weak.clone();
+    assert_eq!((tx.strong_count(), tx.weak_count()), (1, 2));
+    assert_eq!((weak.strong_count(), weak.weak_count()), (1, 2));
+    assert_eq!((rx.sender_strong_count(), rx.sender_weak_count()), (1, 2));
+    let upgraded = weak.upgrade().unwrap();
+    assert!(upgraded.same_channel(&tx));
+    drop(tx);
+    upgraded.send(1).unwrap();
+    drop(upgraded);
+    assert!(rx.is_closed() && weak.upgrade().is_none());
+    drop(other);
+    assert_eq!((weak.strong_count(), weak.weak_count()), (0, 1));
+    assert_eq!(rx.try_recv(), Ok(1));
+    assert_eq!(rx.try_recv(), Err(TryRecvError::Closed));
+    assert_eq!(format!("{weak:?}"), "broadcast::WeakSender");
+}
+
+#[test]
 fn handles_know_their_channel() {
     let (tx, rx) = broadcast::channel::<u8>(4);
     let (other_tx, other_rx) = broadcast::channel::<u8>(4);

@@ -24,7 +24,7 @@ fn the_journal_of_a_run() {
     assert_eq!(poll_once(rx.recv()), Some(Ok(30)));
     assert_eq!(poll_once(rx.recv()), None);
     drop(tx);
-    let wanted = "ttd-journal 1\nbroadcast 2\nwatch 0\nsteps\n\
+    let wanted = "ttd-journal 2\nbroadcast 2\nwatch 0\nsteps\n\
         1 0 0 send 0 0 = sent 1\n2 0 0 send 0 1 = sent 1\n3 0 0 send 0 2 = sent 1\n4 0 0 try-recv 1 = lagged 1\n\
         5 0 1 send 0 1 = stored\n6 0 0 try-recv 1 = value 1\n7 0 0 recv 1 = value 2\n\
         9 0 0 drop 0 = dropped\nend\n";

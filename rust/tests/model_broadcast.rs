@@ -5,7 +5,9 @@ mod support;
 use std::rc::{Rc, Weak};
 use support::{Random, accepted, poll_once};
 use yovanelum::Recorder;
-use yovanelum::broadcast::{self, Receiver, Sender, error::RecvError, error::TryRecvError};
+use yovanelum::broadcast::{
+    self, Receiver, Sender, WeakSender, error::RecvError, error::TryRecvError,
+};
 
 /// The channel as tokio's documentation has it.
 struct Model {
@@ -52,6 +54,7 @@ impl Model {
 struct Pair {
     model: Model,
     senders: Vec<Sender<Rc<usize>>>,
+    weak: Vec<WeakSender<Rc<usize>>>,
     receivers: Vec<Receiver<Rc<usize>>>,
     // The values that were sent, each to see whether it was dropped.
     values: Vec<Weak<usize>>,
@@ -73,6 +76,7 @@ impl Pair {
         Pair {
             model,
             senders: vec![tx],
+            weak: vec![],
             receivers: vec![rx],
             values: vec![],
         }
@@ -81,7 +85,7 @@ impl Pair {
     /// One call of both, chosen at random.
     fn step(&mut self, random: &mut Random) {
         let (s, r) = (self.senders.len(), self.receivers.len());
-        match random.below(16) {
+        match random.below(19) {
             0..=4 if s > 0 => self.send(random.below(s)),
             5..=7 if r > 0 => self.try_recv(random.below(r)),
             8..=9 if r > 0 => self.recv(random.below(r)),
@@ -107,6 +111,21 @@ impl Pair {
             14 if s > 0 && random.below(4) == 0 => {
                 drop(self.senders.swap_remove(random.below(s)));
                 self.model.senders -= 1;
+            }
+            15 if s > 0 => self.weak.push(self.senders[random.below(s)].downgrade()),
+            16 if !self.weak.is_empty() => {
+                let weak = random.below(self.weak.len());
+                let upgraded = self.weak[weak].upgrade();
+                assert_eq!(upgraded.is_some(), self.model.senders > 0);
+                self.model.senders += usize::from(upgraded.is_some());
+                self.senders.extend(upgraded);
+            }
+            17 if !self.weak.is_empty() => {
+                let weak = random.below(self.weak.len());
+                match random.below(2) {
+                    0 => self.weak.push(self.weak[weak].clone()),
+                    _ => drop(self.weak.swap_remove(weak)),
+                }
             }
             _ => self.ask(),
         }
@@ -155,6 +174,7 @@ impl Pair {
             assert_eq!(sender.len(), self.model.queued());
             assert_eq!(sender.receiver_count(), self.model.places.len());
             assert_eq!(sender.strong_count(), self.model.senders);
+            assert_eq!(sender.weak_count(), self.weak.len());
         }
         for (receiver, place) in self.receivers.iter().zip(&self.model.places) {
             assert_eq!(receiver.len(), self.model.sent - place);

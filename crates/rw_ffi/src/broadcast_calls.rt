@@ -146,7 +146,7 @@ pub extern "C" fn yovanelum_broadcast_recv(
     )
 }
 
-/// Drops a handle of either kind.
+/// Drops a handle of any kind.
 #[unsafe(no_mangle)]
 pub extern "C" fn yovanelum_broadcast_drop(
     alloc: Global,
@@ -231,5 +231,65 @@ pub extern "C" fn yovanelum_broadcast_receiver_len(
         actor,
         clock,
         ChanCall::B(BCall::ReceiverLen(receiver)),
+    )
+}
+
+/// A sender makes a weak sender, which doesn't keep the channel open.
+#[unsafe(no_mangle)]
+pub extern "C" fn yovanelum_broadcast_downgrade(
+    alloc: Global,
+    held: &mut Held,
+    actor: u32,
+    clock: u64,
+    sender: u32,
+) -> Answer
+    requires held { IsSome held.old.value }
+    requires actor { actor < MOST_ACTORS }
+    ensures { Answers held.old.value held.new.value actor clock (ChanCall.B (BCall.Downgrade sender)) result }
+{
+    take(
+        alloc,
+        held,
+        actor,
+        clock,
+        ChanCall::B(BCall::Downgrade(sender)),
+    )
+}
+
+/// A weak sender makes a sender, as long as one is alive.
+#[unsafe(no_mangle)]
+pub extern "C" fn yovanelum_broadcast_upgrade(
+    alloc: Global,
+    held: &mut Held,
+    actor: u32,
+    clock: u64,
+    weak: u32,
+) -> Answer
+    requires held { IsSome held.old.value }
+    requires actor { actor < MOST_ACTORS }
+    ensures { Answers held.old.value held.new.value actor clock (ChanCall.B (BCall.Upgrade weak)) result }
+{
+    take(alloc, held, actor, clock, ChanCall::B(BCall::Upgrade(weak)))
+}
+
+/// A weak sender makes another.
+#[unsafe(no_mangle)]
+pub extern "C" fn yovanelum_broadcast_clone_weak(
+    alloc: Global,
+    held: &mut Held,
+    actor: u32,
+    clock: u64,
+    weak: u32,
+) -> Answer
+    requires held { IsSome held.old.value }
+    requires actor { actor < MOST_ACTORS }
+    ensures { Answers held.old.value held.new.value actor clock (ChanCall.B (BCall.CloneWeak weak)) result }
+{
+    take(
+        alloc,
+        held,
+        actor,
+        clock,
+        ChanCall::B(BCall::CloneWeak(weak)),
     )
 }
