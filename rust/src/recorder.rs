@@ -146,7 +146,8 @@ impl Recorder {
     /// A recorder for a test, entered on this thread: where the thread panics while this is alive, or the variable `YOVANELUM_KEEP` is set,
     /// the journal is kept at `target/yovanelum/NAME.journal`, and two lines on standard error say where it is and how to walk it.
     ///
-    /// Make it the first variable of the test, so that it is dropped last and the drops of senders and receivers are in the journal.
+    /// Make it the first variable of the test, so that it is dropped last and the drops of senders and receivers are in the journal. Where
+    /// other threads of a runtime make channels, [`install`](Recorder::install) it too.
     ///
     /// ```
     /// use yovanelum::{broadcast, Recorder};
@@ -352,7 +353,8 @@ impl Drop for ForTest {
 impl ForTest {
     fn keep(&self) {
         let folder = target().join("yovanelum");
-        let path = folder.join(format!("{}.journal", self.name));
+        // A name is one file, also where it has a path's separator in it.
+        let path = folder.join(format!("{}.journal", self.name.replace('/', "_")));
         let saved = fs::create_dir_all(&folder).and_then(|()| self.recorder.save(&path));
         let path = path.display();
         match saved {

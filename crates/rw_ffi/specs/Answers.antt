@@ -30,6 +30,7 @@ broadcast_numbers b.Unknown = (10, 0)
 broadcast_numbers b.Gone = (11, 0)
 broadcast_numbers b.WrongKind = (12, 0)
 broadcast_numbers b.TooManyHandles = (13, 0)
+broadcast_numbers b.NoSender = (22, 0)
 
 abbrev pub watch_numbers : WReply ℕ → ℕ × ℕ
 watch_numbers (w.NoReceivers v) = (1, v)

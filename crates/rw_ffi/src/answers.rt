@@ -69,6 +69,7 @@ fn of_broadcast(reply: &BReply<u64>) -> (u32, u64)
         BReply::Gone => (11, 0),
         BReply::WrongKind => (12, 0),
         BReply::TooManyHandles => (13, 0),
+        BReply::NoSender => (22, 0),
     }
 }
 

@@ -1,7 +1,7 @@
 //! Questions to the channel that is held: none is a call of it, and none leaves an entry.
 
 ghost use Rattle.std.specs.Prelude.{◌≡◌, IsSome};
-ghost use Rattle.rw_handles.specs.declared.kinds.Kind.TheVariants.{Receiver, Sender};
+ghost use Rattle.rw_handles.specs.declared.kinds.Kind.TheVariants.{Receiver, Sender, Weak};
 ghost use Rattle.rw_ffi.specs.Questions.{alive_in, position_in, queued_in, seen_number, unread_in, HasEntries, Tells, TellsFound};
 
 use crate::answers::Found;
@@ -32,6 +32,19 @@ pub extern "C" fn yovanelum_senders(alloc: Global, held: &mut Held) -> u64
 {
     let recording = mem::replace(held, Held::empty(alloc)).into_box();
     let answer = recording.alive(Kind::Sender);
+    *held = Held::of(recording);
+    answer
+}
+
+/// How many weak senders are alive.
+#[unsafe(no_mangle)]
+pub extern "C" fn yovanelum_weak_senders(alloc: Global, held: &mut Held) -> u64
+    requires { IsSome held.old.value }
+    ensures held { held.new.value ≡ held.old.value }
+    ensures answer { Tells held.old.value (alive_in Weak) result }
+{
+    let recording = mem::replace(held, Held::empty(alloc)).into_box();
+    let answer = recording.alive(Kind::Weak);
     *held = Held::of(recording);
     answer
 }

@@ -1,0 +1,5 @@
+use Rattle.rw_ffi.proofs.watch_calls.yovanelum_watch_update.Goals as goal
+
+-- it is what the call answers
+pub returns : goal.returns
+returns c = c.take.ensures
