@@ -1,7 +1,7 @@
 -- Seats of a desk, after a call or a look at one of its channels.
-use Rattle.std.proofs.Common.{◌≡◌, ◌≢◌, ◌↔◌, ℕ, zero, suc, ◌<◌, true, false, true≢false, List, [], ◌∷◌, ◌++◌, map, length, get_or, Option, Some, None, Result, Ok, Err, IfOk, IfErr, IfSome, MatchOption, refl, sym, ap, ◌∙◌, subst, inl, inr, arith}
+use Rattle.std.proofs.Common.{◌≡◌, ℕ, zero, suc, ◌<◌, true, false, true≢false, List, [], ◌∷◌, ◌++◌, map, length, get_or, Option, Some, None, Result, Ok, Err, IfOk, IfErr, IfSome, MatchOption, refl, sym, ap, ◌∙◌, subst, arith}
 use Rattle.std.specs.List.{insert, remove}
-use Rattle.std.specs.Prelude.{slice_get, MatchResult, IsErrOf, IsTrue}
+use Rattle.std.specs.Prelude.{slice_get, IsTrue}
 use Rattle.std.specs.Option.{option_map, option_map_or}
 use Rattle.std.proofs.lemmas.List.{get_or-map, length-append, length-map}
 use Rattle.std.proofs.lemmas.Option.{get_or_from_slice_get, slice_get_within, slice_get-map}
@@ -28,8 +28,8 @@ use Rattle.rw_seat.specs.Journals.{StartsWith}
 use Rattle.rw_seat.proofs.Journals.{quiet_self}
 use Rattle.rw_seat.specs.Fronts.{author_of, HasGoneOn, IsFaultAfter, IsFrontOf}
 use Rattle.rw_seat.specs.Calls.{IsMade, IsNotMade, OfOpening}
-use Rattle.rw_seat.specs.DeskSeats.{Hand, DeskSeat, front_at, IsDeskSeat, IsElsewhereAsBefore, HasCalled, HasSeen}
-use Rattle.rw_seat.specs.SeatDesks.{SeatDesk, IsAnswered, IsRefused, IsSeatOf, opening_at}
+use Rattle.rw_seat.specs.DeskSeats.{Hand, DeskSeat, front_at, IsDeskSeat, IsElsewhereAsBefore, HasSeen}
+use Rattle.rw_seat.specs.SeatDesks.{SeatDesk, IsAnswered, IsSeatOf, opening_at}
 use Rattle.rw_seat.proofs.Reaching.{each_front, elsewhere, front_here, has_called, has_seen, homes_still, seat_called, seat_looked}
 
 module _ {V : Type 0} where

@@ -5,17 +5,14 @@ use Rattle.std.proofs.lemmas.List.{map-set, get_or-set_same, get_or-set_other, g
 use Rattle.std.proofs.lemmas.List.Elements.{All-push, All-set}
 use Rattle.std.proofs.lemmas.Bool.Decides.{eqb_tells}
 use Rattle.std.proofs.Math.Seq.{map-set_same}
-use Rattle.rw_world.specs.declared.channels.Chan.{Chan}
 use Rattle.rw_world.specs.declared.channels.ChanCall.{ChanCall}
 use Rattle.rw_world.specs.Specified.{ChanEntry}
 use Rattle.rw_desk.specs.declared.kept.Kept.{Kept}
 use Rattle.rw_desk.specs.Passes.{Pass}
 use Rattle.rw_seat.specs.declared.answered.Answered.{Answered}
-use Rattle.rw_seat.specs.Hands.{Home}
-use Rattle.rw_seat.specs.Journals.{IsQuiet}
 use Rattle.rw_seat.specs.Fronts.{author_of, EndsWithCall, HasGoneOn, kept_on, own_on}
 use Rattle.rw_seat.specs.Calls.{IsMade}
-use Rattle.rw_seat.specs.DeskSeats.{Hand, DeskSeat, front_at, IsDeskSeat, HasCalled, HasSeen, IsElsewhereAsBefore}
+use Rattle.rw_seat.specs.DeskSeats.{Hand, front_at, IsDeskSeat, HasCalled, HasSeen, IsElsewhereAsBefore}
 use Rattle.rw_seat.proofs.Journals.{quiet_self}
 use Rattle.rw_seat.proofs.Owning.{own_still, own_called, kept_here, kept_there}
 

@@ -1,11 +1,11 @@
-use Rattle.std.proofs.Common.{◌≡◌, None, Some, ℕ, ◌+◌, ◌++◌, ◌∷◌, [], List, length, map, take, false, refl, sym, ap, ◌∙◌, subst, arith}
+use Rattle.std.proofs.Common.{◌≡◌, None, Some, ◌++◌, ◌∷◌, [], List, length, map, take, refl, sym, ap, ◌∙◌, subst, arith}
 use Rattle.std.proofs.lemmas.List.{length-append, map-append, take_all}
 use Rattle.rw_world.specs.declared.opening.Spec.{Spec}
 use Rattle.rw_world.specs.declared.channels.Chan.{Chan}
 use Rattle.rw_world.specs.Openings.{has_bad_capacity, opened_channel, refusal}
 use Rattle.rw_seat.specs.Hands.{HandOff, Home}
 use Rattle.rw_seat.specs.DeskSeats.{DeskSeat, fresh_hand}
-use Rattle.rw_seat.specs.SeatDesks.{SeatDesk, opening_at}
+use Rattle.rw_seat.specs.SeatDesks.{SeatDesk}
 use Rattle.rw_seat.proofs.Giving.{AreFresh, fresh_hands, fresh_more, fresh_of, fresh_passes, numbers_length, opened_more, written}
 use Rattle.rw_seat.proofs.opening.open_all.Goals as goal
 

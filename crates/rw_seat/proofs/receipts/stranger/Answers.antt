@@ -1,4 +1,4 @@
-use Rattle.std.proofs.Common.{◌≡◌, ◌<◌, length, get_or, ◌∙◌, below_more, refl, sym, ap, subst, arith}
+use Rattle.std.proofs.Common.{◌<◌, length, ◌∙◌, below_more, refl, sym, ap, subst, arith}
 use Rattle.std.proofs.lemmas.List.{take_all}
 use Rattle.rw_desk.specs.Closing.{IsStranger, passes_of}
 use Rattle.rw_desk.proofs.Passing.{passes_here, passes_more}

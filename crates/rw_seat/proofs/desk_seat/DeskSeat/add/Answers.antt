@@ -1,6 +1,5 @@
-use Rattle.std.proofs.Common.{◌≡◌, ◌++◌, ◌∷◌, [], sym, ap, ◌∙◌, subst}
+use Rattle.std.proofs.Common.{◌≡◌, sym, ap, ◌∙◌}
 use Rattle.rw_desk.specs.Passes.{Pass}
-use Rattle.rw_seat.specs.DeskSeats.{IsDeskSeat}
 use Rattle.rw_seat.proofs.Reaching.{seat_with_hand}
 use Rattle.rw_seat.proofs.desk_seat.DeskSeat.add.Goals as goal
 

@@ -1,8 +1,8 @@
-use Rattle.std.proofs.Common.{◌≡◌, ◌<◌, List, length, refl, sym, ap, ◌∙◌, subst, IfOk, IfErr}
+use Rattle.std.proofs.Common.{◌≡◌, List, refl, sym, ap, ◌∙◌, subst, IfOk, IfErr}
 use Rattle.std.specs.List.{insert, remove}
 use Rattle.rw_desk.specs.Passes.{Pass}
 use Rattle.rw_seat.specs.Calls.{IsMade, IsNotMade}
-use Rattle.rw_seat.specs.DeskSeats.{DeskSeat, Hand, IsDeskSeat}
+use Rattle.rw_seat.specs.DeskSeats.{Hand, IsDeskSeat}
 use Rattle.rw_seat.specs.SeatDesks.{IsAnswered, IsSeatOf}
 use Rattle.rw_seat.proofs.Desks.{answered, front_of_spec, home_at, refused_stray, seat_after, still_of, within_hands}
 use Rattle.rw_seat.proofs.seat_desk.SeatDesk.call.Goals as goal

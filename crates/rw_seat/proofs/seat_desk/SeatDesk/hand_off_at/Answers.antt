@@ -1,7 +1,6 @@
-use Rattle.std.proofs.Common.{◌≡◌, ◌<◌, length, refl, ap, ◌∙◌, subst, arith}
+use Rattle.std.proofs.Common.{◌<◌, length, refl, arith}
 use Rattle.std.proofs.lemmas.Option.{slice_get_read}
 use Rattle.rw_seat.proofs.Desks.{spec_of}
-use Rattle.rw_seat.specs.SeatDesks.{opening_at}
 use Rattle.rw_seat.proofs.seat_desk.SeatDesk.hand_off_at.Goals as goal
 
 pub returns-clause-spec : goal.returns-clause-spec

@@ -1,4 +1,4 @@
-use Rattle.std.proofs.Common.{◌≡◌, ◌<◌, ℕ, List, [], ◌∷◌, ◌++◌, length, refl, sym, ap, ◌∙◌, subst}
+use Rattle.std.proofs.Common.{◌≡◌, ℕ, List, ◌++◌, length, sym, ap, ◌∙◌, subst}
 use Rattle.rw_world.specs.Specified.{ChanEntry}
 use Rattle.rw_seat.specs.Fronts.{HasGoneOn, IsFrontOf, author_of}
 use Rattle.rw_seat.specs.Journals.{StartsWith}
