@@ -2,7 +2,7 @@
 use Rattle.std.proofs.Common.{◌≡◌, ℕ, zero, suc, ◌+◌, ◌<◌, List, [], ◌∷◌, ◌++◌, map, refl, sym, ap, ◌∙◌, arith}
 use Rattle.std.specs.Prelude.{All, ◌-◌}
 use Rattle.std.proofs.lemmas.List.{map-append}
-use Rattle.std.proofs.lemmas.List.Elements.{All-same, All-push}
+use Rattle.std.proofs.lemmas.List.Elements.{All-map, All-push, All-same}
 use Rattle.rw_seat.specs.Rule.{numbers_from}
 
 -- one number more
@@ -22,3 +22,7 @@ dealt_more f xs ys x n is all new =
 
 pub each_popped : {X : Type 0} (P : X → Type 0) (xs ys : List X) (x : X) → ys ≡ xs ++ x ∷ [] → All P xs → P x → All P ys
 each_popped P xs ys x is all here = All-same P ys (xs ++ x ∷ []) is (All-push P xs x all here)
+
+-- a fact of each seat that is made from a number
+pub each_dealt : {X : Type 0} (P : X → Type 0) (f : ℕ → X) (xs : List X) (ns : List ℕ) → xs ≡ map f ns → ((n : ℕ) → P (f n)) → All P xs
+each_dealt P f xs ns is each = All-same P xs (map f ns) is (All-map P f ns (λ k d low. each _))

@@ -71,6 +71,7 @@ impl<B: Keeps + Drop> HandOff<B> {
         requires { (0 < seats) × (seats ≤ 64) }
         ensures count { IfOk result (λ r. r.0.seats ≡ seats) }
         ensures start { IfOk result (λ r. r.0.home.start ≡ Some (B.start book)) }
+        ensures home { IfOk result (λ r. All (λ s. s.home ≡ r.0.home) r.1.items) }
         ensures seats { IfOk result (λ r. r.1.items ≡ map (λ n. record { number = n; home = r.0.home; front = B.journal book }) (numbers_from 0 seats)) }
     {
         let mut hands = Vec::with_capacity(alloc, seats as usize)?;
@@ -95,7 +96,8 @@ impl<B: Keeps + Drop> HandOff<B> {
         requires place { seat.table_id ≡ self.now.home.table }
         requires room { (hands.old.items ≡ []) × (self.now.seats ≤ vec_capacity hands.old) }
         requires all { seat.me ≡ (resting (numbers_from 0 self.now.seats) self.now.home.start seat.me.0.front, []) }
-        ensures { hands.new.items ≡ map (λ n. record { number = n; home = self.now.home; front = seat.me.0.front }) (numbers_from 0 self.now.seats) }
+        ensures dealt { hands.new.items ≡ map (λ n. record { number = n; home = self.now.home; front = seat.me.0.front }) (numbers_from 0 self.now.seats) }
+        ensures home { All (λ s. s.home ≡ self.now.home) hands.new.items }
     {
         let mut rest = seat;
         for number in 0..self.seats - 1 {

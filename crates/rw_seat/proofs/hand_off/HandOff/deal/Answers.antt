@@ -1,9 +1,9 @@
-use Rattle.std.proofs.Common.{rules, arith, ◌≡◌, ◌<◌, ℕ, List, [], ◌∷◌, ◌+◌, ◌-◌, map, Option, ap, ◌∙◌, subst}
+use Rattle.std.proofs.Common.{rules, arith, ◌≡◌, refl, ◌<◌, ℕ, List, [], ◌∷◌, ◌+◌, ◌-◌, map, Option, ap, ◌∙◌, subst}
 use Rattle.atomic_table.specs.Table.{Me}
 use Rattle.rw_seat.specs.declared.view.View.{View}
 use Rattle.rw_seat.specs.Hands.{HandSeat}
 use Rattle.rw_seat.specs.Rule.{resting, numbers_from, other_part}
-use Rattle.rw_seat.proofs.Dealing.{deal_next, dealt_more}
+use Rattle.rw_seat.proofs.Dealing.{deal_next, dealt_more, each_dealt}
 use Rattle.rw_seat.proofs.Steps.{splits_view}
 use Rattle.rw_seat.proofs.hand_off.HandOff.deal.Goals as goal
 
@@ -48,8 +48,8 @@ loop-number-preserved g c =
       dealt = dealt_more hand c.loop-number.hands.items c.push_reserved.new.self.items _ n c.push_reserved.ensures.items inv.dealt dealt;
     }
 
-pub returns : goal.returns
-returns g c =
+pub returns-clause-dealt : goal.returns-clause-dealt
+returns-clause-dealt g c =
     let M : Type 0 = Me (Option g.row.B.Denot) (View g.row.B-Entry.Denot g.row.B-Start.Denot) in
     let H : Type 0 = HandSeat g.row.B-Entry.Denot g.row.B-Start.Denot in
     let inv = c.loop-number.invariant in
@@ -66,3 +66,9 @@ returns g c =
     let dealt : ◌≡◌ {A = H} (record { number = c.self.inside.seats - 1; home = record { table = rest.table_id; start = rest.me.0.start }; front = rest.me.0.front }) (hand n) =
     λ i. record { number = last i; home = record { table = inv.seated i; start = from i }; front = seen i } in
     dealt_more hand c.loop-number.hands.items c.push_reserved-2.new.self.items _ n c.push_reserved-2.ensures.items inv.dealt dealt ∙ ap (λ (k : ℕ). map hand (numbers_from 0 k)) all
+
+pub returns-clause-home : goal.returns-clause-home
+returns-clause-home g c =
+    let H : Type 0 = HandSeat g.row.B-Entry.Denot g.row.B-Start.Denot in
+    let hand : ℕ → H = λ k. record { number = k; home = c.args.self.now.home; front = c.args.seat.me.0.front } in
+    each_dealt (λ (s : H). s.home ≡ c.args.self.now.home) hand c.push_reserved-2.new.self.items (numbers_from 0 c.args.self.now.seats) (returns-clause-dealt g c) (λ n. refl)
