@@ -6,4 +6,3 @@ mod passes;
 pub mod plain;
 mod rows;
 mod settling;
-mod threads;
