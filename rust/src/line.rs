@@ -37,6 +37,12 @@ impl Line {
         }))
     }
 
+    /// Does something while no call of the channel is under way.
+    pub(crate) fn locked(&self, act: impl FnOnce()) {
+        let _inner = lock(&self.0);
+        act();
+    }
+
     /// Leaves no entry from now on.
     pub(crate) fn end(&self) {
         lock(&self.0).end();

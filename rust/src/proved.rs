@@ -112,6 +112,7 @@ pub(crate) enum Reply {
 }
 
 impl Answer {
+    #[inline]
     fn reply(self) -> Reply {
         let n = self.number;
         match self.kind {

@@ -20,11 +20,17 @@ const MOST_CHANNELS: usize = 64;
 /// Recording goes on.
 const NEVER: u64 = u64::MAX;
 
+/// Counts calls. Each takes a number under its channel's lock and hands it to the core as its clock. Every call of every thread writes it,
+/// so it has cache lines of its own.
+#[repr(align(128))]
+struct Clock(AtomicU64);
+
 /// What a recorder's channels share.
 pub(crate) struct Shared {
     id: u64,
-    // Counts calls. Each takes a number under its channel's lock and hands it to the core as its clock.
-    clock: AtomicU64,
+    clock: Clock,
+    // Changes once, while the first channel's lock is held.
+    has_several: AtomicBool,
     // The last stamp that is recorded.
     end: AtomicU64,
     is_quiet: AtomicBool,
@@ -34,9 +40,17 @@ pub(crate) struct Shared {
 }
 
 impl Shared {
+    /// The clock's number for a call whose channel's lock is held.
     #[inline]
     pub(crate) fn tick(&self) -> u64 {
-        self.clock.fetch_add(1, Ordering::SeqCst)
+        let Clock(clock) = &self.clock;
+        if self.has_several.load(Ordering::Relaxed) {
+            return clock.fetch_add(1, Ordering::SeqCst);
+        }
+        // Of one channel each call has the lock, so that no other changes the clock in between.
+        let now = clock.load(Ordering::Relaxed);
+        clock.store(now + 1, Ordering::Release);
+        now
     }
 
     #[inline]
@@ -80,6 +94,9 @@ impl Shared {
         let line = Arc::new(Line::new(channel, values));
         let mut lines = lock(&self.lines);
         let count = lines.len();
+        if let [first] = &lines[..] {
+            first.locked(|| self.has_several.store(true, Ordering::Relaxed));
+        }
         if count < MOST_CHANNELS {
             lines.push(line.clone());
         }
@@ -134,7 +151,8 @@ impl Recorder {
     pub fn new() -> Recorder {
         Recorder(Arc::new(Shared {
             id: IDS.fetch_add(1, Ordering::Relaxed),
-            clock: AtomicU64::new(0),
+            clock: Clock(AtomicU64::new(0)),
+            has_several: AtomicBool::new(false),
             end: AtomicU64::new(NEVER),
             is_quiet: AtomicBool::new(false),
             has_too_many: AtomicBool::new(false),
@@ -238,6 +256,7 @@ impl Recorder {
         let last = self
             .0
             .clock
+            .0
             .load(Ordering::SeqCst)
             .min(self.0.end.load(Ordering::SeqCst));
         let text = self

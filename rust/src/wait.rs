@@ -7,6 +7,7 @@ use std::task::{Context, Poll, Wake, Waker};
 use std::thread::{self, Thread};
 
 /// A lock that isn't closed by a panic: what it keeps is whole between calls, and a test's panic is no reason to lose the run.
+#[inline]
 pub(crate) fn lock<T>(mutex: &Mutex<T>) -> MutexGuard<'_, T> {
     mutex.lock().unwrap_or_else(PoisonError::into_inner)
 }
@@ -52,6 +53,7 @@ impl Queue {
     }
 
     /// All who wait, who wait no longer. They are to be woken where no lock is held.
+    #[inline]
     pub(crate) fn take(&mut self) -> Woken {
         Woken(std::mem::take(&mut self.wakers))
     }
@@ -63,7 +65,14 @@ impl Queue {
 pub(crate) struct Woken(Vec<(u64, Waker)>);
 
 impl Woken {
+    #[inline]
     pub(crate) fn wake(self) {
+        if !self.0.is_empty() {
+            self.wake_each();
+        }
+    }
+
+    fn wake_each(self) {
         for (_, waker) in self.0 {
             waker.wake();
         }

@@ -1,6 +1,5 @@
 //! The values of a broadcast, of which the core knows the numbers alone.
 
-use std::collections::VecDeque;
 use std::sync::{Arc, Mutex};
 
 use crate::wait::lock;
@@ -15,18 +14,27 @@ pub(super) enum Value<T> {
 
 impl<T: Clone> Value<T> {
     /// A clone, also for the last receiver, as in tokio. What nobody wants any more is dropped with it.
+    #[inline]
     pub(super) fn cloned(self) -> T {
         match self {
             Value::Own(value) => value.clone(),
-            Value::Shared(value) => lock(&value).clone(),
+            Value::Shared(value) => clone_of_shared(value),
         }
     }
 }
 
-/// The values that a receiver may still get, the oldest first.
+fn clone_of_shared<T: Clone>(value: Arc<Mutex<T>>) -> T {
+    lock(&value).clone()
+}
+
+/// The values that a receiver may still get.
 pub(super) struct Values<T> {
+    // A power of two.
     most: usize,
-    slots: VecDeque<Slot<T>>,
+    // As many as were sent at first, and from then on a ring, in which the newest is written over the oldest.
+    slots: Vec<Slot<T>>,
+    // Where the oldest stands.
+    first: usize,
 }
 
 struct Slot<T> {
@@ -54,28 +62,31 @@ impl<T> Values<T> {
     pub(super) fn new(capacity: usize) -> Values<T> {
         Values {
             most: capacity.next_power_of_two(),
-            slots: VecDeque::new(),
+            slots: Vec::new(),
+            first: 0,
         }
     }
 
     /// A value was sent to so many receivers. What is evicted for it comes back, to be dropped where no lock is held.
     #[inline]
     pub(super) fn push(&mut self, number: u64, value: T, receivers: u64) -> Option<Value<T>> {
-        let evicted = if self.slots.len() == self.most {
-            self.slots.pop_front()
-        } else {
-            None
-        };
         let value = match receivers {
             1 => Value::Own(value),
             _ => Value::Shared(Arc::new(Mutex::new(value))),
         };
-        self.slots.push_back(Slot {
-            number,
-            rest: receivers,
-            value: Some(value),
-        });
-        evicted?.value
+        if self.slots.len() < self.most {
+            self.slots.push(Slot {
+                number,
+                rest: receivers,
+                value: Some(value),
+            });
+            return None;
+        }
+        let slot = &mut self.slots[self.first];
+        self.first = (self.first + 1) & (self.most - 1);
+        slot.number = number;
+        slot.rest = receivers;
+        slot.value.replace(value)
     }
 
     /// A receiver gets the value of this number.
@@ -86,26 +97,40 @@ impl<T> Values<T> {
         value.expect("a value that a receiver has yet to get")
     }
 
+    /// Where the slot stands before which there are so many older ones.
+    #[inline]
+    fn at(&self, age: usize) -> usize {
+        (self.first + age) & (self.most - 1)
+    }
+
     /// Where the value of this number is. Numbers rise, by more than one only where a value came back to its sender.
     #[inline]
     fn place(&self, number: u64) -> usize {
-        let first = self.slots.front().map_or(number, |slot| slot.number);
-        let guess = (number - first) as usize;
-        if self
-            .slots
-            .get(guess)
-            .is_some_and(|slot| slot.number == number)
-        {
-            return guess;
+        let oldest = self.slots[self.first].number;
+        let guess = self.at((number - oldest) as usize);
+        match self.slots.get(guess) {
+            Some(slot) if slot.number == number => guess,
+            _ => self.find(number),
         }
-        self.slots.partition_point(|slot| slot.number < number)
+    }
+
+    /// Where the value of this number is, by halving.
+    #[cold]
+    fn find(&self, number: u64) -> usize {
+        let (newer, older) = self.slots.split_at(self.first);
+        match older.binary_search_by_key(&number, |slot| slot.number) {
+            Ok(place) => self.first + place,
+            Err(_) => newer.partition_point(|slot| slot.number < number),
+        }
     }
 
     /// A receiver that has yet to get so many values is gone. What nobody wants any more comes back.
     pub(super) fn leave(&mut self, unread: u64) -> Vec<Value<T>> {
-        let from = self.slots.len() - self.slots.len().min(unread as usize);
+        let count = self.slots.len();
         let mut unwanted = Vec::new();
-        for slot in self.slots.iter_mut().skip(from) {
+        for age in count - count.min(unread as usize)..count {
+            let at = self.at(age);
+            let slot = &mut self.slots[at];
             slot.rest -= 1;
             if slot.rest == 0 {
                 unwanted.extend(slot.value.take());
