@@ -1,13 +1,14 @@
 // The page's end of the debugger: each request is a promise of its answer.
 
 export class Client {
+  // `moduleBytes` gives the debugger's module; it is called while the worker starts.
   constructor(workerText, moduleBytes) {
     this.waiting = new Map();
     this.count = 0;
     this.worker = new Worker(URL.createObjectURL(new Blob([workerText], { type: "text/javascript" })));
     this.worker.onmessage = ({ data }) => this.settle(data);
     this.worker.onerror = ({ message }) => this.waiting.forEach(({ reject }) => reject(new Error(message)));
-    this.started = this.request("start", moduleBytes);
+    this.started = this.request("start", moduleBytes());
   }
 
   settle({ number, answer, fault }) {

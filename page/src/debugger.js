@@ -39,6 +39,9 @@ export class Debugger {
   }
 
   answer(ask, inputs) {
+    // A listing is somewhat longer than its journal. Where the room is too small all is computed twice.
+    const likely = inputs.reduce((sum, bytes) => sum + 2 * bytes.length, FIRST_ROOM);
+    if (likely > this.room) this.widen(likely);
     const slices = inputs.flatMap(bytes => [this.put(bytes), BigInt(bytes.length)]);
     const tried = () => ask(...slices, this.roomAt, BigInt(this.room), this.countAt);
     let status = tried();

@@ -15,7 +15,7 @@ import { countOf } from "./numbers.js";
 import { Run } from "./run.js";
 import { Screen } from "./screen.js";
 import { sample } from "./strip.js";
-import { View, columnsThatFit } from "./view.js";
+import { View, columnsThatFit, placesAtFirst } from "./view.js";
 import { waitingCall } from "./waiting.js";
 import { Walk } from "./walk.js";
 
@@ -83,7 +83,7 @@ async function open(client, source) {
   page.walk?.leave();
   page.walk = null;
   byId("facts").textContent = source.name;
-  const opened = await client.request("open", source.bytes);
+  const opened = await client.request("open", source.bytes, placesAtFirst(placeIn(location.href)));
   if (opened.fault === undefined) return showRun(client, opened, source);
   byId("refusal").replaceChildren(...faultPanel(opened.fault, source.bytes));
   showPart("refusal");
@@ -141,7 +141,7 @@ function start() {
     tell("This browser has no WebAssembly with 64-bit memory. Chromium and Chrome have it from 133 on, Firefox from 134 on.");
     return;
   }
-  const client = new Client(workerText(), moduleBytes());
+  const client = new Client(workerText(), moduleBytes);
   client.started.catch(tellFault);
   const openSource = opener(client);
   listen(openSource);

@@ -2,7 +2,7 @@
 
 import { readListing } from "./listing.js";
 import { Lives } from "./lives.js";
-import { readState } from "./states.js";
+import { commandsFor, readState } from "./states.js";
 
 const LINE_END = 10;
 const FAULT = /^(journal|script) fault (.*)$/;
@@ -23,20 +23,30 @@ class Front {
   }
 }
 
-// `ask` gives the bytes that commands write, with a heading before them where a call of the script would wait.
-export function openRun(ask) {
-  const front = new Front(ask("goto 0\nstate json\nlist\n"));
+// The states at these places. Where there is no such place it is the state before once more.
+function statesAt(places, front) {
+  return places.map(() => {
+    front.line();
+    return readState(front.line());
+  });
+}
+
+// `ask` gives the bytes that commands write, with a heading before them where a call of the script would wait. The states at `places`
+// are answered along with the opening, since each question reads the whole journal.
+export function openRun(ask, places) {
+  const front = new Front(ask(`${commandsFor([0, ...places])}list\n`));
   const first = front.line();
   const fault = FAULT.exec(first);
   if (fault) return { fault: { of: fault[1], text: fault[2] }, heading: "" };
   const waits = WAITS.exec(first);
   const lastPlace = Number(PLACE.exec(waits ? front.line() : first)[1]);
   const opening = readState(front.line());
+  const states = statesAt(places, front);
   const lives = new Lives(opening, lastPlace);
   const listing = new TextDecoder().decode(front.rest);
   const columns = readListing(front.rest, listing, lastPlace, lives);
   return {
-    lastPlace, opening, listing, columns,
+    lastPlace, opening, states, listing, columns,
     lives: lives.channels.map(handles => [...handles.values()]),
     heading: waits ? `${first}\n` : "",
     waitingLine: waits && Number(waits[1]),

@@ -24,7 +24,8 @@ export class Run {
     this.waiting = null;
     this.names = names;
     this.actorCount = this.columns.actors.reduce((most, actor) => Math.max(most, actor + 1), 1);
-    this.states = new Map([[0, opened.opening]]);
+    this.states = new Map(opened.states.map(state => [state.place, state]));
+    this.states.set(0, opened.opening);
     this.stateLength = longestState(this.channels);
   }
 

@@ -12,6 +12,12 @@ export function columnsThatFit(width) {
   return Math.max(FEWEST, Math.min(MOST_AT_FIRST, Math.floor((width - gutterOf(width)) / GOOD_COLUMN)));
 }
 
+// The places that are likely to be in view at first, round this one: there may be fewer.
+export function placesAtFirst(place) {
+  const from = Math.max(0, place - MOST_AT_FIRST / 2);
+  return Array.from({ length: MOST_AT_FIRST + 1 }, (_, i) => from + i);
+}
+
 function within(least, number, most) {
   return Math.max(least, Math.min(most, number));
 }

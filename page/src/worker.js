@@ -14,9 +14,9 @@ const requests = {
   start(module) {
     engine = new Debugger(module);
   },
-  open(bytes) {
+  open(bytes, places) {
     ask = questions(engine, bytes);
-    const opened = openRun(ask);
+    const opened = openRun(ask, places);
     heading = opened.heading;
     return opened;
   },

@@ -5,6 +5,7 @@ import os
 import re
 
 IMPORT = re.compile(r'^import (\{[^}]*\}) from "\./(\w+)\.js";$', re.M)
+COMMENT = re.compile(r"^ *//.*\n", re.M)
 EXPORT = re.compile(r"^export ((?:async )?(?:function|const|class) (\w+))", re.M)
 
 
@@ -27,9 +28,9 @@ def gather(folder, name, found):
 
 
 def enclosed(name, source):
-    """A module as a constant that has its exports, which later ones take from it."""
+    """A module as a constant that has its exports, which later ones take from it. Lines that are comments stay out."""
     exports = ", ".join(word for _, word in EXPORT.findall(source))
-    body = EXPORT.sub(r"\1", IMPORT.sub(r"const \1 = from_\2;", source))
+    body = COMMENT.sub("", EXPORT.sub(r"\1", IMPORT.sub(r"const \1 = from_\2;", source)))
     if re.search(r"^(import|export)\b", body, re.M):
         raise Refused(f"{name}.js has an import or export that isn't of the form that is taken apart here")
     return f"const from_{name} = (() => {{\n{body}return {{ {exports} }};\n}})();\n"
