@@ -45,12 +45,14 @@ def standing(receiver):
 
 
 def panel_of(state):
-    """The rows that the page shows of a state: of each channel its word, its receivers and its senders."""
+    """The rows that the page shows of a state: of each channel its word, its receivers, its senders and its weak senders."""
     rows = []
     for channel in state["channels"]:
         rows.append("closed" if channel["closed"] else "open")
         rows += [f"receiver {it['handle']}: {standing(it)}" for it in channel["receivers"]]
         rows.append("senders: " + (", ".join(map(str, channel["senders"])) or "none"))
+        if "weak" in channel:
+            rows.append("weak senders: " + ", ".join(map(str, channel["weak"])))
     return rows
 
 
