@@ -70,17 +70,21 @@ function drawSharedNames({ pen, frame, palette }, row) {
   }
 }
 
+// What a row's handles are called, in a word less where there is little room.
+function rowName(pen, row, room) {
+  const name = row.lives.length === 1 ? `${row.kind} ${row.lives[0].handle}` : `${row.kind}s`;
+  return pen.measureText(name).width <= room ? name : name.replace(/ senders?/, "");
+}
+
 // A row's handle is named on the left. Where a row has several, each is named in it.
 function drawRowNames(drawing) {
   const { pen, frame, band, palette } = drawing;
   for (const row of band.rows) {
-    const [first] = row.lives;
-    const isAlone = row.lives.length === 1;
     pen.font = FONT;
     pen.fillStyle = palette.mute;
     pen.textAlign = "right";
-    pen.fillText(isAlone ? `${row.kind} ${first.handle}` : `${row.kind}s`, frame.left - 10, row.base - 4);
-    if (!isAlone) drawSharedNames(drawing, row);
+    pen.fillText(rowName(pen, row, frame.left - 20), frame.left - 10, row.base - 4);
+    if (row.lives.length > 1) drawSharedNames(drawing, row);
   }
   if (band.left === 0) return;
   pen.textAlign = "left";
