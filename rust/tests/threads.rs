@@ -196,3 +196,39 @@ fn tasks_on_threads_of_their_own() {
     }
     assert_eq!(accepted(&recorder, "tasks"), recorder.len());
 }
+
+#[test]
+fn stamps_differ_where_a_second_channel_is_made_while_calls_go_on() {
+    let recorder = Recorder::new();
+    let _entered = recorder.enter();
+    let (tx, _rx) = broadcast::channel(4);
+    let is_over = Arc::new(AtomicBool::new(false));
+    let threads: Vec<_> = (0..3)
+        .map(|_| {
+            let (tx, is_over) = (tx.clone(), is_over.clone());
+            thread::spawn(move || {
+                while !is_over.load(Ordering::Relaxed) {
+                    tx.send(1).unwrap();
+                }
+            })
+        })
+        .collect();
+    while recorder.len() < 1_000 {
+        thread::yield_now();
+    }
+    let (second, _seen) = watch::channel(0);
+    for value in 0..1_000 {
+        second.send(value).unwrap();
+    }
+    is_over.store(true, Ordering::Relaxed);
+    for thread in threads {
+        thread.join().unwrap();
+    }
+    let text = recorder.journal().unwrap();
+    let entries = text.lines().filter(|line| line.contains(" = "));
+    let stamps: Vec<u64> = entries
+        .map(|line| line.split(' ').next().unwrap().parse().unwrap())
+        .collect();
+    assert!(stamps.windows(2).all(|pair| pair[0] < pair[1]));
+    assert_eq!(accepted(&recorder, "second-channel"), recorder.len());
+}

@@ -139,3 +139,36 @@ impl<T> Values<T> {
         unwanted
     }
 }
+
+#[cfg(test)]
+mod tests {
+    use super::*;
+
+    // Numbers that came back to their senders are left out.
+    const SENT: [u64; 9] = [0, 1, 4, 5, 9, 20, 21, 22, 40];
+
+    #[test]
+    fn values_are_found_by_their_numbers_also_where_some_are_left_out() {
+        let mut values = Values::new(4);
+        for (sent, number) in SENT.iter().enumerate() {
+            let evicted = values.push(*number, number * 10, 2).map(Value::cloned);
+            let expected = sent.checked_sub(4).map(|before| SENT[before] * 10);
+            assert_eq!(evicted, expected, "at {number}");
+            for kept in &SENT[sent.saturating_sub(3)..=sent] {
+                assert_eq!(values.slots[values.place(*kept)].number, *kept);
+            }
+        }
+    }
+
+    #[test]
+    fn a_value_is_dropped_when_its_last_receiver_has_it_or_is_gone() {
+        let mut values = Values::new(2);
+        for number in 0..3 {
+            assert!(values.push(number, (), 2).is_none_or(|_| number == 2));
+        }
+        values.get(1).cloned();
+        assert_eq!(values.leave(2).len(), 1, "the value 1, which the other has");
+        values.get(2).cloned();
+        assert!(values.slots.iter().all(|slot| slot.value.is_none()));
+    }
+}
