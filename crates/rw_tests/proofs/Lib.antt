@@ -1,1 +1,2 @@
 mod Recorded
+mod Sharing

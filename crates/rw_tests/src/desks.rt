@@ -6,3 +6,5 @@ mod passes;
 pub mod plain;
 mod rows;
 mod settling;
+mod shared;
+mod threads;

@@ -1,0 +1,350 @@
+//! Desks that threads share.
+
+use super::plain::{close, open, order, receipts, w_peek};
+use super::shared::Calls;
+use crate::flags::is_set_in_time;
+use rw_broadcast::{BCall, BReply};
+use rw_desk::{BRx, BTx, Ends, Pass, WRx, WTx};
+use rw_watch::{WCall, WReply};
+use rw_world::{ChanCall, ChanReply, Spec};
+use std::sync::Wait;
+use std::sync::atomic::{AtomicBool, Ordering};
+use std::test::Fail;
+use std::thread;
+use std::thread::Threads;
+
+/// Adds one to the value, 1,000 times.
+fn add_thousand<D: Calls, R: Wait>(
+    rt: &R,
+    desk: &D,
+    mut pass: Pass<u64>,
+    sender: &WTx,
+) -> Pass<u64> {
+    for _ in 0..1000 {
+        let _ = desk.w_send_if_modified(rt, &mut pass, sender, |value| {
+            *value = value.wrapping_add(1);
+            true
+        });
+    }
+    pass
+}
+
+/// The same in another thread and in this one. `None`: the thread wasn't started.
+fn add_twice<D: Calls + Sync, R: Threads + Wait + Sync>(
+    rt: &R,
+    desk: &D,
+    first: Pass<u64>,
+    second: Pass<u64>,
+    sender: &WTx,
+) -> Option<(Pass<u64>, Pass<u64>)> {
+    let mut back = None;
+    thread::scope(thread::scope_env(), rt, |scope| {
+        if let Ok(other) = scope.spawn(move || add_thousand(rt, desk, first, sender)) {
+            let second = add_thousand(rt, desk, second, sender);
+            back = Some((other.join(rt), second));
+        }
+    });
+    back
+}
+
+#[test]
+fn closures_of_two_threads(rt: HostRuntime) -> Result<(), Fail> {
+    let alloc = rt.alloc();
+    let (desk, mut passes, mut ends) = open(alloc, &[Spec::Watch(0u64)], 2)?;
+    let Some(Ends::Watch(sender, _receiver)) = ends.pop() else {
+        return Err(Fail::from("no watch"));
+    };
+    let second = passes.pop().ok_or("no second pass")?;
+    let first = passes.pop().ok_or("no first pass")?;
+    let Some((mut first, second)) = add_twice(&rt, &desk, first, second, &sender) else {
+        return Err(Fail::from("no thread"));
+    };
+    assert_eq!(rt;
+        w_peek(&desk, &rt, &mut first, &sender),
+        Ok(WReply::Value(2000))
+    );
+    passes.push(second)?;
+    passes.push(first)?;
+    let Ok(run) = close(desk, alloc, passes) else {
+        return Err(Fail::from("not closed"));
+    };
+    assert_eq!(rt; run.len(), 2001);
+    Ok(())
+}
+
+/// A receiver's wait, in another thread, and the value that it waits for, sent in this one.
+fn receive_beside<D: Calls + Sync, R: Threads + Wait + Sync>(
+    rt: &R,
+    desk: &D,
+    mut first: Pass<u64>,
+    second: &mut Pass<u64>,
+    receiver: &BRx,
+    sender: &BTx,
+) -> Option<Pass<u64>> {
+    let mut back = None;
+    thread::scope(thread::scope_env(), rt, |scope| {
+        let waiting = scope.spawn(move || {
+            let _ = desk.b_recv(rt, &mut first, receiver);
+            first
+        });
+        if let Ok(other) = waiting {
+            let _ = desk.b_send(rt, second, sender, 5);
+            back = Some(other.join(rt));
+        }
+    });
+    back
+}
+
+#[test]
+fn a_value_for_a_thread_that_waits(rt: HostRuntime) -> Result<(), Fail> {
+    let alloc = rt.alloc();
+    let (desk, mut passes, mut ends) = open(alloc, &[Spec::Broadcast(2)], 2)?;
+    let Some(Ends::Broadcast(sender, receiver)) = ends.pop() else {
+        return Err(Fail::from("no broadcast"));
+    };
+    let mut second = passes.pop().ok_or("no second pass")?;
+    let first = passes.pop().ok_or("no first pass")?;
+    let Some(first) = receive_beside(&rt, &desk, first, &mut second, &receiver, &sender) else {
+        return Err(Fail::from("no thread"));
+    };
+    passes.push(second)?;
+    passes.push(first)?;
+    let Ok(run) = close(desk, alloc, passes) else {
+        return Err(Fail::from("not closed"));
+    };
+    let stamps = [(1, 0), (2, 0)];
+    assert_eq!(rt; order(alloc, &run)?.as_slice(), stamps.as_slice());
+    let replies = [(1, BReply::Sent(1)), (0, BReply::Value(5))];
+    for (entry, (actor, reply)) in run.entries().iter().zip(replies) {
+        assert_eq!(rt; (entry.actor, entry.reply), (actor, ChanReply::B(reply)));
+    }
+    Ok(())
+}
+
+/// A closure under the lock of one channel, in another thread, that waits for an answered call of another channel in this one.
+fn modify_beside<D: Calls + Sync, R: Threads + Wait + Sync>(
+    rt: &R,
+    desk: &D,
+    mut first: Pass<u64>,
+    second: &mut Pass<u64>,
+    here: &WTx,
+    there: &WTx,
+) -> Option<Pass<u64>> {
+    let entered = AtomicBool::new(false);
+    let answered = AtomicBool::new(false);
+    let (is_entered, is_answered) = (&entered, &answered);
+    let mut back = None;
+    thread::scope(thread::scope_env(), rt, |scope| {
+        let modifying = scope.spawn(move || {
+            let _ = desk.w_send_if_modified(rt, &mut first, here, |value| {
+                is_entered.store(true, Ordering::SeqCst);
+                *value = if is_set_in_time(is_answered) { 1 } else { 2 };
+                true
+            });
+            first
+        });
+        if let Ok(other) = modifying {
+            if is_set_in_time(is_entered) {
+                let _ = desk.w_send(rt, second, there, 6);
+                is_answered.store(true, Ordering::SeqCst);
+            }
+            back = Some(other.join(rt));
+        }
+    });
+    back
+}
+
+#[test]
+fn a_call_beside_a_closure_of_another_channel(rt: HostRuntime) -> Result<(), Fail> {
+    let alloc = rt.alloc();
+    let (desk, mut passes, mut ends) = open(alloc, &[Spec::Watch(0u64); 2], 2)?;
+    let Some(Ends::Watch(there, _receiver)) = ends.pop() else {
+        return Err(Fail::from("no second watch"));
+    };
+    let Some(Ends::Watch(here, _receiver)) = ends.pop() else {
+        return Err(Fail::from("no first watch"));
+    };
+    let mut second = passes.pop().ok_or("no second pass")?;
+    let first = passes.pop().ok_or("no first pass")?;
+    let Some(first) = modify_beside(&rt, &desk, first, &mut second, &here, &there) else {
+        return Err(Fail::from("no thread"));
+    };
+    assert_eq!(rt;
+        w_peek(&desk, &rt, &mut second, &here),
+        Ok(WReply::Value(1))
+    );
+    passes.push(first)?;
+    passes.push(second)?;
+    assert!(rt; close(desk, alloc, passes).is_ok());
+    Ok(())
+}
+
+/// A send on a broadcast, in another thread, that is held until this one has written to a watch. Says whether it was held no longer
+/// than the limit.
+fn send_held<D: Calls + Sync, R: Threads + Wait + Sync>(
+    rt: &R,
+    desk: &D,
+    mut first: Pass<u64>,
+    second: &mut Pass<u64>,
+    sender: &BTx,
+    writer: &WTx,
+) -> Option<(Pass<u64>, bool)> {
+    let written = AtomicBool::new(false);
+    let is_written = &written;
+    let mut back = None;
+    thread::scope(thread::scope_env(), rt, |scope| {
+        let held = scope.spawn(move || {
+            let in_time = is_set_in_time(is_written);
+            let _ = desk.b_send(rt, &mut first, sender, 1);
+            (first, in_time)
+        });
+        if let Ok(other) = held {
+            let _ = desk.w_send(rt, second, writer, 6);
+            is_written.store(true, Ordering::SeqCst);
+            back = Some(other.join(rt));
+        }
+    });
+    back
+}
+
+#[test]
+fn calls_of_two_threads_on_two_channels(rt: HostRuntime) -> Result<(), Fail> {
+    let alloc = rt.alloc();
+    let (desk, mut passes, mut ends) = open(alloc, &[Spec::Broadcast(2), Spec::Watch(5u64)], 2)?;
+    let Some(Ends::Watch(writer, _reader)) = ends.pop() else {
+        return Err(Fail::from("no watch"));
+    };
+    let Some(Ends::Broadcast(sender, _receiver)) = ends.pop() else {
+        return Err(Fail::from("no broadcast"));
+    };
+    let mut second = passes.pop().ok_or("no second pass")?;
+    let first = passes.pop().ok_or("no first pass")?;
+    let Some((first, in_time)) = send_held(&rt, &desk, first, &mut second, &sender, &writer) else {
+        return Err(Fail::from("no thread"));
+    };
+    assert!(rt; in_time);
+    passes.push(first)?;
+    passes.push(second)?;
+    let Ok(run) = close(desk, alloc, passes) else {
+        return Err(Fail::from("not closed"));
+    };
+    // The send came later, and stands first: by its stamp, and then by its channel.
+    let stamps = [(1, 0), (1, 1)];
+    assert_eq!(rt; order(alloc, &run)?.as_slice(), stamps.as_slice());
+    let replies = [ChanReply::B(BReply::Sent(1)), ChanReply::W(WReply::Stored)];
+    for (entry, reply) in run.entries().iter().zip(replies) {
+        assert_eq!(rt; entry.reply, reply);
+    }
+    Ok(())
+}
+
+/// What a thread waits by: for the value 3 of a watch, for the end of a broadcast, and for that of another watch.
+#[derive(Drop)]
+struct Waits {
+    reader: WRx,
+    receiver: BRx,
+    writer: WTx,
+}
+
+/// What ends these waits in another thread.
+#[derive(Drop)]
+struct Ending {
+    writer: WTx,
+    sender: BTx,
+    reader: WRx,
+}
+
+/// Waits by all three in turn.
+fn wait_thrice<D: Calls, R: Wait>(
+    rt: &R,
+    desk: &D,
+    mut pass: Pass<u64>,
+    waits: &Waits,
+) -> Pass<u64> {
+    let _ = desk.w_wait_for(rt, &mut pass, &waits.reader, |value| *value == 3);
+    let _ = desk.b_recv(rt, &mut pass, &waits.receiver);
+    let _ = desk.w_closed(rt, &mut pass, &waits.writer);
+    pass
+}
+
+/// Writes 1, 2 and 3, drops the only sender of the broadcast, and the only receiver of the other watch.
+fn end_waits<D: Calls, R: Wait>(rt: &R, desk: &D, pass: &mut Pass<u64>, ending: Ending) {
+    let Ending {
+        writer,
+        sender,
+        reader,
+    } = ending;
+    for value in 1..=3 {
+        let _ = desk.w_send(rt, pass, &writer, value);
+    }
+    let _ = desk.b_drop_sender(rt, pass, sender);
+    let _ = desk.w_drop_receiver(rt, pass, reader);
+}
+
+/// The waits in another thread, and what ends them in this one.
+fn wait_beside<D: Calls + Sync, R: Threads + Wait + Sync>(
+    rt: &R,
+    desk: &D,
+    first: Pass<u64>,
+    second: &mut Pass<u64>,
+    waits: &Waits,
+    ending: Ending,
+) -> Option<Pass<u64>> {
+    let mut back = None;
+    thread::scope(thread::scope_env(), rt, |scope| {
+        if let Ok(other) = scope.spawn(move || wait_thrice(rt, desk, first, waits)) {
+            end_waits(rt, desk, second, ending);
+            back = Some(other.join(rt));
+        }
+    });
+    back
+}
+
+/// The handles of a watch, a broadcast and another watch, as they wait and as they end that.
+fn roles(mut ends: Vec<Ends>) -> Option<(Waits, Ending)> {
+    let (
+        Some(Ends::Watch(waiting, dropped)),
+        Some(Ends::Broadcast(sender, receiver)),
+        Some(Ends::Watch(writer, reader)),
+    ) = (ends.pop(), ends.pop(), ends.pop()) else {
+        return None;
+    };
+    let waits = Waits {
+        reader,
+        receiver,
+        writer: waiting,
+    };
+    let ending = Ending {
+        writer,
+        sender,
+        reader: dropped,
+    };
+    Some((waits, ending))
+}
+
+#[test]
+fn waits_that_another_thread_ends(rt: HostRuntime) -> Result<(), Fail> {
+    let specs = [Spec::Watch(0u64), Spec::Broadcast(2), Spec::Watch(0)];
+    let (desk, mut passes, ends) = open(rt.alloc(), &specs, 2)?;
+    let (waits, ending) = roles(ends).ok_or("other ends")?;
+    let mut second = passes.pop().ok_or("no second pass")?;
+    let first = passes.pop().ok_or("no first pass")?;
+    let back = wait_beside(&rt, &desk, first, &mut second, &waits, ending);
+    let first = back.ok_or("no thread")?;
+    let last_first = [
+        (
+            ChanCall::W(WCall::AwaitClosed(0)),
+            ChanReply::W(WReply::Done),
+        ),
+        (ChanCall::B(BCall::Recv(1)), ChanReply::B(BReply::Closed)),
+        (
+            ChanCall::W(WCall::Update(1)),
+            ChanReply::W(WReply::Value(3)),
+        ),
+    ];
+    assert!(rt; receipts(&first).len() >= last_first.len());
+    for (kept, wanted) in receipts(&first).iter().rev().zip(last_first) {
+        assert_eq!(rt; (kept.call, kept.reply), wanted);
+    }
+    Ok(())
+}
