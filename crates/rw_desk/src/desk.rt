@@ -133,7 +133,7 @@ impl<V: Payload> Desk<V> {
 }
 
 /// Whether a call is of the other kind than the channel of this spec.
-fn strays<V: Copy>(spec: &Spec<V>, call: &ChanCall<V>) -> bool
+pub fn strays<V: Copy>(spec: &Spec<V>, call: &ChanCall<V>) -> bool
     ensures { result ≡ strays_at (kind_of_spec spec.now) call.now }
 {
     match (spec, call) {
@@ -143,8 +143,8 @@ fn strays<V: Copy>(spec: &Spec<V>, call: &ChanCall<V>) -> bool
     }
 }
 
-/// Why no desk of these specs and so many actors is opened, if there is such a cause.
-fn refusal_to_open<V: Copy>(specs: &[Spec<V>], actors: u32) -> Option<DeskOpenFault>
+/// Why no desk of these specs and so many actors is opened, if there is such a cause: the number of actors comes first.
+pub fn refusal_to_open<V: Copy>(specs: &[Spec<V>], actors: u32) -> Option<DeskOpenFault>
     ensures refusal { result ≡ refusal_to_open specs.now actors }
     ensures opens { IsNone result → refusal specs.now ≡ None }
     ensures good { IsNone result → All (λ spec. has_bad_capacity spec ≡ false) specs.now }

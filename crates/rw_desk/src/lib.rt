@@ -23,8 +23,8 @@ mod straying;
 mod watch_calls;
 mod watch_closures;
 
-pub use closing::settle;
-pub use desk::Desk;
+pub use closing::{author, settle};
+pub use desk::{Desk, refusal_to_open, strays};
 pub use faults::{CloseFault, DeskFault, DeskOpenFault};
 pub use handles::{BRx, BTx, Ends, WRx, WTx};
 pub use kept::Kept;

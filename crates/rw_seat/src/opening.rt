@@ -1,6 +1,6 @@
 //! Opening desks with seats.
 
-ghost use Rattle.std.specs.Prelude.{◌≡◌, ◌<◌, ◌≤◌, ℕ, false, [], None, Some, All, length, map, slice_get, IfNone, IfOk, IfSome, IsNone, MatchResult, OnOk};
+ghost use Rattle.std.specs.Prelude.{◌≡◌, ◌<◌, ◌≤◌, ℕ, false, [], None, Some, All, length, map, slice_get, IfNone, IfOk, IfSome, MatchResult, OnOk};
 ghost use Rattle.rw_law.specs.declared.limits.TheConstants.{MOST_ACTORS};
 ghost use Rattle.rw_world.specs.Openings.{has_bad_capacity, opened_channel, refusal};
 ghost use Rattle.rw_desk.specs.Desks.{refusal_to_open};
@@ -12,10 +12,10 @@ ghost use Rattle.rw_seat.specs.SeatDesks.{HasOpened, opening_at};
 use crate::desk_seat::DeskSeat;
 use crate::hand_off::{HandOff, HandSeat};
 use crate::seat_desk::SeatDesk;
-use rw_desk::DeskOpenFault;
+use rw_desk::{DeskOpenFault, refusal_to_open};
 use rw_journal::Book;
-use rw_law::{MOST_ACTORS, NoMemory, Payload};
-use rw_world::{Chan, OpenFault, Spec, open_channel, refusal_of};
+use rw_law::{NoMemory, Payload};
+use rw_world::{Chan, OpenFault, Spec, open_channel};
 use std::alloc::Global;
 
 impl<V: Payload> SeatDesk<V> {
@@ -36,23 +36,6 @@ impl<V: Payload> SeatDesk<V> {
             Ok(opened) => Ok(opened),
             Err(NoMemory) => Err(DeskOpenFault::World(OpenFault::NoMemory)),
         }
-    }
-}
-
-/// Why no desk of these specs and so many actors is opened, if there is such a cause.
-fn refusal_to_open<V: Copy>(specs: &[Spec<V>], actors: u32) -> Option<DeskOpenFault>
-    ensures refusal { result ≡ refusal_to_open specs.now actors }
-    ensures opens { IsNone result → refusal specs.now ≡ None }
-    ensures good { IsNone result → All (λ spec. has_bad_capacity spec ≡ false) specs.now }
-    ensures some { IsNone result → 0 < actors }
-    ensures few { IsNone result → actors ≤ MOST_ACTORS }
-{
-    if actors == 0 || actors > MOST_ACTORS {
-        return Some(DeskOpenFault::BadActors);
-    }
-    match refusal_of(specs) {
-        Some(fault) => Some(DeskOpenFault::World(fault)),
-        None => None,
     }
 }
 

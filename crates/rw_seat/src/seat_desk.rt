@@ -14,7 +14,7 @@ use crate::answered::Answered;
 use crate::calling::{call_by_hand, look_by_hand};
 use crate::desk_seat::DeskSeat;
 use crate::hand_off::HandOff;
-use rw_desk::DeskFault;
+use rw_desk::{DeskFault, strays};
 use rw_journal::Book;
 use rw_law::Payload;
 use rw_world::{Chan, ChanCall, Spec};
@@ -118,16 +118,5 @@ impl<V: Payload> SeatDesk<V> {
             return None;
         }
         Some(&self.hand_offs[at])
-    }
-}
-
-/// Whether a call is of the other kind than the channel of this spec.
-fn strays<V: Copy>(spec: &Spec<V>, call: &ChanCall<V>) -> bool
-    ensures { result ≡ strays_at (kind_of_spec spec.now) call.now }
-{
-    match (spec, call) {
-        (Spec::Broadcast(_), ChanCall::B(_)) => false,
-        (Spec::Watch(_), ChanCall::W(_)) => false,
-        _ => true,
     }
 }
