@@ -1,6 +1,6 @@
 -- The JSON of a world has no number with a fraction, so serde_json says exactly what its text is.
-use Rattle.std.proofs.Common.{◌≡◌, ℕ, Bool, true, false, cond, eqb, List, [], ◌∷◌, Option, Some, None, refl, map, length}
-use Rattle.std.specs.Prelude.{codes, option_map, slice_get}
+use Rattle.std.proofs.Common.{◌≡◌, ℕ, Bool, true, false, cond, eqb, List, [], ◌∷◌, Option, Some, None, refl, map}
+use Rattle.std.specs.Prelude.{option_map, slice_get}
 use Rattle.std.specs.List.{cons_option, filter_map}
 use Rattle.serde_json.specs.Data.{Data}
 use Rattle.serde_json.specs.View.{items_of}
@@ -15,7 +15,7 @@ use Rattle.rw_watch.specs.Machine.{mark_at}
 use Rattle.rw_watch.specs.Shown.{Shown as Watch}
 use Rattle.rw_world.specs.Kinds.{broadcast_shown, watch_shown}
 use Rattle.rw_world.specs.Machines.{ChanShown}
-use Rattle.rw_console.specs.Json.{natural, handle_json, handles_json, reader_json, readers_json, watcher_json, watchers_json, weak_member, broadcast_with, channel_json, row_of, world_json}
+use Rattle.rw_console.specs.Json.{natural, handle_json, handles_json, reader_json, readers_json, watcher_json, watchers_json, weak_member, broadcast_with, channel_json, world_json}
 
 abbrev is_floatless : List Data → Type 0
 is_floatless ds = items_have_float (items_of ds) ≡ false
