@@ -1,0 +1,32 @@
+//! Calls of the library that ask for memory, each asked again where memory is refused.
+//!
+//! What is printed is the same whichever request is refused, and at each refusal all has to stand as before. `./refusals` has each
+//! request refused in turn. Standard error tells how many refusals the calls answered.
+//! Start reading at `met.rt`, which says what is kept of refusals.
+#![tactic(auto)]
+
+ghost use Rattle.std.specs.Prelude.{◌≡◌};
+
+mod books;
+mod machines;
+mod met;
+mod places;
+mod runs;
+mod walks;
+
+use anyhow::{Result, bail};
+use met::Met;
+
+fn main(rt: HostRuntime) -> Result<()> {
+    let alloc = rt.alloc();
+    let mut met = Met::new();
+    machines::play(&rt, alloc, &mut met)?;
+    books::play(&rt, alloc, &mut met)?;
+    runs::play(&rt, alloc, &mut met)?;
+    walks::play(&rt, alloc, &mut met)?;
+    eprintln!(rt; "refusals answered: {}", met.answered())?;
+    if met.lost() > 0 {
+        bail!("something was lost at a refusal");
+    }
+    Ok(())
+}

@@ -1,0 +1,109 @@
+//! Runs: built entry by entry, and opened again at their start.
+
+use crate::machines::SPECS;
+use crate::met::{Met, TRIES};
+use crate::places::Shows;
+use rw_broadcast::{BCall, BReply};
+use rw_journal::{PushFault, Run, RunDraft};
+use rw_law::{NoMemory, Payload};
+use rw_watch::{WCall, WReply};
+use rw_world::{ChanCall, ChanReply, OpenFault, RowCall, Spec, World};
+use std::alloc::Global;
+use std::io;
+
+/// A step, by its channel, with the reply that it has to have.
+#[derive(Clone, Copy)]
+struct Step<V> {
+    actor: u32,
+    stamp: u64,
+    channel: u32,
+    call: ChanCall<V>,
+    reply: ChanReply<V>,
+}
+
+/// A draft of a run of these specs.
+fn new_draft<V: Payload>(
+    alloc: Global,
+    met: &mut Met,
+    specs: &[Spec<V>],
+) -> Result<RunDraft<V>, OpenFault> {
+    for _ in 0..TRIES {
+        match RunDraft::open(alloc, specs) {
+            Err(OpenFault::NoMemory) => met.refused(true),
+            answer => return answer,
+        }
+    }
+    Err(OpenFault::NoMemory)
+}
+
+/// Pushes a step. That nothing was pushed at a refusal is seen in the run, which has each step once.
+fn push<V: Payload>(
+    met: &mut Met,
+    draft: &mut RunDraft<V>,
+    step: &Step<V>,
+) -> Result<(), PushFault> {
+    let call = RowCall {
+        channel: step.channel,
+        call: step.call,
+    };
+    for _ in 0..TRIES {
+        match draft.push(step.actor, step.stamp, call, step.reply) {
+            Err(PushFault::NoMemory) => met.refused(draft.specs().len() == 2),
+            answer => return answer,
+        }
+    }
+    Err(PushFault::NoMemory)
+}
+
+/// The run of a draft. It takes no memory.
+fn finish<V: Payload>(draft: RunDraft<V>) -> Run<V> {
+    draft.finish()
+}
+
+/// The world before a run's first entry.
+fn start<V: Copy>(alloc: Global, met: &mut Met, run: &Run<V>) -> Result<World<V>, NoMemory> {
+    let length = run.len();
+    for _ in 0..TRIES {
+        match run.start(alloc) {
+            Ok(world) => return Ok(world),
+            Err(NoMemory) => met.refused(run.len() == length),
+        }
+    }
+    Err(NoMemory)
+}
+
+/// A run of twenty sends, and as many values stored at the same stamps.
+pub fn build(alloc: Global, met: &mut Met) -> Option<Run<u64>> {
+    let mut draft = new_draft(alloc, met, &SPECS).ok()?;
+    for stamp in 1..21 {
+        let sent = Step {
+            actor: 0,
+            stamp,
+            channel: 0,
+            call: ChanCall::B(BCall::Send(0, stamp)),
+            reply: ChanReply::B(BReply::Sent(1)),
+        };
+        let stored = Step {
+            actor: 1,
+            stamp,
+            channel: 1,
+            call: ChanCall::W(WCall::Send(0, stamp)),
+            reply: ChanReply::W(WReply::Stored),
+        };
+        push(met, &mut draft, &sent).ok()?;
+        push(met, &mut draft, &stored).ok()?;
+    }
+    Some(finish(draft))
+}
+
+/// Plays a run, and prints how long it is and how its channels stand before its first entry.
+pub fn play(rt: &impl Print, alloc: Global, met: &mut Met) -> io::Result<()> {
+    let Some(run) = build(alloc, met) else {
+        return println!(rt; "a run isn't built");
+    };
+    println!(rt; "a run of {} entries", run.len())?;
+    match start(alloc, met, &run) {
+        Ok(world) => println!(rt; "  {:?}", world.place()),
+        Err(NoMemory) => println!(rt; "  isn't started"),
+    }
+}
