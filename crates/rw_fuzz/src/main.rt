@@ -1,0 +1,62 @@
+//! Mutated scripts and journals, which no answer may lose, and no call may fault at.
+//!
+//! `rw_fuzz SEEDS COUNT` makes COUNT texts for each of the seeds 0, 1, .., and hands each to `session` and `debug`, or to `read` and `salvage`.
+//! A journal that is accepted has to be written again as its own bytes, but for the number of its version. Standard output has a line for
+//! each seed; standard error tells how often each answer came.
+//! Start reading at `trials.rt`, which says what is asked of a text, and go on with `mutations.rt`, which says how texts are made.
+#![tactic(auto)]
+
+ghost use Rattle.std.specs.Prelude.{◌≡◌};
+
+mod mutations;
+mod tally;
+mod texts;
+mod trials;
+
+use anyhow::{Context, Result, bail};
+use mutations::Mutator;
+use std::alloc::Global;
+use std::env::{self, Env};
+use tally::Tally;
+use trials::try_text;
+
+/// How many seeds are taken where no number is given.
+const DEFAULT_SEEDS: u64 = 2;
+
+/// How many texts are made for each seed where no number is given.
+const DEFAULT_COUNT: u64 = 300;
+
+/// The number at this place of the command line, or else the default.
+fn asked(rt: &(impl Env + Alloc), place: usize, default: u64) -> Result<u64> {
+    match env::args(rt)?.nth(place) {
+        Some(number) => number
+            .parse::<u64>()
+            .context("SEEDS and COUNT must be numbers"),
+        None => Ok(default),
+    }
+}
+
+/// Tries so many texts of a seed.
+fn try_seed(alloc: Global, seed: u64, count: u64) -> Result<Tally> {
+    let mut mutator = Mutator::new(seed);
+    let mut tally = Tally::new();
+    for number in 0..count {
+        if !try_text(alloc, &mut mutator, &mut tally)? {
+            bail!("seed {seed}, text {number}: the journal isn't written as its own bytes");
+        }
+    }
+    Ok(tally)
+}
+
+fn main(rt: HostRuntime) -> Result<()> {
+    let seeds = asked(&rt, 1, DEFAULT_SEEDS)?;
+    let count = asked(&rt, 2, DEFAULT_COUNT)?;
+    for seed in 0..seeds {
+        let tally = try_seed(rt.alloc(), seed, count)?;
+        eprintln!(rt; "seed {seed}: {tally:?}")?;
+        println!(rt;
+            "seed {seed}: {count} texts, each answered, each accepted journal written as its own bytes"
+        )?;
+    }
+    Ok(())
+}
