@@ -232,6 +232,9 @@ impl Recorder {
     /// Keeps the text of each value that is sent on a channel from now on, so that it can be read beside the journal also where the value
     /// is long gone. Of a channel only the first such function is taken.
     ///
+    /// It runs before the channel is locked. Only of a value that stands in a watch, the one that it was opened with or one that a closure has
+    /// changed, the text is made while that value is locked: there it may neither look at that watch nor send on it.
+    ///
     /// ```
     /// # use yovanelum::{broadcast, Recorder};
     /// let recorder = Recorder::new();

@@ -34,17 +34,42 @@ pub use look::Ref;
 pub use receiver::Receiver;
 pub use sender::Sender;
 
-use crate::line::Tap;
+use crate::line::{Tap, Turn};
 use crate::proved::{self, Reply};
 use crate::recorder::{Recorder, Show};
-use std::fmt;
-use std::sync::{Arc, OnceLock, PoisonError, RwLock, RwLockReadGuard, RwLockWriteGuard};
+use crate::wait::Woken;
+use std::panic::{self, AssertUnwindSafe};
+use std::sync::atomic::{AtomicUsize, Ordering};
+use std::sync::{
+    Arc, LockResult, OnceLock, PoisonError, RwLock, RwLockReadGuard, RwLockWriteGuard,
+    TryLockError, TryLockResult,
+};
+use std::{fmt, thread};
 
 struct Channel<T> {
     tap: Tap,
     // Its lock is taken before the tap's, as in tokio: who looks at the value holds up senders.
     value: RwLock<T>,
+    // The thread whose code has the value in hand, locked, or 0. Where that code waits for the value, it would wait for ever.
+    changer: AtomicUsize,
     show: OnceLock<Show<T>>,
+}
+
+/// A number that no other live thread has, and that isn't 0.
+fn thread_number() -> usize {
+    thread_local! {
+        static PLACE: u8 = const { 0 };
+    }
+    PLACE.with(|place| std::ptr::from_ref(place).addr())
+}
+
+/// What was locked, if it was free. A panic closes no lock.
+fn free<G>(tried: TryLockResult<G>) -> Option<G> {
+    match tried {
+        Ok(locked) => Some(locked),
+        Err(TryLockError::Poisoned(locked)) => Some(locked.into_inner()),
+        Err(TryLockError::WouldBlock) => None,
+    }
 }
 
 /// Makes a channel that holds this value, with a sender and a receiver, which has seen it.
@@ -68,6 +93,7 @@ fn open<T>(init: T) -> Arc<Channel<T>> {
     Arc::new(Channel {
         tap,
         value: RwLock::new(init),
+        changer: AtomicUsize::new(0),
         show: OnceLock::new(),
     })
 }
@@ -80,35 +106,51 @@ fn made(reply: Reply) -> u32 {
     }
 }
 
+/// Makes a call that carries a new value's number. Where receivers are told of it, those who wait come back: they are to be woken once the
+/// value stands and no lock is held, since a waker may look at it.
+fn put(
+    turn: &mut Turn<'_>,
+    text: Option<String>,
+    call: impl Fn(&mut proved::Channel, proved::Caller, u64) -> Reply,
+) -> (Reply, Woken) {
+    let number = turn.next_value();
+    let reply = turn.call(|channel, caller| call(channel, caller, number));
+    turn.keep_text(number, text);
+    let woken = match reply {
+        Reply::Stored | Reply::Old | Reply::Told(true) => turn.waiting_receivers(),
+        _ => Woken::default(),
+    };
+    (reply, woken)
+}
+
 impl<T> Channel<T> {
     fn read(&self) -> RwLockReadGuard<'_, T> {
-        self.value.read().unwrap_or_else(PoisonError::into_inner)
+        free(self.value.try_read()).unwrap_or_else(|| self.wait(RwLock::read))
     }
 
     fn write(&self) -> RwLockWriteGuard<'_, T> {
-        self.value.write().unwrap_or_else(PoisonError::into_inner)
+        free(self.value.try_write()).unwrap_or_else(|| self.wait(RwLock::write))
+    }
+
+    #[cold]
+    fn wait<'a, G>(&'a self, lock: impl FnOnce(&'a RwLock<T>) -> LockResult<G>) -> G {
+        assert!(
+            self.changer.load(Ordering::Relaxed) != thread_number(),
+            "yovanelum: a closure that changes a watch, or a text of what it has changed, uses that watch"
+        );
+        lock(&self.value).unwrap_or_else(PoisonError::into_inner)
+    }
+
+    /// Runs code of the user's that has the locked value in hand, also where that panics to the end.
+    fn with_value<R>(&self, run: impl FnOnce() -> R) -> thread::Result<R> {
+        self.changer.store(thread_number(), Ordering::Relaxed);
+        let outcome = panic::catch_unwind(AssertUnwindSafe(run));
+        self.changer.store(0, Ordering::Relaxed);
+        outcome
     }
 
     fn text(&self, value: &T) -> Option<String> {
         self.show.get().map(|show| show(value))
-    }
-
-    /// Makes a call that carries a new value's number, and wakes the receivers where they are told of it.
-    fn put(
-        &self,
-        text: Option<String>,
-        call: impl Fn(&mut proved::Channel, proved::Caller, u64) -> Reply,
-    ) -> Reply {
-        let mut turn = self.tap.turn();
-        let number = turn.next_value();
-        let reply = turn.call(|channel, caller| call(channel, caller, number));
-        turn.keep_text(number, text);
-        if matches!(reply, Reply::Stored | Reply::Old | Reply::Told(true)) {
-            let woken = turn.waiting_receivers();
-            drop(turn);
-            woken.wake();
-        }
-        reply
     }
 
     /// Looks at the value by a handle, without seeing it.
@@ -124,7 +166,7 @@ impl<T> Channel<T> {
     }
 
     fn show(&self, show: Show<T>) {
-        // The value that the channel was opened with has its text at once.
+        // The value that the channel was opened with has its text at once. It stays where it is, so the text is made as a look at it is.
         let value = self.read();
         let text = show(&value);
         if self.show.set(show).is_ok() {

@@ -1,9 +1,16 @@
-//! Code of the user's that runs during a call: clones, drops and texts of values. None runs while the channel is locked.
+//! Code of the user's that runs during a call: clones, drops and texts of values, and wakers. None runs while the channel is locked, but the
+//! closures that change a watch's value and the texts of what they changed.
 
 mod support;
 
+use std::future::Future;
+use std::panic::{AssertUnwindSafe, catch_unwind};
+use std::pin::pin;
 use std::sync::{Arc, Mutex, OnceLock};
+use std::task::{Context, Wake, Waker};
+use support::in_time;
 use yovanelum::broadcast::{self, Receiver, Sender};
+use yovanelum::watch::error::SendError;
 use yovanelum::{Recorder, watch};
 
 type Line = (Sender<Talks>, Mutex<Receiver<Talks>>);
@@ -105,4 +112,163 @@ fn a_replaced_value_is_dropped_where_the_watch_is_not_locked() {
     assert!(line.set(rx).is_ok());
     assert!(tx.send(None).is_ok());
     drop(tx.send_replace(None));
+}
+
+/// The three ways to give a watch a new value.
+const CHANGES: [fn(&watch::Sender<u32>, u32); 3] = [
+    |tx, value| tx.send(value).unwrap(),
+    |tx, value| {
+        tx.send_replace(value);
+    },
+    |tx, value| tx.send_modify(|now| *now = value),
+];
+
+/// A receiver waits with this waker while the value is changed.
+fn change_of_who_waits(
+    rx: &mut watch::Receiver<u32>,
+    waker: Arc<impl Wake + Send + Sync + 'static>,
+    change: impl FnOnce(),
+) {
+    let waker = Waker::from(waker);
+    let mut changed = pin!(rx.changed());
+    assert!(
+        changed
+            .as_mut()
+            .poll(&mut Context::from_waker(&waker))
+            .is_pending()
+    );
+    change();
+    assert!(
+        changed
+            .as_mut()
+            .poll(&mut Context::from_waker(&waker))
+            .is_ready()
+    );
+}
+
+/// A waker that looks at the watch.
+struct LooksWhenWoken(watch::Receiver<u32>, Mutex<Vec<u32>>);
+
+impl Wake for LooksWhenWoken {
+    fn wake(self: Arc<Self>) {
+        self.1.lock().unwrap().push(*self.0.borrow());
+    }
+}
+
+#[test]
+fn a_waker_may_look_at_its_watch_and_sees_the_new_value() {
+    let saw = in_time(|| {
+        let (tx, mut rx) = watch::channel(0);
+        let looks = Arc::new(LooksWhenWoken(rx.clone(), Mutex::default()));
+        for (change, value) in CHANGES.iter().zip(1..) {
+            change_of_who_waits(&mut rx, looks.clone(), || change(&tx, value));
+        }
+        looks.1.lock().unwrap().clone()
+    });
+    assert_eq!(saw, [1, 2, 3]);
+}
+
+/// A waker that panics.
+struct Panics;
+
+impl Wake for Panics {
+    fn wake(self: Arc<Self>) {
+        panic!("in the waker");
+    }
+}
+
+#[test]
+fn a_waker_that_panics_leaves_the_new_value() {
+    let (tx, mut rx) = watch::channel(0);
+    for (change, value) in CHANGES.iter().zip(1..) {
+        change_of_who_waits(&mut rx, Arc::new(Panics), || {
+            assert!(catch_unwind(AssertUnwindSafe(|| change(&tx, value))).is_err());
+        });
+        assert_eq!(*tx.borrow(), value);
+    }
+}
+
+#[test]
+fn a_send_without_receivers_waits_for_nobody_who_looks() {
+    in_time(|| {
+        let recorder = Recorder::new();
+        let _entered = recorder.enter();
+        let (tx, rx) = watch::channel(0);
+        drop(rx);
+        let looked = tx.borrow();
+        assert_eq!(tx.send(1), Err(SendError(1)));
+        assert_eq!(*looked, 0);
+        let journal = recorder.journal().unwrap();
+        assert!(
+            journal.contains(" 0 0 send 0 1 = no-receivers 1\n"),
+            "{journal}"
+        );
+    });
+}
+
+/// The message of a panic.
+fn message(panicked: Box<dyn std::any::Any + Send>) -> String {
+    match panicked.downcast::<&str>() {
+        Ok(message) => message.to_string(),
+        Err(panicked) => *panicked.downcast::<String>().unwrap(),
+    }
+}
+
+#[test]
+fn receivers_are_told_of_a_change_whose_text_panics() {
+    let recorder = Recorder::new();
+    let _entered = recorder.enter();
+    let (tx, mut rx) = watch::channel(0);
+    recorder.show(&tx, |value| match value {
+        0 => "none".to_string(),
+        _ => panic!("in the text"),
+    });
+    let change = |is_wrong: bool| {
+        let changed = catch_unwind(AssertUnwindSafe(|| {
+            tx.send_modify(|value| {
+                *value += 1;
+                assert!(!is_wrong, "in the closure");
+            })
+        }));
+        message(changed.unwrap_err())
+    };
+    let woken = Arc::new(LooksWhenWoken(rx.clone(), Mutex::default()));
+    change_of_who_waits(&mut rx, woken.clone(), || {
+        assert_eq!(change(false), "in the text")
+    });
+    assert_eq!(*woken.1.lock().unwrap(), [1]);
+    // The panic of the closure is the one that is told.
+    assert_eq!(change(true), "in the closure");
+    assert_eq!((*rx.borrow(), rx.has_changed().unwrap()), (2, false));
+    let journal = recorder.journal().unwrap();
+    assert!(journal.contains("modify 0 1 yes = told yes"), "{journal}");
+    assert!(journal.contains("modify 0 2 no = told no"), "{journal}");
+}
+
+#[test]
+fn a_closure_or_a_text_that_uses_its_watch_is_a_panic_and_waits_for_nobody() {
+    in_time(|| {
+        let recorder = Recorder::new();
+        let (tx, rx) = watch::channel(0);
+        let other = rx.clone();
+        let uses: [&dyn Fn(); 3] = [
+            &|| assert_eq!(*rx.borrow(), 0),
+            &|| tx.send(5).unwrap(),
+            &|| tx.send_modify(|value| *value = 5),
+        ];
+        for wrong in uses {
+            let panicked = catch_unwind(AssertUnwindSafe(|| tx.send_modify(|_| wrong())));
+            assert!(message(panicked.unwrap_err()).contains("uses that watch"));
+        }
+        assert!(!rx.has_changed().unwrap());
+        recorder.show(&tx, move |value| format!("{value} at {}", *other.borrow()));
+        let panicked = catch_unwind(AssertUnwindSafe(|| tx.send_modify(|value| *value = 1)));
+        assert!(message(panicked.unwrap_err()).contains("uses that watch"));
+        assert!(rx.has_changed().unwrap());
+        assert_eq!(*rx.borrow(), 1);
+        // Of a value that is sent the text is made before the watch is locked.
+        tx.send(2).unwrap();
+        let names = Recorder::of(&tx).names();
+        assert!(names.contains(r#"": "2 at 1""#), "{names}");
+    });
 }

@@ -115,8 +115,9 @@ impl<T> Receiver<T> {
     /// Waits until the closure is true of the value, and looks at that value. The closure is called at once, and after each change; each value
     /// that it was called with is marked as seen.
     ///
-    /// The closure runs while the value is locked: it may look at this channel, but not send on it. It may be dropped before it is done, as by
-    /// a `select!`: then the closure was false of the last value that was seen.
+    /// The closure runs while the value is locked: it may neither look at this channel nor send on it, as the second look waits for a sender
+    /// that waits for the first. It may be dropped before it is done, as by a `select!`: then the closure was false of the last value that was
+    /// seen.
     ///
     /// # Errors
     ///

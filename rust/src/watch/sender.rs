@@ -1,12 +1,13 @@
 //! The sending half of a watch.
 
 use super::error::SendError;
-use super::{Channel, Receiver, Ref, debug, made, open};
-use crate::line::{For, Tap, Waiting};
+use super::{Channel, Receiver, Ref, debug, free, made, open, put};
+use crate::line::{For, Tap, Turn, Waiting};
 use crate::proved::Reply;
 use crate::recorder::{Handle, Show, sealed};
+use crate::wait::Woken;
 use std::future::poll_fn;
-use std::panic::{self, AssertUnwindSafe, RefUnwindSafe, UnwindSafe};
+use std::panic::{self, RefUnwindSafe, UnwindSafe};
 use std::sync::Arc;
 use std::{fmt, mem};
 
@@ -42,14 +43,19 @@ impl<T> Sender<T> {
     /// ```
     pub fn send(&self, value: T) -> Result<(), SendError<T>> {
         let channel = &*self.channel;
-        let text = channel.text(&value);
-        let mut now = channel.write();
-        match channel.put(text, |channel, caller, number| {
-            channel.watch_send(caller, self.handle, number)
-        }) {
+        let mut text = channel.text(&value);
+        let mut now = match free(channel.value.try_write()) {
+            Some(now) => now,
+            // Somebody looks at the value, who may be this thread. Without receivers it stays as it is, so nobody is waited for.
+            None if self.send_is_refused(&mut text) => return Err(SendError(value)),
+            None => channel.write(),
+        };
+        let (reply, woken) = self.put_sent(&mut channel.tap.turn(), text);
+        match reply {
             Reply::Stored => {
                 let before = mem::replace(&mut *now, value);
                 drop(now);
+                woken.wake();
                 drop(before);
                 Ok(())
             }
@@ -61,10 +67,28 @@ impl<T> Sender<T> {
         }
     }
 
+    fn put_sent(&self, turn: &mut Turn<'_>, text: Option<String>) -> (Reply, Woken) {
+        put(turn, text, |channel, caller, number| {
+            channel.watch_send(caller, self.handle, number)
+        })
+    }
+
+    /// Sends where there is no receiver, so that the value comes back, and answers whether that is so. It is asked and sent under one lock.
+    #[cold]
+    fn send_is_refused(&self, text: &mut Option<String>) -> bool {
+        let mut turn = self.channel.tap.turn();
+        if turn.ask(|channel| channel.receivers()) > 0 {
+            return false;
+        }
+        let (reply, _) = self.put_sent(&mut turn, text.take());
+        assert_eq!(reply, Reply::NoReceivers);
+        true
+    }
+
     /// Changes the value in place and wakes the receivers, also where there is none.
     ///
-    /// The closure runs while the value is locked: it may not use this channel. Where it panics the value is what it left, and no receiver is
-    /// woken.
+    /// The closure runs while the value is locked: it may neither look at this channel nor send on it, which is a panic. Where it panics the
+    /// value is what it left, and no receiver is woken.
     pub fn send_modify<F>(&self, modify: F)
     where
         F: FnOnce(&mut T),
@@ -78,8 +102,8 @@ impl<T> Sender<T> {
     /// Changes the value in place, and wakes the receivers where the closure answers `true`, which comes back. Where it answers `false` a
     /// changed value is seen by who looks, and nobody is told of it.
     ///
-    /// The closure runs while the value is locked: it may not use this channel. Where it panics the value is what it left, and no receiver is
-    /// woken.
+    /// The closure runs while the value is locked: it may neither look at this channel nor send on it, which is a panic. Where it panics the
+    /// value is what it left, and no receiver is woken.
     ///
     /// ```
     /// use yovanelum::watch;
@@ -102,14 +126,22 @@ impl<T> Sender<T> {
     {
         let channel = &*self.channel;
         let mut now = channel.write();
-        let outcome = panic::catch_unwind(AssertUnwindSafe(|| modify(&mut now)));
+        let outcome = channel.with_value(|| modify(&mut now));
         let told = matches!(outcome, Ok(true));
-        let text = channel.text(&now);
-        channel.put(text, |channel, caller, number| {
+        // The value is changed: also where its text panics, the core and the receivers are told.
+        let (text, refused) = match channel.with_value(|| channel.text(&now)) {
+            Ok(text) => (text, None),
+            Err(panicked) => (None, Some(panicked)),
+        };
+        let (_, woken) = put(&mut channel.tap.turn(), text, |channel, caller, number| {
             channel.watch_modify(caller, told, self.handle, number)
         });
         drop(now);
-        outcome.unwrap_or_else(|panicked| panic::resume_unwind(panicked))
+        woken.wake();
+        match (outcome, refused) {
+            (Err(panicked), _) | (Ok(_), Some(panicked)) => panic::resume_unwind(panicked),
+            (Ok(told), None) => told,
+        }
     }
 
     /// Replaces the value and wakes the receivers, also where there is none, and answers the value from before.
@@ -117,10 +149,13 @@ impl<T> Sender<T> {
         let channel = &*self.channel;
         let text = channel.text(&value);
         let mut now = channel.write();
-        channel.put(text, |channel, caller, number| {
+        let (_, woken) = put(&mut channel.tap.turn(), text, |channel, caller, number| {
             channel.watch_send_replace(caller, self.handle, number)
         });
-        mem::replace(&mut *now, value)
+        let before = mem::replace(&mut *now, value);
+        drop(now);
+        woken.wake();
+        before
     }
 
     /// Looks at the value. Keep what is answered no longer than needed: senders wait for it.

@@ -4,7 +4,10 @@
 use std::future::Future;
 use std::pin::pin;
 use std::process::Command;
+use std::sync::mpsc::{self, RecvTimeoutError};
 use std::task::{Context, Poll, Waker};
+use std::time::Duration;
+use std::{panic, thread};
 use yovanelum::Recorder;
 
 /// Numbers from a seed (xorshift64*).
@@ -30,6 +33,28 @@ pub fn poll_once<F: Future>(future: F) -> Option<F::Output> {
         Poll::Ready(output) => Some(output),
         Poll::Pending => None,
     }
+}
+
+/// What something answers that may wait for ever where there is a fault: it has a thread of its own, and half a minute.
+pub fn in_time<R: Send + 'static>(act: impl FnOnce() -> R + Send + 'static) -> R {
+    let (over, is_over) = mpsc::channel::<()>();
+    let thread = thread::spawn(move || {
+        let _over = over;
+        act()
+    });
+    let waited = is_over.recv_timeout(Duration::from_secs(30));
+    assert_ne!(waited, Err(RecvTimeoutError::Timeout), "it waits for ever");
+    thread
+        .join()
+        .unwrap_or_else(|panicked| panic::resume_unwind(panicked))
+}
+
+/// The stamps of a journal's entries.
+pub fn stamps(journal: &str) -> Vec<u64> {
+    let entries = journal.lines().filter(|line| line.contains(" = "));
+    entries
+        .map(|line| line.split(' ').next().unwrap().parse().unwrap())
+        .collect()
 }
 
 /// How many entries the journal has that the proved debugger, `ttd check`, accepts. The variable `YOVANELUM_TTD` names the program; without it
