@@ -2,11 +2,13 @@
 
 mod support;
 
+use std::future::{Future, poll_fn};
+use std::pin::pin;
 use std::sync::Arc;
 use std::sync::atomic::{AtomicBool, Ordering};
 use std::thread;
 use std::time::{Duration, Instant};
-use support::accepted;
+use support::{accepted, in_time};
 use yovanelum::broadcast::{self, Receiver, error::RecvError};
 use yovanelum::{Recorder, block_on, named, watch};
 
@@ -231,4 +233,24 @@ fn stamps_differ_where_a_second_channel_is_made_while_calls_go_on() {
         .collect();
     assert!(stamps.windows(2).all(|pair| pair[0] < pair[1]));
     assert_eq!(accepted(&recorder, "second-channel"), recorder.len());
+}
+
+#[test]
+fn a_thread_that_waits_is_woken_also_where_something_parks_within_the_poll() {
+    let received = in_time(|| {
+        let (tx, mut rx) = broadcast::channel(2);
+        let mut recv = pin!(rx.recv());
+        let mut has_parked = false;
+        block_on(poll_fn(|context| {
+            let answer = recv.as_mut().poll(context);
+            if answer.is_pending() && !has_parked {
+                has_parked = true;
+                tx.send(7).unwrap();
+                // As whatever waits here for something else does: it takes the thread's one unpark.
+                thread::park();
+            }
+            answer
+        }))
+    });
+    assert_eq!(received, Ok(7));
 }
