@@ -120,7 +120,8 @@ static IDS: AtomicU64 = AtomicU64::new(1);
 static INSTALLED: Mutex<Option<Recorder>> = Mutex::new(None);
 
 thread_local! {
-    static ENTERED: RefCell<Option<Recorder>> = const { RefCell::new(None) };
+    // Those that are entered, each with the number of its guard, which rise.
+    static ENTERED: RefCell<Vec<(u64, Recorder)>> = const { RefCell::new(Vec::new()) };
 }
 
 /// Records the calls of the channels that are made under it, as one run.
@@ -189,8 +190,13 @@ impl Recorder {
     /// Channels that this thread makes belong to this recorder, until the guard is dropped.
     #[must_use = "dropped at once, it changes nothing"]
     pub fn enter(&self) -> Entered {
+        let guard = ENTERED.with_borrow_mut(|entered| {
+            let guard = entered.last().map_or(0, |(last, _)| last + 1);
+            entered.push((guard, self.clone()));
+            guard
+        });
         Entered {
-            before: ENTERED.replace(Some(self.clone())),
+            guard,
             _stays: std::marker::PhantomData,
         }
     }
@@ -208,7 +214,12 @@ impl Recorder {
     /// The recorder to which channels belong that are made here now.
     pub(crate) fn current() -> Recorder {
         let entered = ENTERED
-            .try_with(|entered| entered.borrow().clone())
+            .try_with(|entered| {
+                entered
+                    .borrow()
+                    .last()
+                    .map(|(_, recorder)| recorder.clone())
+            })
             .ok()
             .flatten();
         entered
@@ -334,17 +345,23 @@ pub(crate) mod sealed {
     }
 }
 
-/// What [`Recorder::enter`] gives: the recorder that was entered before is so again when this is dropped.
+/// What [`Recorder::enter`] gives. Of the recorders whose guards are alive, the one that was entered last has the channels: guards may be
+/// dropped in any order.
 #[derive(Debug)]
 pub struct Entered {
-    before: Option<Recorder>,
+    guard: u64,
     // It belongs to its thread.
     _stays: std::marker::PhantomData<*const ()>,
 }
 
 impl Drop for Entered {
     fn drop(&mut self) {
-        ENTERED.set(self.before.take());
+        let left = ENTERED.with_borrow_mut(|entered| {
+            let place = entered.iter().position(|(guard, _)| *guard == self.guard)?;
+            Some(entered.remove(place))
+        });
+        // It may be the last handle of its recorder, with whatever wakers wait there.
+        drop(left);
     }
 }
 

@@ -55,6 +55,23 @@ fn a_channel_made_in_mid_run_is_recorded_too() {
 }
 
 #[test]
+fn guards_of_entered_recorders_may_be_dropped_in_any_order() {
+    let (first, second) = (Recorder::new(), Recorder::new());
+    // Of each channel two calls are recorded, the drops of its sender and its receiver.
+    let open = || drop(broadcast::channel::<u8>(2));
+    let entered_first = first.enter();
+    let entered_second = second.enter();
+    open();
+    assert_eq!((first.len(), second.len()), (0, 2));
+    drop(entered_first);
+    open();
+    assert_eq!((first.len(), second.len()), (0, 4));
+    drop(entered_second);
+    open();
+    assert_eq!((first.len(), second.len()), (0, 4));
+}
+
+#[test]
 fn names_stand_beside_the_journal() {
     let recorder = Recorder::new();
     let _entered = recorder.enter();
