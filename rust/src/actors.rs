@@ -94,7 +94,7 @@ pub fn named<F: Future>(name: &str, future: F) -> Named<F> {
     Named {
         name: Some(name.into()),
         known: NOBODY,
-        future: Box::pin(future),
+        future: Some(Box::pin(future)),
     }
 }
 
@@ -103,31 +103,47 @@ pub fn named<F: Future>(name: &str, future: F) -> Named<F> {
 pub struct Named<F> {
     name: Option<Arc<str>>,
     known: Known,
-    future: Pin<Box<F>>,
+    // None where this is dropped.
+    future: Option<Pin<Box<F>>>,
 }
 
-/// Swaps a future's name with that of who calls now.
+/// Swaps a future's name with that of who calls now. Where a thread ends there is none any more.
 fn swap<F>(future: &mut Named<F>) {
     future.known = KNOWN.replace(future.known);
-    NAME.with_borrow_mut(|name| std::mem::swap(name, &mut future.name));
+    let _ = NAME.try_with(|name| std::mem::swap(&mut *name.borrow_mut(), &mut future.name));
+}
+
+/// A future under whose name this thread calls, until this is dropped, also by a panic.
+struct Under<'a, F>(&'a mut Named<F>);
+
+impl<'a, F> Under<'a, F> {
+    fn name_of(future: &'a mut Named<F>) -> Under<'a, F> {
+        swap(future);
+        Under(future)
+    }
+}
+
+impl<F> Drop for Under<'_, F> {
+    fn drop(&mut self) {
+        swap(self.0);
+    }
 }
 
 impl<F: Future> Future for Named<F> {
     type Output = F::Output;
 
     fn poll(mut self: Pin<&mut Self>, context: &mut Context<'_>) -> Poll<F::Output> {
-        struct Back<'a, F>(&'a mut Named<F>);
+        let under = Under::name_of(&mut self);
+        let future = under.0.future.as_mut().expect("a future that is alive");
+        future.as_mut().poll(context)
+    }
+}
 
-        impl<F> Drop for Back<'_, F> {
-            fn drop(&mut self) {
-                swap(self.0);
-            }
-        }
-
-        swap(&mut self);
-        // Also where the poll panics, the thread gets its own name back.
-        let back = Back(&mut self);
-        back.0.future.as_mut().poll(context)
+impl<F> Drop for Named<F> {
+    /// What the future holds is dropped by the actor too, also where it is cancelled.
+    fn drop(&mut self) {
+        let under = Under::name_of(self);
+        under.0.future = None;
     }
 }
 

@@ -72,6 +72,24 @@ fn guards_of_entered_recorders_may_be_dropped_in_any_order() {
 }
 
 #[test]
+fn what_a_cancelled_future_drops_is_dropped_by_its_actor() {
+    let recorder = Recorder::new();
+    let _entered = recorder.enter();
+    let (tx, rx) = broadcast::channel::<u8>(2);
+    tx.send(1).unwrap();
+    let waits = named("cancelled", async move {
+        let _rx = rx;
+        std::future::pending::<()>().await;
+    });
+    assert_eq!(poll_once(waits), None);
+    drop(tx.clone());
+    let journal = recorder.journal().unwrap();
+    // The cancelled one is the second actor, and the thread is the first again.
+    assert!(journal.contains("\n2 1 0 drop 1 = dropped\n"), "{journal}");
+    assert!(journal.contains("\n4 0 0 drop 2 = dropped\n"), "{journal}");
+}
+
+#[test]
 fn names_stand_beside_the_journal() {
     let recorder = Recorder::new();
     let _entered = recorder.enter();
