@@ -189,10 +189,10 @@ impl Turn<'_> {
         value
     }
 
-    /// Keeps the text of a value, if there is one.
+    /// Keeps the text of a value that was handed to the core, if there is one, as long as calls are recorded.
     #[inline]
     pub(crate) fn keep_text(&mut self, value: u64, text: Option<String>) {
-        if let Some(text) = text {
+        if let Some(text) = text.filter(|_| self.inner.is_recorded) {
             self.inner.texts.insert(value, text);
         }
     }
@@ -283,5 +283,22 @@ impl Drop for Waiting<'_> {
                 .leave(&mut self.ticket);
             drop(left);
         }
+    }
+}
+
+#[cfg(test)]
+mod tests {
+    use crate::recorder::sealed::Tapped;
+    use crate::{Recorder, broadcast};
+
+    #[test]
+    fn a_channel_that_is_recorded_by_none_keeps_no_text() {
+        let recorder = Recorder::new();
+        let _entered = recorder.enter();
+        let _recorded: Vec<_> = (0..64).map(|_| broadcast::channel::<u8>(1)).collect();
+        let (tx, _rx) = broadcast::channel(2);
+        recorder.show(&tx, u32::to_string);
+        tx.send(5).unwrap();
+        assert!(tx.tap().line.texts().is_empty());
     }
 }

@@ -276,6 +276,7 @@ fn at_a_full_journal_recording_ends_and_calls_go_on() {
     let _entered = recorder.enter();
     let (tx, mut rx) = broadcast::channel(2);
     let (other, mut from_other) = broadcast::channel(2);
+    recorder.show(&other, |value| format!("{value} sent"));
     for value in 0..1_048_577u64 {
         assert_eq!(tx.send(value).unwrap(), 1);
         if value % 100_000 == 0 {
@@ -291,9 +292,12 @@ fn at_a_full_journal_recording_ends_and_calls_go_on() {
     assert_eq!(rx.try_recv(), Ok(1_048_576));
     // What the other channel does behind the cut isn't recorded either.
     let before = recorder.len();
+    other.send(0).unwrap();
     assert!(from_other.try_recv().is_err());
     drop((tx, rx, other, from_other));
     assert_eq!(recorder.len(), before);
+    let names = recorder.names();
+    assert!(names.contains(r#""10": "1000000 sent"}"#), "{names}");
     assert_eq!(accepted(&recorder, "full"), 1_048_576 + 11);
 }
 
