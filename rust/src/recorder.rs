@@ -9,7 +9,7 @@ use std::cell::RefCell;
 use std::ffi::OsStr;
 use std::io;
 use std::ops::Deref;
-use std::path::{Path, PathBuf};
+use std::path::{self, Path, PathBuf};
 use std::sync::atomic::{AtomicBool, AtomicU64, Ordering};
 use std::sync::{Arc, Mutex};
 use std::{env, fmt, fs, thread};
@@ -391,7 +391,9 @@ impl Drop for ForTest {
 
 impl ForTest {
     fn keep(&self) {
-        let folder = target().join("yovanelum");
+        // The whole path, since whoever reads it may be in another folder, as in that of a workspace.
+        let target = target();
+        let folder = path::absolute(&target).unwrap_or(target).join("yovanelum");
         // A name is one file, also where it has a path's separator in it.
         let path = folder.join(format!("{}.journal", self.name.replace('/', "_")));
         let saved = fs::create_dir_all(&folder).and_then(|()| self.recorder.save(&path));

@@ -1,0 +1,144 @@
+//! What is told on standard error. Each test runs this program again for its own part, as a process whose words can be read.
+
+use std::path::{Path, PathBuf};
+use std::process::Command;
+use std::{env, fs, process};
+use yovanelum::{Recorder, broadcast};
+
+/// Set where this process plays a test's part.
+const PART: &str = "YOVANELUM_TEST_PART";
+
+fn is_part() -> bool {
+    env::var_os(PART).is_some()
+}
+
+/// A folder that is deleted with this.
+struct Folder(PathBuf);
+
+impl Folder {
+    fn new(name: &str) -> Folder {
+        let folder = env::temp_dir().join(format!("yovanelum-{name}-{}", process::id()));
+        fs::create_dir_all(&folder).unwrap();
+        Folder(fs::canonicalize(folder).unwrap())
+    }
+}
+
+impl Drop for Folder {
+    fn drop(&mut self) {
+        let _ = fs::remove_dir_all(&self.0);
+    }
+}
+
+/// Whether the part of this test succeeds, and the lines of ours that it writes on standard error. It works in the folder, with a relative
+/// name for the build's.
+fn played(test: &str, folder: &Path, keep: Option<&str>) -> (bool, Vec<String>) {
+    let mut part = Command::new(env::current_exe().unwrap());
+    part.args(["--exact", test, "--nocapture"])
+        .current_dir(folder)
+        .env(PART, "1")
+        .env("CARGO_TARGET_DIR", "built")
+        .env_remove("YOVANELUM_KEEP")
+        .envs(keep.map(|keep| ("YOVANELUM_KEEP", keep)));
+    let ran = part.output().unwrap();
+    let said = String::from_utf8(ran.stderr).unwrap();
+    let ours = said.lines().filter(|line| line.contains("yovanelum: "));
+    (ran.status.success(), ours.map(String::from).collect())
+}
+
+/// The two lines about a journal, and that it stands there with its names.
+fn kept(name: &str, folder: &Path) -> Vec<String> {
+    let path = folder.join(format!("built/yovanelum/{name}.journal"));
+    let journal = fs::read_to_string(&path).unwrap();
+    assert!(journal.contains(" send 0 0 = sent 1\n"), "{journal}");
+    assert!(path.with_extension("names").exists());
+    let path = path.display();
+    vec![
+        format!("yovanelum: the calls of {name} are in {path}"),
+        format!(
+            "yovanelum: walk them by `ttd debug {path}`, or drop that file on page/yovanelum.html"
+        ),
+    ]
+}
+
+fn send_for_test(name: &str) {
+    let _recorder = Recorder::for_test(name);
+    let (tx, _rx) = broadcast::channel(2);
+    tx.send(1).unwrap();
+    if name == "fails" {
+        panic!("the test fails");
+    }
+}
+
+#[test]
+fn a_test_that_fails_says_where_its_journal_is_and_how_to_walk_it() {
+    if is_part() {
+        return send_for_test("fails");
+    }
+    let folder = Folder::new("fails");
+    let test = "a_test_that_fails_says_where_its_journal_is_and_how_to_walk_it";
+    let (succeeds, said) = played(test, &folder.0, None);
+    assert_eq!((succeeds, said), (false, kept("fails", &folder.0)));
+}
+
+#[test]
+fn a_test_that_passes_says_so_where_the_journal_is_to_be_kept() {
+    if is_part() {
+        return send_for_test("passes");
+    }
+    let folder = Folder::new("passes");
+    let test = "a_test_that_passes_says_so_where_the_journal_is_to_be_kept";
+    assert_eq!(played(test, &folder.0, None), (true, vec![]));
+    assert!(!folder.0.join("built").exists());
+    let (succeeds, said) = played(test, &folder.0, Some("1"));
+    assert_eq!((succeeds, said), (true, kept("passes", &folder.0)));
+}
+
+#[test]
+fn that_recording_ended_is_said_once() {
+    if is_part() {
+        let recorder = Recorder::new();
+        let _entered = recorder.enter();
+        let (tx, _rx) = broadcast::channel(2);
+        let (other, _other_rx) = broadcast::channel(2);
+        for value in 0..1_048_580 {
+            tx.send(value).unwrap();
+        }
+        other.send(0).unwrap();
+        return;
+    }
+    let folder = Folder::new("ended");
+    let (succeeds, said) = played("that_recording_ended_is_said_once", &folder.0, None);
+    let [line] = &said[..] else {
+        panic!("{said:#?}");
+    };
+    assert!(
+        succeeds && line.contains("(1048576); recording ended there"),
+        "{line}"
+    );
+}
+
+#[test]
+fn that_the_65th_channel_is_recorded_by_none_is_said_once() {
+    if is_part() {
+        let recorder = Recorder::new();
+        let _entered = recorder.enter();
+        let channels: Vec<_> = (0..64).map(|_| broadcast::channel::<u8>(2)).collect();
+        eprintln!("yovanelum: 64 channels are made");
+        let _more: Vec<_> = channels
+            .iter()
+            .map(|_| broadcast::channel::<u8>(2))
+            .collect();
+        return;
+    }
+    let folder = Folder::new("channels");
+    let test = "that_the_65th_channel_is_recorded_by_none_is_said_once";
+    let (succeeds, said) = played(test, &folder.0, None);
+    let [made, line] = &said[..] else {
+        panic!("{said:#?}");
+    };
+    assert!(succeeds && made.contains("are made"), "{made}");
+    assert!(
+        line.contains("64 channels") && line.contains("recorded by none"),
+        "{line}"
+    );
+}
