@@ -111,10 +111,13 @@ fn lengths_and_counts() {
     tx.send(1).unwrap();
     tx.send(2).unwrap();
     assert_eq!((tx.len(), rx.len(), slow.len()), (2, 2, 2));
+    assert!(!tx.is_empty() && !rx.is_empty());
     rx.try_recv().unwrap();
     assert_eq!((tx.len(), rx.len(), slow.len()), (2, 1, 2));
     drop(slow);
     assert_eq!((tx.len(), rx.len()), (1, 1));
+    rx.try_recv().unwrap();
+    assert!(tx.is_empty() && rx.is_empty());
     assert_eq!(
         (
             tx.receiver_count(),

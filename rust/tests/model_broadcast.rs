@@ -172,12 +172,14 @@ impl Pair {
     fn ask(&mut self) {
         for sender in &self.senders {
             assert_eq!(sender.len(), self.model.queued());
+            assert_eq!(sender.is_empty(), self.model.queued() == 0);
             assert_eq!(sender.receiver_count(), self.model.places.len());
             assert_eq!(sender.strong_count(), self.model.senders);
             assert_eq!(sender.weak_count(), self.weak.len());
         }
         for (receiver, place) in self.receivers.iter().zip(&self.model.places) {
             assert_eq!(receiver.len(), self.model.sent - place);
+            assert_eq!(receiver.is_empty(), self.model.sent == *place);
             assert_eq!(receiver.is_closed(), self.model.senders == 0);
         }
     }

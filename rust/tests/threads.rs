@@ -2,13 +2,14 @@
 
 mod support;
 
+use std::collections::HashSet;
 use std::future::{Future, poll_fn};
 use std::pin::pin;
 use std::sync::Arc;
 use std::sync::atomic::{AtomicBool, Ordering};
 use std::thread;
 use std::time::{Duration, Instant};
-use support::{accepted, in_time};
+use support::{accepted, in_time, stamps};
 use yovanelum::broadcast::{self, Receiver, error::RecvError};
 use yovanelum::{Recorder, block_on, named, watch};
 
@@ -18,15 +19,26 @@ const LIMIT: Duration = Duration::from_millis(400);
 /// How many values each thread sends, at most.
 const MOST: u64 = 20_000;
 
-/// What a receiver came to: how many values it got and lost.
-#[derive(Default, Debug)]
+/// What a receiver came to: the values that it got, of which all differ, and how many it lost.
+#[derive(Default)]
 struct Came {
-    got: u64,
+    got: Vec<Sent>,
+    all: HashSet<Sent>,
     lost: u64,
 }
 
+/// A value: its sender, and how many that one sent before.
+type Sent = (usize, u64);
+
+impl Came {
+    /// What another got too, in the order in which this one got it.
+    fn common_with(&self, other: &Came) -> impl Iterator<Item = &Sent> {
+        self.got.iter().filter(|value| other.all.contains(value))
+    }
+}
+
 /// Receives to the end. Of each sender the values rise, and all that was sent was got or counted as lost.
-fn receive_all(mut rx: Receiver<(usize, u64)>) -> Came {
+fn receive_all(mut rx: Receiver<Sent>) -> Came {
     let mut came = Came::default();
     let mut last = [None; 4];
     loop {
@@ -38,10 +50,13 @@ fn receive_all(mut rx: Receiver<(usize, u64)>) -> Came {
                     last[sender]
                 );
                 last[sender] = Some(value);
-                came.got += 1;
+                came.got.push((sender, value));
             }
             Err(RecvError::Lagged(n)) => came.lost += n,
-            Err(RecvError::Closed) => return came,
+            Err(RecvError::Closed) => {
+                came.all = came.got.iter().copied().collect();
+                return came;
+            }
         }
     }
 }
@@ -76,9 +91,17 @@ fn a_broadcast_of_four_senders_and_four_receivers() {
         .into_iter()
         .map(|sender| sender.join().unwrap())
         .sum();
-    for reader in readers {
-        let came = reader.join().unwrap();
-        assert_eq!(came.got + came.lost, sent, "{came:?}");
+    let came: Vec<Came> = readers
+        .into_iter()
+        .map(|reader| reader.join().unwrap())
+        .collect();
+    for one in &came {
+        assert_eq!(one.got.len() as u64 + one.lost, sent);
+    }
+    for (number, one) in came.iter().enumerate() {
+        for other in &came[..number] {
+            assert!(one.common_with(other).eq(other.common_with(one)));
+        }
     }
     assert!(accepted(&recorder, "threads-broadcast") >= sent);
 }
@@ -153,8 +176,11 @@ fn a_journal_saved_while_others_call_is_a_run() {
         .collect();
     let mut before = 0;
     for save in 0..5 {
+        // Here no call waits, so each that is recorded has a stamp, and none before the cut is missing.
+        let stamps = stamps(&recorder.journal().unwrap());
+        assert!(stamps.iter().copied().eq(1..=stamps.len() as u64));
         let entries = accepted(&recorder, &format!("mid-run-{save}"));
-        assert!(entries >= before);
+        assert!(entries >= before.max(stamps.len() as u64));
         before = entries;
     }
     stop.store(true, Ordering::Relaxed);
@@ -226,11 +252,7 @@ fn stamps_differ_where_a_second_channel_is_made_while_calls_go_on() {
     for thread in threads {
         thread.join().unwrap();
     }
-    let text = recorder.journal().unwrap();
-    let entries = text.lines().filter(|line| line.contains(" = "));
-    let stamps: Vec<u64> = entries
-        .map(|line| line.split(' ').next().unwrap().parse().unwrap())
-        .collect();
+    let stamps = stamps(&recorder.journal().unwrap());
     assert!(stamps.windows(2).all(|pair| pair[0] < pair[1]));
     assert_eq!(accepted(&recorder, "second-channel"), recorder.len());
 }
