@@ -3,6 +3,9 @@
 
 const NEWEST = 16;
 
+// The browser's numbers are exact up to 2^53, which has 16 digits; a value may be larger. The texts in a state are words without digits.
+const LONG_NUMBER = /\d{16,}/g;
+
 function kept(state) {
   for (const channel of state.channels) {
     if (channel.kind === "watch") continue;
@@ -12,8 +15,9 @@ function kept(state) {
   return state;
 }
 
+// The numbers that a browser would round stay texts.
 export function readState(line) {
-  return kept(JSON.parse(line));
+  return kept(JSON.parse(line.replace(LONG_NUMBER, '"$&"')));
 }
 
 export function commandsFor(places) {

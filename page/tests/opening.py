@@ -5,6 +5,7 @@ import subprocess
 
 import native
 
+NEWEST = 16
 OPEN = os.path.join(native.TOP, "page", "open")
 
 
@@ -32,8 +33,6 @@ def settle(tab, place=None):
     tab.wait(f"{shown} !== undefined" if place is None else f"{shown} === '{place}'")
 
 
-
-
 def standing(receiver):
     """How the page says that a receiver stands."""
     if "seen" in receiver:
@@ -44,11 +43,24 @@ def standing(receiver):
     return f"{receiver['unread'] - receiver['lag']} to read{lost}"
 
 
+def boxes_of(channel):
+    """What the page shows of a channel's values: a watch's, or the newest 16 that a broadcast retains and who reads each next."""
+    if channel["kind"] == "watch":
+        return [str(channel["value"])]
+    values = channel["window"]
+    newest = values[-NEWEST:]
+    boxes = [f"+{len(values) - len(newest)}"] if len(values) > len(newest) else []
+    for left, value in zip(range(len(newest), 0, -1), newest):
+        boxes.append(str(value) + "".join(f"↑ {it['handle']}" for it in channel["receivers"] if it["unread"] - it["lag"] == left))
+    return boxes
+
+
 def panel_of(state):
-    """The rows that the page shows of a state: of each channel its word, its receivers, its senders and its weak senders."""
+    """The rows that the page shows of a state: of each channel its word, its values, its receivers, its senders and its weak senders."""
     rows = []
     for channel in state["channels"]:
         rows.append("closed" if channel["closed"] else "open")
+        rows.append("values: " + " ".join(boxes_of(channel)))
         rows += [f"receiver {it['handle']}: {standing(it)}" for it in channel["receivers"]]
         rows.append("senders: " + (", ".join(map(str, channel["senders"])) or "none"))
         if "weak" in channel:
@@ -57,6 +69,7 @@ def panel_of(state):
 
 
 PANEL = """[...document.querySelectorAll('#state section')].flatMap(section => [section.querySelector('.tag').textContent,
+    'values: ' + [...section.querySelectorAll('.values li, p .box')].map(box => box.textContent).join(' '),
     ...[...section.querySelectorAll('dl div')].map(row => row.children[0].textContent + ': ' + row.children[1].textContent)])"""
 
 

@@ -1,0 +1,59 @@
+"""Values as texts in the panel and in the picture: numbers that a browser would round, and texts that are very long."""
+import json
+
+import native
+import opening
+from opening import check_place
+
+LARGEST = 2**64 - 1
+ROUNDED = 2**53 + 1
+NUMBERS = f"""watch {LARGEST}
+broadcast 4
+0 0 send 0 {LARGEST - 1}
+0 1 send 0 {LARGEST}
+0 0 send 0 {ROUNDED}
+0 1 send 0 {ROUNDED}
+0 1 send 0 {10**15 - 1}
+0 1 send 0 {10**15}
+0 1 send 0 {10**16 + 1}
+0 1 recv 1
+""".encode()
+
+# The page draws all anew, and tells each text that it draws in the picture, where that begins and how wide it is, and how many letters it
+# has measured for that.
+DRAWN_TEXTS = """(() => {
+    const pens = CanvasRenderingContext2D.prototype, { fillText, measureText } = pens, texts = [];
+    let measured = 0;
+    pens.measureText = function (text) {
+        measured += text.length;
+        return measureText.call(this, text);
+    };
+    pens.fillText = function (text, x, y) {
+        if (this.canvas.id === 'picture') texts.push([text, x, measureText.call(this, text).width]);
+        return fillText.call(this, text, x, y);
+    };
+    dispatchEvent(new Event('resize'));
+    Object.assign(pens, { fillText, measureText });
+    return { texts, measured };
+})()"""
+
+
+def watch_values(tab):
+    """The values of the watches in the picture."""
+    return [it for it in tab.run(DRAWN_TEXTS)["texts"] if it[0].startswith("= ")]
+
+
+def large_numbers(tab, folder, journals):
+    """Values that a browser's number can't hold are shown digit by digit, and are found among the names."""
+    journal = native.record(NUMBERS)
+    opening.load(tab, opening.page_of(folder, "numbers.journal", journal))
+    ask = opening.asker(journal)
+    for place in range(9):
+        check_place(tab, ask, place)
+        assert tab.run("document.querySelector('#state .box').textContent") == str([LARGEST, LARGEST - 1, ROUNDED][(place > 0) + (place > 2)])
+        tab.key("ArrowRight")
+    assert [text for text, _, _ in watch_values(tab)] == [f"= {LARGEST}", f"= {LARGEST - 1}", f"= {ROUNDED}"]
+    names = {"values": {"0": {str(LARGEST - 1): "the last but one"}, "1": {str(LARGEST): "the last one"}}}
+    opening.put(folder, "named.names", json.dumps(names).encode())
+    opening.load(tab, opening.page_of(folder, "named.journal", journal), 2)
+    assert tab.run("[...document.querySelectorAll('#state .box')].map(box => box.textContent)") == ["the last but one", "the last one"]
