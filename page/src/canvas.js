@@ -30,12 +30,20 @@ export function line(pen, x1, y1, x2, y2) {
   pen.stroke();
 }
 
-// A text, cut where it is wider than this.
+// A text, cut where it is wider than this. Texts of values may be very long and measuring takes its time with them, so a text is first
+// cut to a letter for each point of the width, and then halving finds how many letters fit.
 export function fitted(pen, text, width) {
-  if (pen.measureText(text).width <= width) return text;
-  let end = text.length;
-  while (end > 0 && pen.measureText(`${text.slice(0, end)}…`).width > width) end--;
-  return `${text.slice(0, end)}…`;
+  const isFitting = part => pen.measureText(part).width <= width;
+  const cutTo = count => `${text.slice(0, count)}…`;
+  let most = Math.min(text.length, Math.max(0, Math.ceil(width)));
+  if (most === text.length && isFitting(text)) return text;
+  let least = 0;
+  while (least < most) {
+    const middle = Math.ceil((least + most) / 2);
+    if (isFitting(cutTo(middle))) least = middle;
+    else most = middle - 1;
+  }
+  return cutTo(least);
 }
 
 // Fills a box with slanted lines.

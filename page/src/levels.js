@@ -1,12 +1,13 @@
 // Draws how receivers stand: what each has still to read, and what was overwritten before it read it.
 
-import { line } from "./canvas.js";
+import { fitted, line } from "./canvas.js";
 import { NUMBERS } from "./palette.js";
 
 const FULL = 0.72;
 const LEAST_LAG = 4;
 const UNSEEN_HEIGHT = 15;
 const ABOVE_ROW = 6;
+const VALUE_GAP = 3;
 
 function standsSame(a, b) {
   return a.unread === b.unread && a.lag === b.lag && a.seen === b.seen;
@@ -59,20 +60,27 @@ export function drawLevels(drawing) {
   });
 }
 
-// Of a watch: its value, where it changes.
+// The places at which a watch has another value than at the one before, each with its value.
+function changesOf(run, places, channel) {
+  const changes = [];
+  for (const place of places) {
+    const { value } = run.state(place).channels[channel];
+    if (changes.at(-1)?.value !== value) changes.push({ place, value });
+  }
+  return changes;
+}
+
+// Of a watch: its value, where it changes, as far as there is room before the next one.
 export function drawValues({ pen, run, frame, places, band, palette }) {
   if (run.channels[band.channel].kind !== "watch" || !frame.isNear) return;
   pen.font = NUMBERS;
   pen.textAlign = "left";
   pen.fillStyle = pen.strokeStyle = palette["unseen-ink"];
   pen.lineWidth = 1;
-  let shown = null;
-  for (const place of places) {
-    const { value } = run.state(place).channels[band.channel];
-    if (value === shown) continue;
-    shown = value;
+  changesOf(run, places, band.channel).forEach(({ place, value }, i, changes) => {
     const x = frame.x(place);
-    pen.fillText(`= ${run.names.value(band.channel, value)}`, x + 3, band.head + 16);
+    const end = i + 1 < changes.length ? frame.x(changes[i + 1].place) : frame.right;
+    pen.fillText(fitted(pen, `= ${run.names.value(band.channel, value)}`, end - x - VALUE_GAP), x + VALUE_GAP, band.head + 16);
     line(pen, x, band.head + 9, x, band.head + 23);
-  }
+  });
 }
