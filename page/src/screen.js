@@ -64,9 +64,9 @@ export class Screen {
     if (this.picture) drawCursor({ ...this.picture, pen: this.pen("cursor", this.picture.layout.height) });
   }
 
-  // Which place stands under a point of the picture, and of the strip.
+  // Which place stands under a point of the picture, and of the strip. Before the first picture it is the place where one is.
   placeInPicture(x) {
-    return this.picture.frame.columnAt(x);
+    return this.picture ? this.picture.frame.columnAt(x) : this.view.place;
   }
 
   placeInStrip(x) {

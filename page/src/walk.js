@@ -18,8 +18,11 @@ export class Walk {
     this.run = run;
     this.view = view;
     this.screen = screen;
+    this.onFault = onFault;
     this.drawing = new Latest(() => this.draw(), onFault);
     this.telling = new Latest(() => this.tell(), onFault);
+    this.searching = Promise.resolve();
+    this.moves = 0;
     this.isLeft = false;
     byId("slider").max = run.lastPlace;
     byId("found").textContent = "";
@@ -32,7 +35,10 @@ export class Walk {
     this.telling.stop();
   }
 
+  // A move of the reader's own: searches that were asked for before it, and what they have told, count no more.
   to(place) {
+    this.moves++;
+    byId("found").textContent = "";
     this.view.go(place);
     this.show();
   }
@@ -83,15 +89,25 @@ export class Walk {
   }
 
   toLag(isBack) {
-    return this.seek(isBack ? "rback" : "rforward", LAG);
+    this.seek(isBack ? "rback" : "rforward", LAG);
   }
 
-  async seek(word, condition) {
+  // Searches are made one after the other, so that each begins where the one before has gone.
+  seek(word, condition) {
+    const { moves } = this;
+    const isOver = () => this.isLeft || this.moves !== moves;
+    this.searching = this.searching.then(() => this.search(word, condition, isOver)).catch(this.onFault);
+  }
+
+  async search(word, condition, isOver) {
+    if (isOver()) return;
     const found = await seek(this.run, this.view.place, word, condition);
-    if (this.isLeft) return;
+    if (isOver()) return;
     byId("found").textContent = found.answer;
     byId("found").classList.toggle("lag", found.place === null);
-    if (found.place !== null) this.to(found.place);
+    if (found.place === null) return;
+    this.view.go(found.place);
+    this.show();
   }
 
   // The words change at once; the picture when its states are there.

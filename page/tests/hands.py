@@ -13,6 +13,24 @@ STOPS = [("rforward", "lagging 0 2"), ("rforward", "lagging 0 2"), ("rback", "ac
          ("rback", "unseen 1 2"), ("rforward", "queue 0 4"), ("rforward", "reply nonsense"), ("rback", "sideways"),
          ("rback", "closed 0"), ("rforward", "lagging 99999999999999999999 1")]
 
+# The debugger's next answer is that it has no memory, as far as the page can tell.
+FAILING = """(() => {
+    const { postMessage } = Worker.prototype;
+    Worker.prototype.postMessage = () => {
+        Worker.prototype.postMessage = postMessage;
+        throw new Error('no memory');
+    };
+})()"""
+
+# A click as soon as a run is shown; most of the places at the end of a large one have their states asked for after that.
+EARLY_CLICK = """new MutationObserver((_, observer) => {
+    if (document.getElementById('walk')?.hidden !== false) return;
+    observer.disconnect();
+    window.clickedAt = document.getElementById('state').textContent;
+    Element.prototype.setPointerCapture = () => {};
+    document.getElementById('picture-box').dispatchEvent(new PointerEvent('pointerdown', { clientX: 600, clientY: 500 }));
+}).observe(document, { subtree: true, attributes: true, attributeFilter: ['hidden'] })"""
+
 
 def column_x(tab, box, column, columns):
     """Where a column stands in a drawing of so many."""
@@ -56,6 +74,50 @@ def stops(tab, folder, journals):
         tab.wait(f"document.getElementById('found').textContent === {json.dumps(answer)}")
         place = int(answer.split(" ")[1]) if answer.startswith("hit") else place
         check_place(tab, ask, place)
+
+
+PRESS = "document.dispatchEvent(new KeyboardEvent('keydown', {{ key: '{}' }}))"
+
+
+def hurried(tab, *pressed):
+    """Presses keys, none of which the page has answered when the next one comes, and waits until no answer is left."""
+    tab.run(f"void ({', '.join(PRESS.format(key) for key in pressed)})")
+    tab.run("ttd.ask('').then(() => ttd.ask('')).then(() => new Promise(done => setTimeout(done, 100)))")
+
+
+def hurried_searches(tab, folder, journals):
+    """A search begins where the one before has gone, and is over where the reader goes on by hand. What it told goes with it."""
+    opening.load(tab, opening.page_of(folder, "hurried.journal", journals[63]))
+    ask = opening.asker(journals[63])
+    second = ask("start\nrforward reply lagged\nrforward reply lagged\n").rstrip("\n").split("\n")[-1]
+    hurried(tab, "l", "l")
+    check_place(tab, ask, int(second.split(" ")[1]))
+    assert tab.text("found") == second
+    tab.key("ArrowRight")
+    assert tab.text("found") == ""
+    hurried(tab, "l", "l", "Home")
+    check_place(tab, ask, 0)
+    assert tab.text("found") == ""
+
+
+def failed_search(tab, folder, journals):
+    """Where the debugger fails over a search, the page says so, and the next one is made."""
+    opening.load(tab, opening.page_of(folder, "failed.journal", journals[63]))
+    tab.run(FAILING)
+    tab.key("l")
+    tab.wait("!document.getElementById('notice').hidden")
+    assert tab.text("notice") == "The debugger failed: no memory."
+    check_place(tab, opening.asker(journals[63]), 0)
+    tab.key("l")
+    check_place(tab, opening.asker(journals[63]), 23)
+
+
+def early_click(tab, folder, journals):
+    """A click on the picture before there is one stays at the place."""
+    tab.call("Page.addScriptToEvaluateOnNewDocument", source=EARLY_CLICK)
+    opening.load(tab, opening.page_of(folder, "early.journal", journals[10_000]), 10_000)
+    assert tab.run("window.clickedAt") == "", "the picture was there already"
+    check_place(tab, opening.asker(journals[10_000]), 10_000)
 
 
 def buttons(tab, folder, journals):
