@@ -28,5 +28,5 @@ export function embeddedRun() {
   const parts = byId("run").textContent.split("\n").slice(1, -1);
   if (parts.length === 0) return null;
   const [name, bytes, names] = parts.map(fromBase64);
-  return { name: new TextDecoder().decode(name), bytes, names };
+  return { name: new TextDecoder().decode(name), bytes, names, isEmbedded: true };
 }

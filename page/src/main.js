@@ -33,7 +33,7 @@ function tellFault(fault) {
   tell(`The debugger failed: ${fault.message}.`);
 }
 
-// Shows one of the page's parts: what there is before a run, a run, or why a text is refused.
+// Shows one of the page's parts, or none: what there is before a run, a run, or why a text is refused.
 function showPart(part) {
   for (const id of ["welcome", "refusal", "walk"]) byId(id).hidden = id !== part;
 }
@@ -54,17 +54,16 @@ function factsOf(name, run) {
   return facts.join(" · ");
 }
 
-async function showRun(client, opened, { name, bytes, names }) {
+async function showRun(client, opened, { name, bytes, names }, place) {
   const run = new Run(client, opened, namesOf(names));
   if (opened.waitingLine) run.waiting = waitingCall(bytes, opened.waitingLine, run);
   byId("facts").textContent = factsOf(name, run);
-  document.title = `${name} · Yovanelum`;
   showPart("walk");
   const view = new View(run.lastPlace, run.lastPlace + (run.waiting ? 1 : 0), columnsThatFit(byId("picture-box").clientWidth));
   const screen = new Screen(run, view);
   byId("legend").replaceChildren(...legend(run, screen.palette));
   page.walk = new Walk(run, view, screen, tellFault);
-  page.walk.to(placeIn(location.href));
+  page.walk.to(place);
   addSamples(page.walk);
 }
 
@@ -78,21 +77,41 @@ async function addSamples(walk) {
   }
 }
 
-async function open(client, source) {
-  tell("");
+// Leaves what is opened, so that none of it stands under the name of what comes next.
+function leave() {
   page.walk?.leave();
   page.walk = null;
+  showPart(null);
+}
+
+// Opens a run at the address's place where it stands in the page's own file. Else that may be a place in the run before, and it is
+// opened at its start.
+async function open(client, source) {
+  tell("");
+  leave();
   byId("facts").textContent = source.name;
-  const opened = await client.request("open", source.bytes, placesAtFirst(placeIn(location.href)));
-  if (opened.fault === undefined) return showRun(client, opened, source);
+  document.title = `${source.name} · Yovanelum`;
+  const place = () => (source.isEmbedded ? placeIn(location.href) : 0);
+  const opened = await client.request("open", source.bytes, placesAtFirst(place()));
+  if (opened.fault === undefined) return showRun(client, opened, source, place());
   byId("refusal").replaceChildren(...faultPanel(opened.fault, source.bytes));
   showPart("refusal");
+}
+
+async function openOrTell(client, source) {
+  try {
+    await open(client, source);
+  } catch (fault) {
+    leave();
+    showPart("welcome");
+    tellFault(fault);
+  }
 }
 
 // Opens what it is given, one after the other: of those that wait only the last.
 function opener(client) {
   let next = null;
-  const opening = new Latest(() => open(client, next), tellFault);
+  const opening = new Latest(() => openOrTell(client, next), tellFault);
   return source => {
     next = source;
     return opening.ask();
@@ -106,18 +125,33 @@ function redraw() {
   page.walk.show();
 }
 
-function listen(openSource) {
-  const openFiles = async files => {
-    const source = await readFiles([...files]);
+// Opens the run among these files. What is dropped may be no files at all, as words of the page, or a folder, which can't be read.
+async function openFiles(openSource, files) {
+  if (files.length === 0) return;
+  try {
+    const source = await readFiles(files);
     if (source.bytes) openSource(source);
-  };
+    else tell(`There is no journal or script beside ${files[0].name}.`);
+  } catch (fault) {
+    tell(`${files.map(file => file.name).join(", ")} can't be read: ${fault.message}`);
+  }
+}
+
+// The field is emptied, since it tells of a file only where that is another one: the same one may have another text by now.
+function takeChosen(openSource) {
+  const files = [...byId("file").files];
+  byId("file").value = "";
+  openFiles(openSource, files);
+}
+
+function listen(openSource) {
   byId("choose").addEventListener("click", () => byId("file").click());
-  byId("file").addEventListener("change", event => openFiles(event.target.files));
+  byId("file").addEventListener("change", () => takeChosen(openSource));
   byId("example-button").addEventListener("click", () => openSource(exampleRun()));
   document.addEventListener("dragover", event => event.preventDefault());
   document.addEventListener("drop", event => {
     event.preventDefault();
-    openFiles(event.dataTransfer.files);
+    openFiles(openSource, [...event.dataTransfer.files]);
   });
   window.addEventListener("hashchange", event => page.walk?.to(placeIn(event.newURL)));
   window.addEventListener("resize", redraw);

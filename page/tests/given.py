@@ -1,0 +1,85 @@
+"""Files that are given to the page: chosen, dropped, beside each other, or such that can't be opened."""
+import json
+import os
+
+import opening
+import rebuilt
+import runs
+from hands import FAILING, script_asker
+from opening import check_place
+
+SCRIPT = b"broadcast 2\n0 0 send 0 9\n0 0 send 0 10\n0 0 send 0 11\n0 0 recv 1\n"
+
+
+def told(tab, name, beginning):
+    tab.wait(f"document.getElementById('{name}').textContent.startsWith({json.dumps(beginning)})")
+
+
+def choose(tab, path):
+    """Chooses a file in the page's field, as its button does."""
+    root = tab.call("DOM.getDocument")["root"]["nodeId"]
+    field = tab.call("DOM.querySelector", nodeId=root, selector="#file")["nodeId"]
+    tab.call("DOM.setFileInputFiles", nodeId=field, files=[path])
+
+
+def empty_page(tab):
+    tab.load(rebuilt.PAGE)
+    tab.wait("window.ttd")
+
+
+def chosen_again(tab, folder, journals):
+    """A file that is chosen again is read again."""
+    empty_page(tab)
+    choose(tab, opening.put(folder, "chosen.ttd", SCRIPT))
+    told(tab, "facts", "chosen.ttd · 4 calls")
+    again = SCRIPT + b"0 0 recv 1\n"
+    choose(tab, opening.put(folder, "chosen.ttd", again))
+    told(tab, "facts", "chosen.ttd · 5 calls")
+    check_place(tab, script_asker(again), 0)
+
+
+def drop_with_names(tab, folder, journals):
+    """A journal is dropped along with its file of names, in either order; what is dropped without a run, or is a folder, is told of."""
+    journal = opening.put(folder, "named.journal", journals[63])
+    names = opening.put(folder, "named.names", runs.example_file("price_feed.names"))
+    for files in ([journal, names], [names, journal]):
+        empty_page(tab)
+        tab.drop(*files)
+        opening.settle(tab, 0)
+        tab.key("l")
+        opening.settle(tab, 23)
+        assert tab.text("sentence").startswith("● slow auditor on prices: recv 2 → lagged 2"), tab.text("sentence")
+    tab.drop(names)
+    told(tab, "notice", "There is no journal or script beside named.names.")
+    tab.drop(folder)
+    told(tab, "notice", f"{os.path.basename(folder)} can't be read: ")
+    opening.settle(tab, 23)
+
+
+def places_of_two_runs(tab, folder, journals):
+    """The place in the address is one of the run that stands in the page: one that is dropped on it is opened at its start."""
+    opening.load(tab, opening.page_of(folder, "first.journal", journals[63]), 3)
+    tab.key("ArrowLeft")
+    tab.wait("location.hash === '#place=2'")
+    tab.drop(opening.put(folder, "second.ttd", SCRIPT))
+    told(tab, "facts", "second.ttd · 4 calls")
+    check_place(tab, script_asker(SCRIPT), 0)
+    tab.wait("location.hash === '#place=0'")
+
+
+def failed_opening(tab, folder, journals):
+    """Where the debugger fails over a file, the run before isn't shown under that one's name. A refused file has its own title."""
+    opening.load(tab, opening.page_of(folder, "first.journal", journals[63]))
+    tab.run(FAILING)
+    tab.drop(opening.put(folder, "second.ttd", SCRIPT))
+    told(tab, "notice", "The debugger failed: no memory.")
+    parts = "['walk', 'refusal', 'welcome'].filter(name => !document.getElementById(name).hidden).join()"
+    assert tab.run(f"[{parts}, document.title, document.getElementById('facts').textContent]") == [
+        "welcome", "second.ttd · Yovanelum", "second.ttd"]
+    tab.drop(opening.put(folder, "third.ttd", SCRIPT))
+    told(tab, "facts", "third.ttd · 4 calls")
+    check_place(tab, script_asker(SCRIPT), 0)
+    assert tab.text("notice") == ""
+    tab.drop(opening.put(folder, "refused.ttd", b"broadcast 0\n"))
+    tab.wait("!document.getElementById('refusal').hidden")
+    assert tab.run(f"[{parts}, document.title]") == ["refusal", "refused.ttd · Yovanelum"]
