@@ -1,12 +1,15 @@
 """Keys, mouse, stops and files in the real browser, each compared with what the program answers."""
 import json
+import math
 import os
+import re
 import subprocess
 
 import native
 import opening
 import rebuilt
 from opening import check_place
+from shown import points_of
 
 GUTTER, MARGIN = 140, 14
 STOPS = [("rforward", "lagging 0 2"), ("rforward", "lagging 0 2"), ("rback", "actor 2"), ("rforward", "closed 1"),
@@ -130,6 +133,17 @@ def buttons(tab, folder, journals):
         check_place(tab, ask, place)
     tab.run("(() => { const slider = document.getElementById('slider'); slider.value = 12; slider.dispatchEvent(new Event('input')); })()")
     check_place(tab, ask, 12)
+    for name, width in (("#nearer", 32), ("#nearer", 16), ("#farther", 32), ("#whole", 63)):
+        tab.click(name)
+        seen = places_in_view(tab)
+        assert seen[1] - seen[0] == width and seen[0] <= 12 <= seen[1], (name, seen)
+        check_place(tab, ask, 12)
+
+
+def places_in_view(tab):
+    """The first and the last place that the picture says it has."""
+    label = tab.run("document.getElementById('picture').getAttribute('aria-label')")
+    return [int(it) for it in re.fullmatch(r"The calls from place (\d+) to (\d+), drawn\.", label).groups()]
 
 
 def mouse(tab, folder, journals):
@@ -152,6 +166,10 @@ def mouse(tab, folder, journals):
     tab.mouse("mouseWheel", x, top + 20, deltaX=0, deltaY=200)
     tab.wait(f"document.getElementById('picture').getAttribute('aria-label') !== {json.dumps(before)}")
     check_place(tab, ask, 20)
+    tab.drag(x, top + 20, column_x(tab, "#strip-box", 51, 64)[0], top + 20)
+    check_place(tab, ask, 51)
+    first, last = places_in_view(tab)
+    assert last - first == 32 and first <= 51 <= last, (first, last)
 
 
 def drops(tab, folder, journals):
@@ -192,6 +210,15 @@ def waiting_script(tab, folder, journals):
         check_place(tab, ask, place)
         tab.key("ArrowRight")
     check_place(tab, ask, 3)
+    assert points_behind(tab, 4, 5) > 200
+    opening.load(tab, opening.page_of(folder, "waits_not.ttd", script.replace(b"1 0 recv slow\n0 0", b"0 0")))
+    assert points_behind(tab, 4, 5) == 0
+
+
+def points_behind(tab, column, columns):
+    """How many points of actor 1's colour stand in the picture from a column on, of so many."""
+    x, _ = column_x(tab, "#picture-box", column - 0.5, columns)
+    return points_of(tab, "--actor-1", math.ceil(x - tab.box("#picture-box")[0]))
 
 
 def refused(tab, folder, text, wanted):

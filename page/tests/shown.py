@@ -47,11 +47,11 @@ def pictures(tab, folder, journals):
     tab.resize(1440, 920)
 
 
-def points_of(tab, colour):
-    """How many points of the picture have a colour of the style sheet."""
+def points_of(tab, colour, left=0):
+    """How many points of the picture, from so far to the right on, have a colour of the style sheet."""
     return tab.run(f"""(() => {{
         const canvas = document.getElementById('picture');
-        const {{ data }} = canvas.getContext('2d').getImageData(0, 0, canvas.width, canvas.height);
+        const {{ data }} = canvas.getContext('2d').getImageData({left}, 0, canvas.width, canvas.height);
         const colour = getComputedStyle(document.documentElement).getPropertyValue('{colour}');
         const [red, green, blue] = colour.trim().match(/[0-9a-f]{{2}}/g).map(part => parseInt(part, 16));
         let count = 0;
