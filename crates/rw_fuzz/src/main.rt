@@ -18,7 +18,7 @@ use mutations::Mutator;
 use std::alloc::Global;
 use std::env::{self, Env};
 use tally::Tally;
-use trials::try_text;
+use trials::{try_text, try_unchanged};
 
 /// How many seeds are taken where no number is given.
 const DEFAULT_SEEDS: u64 = 2;
@@ -51,6 +51,7 @@ fn try_seed(alloc: Global, seed: u64, count: u64) -> Result<Tally> {
 fn main(rt: HostRuntime) -> Result<()> {
     let seeds = asked(&rt, 1, DEFAULT_SEEDS)?;
     let count = asked(&rt, 2, DEFAULT_COUNT)?;
+    try_unchanged(rt.alloc())?;
     for seed in 0..seeds {
         let tally = try_seed(rt.alloc(), seed, count)?;
         eprintln!(rt; "seed {seed}: {tally:?}")?;

@@ -4,6 +4,7 @@ ghost use Rattle.std.specs.Prelude.{◌≡◌};
 
 use crate::mutations::Mutator;
 use crate::tally::{Tally, count};
+use crate::texts::JOURNALS;
 use anyhow::{Result, bail};
 use rw_console::{Outcome, debug, session};
 use rw_devices::FailingReader;
@@ -113,6 +114,17 @@ fn try_salvage(alloc: Global, text: &[u8], tally: &mut Tally) -> Result<bool> {
             Ok(true)
         }
     }
+}
+
+/// Tries the texts that mutations begin with as they stand: journals that are refused would say little when mutated.
+pub fn try_unchanged(alloc: Global) -> Result<()> {
+    for text in JOURNALS {
+        let read: std::result::Result<Run<u64>, TextFault> = read(alloc, text);
+        if let Err(fault) = read {
+            bail!("a journal to be mutated is refused: {fault}");
+        }
+    }
+    Ok(())
 }
 
 /// Tries one text more, a session or a journal. Whether all that was accepted is written again as its own bytes.
