@@ -169,6 +169,12 @@ function answersOf(client) {
   };
 }
 
+function openEmbedded(openSource) {
+  const embedded = embeddedRun();
+  if (embedded) openSource(embedded);
+}
+
+// The debugger starts while the browser still reads the run that stands behind this script in the page's file.
 function start() {
   byId("key-list").replaceChildren(...keyRows());
   if (!WebAssembly.validate(WIDE_MEMORY)) {
@@ -180,8 +186,7 @@ function start() {
   const openSource = opener(client);
   listen(openSource);
   window.ttd = answersOf(client);
-  const embedded = embeddedRun();
-  if (embedded) openSource(embedded);
+  document.addEventListener("DOMContentLoaded", () => openEmbedded(openSource));
 }
 
 start();

@@ -40,7 +40,7 @@ def script(folder, name):
     """One script of a module and all that it imports."""
     found = {}
     gather(folder, name, found)
-    text = "".join(enclosed(module, source) for module, source in found.items())
+    text = '"use strict";\n' + "".join(enclosed(module, source) for module, source in found.items())
     if "</script" in text.lower():
         raise Refused("a script would end the element that it stands in")
     return text

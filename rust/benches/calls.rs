@@ -103,6 +103,33 @@ fn resident() -> u64 {
     line.trim().trim_end_matches(" kB").parse::<u64>().unwrap() * 1024
 }
 
+/// A run of a case under a recorder of its own: nanoseconds a call and for saving it, and the bytes that a call leaves in memory.
+struct Recorded {
+    calls: u64,
+    call: f64,
+    save: f64,
+    bytes: u64,
+}
+
+fn recorded(calls: u64, case: fn(u64) -> Timed) -> Recorded {
+    let recorder = Recorder::new();
+    let entered = recorder.enter();
+    let before = resident();
+    let (calls, took) = case(calls);
+    let bytes = resident().saturating_sub(before) / calls;
+    drop(entered);
+    let start = Instant::now();
+    black_box(recorder.journal().unwrap().len());
+    let save = start.elapsed();
+    let each = |time: Duration| time.as_nanos() as f64 / calls as f64;
+    Recorded {
+        calls,
+        call: each(took),
+        save: each(save),
+        bytes,
+    }
+}
+
 fn main() {
     let numbers: Vec<u64> = std::env::args()
         .filter_map(|word| word.parse().ok())
@@ -123,27 +150,13 @@ fn main() {
         "case", "calls", "least ns", "median ns", "save ns/call", "bytes"
     );
     for (name, case) in cases {
-        let (mut times, mut made, mut save, mut bytes) = (Vec::new(), 0, 0.0, 0);
-        for repeat in 0..repeats {
-            let recorder = Recorder::new();
-            let entered = recorder.enter();
-            let before = resident();
-            let (calls, took) = case(calls);
-            if repeat == 0 {
-                bytes = resident().saturating_sub(before) / calls;
-            }
-            drop(entered);
-            made = calls;
-            times.push(took.as_nanos() as f64 / calls as f64);
-            let start = Instant::now();
-            black_box(recorder.journal().unwrap().len());
-            save = start.elapsed().as_nanos() as f64 / calls as f64;
-        }
-        times.sort_by(f64::total_cmp);
+        let mut runs: Vec<_> = (0..repeats).map(|_| recorded(calls, case)).collect();
+        let bytes = runs[0].bytes;
+        runs.sort_by(|a, b| a.call.total_cmp(&b.call));
+        let (least, median) = (&runs[0], &runs[runs.len() / 2]);
         println!(
-            "{name:28} {made:>9} {:>9.1} {:>10.1} {save:>13.1} {bytes:>9}",
-            times[0],
-            times[times.len() / 2]
+            "{name:28} {:>9} {:>9.1} {:>10.1} {:>13.1} {bytes:>9}",
+            least.calls, least.call, median.call, least.save
         );
     }
 }

@@ -2,39 +2,37 @@
 
 mod support;
 
-use std::io::Write;
-use std::process::{Command, Stdio};
-use support::poll_once;
+use support::{debugged, poll_once};
 use yovanelum::broadcast::{self, error::RecvError};
 use yovanelum::{Recorder, block_on, named};
 
 /// What `ttd debug` writes for these commands over the journal so far, where the variable `YOVANELUM_TTD` names the program.
 fn walked(recorder: &Recorder, commands: &str) -> Option<String> {
-    let ttd = std::env::var_os("YOVANELUM_TTD")?;
     let path = std::env::temp_dir().join(format!("yovanelum-bus-{}.journal", std::process::id()));
     recorder.save(&path).unwrap();
-    let mut walk = Command::new(ttd)
-        .arg("debug")
-        .arg(&path)
-        .stdin(Stdio::piped())
-        .stdout(Stdio::piped())
-        .spawn()
-        .unwrap();
-    walk.stdin
-        .take()
-        .unwrap()
-        .write_all(commands.as_bytes())
-        .unwrap();
-    let written = walk.wait_with_output().unwrap().stdout;
+    let written = debugged(&path, commands);
     std::fs::remove_file(&path).unwrap();
     std::fs::remove_file(path.with_extension("names")).unwrap();
-    Some(String::from_utf8(written).unwrap())
+    written
 }
 
 #[derive(Clone, Debug, PartialEq)]
 enum Event {
     Opened,
     Price(u32),
+}
+
+/// The third send is the step at which receiver 2 began to lag.
+fn assert_step_is_found(recorder: &Recorder) {
+    let commands =
+        "rback reply lagged\nstep\nrback lagging 0 2\nback\nrforward lagging 0 2\nstep\n";
+    let Some(written) = walked(recorder, commands) else {
+        return;
+    };
+    let lines: Vec<_> = written.lines().collect();
+    assert!(lines[1].contains(" recv 2 = lagged 1"), "{written}");
+    let last = lines.last().unwrap();
+    assert!(last.ends_with("send 0 2 = sent 2"), "{written}");
 }
 
 #[test]
@@ -65,21 +63,7 @@ fn a_slow_subscriber_lags() {
     let audited = block_on(named("auditor", async { audit.recv().await }));
     assert_eq!(audited, Err(RecvError::Lagged(1)));
     assert_eq!(audit.try_recv(), Ok(Event::Price(101)));
-    assert!(
-        recorder.names().contains(r#""1": "Price(101)""#),
-        "{}",
-        recorder.names()
-    );
-    if let Some(written) = walked(
-        &recorder,
-        "rback reply lagged\nstep\nrback lagging 0 2\nback\nrforward lagging 0 2\nstep\n",
-    ) {
-        let lines: Vec<_> = written.lines().collect();
-        assert!(lines[1].contains(" recv 2 = lagged 1"), "{written}");
-        // The third send is the step at which receiver 2 began to lag.
-        assert!(
-            lines.last().unwrap().ends_with("send 0 2 = sent 2"),
-            "{written}"
-        );
-    }
+    let names = recorder.names();
+    assert!(names.contains(r#""1": "Price(101)""#), "{names}");
+    assert_step_is_found(&recorder);
 }

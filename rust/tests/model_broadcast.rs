@@ -84,21 +84,13 @@ impl Pair {
 
     /// One call of both, chosen at random.
     fn step(&mut self, random: &mut Random) {
-        let (s, r) = (self.senders.len(), self.receivers.len());
+        let (s, r, w) = (self.senders.len(), self.receivers.len(), self.weak.len());
         match random.below(19) {
             0..=4 if s > 0 => self.send(random.below(s)),
             5..=7 if r > 0 => self.try_recv(random.below(r)),
             8..=9 if r > 0 => self.recv(random.below(r)),
-            10 if s > 0 => {
-                self.receivers
-                    .push(self.senders[random.below(s)].subscribe());
-                self.model.places.push(self.model.sent);
-            }
-            11 if r > 0 => {
-                self.receivers
-                    .push(self.receivers[random.below(r)].resubscribe());
-                self.model.places.push(self.model.sent);
-            }
+            10 if s > 0 => self.begin(self.senders[random.below(s)].subscribe()),
+            11 if r > 0 => self.begin(self.receivers[random.below(r)].resubscribe()),
             12 if s > 0 => {
                 self.senders.push(self.senders[random.below(s)].clone());
                 self.model.senders += 1;
@@ -113,22 +105,18 @@ impl Pair {
                 self.model.senders -= 1;
             }
             15 if s > 0 => self.weak.push(self.senders[random.below(s)].downgrade()),
-            16 if !self.weak.is_empty() => {
-                let weak = random.below(self.weak.len());
-                let upgraded = self.weak[weak].upgrade();
-                assert_eq!(upgraded.is_some(), self.model.senders > 0);
-                self.model.senders += usize::from(upgraded.is_some());
-                self.senders.extend(upgraded);
+            16 if w > 0 => self.upgrade(random.below(w)),
+            17 if w > 0 && random.below(2) == 0 => {
+                self.weak.push(self.weak[random.below(w)].clone())
             }
-            17 if !self.weak.is_empty() => {
-                let weak = random.below(self.weak.len());
-                match random.below(2) {
-                    0 => self.weak.push(self.weak[weak].clone()),
-                    _ => drop(self.weak.swap_remove(weak)),
-                }
-            }
+            17 if w > 0 => drop(self.weak.swap_remove(random.below(w))),
             _ => self.ask(),
         }
+        self.assert_values_are_kept();
+    }
+
+    /// Those that somebody has yet to receive, and no others.
+    fn assert_values_are_kept(&self) {
         for (number, value) in self.values.iter().enumerate() {
             assert_eq!(
                 value.strong_count() > 0,
@@ -137,6 +125,19 @@ impl Pair {
                 self.model.sent
             );
         }
+    }
+
+    /// A new receiver gets what is sent from now on.
+    fn begin(&mut self, receiver: Receiver<Rc<usize>>) {
+        self.receivers.push(receiver);
+        self.model.places.push(self.model.sent);
+    }
+
+    fn upgrade(&mut self, weak: usize) {
+        let upgraded = self.weak[weak].upgrade();
+        assert_eq!(upgraded.is_some(), self.model.senders > 0);
+        self.model.senders += usize::from(upgraded.is_some());
+        self.senders.extend(upgraded);
     }
 
     fn send(&mut self, sender: usize) {

@@ -72,25 +72,14 @@ impl Pair {
             6..=8 if r > 0 => self.changed(random.below(r)),
             9..=10 if r > 0 => self.update(random.below(r)),
             11 if r > 0 => self.wait_for(random.below(r), random.below(self.next + 2)),
-            12 if r > 0 => {
-                let receiver = random.below(r);
-                self.receivers[receiver].mark_changed();
-                self.model.seen[receiver] = None;
-            }
-            13 if r > 0 => {
-                let receiver = random.below(r);
-                self.receivers[receiver].mark_unchanged();
-                self.model.seen[receiver] = Some(self.model.changes);
-            }
+            12..=13 if r > 0 => self.mark(random.below(r), random.below(2) == 0),
             14 if s > 0 => {
-                self.receivers
-                    .push(self.senders[random.below(s)].subscribe());
-                self.model.seen.push(Some(self.model.changes));
+                let receiver = self.senders[random.below(s)].subscribe();
+                self.begin(receiver, Some(self.model.changes));
             }
             15 if r > 0 => {
                 let source = random.below(r);
-                self.receivers.push(self.receivers[source].clone());
-                self.model.seen.push(self.model.seen[source]);
+                self.begin(self.receivers[source].clone(), self.model.seen[source]);
             }
             16 if s > 0 => {
                 self.senders.push(self.senders[random.below(s)].clone());
@@ -110,6 +99,21 @@ impl Pair {
         // The last value alone is kept, as long as there is a handle.
         let is_kept = !self.senders.is_empty() || !self.receivers.is_empty();
         assert_eq!(self.last.strong_count() > 0, is_kept);
+    }
+
+    fn begin(&mut self, receiver: Receiver<Rc<usize>>, seen: Option<usize>) {
+        self.receivers.push(receiver);
+        self.model.seen.push(seen);
+    }
+
+    fn mark(&mut self, receiver: usize, as_changed: bool) {
+        if as_changed {
+            self.receivers[receiver].mark_changed();
+            self.model.seen[receiver] = None;
+        } else {
+            self.receivers[receiver].mark_unchanged();
+            self.model.seen[receiver] = Some(self.model.changes);
+        }
     }
 
     fn send(&mut self, sender: usize) {

@@ -2,7 +2,7 @@
 
 mod support;
 
-use std::thread;
+use std::thread::{self, JoinHandle};
 use support::accepted;
 use yovanelum::{Recorder, block_on, watch};
 
@@ -10,6 +10,17 @@ use yovanelum::{Recorder, block_on, watch};
 struct Settings {
     level: u32,
     is_last: bool,
+}
+
+/// A thread that waits for the last settings, and comes to their level.
+fn worker(number: usize, mut rx: watch::Receiver<Settings>) -> JoinHandle<u32> {
+    let worker = thread::Builder::new().name(format!("worker {number}"));
+    let wait = move || {
+        block_on(rx.wait_for(|settings| settings.is_last))
+            .unwrap()
+            .level
+    };
+    worker.spawn(wait).unwrap()
 }
 
 #[test]
@@ -22,19 +33,7 @@ fn workers_come_to_the_last_settings() {
     recorder
         .name(&tx, "settings")
         .show(&tx, |settings| format!("{settings:?}"));
-    let workers: Vec<_> = (0..3)
-        .map(|number| {
-            let mut rx = rx.clone();
-            let worker = thread::Builder::new().name(format!("worker {number}"));
-            worker
-                .spawn(move || {
-                    block_on(rx.wait_for(|settings| settings.is_last))
-                        .unwrap()
-                        .level
-                })
-                .unwrap()
-        })
-        .collect();
+    let workers: Vec<_> = (0..3).map(|number| worker(number, rx.clone())).collect();
     drop(rx);
     let writer = thread::Builder::new().name("writer".into());
     let writer = writer.spawn(move || {

@@ -1,48 +1,17 @@
 //! What is told on standard error. Each test runs this program again for its own part, as a process whose words can be read.
 
-use std::path::{Path, PathBuf};
-use std::process::Command;
-use std::{env, fs, process};
+mod support;
+
+use std::fs;
+use std::path::Path;
+use support::parts::{self, Folder, is_part};
 use yovanelum::{Recorder, broadcast};
 
-/// Set where this process plays a test's part.
-const PART: &str = "YOVANELUM_TEST_PART";
-
-fn is_part() -> bool {
-    env::var_os(PART).is_some()
-}
-
-/// A folder that is deleted with this.
-struct Folder(PathBuf);
-
-impl Folder {
-    fn new(name: &str) -> Folder {
-        let folder = env::temp_dir().join(format!("yovanelum-{name}-{}", process::id()));
-        fs::create_dir_all(&folder).unwrap();
-        Folder(fs::canonicalize(folder).unwrap())
-    }
-}
-
-impl Drop for Folder {
-    fn drop(&mut self) {
-        let _ = fs::remove_dir_all(&self.0);
-    }
-}
-
-/// Whether the part of this test succeeds, and the lines of ours that it writes on standard error. It works in the folder, with a relative
-/// name for the build's.
+/// Whether the part of this test succeeds, and the lines of ours that it writes on standard error.
 fn played(test: &str, folder: &Path, keep: Option<&str>) -> (bool, Vec<String>) {
-    let mut part = Command::new(env::current_exe().unwrap());
-    part.args(["--exact", test, "--nocapture"])
-        .current_dir(folder)
-        .env(PART, "1")
-        .env("CARGO_TARGET_DIR", "built")
-        .env_remove("YOVANELUM_KEEP")
-        .envs(keep.map(|keep| ("YOVANELUM_KEEP", keep)));
-    let ran = part.output().unwrap();
-    let said = String::from_utf8(ran.stderr).unwrap();
+    let (succeeds, said) = parts::play(test, folder, keep);
     let ours = said.lines().filter(|line| line.contains("yovanelum: "));
-    (ran.status.success(), ours.map(String::from).collect())
+    (succeeds, ours.map(String::from).collect())
 }
 
 /// The two lines about a journal, and that it stands there with its names.

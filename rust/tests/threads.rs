@@ -7,7 +7,7 @@ use std::future::{Future, poll_fn};
 use std::pin::pin;
 use std::sync::Arc;
 use std::sync::atomic::{AtomicBool, Ordering};
-use std::thread;
+use std::thread::{self, JoinHandle};
 use std::time::{Duration, Instant};
 use support::{accepted, in_time, stamps};
 use yovanelum::broadcast::{self, Receiver, error::RecvError};
@@ -18,6 +18,22 @@ const LIMIT: Duration = Duration::from_millis(400);
 
 /// How many values each thread sends, at most.
 const MOST: u64 = 20_000;
+
+/// How many times a thread could make a call: until it has made so many, or the time is over.
+fn repeated(end: Instant, mut call: impl FnMut(u64)) -> u64 {
+    let mut made = 0;
+    while made < MOST && Instant::now() < end {
+        call(made);
+        made += 1;
+    }
+    made
+}
+
+/// What the threads came to, in the order in which they were begun.
+fn joined<R>(threads: Vec<JoinHandle<R>>) -> Vec<R> {
+    let ended = threads.into_iter().map(|thread| thread.join().unwrap());
+    ended.collect()
+}
 
 /// What a receiver came to: the values that it got, of which all differ, and how many it lost.
 #[derive(Default)]
@@ -77,24 +93,15 @@ fn a_broadcast_of_four_senders_and_four_receivers() {
         .map(|sender| {
             let tx = tx.clone();
             thread::spawn(move || {
-                let mut sent = 0;
-                while sent < MOST && Instant::now() < end {
-                    assert_eq!(tx.send((sender, sent)).unwrap(), 4);
-                    sent += 1;
-                }
-                sent
+                repeated(end, |value| {
+                    assert_eq!(tx.send((sender, value)).unwrap(), 4);
+                })
             })
         })
         .collect();
     drop(tx);
-    let sent: u64 = senders
-        .into_iter()
-        .map(|sender| sender.join().unwrap())
-        .sum();
-    let came: Vec<Came> = readers
-        .into_iter()
-        .map(|reader| reader.join().unwrap())
-        .collect();
+    let sent: u64 = joined(senders).into_iter().sum();
+    let came = joined(readers);
     for one in &came {
         assert_eq!(one.got.len() as u64 + one.lost, sent);
     }
@@ -133,23 +140,13 @@ fn a_watch_of_four_senders_and_four_receivers() {
     let senders: Vec<_> = (0..4)
         .map(|sender| {
             let tx = tx.clone();
-            thread::spawn(move || {
-                let mut sent = 0;
-                while sent < MOST && Instant::now() < end {
-                    tx.send_modify(|counts| counts[sender] += 1);
-                    sent += 1;
-                }
-                sent
-            })
+            thread::spawn(move || repeated(end, |_| tx.send_modify(|counts| counts[sender] += 1)))
         })
         .collect();
     drop(tx);
-    let sent: Vec<u64> = senders
-        .into_iter()
-        .map(|sender| sender.join().unwrap())
-        .collect();
-    for reader in readers {
-        assert_eq!(reader.join().unwrap().to_vec(), sent);
+    let sent = joined(senders);
+    for last in joined(readers) {
+        assert_eq!(last.to_vec(), sent);
     }
     assert!(accepted(&recorder, "threads-watch") >= sent.iter().sum::<u64>());
 }

@@ -1,25 +1,45 @@
 /* Loaded before a program, it refuses one of the program's requests for memory: the one of the number REFUSE, the first being 1, or
-   none. At the program's end it tells on standard error how many requests there were. */
+   none; one of its threads, the one of the number REFUSE_THREAD, or none; one of its reads, by REFUSE_READ; and its writes to standard
+   output from the one of the number REFUSE_WRITE on. With REFUSE_SHORT=1 each read and each write moves one byte. At the program's end it tells on standard
+   error how many requests, threads, reads and writes were asked for. */
 #define _GNU_SOURCE
+#include <dlfcn.h>
 #include <errno.h>
+#include <pthread.h>
 #include <stdatomic.h>
 #include <stddef.h>
 #include <stdio.h>
 #include <stdlib.h>
 #include <sys/syscall.h>
+#include <sys/types.h>
 #include <unistd.h>
 
 /* The C library's own, below the names that are taken here. */
 extern void *__libc_malloc(size_t size);
 extern void *__libc_realloc(void *block, size_t size);
 
-static atomic_ulong asked;
-static unsigned long refused;
+static atomic_ulong asked, asked_threads, asked_reads, asked_writes;
+static unsigned long refused, refused_thread, refused_read, refused_write, is_short;
 
+typedef int start_thread(pthread_t *, const pthread_attr_t *, void *(*)(void *), void *);
+static start_thread *start;
+
+static unsigned long number_of(const char *name) {
+  const char *number = getenv(name);
+  return number ? strtoul(number, 0, 10) : 0;
+}
+
+/* What is asked for before the program begins isn't counted. */
 __attribute__((constructor)) static void begin(void) {
-  const char *number = getenv("REFUSE");
-  refused = number ? strtoul(number, 0, 10) : 0;
+  start = (start_thread *)dlsym(RTLD_NEXT, "pthread_create");
+  refused = number_of("REFUSE");
+  refused_thread = number_of("REFUSE_THREAD");
+  refused_read = number_of("REFUSE_READ");
+  refused_write = number_of("REFUSE_WRITE");
+  is_short = number_of("REFUSE_SHORT");
   atomic_store(&asked, 0);
+  atomic_store(&asked_reads, 0);
+  atomic_store(&asked_writes, 0);
 }
 
 static int is_refused(void) {
@@ -32,14 +52,39 @@ void *malloc(size_t size) { return is_refused() ? 0 : __libc_malloc(size); }
 
 void *realloc(void *block, size_t size) { return is_refused() ? 0 : __libc_realloc(block, size); }
 
+int pthread_create(pthread_t *thread, const pthread_attr_t *how, void *(*run)(void *), void *with) {
+  if (atomic_fetch_add(&asked_threads, 1) + 1 == refused_thread) return EAGAIN;
+  return start(thread, how, run, with);
+}
+
+static ssize_t failed(void) {
+  errno = EIO;
+  return -1;
+}
+
+static size_t moved(size_t size) { return is_short && size > 1 ? 1 : size; }
+
+ssize_t read(int file, void *to, size_t size) {
+  if (atomic_fetch_add(&asked_reads, 1) + 1 == refused_read) return failed();
+  return syscall(SYS_read, file, to, moved(size));
+}
+
+ssize_t write(int file, const void *from, size_t size) {
+  if (file == 1 && atomic_fetch_add(&asked_writes, 1) + 1 >= refused_write && refused_write > 0) return failed();
+  return syscall(SYS_write, file, from, moved(size));
+}
+
+ssize_t __write(int file, const void *from, size_t size) { return write(file, from, size); }
+
 static void leave(int status) {
   for (;;) syscall(SYS_exit_group, status);
 }
 
 __attribute__((destructor)) static void end(void) {
-  char line[64];
-  int length = snprintf(line, sizeof line, "requests: %lu\n", atomic_load(&asked));
-  if (write(2, line, length) != length) leave(70);
+  char line[128];
+  int length = snprintf(line, sizeof line, "requests: %lu\nthreads: %lu\nreads: %lu\nwrites: %lu\n", atomic_load(&asked),
+                        atomic_load(&asked_threads), atomic_load(&asked_reads), atomic_load(&asked_writes));
+  if (syscall(SYS_write, 2, line, length) != length) leave(70);
 }
 
 /* A program with a status leaves by this, and no destructor is called. */

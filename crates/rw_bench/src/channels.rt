@@ -1,7 +1,7 @@
 //! Lists of calls measured on each kind of machine.
 
 ghost use Rattle.std.specs.Prelude.{◌≡◌, ◌≤◌, ◌∷◌, [], ◌^◌, length, IfOk};
-ghost use Rattle.rw_world.specs.Openings.{opened};
+ghost use Rattle.rw_world.specs.Openings.{opening_row};
 
 use crate::measure::{Measured, measure};
 use anyhow::{Result, bail};
@@ -73,7 +73,7 @@ pub fn on_world(
 
 /// A world of one channel.
 fn world_of(alloc: Global, spec: Spec<u64>) -> Result<World<u64>>
-    ensures shows { IfOk result (λ world. ⟦<World<u64> as Reversible>⟧.shown world ≡ opened (spec ∷ [])) }
+    ensures shows { IfOk result (λ world. ⟦<World<u64> as Reversible>⟧.shown world ≡ opening_row (spec ∷ [])) }
     ensures light { IfOk result (λ world. ⟦<World<u64> as Reversible>⟧.weigh (⟦<World<u64> as Reversible>⟧.shown world) ≤ 2) }
 {
     match open(alloc, &[spec]) {

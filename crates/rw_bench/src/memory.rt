@@ -1,7 +1,9 @@
 //! How much memory handles, retained values and channels take: by how many bytes the process grows for many of them.
 
-use anyhow::{Context, Result};
+use anyhow::{Context, Result, bail};
+use rw_broadcast::Broadcast;
 use rw_handles::{MOST_HANDLES, Slot, Table};
+use rw_law::Reversible;
 use rw_ring::{MOST_CAPACITY, Ring};
 use rw_world::{Chan, MOST_CHANNELS, Spec, World, open};
 use std::rt::Files;
@@ -34,6 +36,21 @@ fn handle_bytes(rt: &(impl Files + AllocGlobal)) -> Result<u64> {
         let mut table: Table<u64> = Table::new(rt.alloc())?;
         table.ready(MOST_HANDLES as u64)?;
         tables.push(table)?;
+    }
+    Ok(process_bytes(rt)?.saturating_sub(before) / (MADE * MOST_HANDLES as u64))
+}
+
+/// How many bytes a handle takes in broadcasts that are ready for as many calls as make handles.
+fn broadcast_handle_bytes(rt: &(impl Files + AllocGlobal)) -> Result<u64> {
+    let mut channels = Vec::new(rt.alloc());
+    let before = process_bytes(rt)?;
+    for _ in 0..MADE {
+        let Ok(mut channel) = Broadcast::<u64>::open(rt.alloc(), 1) else {
+            bail!("the channel is not opened");
+        };
+        // Two handles come with the channel.
+        channel.ready(MOST_HANDLES as u64 - 2)?;
+        channels.push(channel)?;
     }
     Ok(process_bytes(rt)?.saturating_sub(before) / (MADE * MOST_HANDLES as u64))
 }
@@ -74,5 +91,11 @@ pub fn report_memory(rt: &(impl Files + AllocGlobal + Eprint)) -> Result<()> {
     tell(rt, "a watch", channel, channel_bytes(rt)?)?;
     tell(rt, "a retained value", size_of::<u64>(), value_bytes(rt)?)?;
     tell(rt, "a handle", size_of::<Slot<u64>>(), handle_bytes(rt)?)?;
+    tell(
+        rt,
+        "a handle of a broadcast",
+        size_of::<Slot<u64>>(),
+        broadcast_handle_bytes(rt)?,
+    )?;
     Ok(())
 }

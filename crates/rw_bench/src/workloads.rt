@@ -3,13 +3,14 @@
 ghost use Rattle.std.specs.Prelude.{◌≡◌, ◌<◌, ◌≤◌, IfOk, length};
 
 use rw_broadcast::BCall;
+use rw_journal::MOST_ENTRIES;
 use rw_watch::WCall;
 use rw_world::{ChanCall, RowCall};
 use std::alloc::{AllocError, Global};
 use std::fmt;
 
 /// The most entries of a book, and so the most steps of a workload.
-pub const MOST_STEPS: u64 = 1_048_576;
+pub const MOST_STEPS: u64 = MOST_ENTRIES as u64;
 
 /// The most steps that make a handle at every second step: a channel makes 65,536 handles at most, and two are there.
 const MOST_STEPS_WITH_HANDLES: u64 = 131_000;

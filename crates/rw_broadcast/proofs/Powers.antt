@@ -8,7 +8,7 @@ use Rattle.std.proofs.lemmas.Nat.{pow_pos}
 use Rattle.std.proofs.lemmas.Bool.{cond_both, leb-true, leb-false, cases_order}
 use Rattle.rw_ring.specs.declared.ring.TheConstants.{MOST_CAPACITY}
 use Rattle.rw_broadcast.specs.Arithmetic.{power_from, retained_capacity}
-use Rattle.rw_broadcast.specs.Record.{first_slots, opened}
+use Rattle.rw_broadcast.specs.Record.{first_slots, opening_record}
 use Rattle.rw_broadcast.specs.Shown.{shown}
 use Rattle.rw_broadcast.specs.Laws.{RetainsNextPower}
 
@@ -63,5 +63,5 @@ unfolding doubled retained_capacity
 retained-bounds asked = power_from-le 16 1 asked (omega arith)
 
 -- what a channel shows at its opening
-pub shown-opened : {V : Type 0} (asked : ℕ) → shown (opened {V = V} asked) ≡ record { capacity = retained_capacity asked; sent = 0; window = []; slots = first_slots }
+pub shown-opened : {V : Type 0} (asked : ℕ) → shown (opening_record {V = V} asked) ≡ record { capacity = retained_capacity asked; sent = 0; window = []; slots = first_slots }
 shown-opened {V} asked = ap (λ w. record { capacity = retained_capacity asked; sent = 0; window = w; slots = first_slots }) (drop-nil (0 - retained_capacity asked))

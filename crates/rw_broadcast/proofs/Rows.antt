@@ -7,15 +7,15 @@ use Rattle.rw_broadcast.specs.declared.calls.BCall.TheVariants.{Send, Subscribe,
 use Rattle.rw_broadcast.specs.declared.calls.BReply.{BReply}
 use Rattle.rw_broadcast.specs.declared.calls.BReply.TheVariants.{Sent, NoReceivers, Value, Lagged, Empty, Closed, Waits, New, Dropped, Count, Unknown, Gone, WrongKind, NoSender}
 use Rattle.rw_broadcast.specs.Arithmetic.{retained_capacity}
-use Rattle.rw_broadcast.specs.Record.{opened, replies, after}
+use Rattle.rw_broadcast.specs.Record.{opening_record, replies, after}
 use Rattle.rw_broadcast.specs.Shown.{Shown, shown}
 
 -- what a channel of this capacity shows after these calls
 abbrev shown_after : ℕ → List (BCall ℕ) → Shown ℕ
-shown_after asked calls = shown (after (opened asked) calls)
+shown_after asked calls = shown (after (opening_record asked) calls)
 
 abbrev replies_of : ℕ → List (BCall ℕ) → List (BReply ℕ)
-replies_of asked calls = replies (opened asked) calls
+replies_of asked calls = replies (opening_record asked) calls
 
 abbrev overrun_walked_back : List (BCall ℕ)
 overrun_walked_back = Send 0 1 ∷ Send 0 2 ∷ Send 0 3 ∷ TryRecv 1 ∷ TryRecv 1 ∷ TryRecv 1 ∷ TryRecv 1 ∷ []

@@ -11,7 +11,7 @@ use Rattle.rw_handles.specs.declared.kinds.Slot.{Slot}
 use Rattle.rw_handles.specs.declared.kinds.Slot.TheVariants.{Live}
 use Rattle.rw_handles.specs.declared.kinds.Found.{Found}
 use Rattle.rw_handles.specs.declared.kinds.Found.TheVariants.{Fault, Handle}
-use Rattle.rw_handles.specs.Slots.{found}
+use Rattle.rw_handles.specs.Slots.{lookup}
 use Rattle.rw_handles.specs.declared.table.TheConstants.{MOST_HANDLES}
 use Rattle.rw_law.proofs.Lists.{slice_get-drop}
 use Rattle.rw_broadcast.specs.declared.calls.BCall.{BCall}
@@ -19,13 +19,13 @@ use Rattle.rw_broadcast.specs.declared.calls.BCall.TheVariants.{TryRecv, Recv}
 use Rattle.rw_broadcast.specs.declared.calls.BReply.{BReply}
 use Rattle.rw_broadcast.specs.declared.calls.BReply.TheVariants.{Empty, Waits, TooManyHandles}
 use Rattle.rw_broadcast.specs.Arithmetic.{lag}
-use Rattle.rw_broadcast.specs.Channel.{Channel, Change, Keep, Append, Make, Move, Leave, oldest, read, receive, effect_with, effect_found, effect, handle_of, wanted, makes}
-use Rattle.rw_broadcast.specs.Record.{Record, opened, after, step}
+use Rattle.rw_broadcast.specs.Channel.{Channel, Change, Keep, Append, Make, Move, Leave, oldest, read, receive, effect_with, effect_found, effect, handle_of, wanted_kind, makes}
+use Rattle.rw_broadcast.specs.Record.{Record, opening_record, after, step}
 use Rattle.rw_broadcast.specs.Record as of_record
 use Rattle.rw_broadcast.specs.Shown.{Shown, shown, IsAllowed, IsPlaced, next}
 use Rattle.rw_broadcast.specs.Shown as of_shown
 use Rattle.rw_broadcast.specs.Laws.{shown_after, ShowsItsSteps, ShowsItsRecord, RepliesByRecord, ShowsAllowed, IsShownBySome, IsDocumented}
-use Rattle.rw_ring.specs.Windows.{put, put-drop}
+use Rattle.rw_ring.specs.Windows.{window_after, window_after-drop}
 use Rattle.rw_broadcast.specs.Soundness.{broadcast_laws}
 use Rattle.rw_broadcast.proofs.Powers.{retained-bounds}
 
@@ -62,14 +62,14 @@ module _ {V : Type 0} (r : Record V) where
   same_found call (Handle kind position) = ap (λ e. cond (makes call && nat_le MOST_HANDLES (length r.slots)) (Keep, TooManyHandles) e) (same_with call kind position)
 
   same_effect : (call : BCall V) → effect rest call ≡ effect whole call
-  same_effect call = same_found call (found (wanted call) r.slots (handle_of call))
+  same_effect call = same_found call (lookup (wanted_kind call) r.slots (handle_of call))
 
   -- a change of the record changes what it shows
-  shows_its_change : 0 < r.capacity → (change : Change V) → of_shown.changed (shown r) change ≡ shown (of_record.changed r change)
+  shows_its_change : 0 < r.capacity → (change : Change V) → of_shown.with_change (shown r) change ≡ shown (of_record.with_change r change)
   shows_its_change some Keep = refl
   shows_its_change some (Append v) =
-      ap (λ n. record (shown r) { sent = n; window = put r.capacity (shown r).window v }) (sym (length_push r.sent v))
-      ∙ ap (λ w. record (shown r) { sent = length (r.sent ++ v ∷ []); window = w }) (put-drop r.capacity r.sent v some)
+      ap (λ n. record (shown r) { sent = n; window = window_after r.capacity (shown r).window v }) (sym (length_push r.sent v))
+      ∙ ap (λ w. record (shown r) { sent = length (r.sent ++ v ∷ []); window = w }) (window_after-drop r.capacity r.sent v some)
   shows_its_change some (Make kind position) = refl
   shows_its_change some (Move h from to) = refl
   shows_its_change some (Leave h kind position) = refl
@@ -77,7 +77,7 @@ module _ {V : Type 0} (r : Record V) where
 pub shows_its_steps : (V : Type 0) → ShowsItsSteps V
 shows_its_steps V r call some =
     let same = same_effect r call in
-    (ap (λ e. e.1) same, ap (λ e. of_shown.changed (shown r) e.0) same ∙ shows_its_change r some (effect (of_record.channel_of r) call).0)
+    (ap (λ e. e.1) same, ap (λ e. of_shown.with_change (shown r) e.0) same ∙ shows_its_change r some (effect (of_record.channel_of r) call).0)
 
 -- the same of any record that shows x
 pub documented : {V : Type 0} (x : Shown V) (call : BCall V) → 0 < x.capacity → IsDocumented x call (of_shown.reply_of x call) (next x call)
@@ -87,11 +87,11 @@ documented {V} x call some r shows =
     subst P shows here
 
 -- what an opening shows is allowed
-pub allowed_opening : {V : Type 0} (asked : ℕ) → IsAllowed (shown (opened {V = V} asked))
+pub allowed_opening : {V : Type 0} (asked : ℕ) → IsAllowed (shown (opening_record {V = V} asked))
 allowed_opening {V} asked = record {
   some_capacity = (retained-bounds asked).0;
   small_capacity = (retained-bounds asked).1;
-  retained = omega (arith, length-drop {A = V} (oldest (of_record.channel_of (opened {V = V} asked))) []);
+  retained = omega (arith, length-drop {A = V} (oldest (of_record.channel_of (opening_record {V = V} asked))) []);
   few_slots = omega arith;
   placed = All-push (IsPlaced 0) (Live Sender 0 ∷ []) (Live Receiver 0) (All-push (IsPlaced 0) [] (Live Sender 0) (All-nil (IsPlaced 0)) refl) (omega arith);
 }
@@ -104,7 +104,7 @@ allowed_after {V} r (call ∷ calls) ok =
     allowed_after (step r call).0 calls (subst P here ((broadcast_laws {V = V}).next_allowed (shown r) call ok))
 
 pub shows_allowed : (V : Type 0) → ShowsAllowed V
-shows_allowed V asked calls = allowed_after (opened asked) calls (allowed_opening asked)
+shows_allowed V asked calls = allowed_after (opening_record asked) calls (allowed_opening asked)
 
 shows_after : {V : Type 0} (r : Record V) (calls : List (BCall V)) → IsAllowed (shown r) → shown_after (shown r) calls ≡ shown (after r calls)
 shows_after r [] ok = refl
@@ -114,12 +114,12 @@ shows_after {V} r (call ∷ calls) ok =
     ap (λ x. shown_after x calls) here ∙ shows_after (step r call).0 calls (subst P here ((broadcast_laws {V = V}).next_allowed (shown r) call ok))
 
 pub shows_its_record : (V : Type 0) → ShowsItsRecord V
-shows_its_record V asked calls = shows_after (opened asked) calls (allowed_opening asked)
+shows_its_record V asked calls = shows_after (opening_record asked) calls (allowed_opening asked)
 
 pub replies_by_record : (V : Type 0) → RepliesByRecord V
 replies_by_record V asked calls call =
     ap (λ (x : Shown V). of_shown.reply_of x call) (shows_its_record V asked calls)
-    ∙ (shows_its_steps V (after (opened asked) calls) call (shows_allowed V asked calls).some_capacity).0
+    ∙ (shows_its_steps V (after (opening_record asked) calls) call (shows_allowed V asked calls).some_capacity).0
 
 -- what a record shows that sent these values
 shown_is : {V : Type 0} (capacity sent : ℕ) (all window : List V) (slots : List (Slot ℕ)) → length all ≡ sent → drop (sent - capacity) all ≡ window

@@ -10,8 +10,8 @@ use Rattle.rw_handles.specs.declared.kinds.Slot.{Slot}
 use Rattle.rw_handles.specs.declared.kinds.HandleFault.{HandleFault}
 use Rattle.rw_handles.specs.declared.kinds.HandleFault.TheVariants as fault
 use Rattle.rw_handles.specs.declared.kinds.Found.{Found}
-use Rattle.rw_handles.specs.Channels.{checked}
-use Rattle.rw_handles.specs.Slots.{found, alive, values}
+use Rattle.rw_handles.specs.Channels.{answer_of_check}
+use Rattle.rw_handles.specs.Slots.{lookup, alive, values}
 use Rattle.rw_broadcast.specs.declared.calls.BCall.{BCall}
 use Rattle.rw_broadcast.specs.declared.calls.BCall.TheVariants.{Send, Subscribe, CloneSender, Resubscribe, TryRecv, Recv, DropHandle, SenderLen, ReceiverCount, ReceiverLen, Downgrade, Upgrade, CloneWeak}
 use Rattle.rw_broadcast.specs.declared.calls.BReply.{BReply}
@@ -93,20 +93,20 @@ with_handle (Upgrade h) g = Upgrade g
 with_handle (CloneWeak h) g = CloneWeak g
 
 -- the kind that this handle has to be of; None: any
-abbrev pub wanted : {V : Type 0} → BCall V → Option Kind
-wanted (Send h v) = Some Sender
-wanted (Subscribe h) = Some Sender
-wanted (CloneSender h) = Some Sender
-wanted (Resubscribe h) = Some Receiver
-wanted (TryRecv h) = Some Receiver
-wanted (Recv h) = Some Receiver
-wanted (DropHandle h) = None
-wanted (SenderLen h) = Some Sender
-wanted (ReceiverCount h) = Some Sender
-wanted (ReceiverLen h) = Some Receiver
-wanted (Downgrade h) = Some Sender
-wanted (Upgrade h) = Some Weak
-wanted (CloneWeak h) = Some Weak
+abbrev pub wanted_kind : {V : Type 0} → BCall V → Option Kind
+wanted_kind (Send h v) = Some Sender
+wanted_kind (Subscribe h) = Some Sender
+wanted_kind (CloneSender h) = Some Sender
+wanted_kind (Resubscribe h) = Some Receiver
+wanted_kind (TryRecv h) = Some Receiver
+wanted_kind (Recv h) = Some Receiver
+wanted_kind (DropHandle h) = None
+wanted_kind (SenderLen h) = Some Sender
+wanted_kind (ReceiverCount h) = Some Sender
+wanted_kind (ReceiverLen h) = Some Receiver
+wanted_kind (Downgrade h) = Some Sender
+wanted_kind (Upgrade h) = Some Weak
+wanted_kind (CloneWeak h) = Some Weak
 
 -- whether a call makes a handle, where it isn't refused
 abbrev pub makes : {V : Type 0} → BCall V → Bool
@@ -119,10 +119,10 @@ makes (CloneWeak h) = true
 makes _ = false
 
 -- the reply for a handle that can't be used
-abbrev pub refused : {V : Type 0} → HandleFault → BReply V
-refused fault.Unknown = Unknown
-refused fault.Gone = Gone
-refused fault.WrongKind = WrongKind
+abbrev pub fault_reply : {V : Type 0} → HandleFault → BReply V
+fault_reply fault.Unknown = Unknown
+fault_reply fault.Gone = Gone
+fault_reply fault.WrongKind = WrongKind
 
 -- "A successful send occurs when there is at least one active Receiver handle." "On success, the number of subscribed
 -- Receiver handles is returned."
@@ -171,8 +171,8 @@ effect_with c (CloneWeak h) kind position = make c Weak 0
 -- the same, where the handle is looked for: a call is checked for an unknown number, a dropped handle, one of the wrong
 -- kind, and too many handles, in this order
 abbrev pub effect_found : {V : Type 0} → Channel V → BCall V → Found ℕ → Change V × BReply V
-effect_found c call f = checked (λ fault. (Keep, refused fault)) (Keep, TooManyHandles) (makes call) (length c.slots) (effect_with c call) f
+effect_found c call f = answer_of_check (λ fault. (Keep, fault_reply fault)) (Keep, TooManyHandles) (makes call) (length c.slots) (effect_with c call) f
 
 -- what a call does, and its reply
 abbrev pub effect : {V : Type 0} → Channel V → BCall V → Change V × BReply V
-effect c call = effect_found c call (found (wanted call) c.slots (handle_of call))
+effect c call = effect_found c call (lookup (wanted_kind call) c.slots (handle_of call))

@@ -6,7 +6,7 @@ use Rattle.rw_ring.specs.declared.ring.TheConstants.{MOST_CAPACITY}
 use Rattle.rw_broadcast.specs.declared.calls.BCall.{BCall}
 use Rattle.rw_broadcast.specs.declared.calls.BReply.{BReply}
 use Rattle.rw_broadcast.specs.Arithmetic.{retained_capacity}
-use Rattle.rw_broadcast.specs.Record.{Record, step, opened, after}
+use Rattle.rw_broadcast.specs.Record.{Record, step, opening_record, after}
 use Rattle.rw_broadcast.specs.Shown.{Shown, shown, next, reply_of, IsAllowed}
 
 -- what a channel that shows x shows after these calls
@@ -21,16 +21,16 @@ ShowsItsSteps V = (r : Record V) (call : BCall V) → 0 < r.capacity →
 
 -- after any calls from its opening a channel shows what its record shows
 abbrev pub ShowsItsRecord : Type 0 → Type 0
-ShowsItsRecord V = (asked : ℕ) (calls : List (BCall V)) → shown_after (shown (opened asked)) calls ≡ shown (after (opened asked) calls)
+ShowsItsRecord V = (asked : ℕ) (calls : List (BCall V)) → shown_after (shown (opening_record asked)) calls ≡ shown (after (opening_record asked) calls)
 
 -- after any calls from its opening a channel replies to a call as its record does
 abbrev pub RepliesByRecord : Type 0 → Type 0
 RepliesByRecord V = (asked : ℕ) (calls : List (BCall V)) (call : BCall V)
-    → reply_of (shown_after (shown (opened asked)) calls) call ≡ (step (after (opened asked) calls) call).1
+    → reply_of (shown_after (shown (opening_record asked)) calls) call ≡ (step (after (opening_record asked) calls) call).1
 
 -- what a channel shows after any calls is allowed
 abbrev pub ShowsAllowed : Type 0 → Type 0
-ShowsAllowed V = (asked : ℕ) (calls : List (BCall V)) → IsAllowed (shown (after (opened asked) calls))
+ShowsAllowed V = (asked : ℕ) (calls : List (BCall V)) → IsAllowed (shown (after (opening_record asked) calls))
 
 -- all that is allowed is shown by some record
 abbrev pub IsShownBySome : Type 0 → Type 0

@@ -19,24 +19,24 @@ abbrev pub first_slots : List (Slot ℕ)
 first_slots = Live Sender 0 ∷ Live Receiver 0 ∷ []
 
 -- a channel at its opening, where this capacity is asked for
-abbrev pub opened : {V : Type 0} → ℕ → Record V
-opened asked = record { capacity = retained_capacity asked; sent = []; slots = first_slots }
+abbrev pub opening_record : {V : Type 0} → ℕ → Record V
+opening_record asked = record { capacity = retained_capacity asked; sent = []; slots = first_slots }
 
 -- the record, as calls read it
 abbrev pub channel_of : {V : Type 0} → Record V → Channel V
 channel_of r = record { capacity = r.capacity; sent = length r.sent; value = slice_get r.sent; slots = r.slots }
 
 -- the record after a change
-abbrev pub changed : {V : Type 0} → Record V → Change V → Record V
-changed r Keep = r
-changed r (Append v) = record r { sent = r.sent ++ v ∷ [] }
-changed r (Make kind position) = record r { slots = r.slots ++ Live kind position ∷ [] }
-changed r (Move h from to) = record r { slots = slice_set r.slots h (Live Receiver to) }
-changed r (Leave h kind position) = record r { slots = slice_set r.slots h Spent }
+abbrev pub with_change : {V : Type 0} → Record V → Change V → Record V
+with_change r Keep = r
+with_change r (Append v) = record r { sent = r.sent ++ v ∷ [] }
+with_change r (Make kind position) = record r { slots = r.slots ++ Live kind position ∷ [] }
+with_change r (Move h from to) = record r { slots = slice_set r.slots h (Live Receiver to) }
+with_change r (Leave h kind position) = record r { slots = slice_set r.slots h Spent }
 
 -- the documented step: the record after a call, and the reply
 abbrev pub step : {V : Type 0} → Record V → BCall V → Record V × BReply V
-step r call = let e = effect (channel_of r) call in (changed r e.0, e.1)
+step r call = let e = effect (channel_of r) call in (with_change r e.0, e.1)
 
 -- the record after these calls
 abbrev pub after : {V : Type 0} → Record V → List (BCall V) → Record V

@@ -7,7 +7,7 @@ use Rattle.rw_handles.specs.Slots.{IsLive, IsReceiver}
 use Rattle.rw_handles.specs.declared.table.TheConstants.{MOST_HANDLES}
 use Rattle.rw_ring.specs.declared.ring.TheConstants.{MOST_CAPACITY}
 use Rattle.rw_law.specs.Outcomes.{Outcome}
-use Rattle.rw_ring.specs.Windows.{put, evicted, unput}
+use Rattle.rw_ring.specs.Windows.{window_after, eviction, window_before}
 use Rattle.rw_broadcast.specs.declared.calls.BCall.{BCall}
 use Rattle.rw_broadcast.specs.declared.calls.BReply.{BReply}
 use Rattle.rw_broadcast.specs.declared.calls.BReply.TheVariants.{NoReceivers, Empty, Closed, Waits, Unknown, Gone, WrongKind, TooManyHandles, NoSender}
@@ -34,13 +34,13 @@ abbrev pub channel_of : {V : Type 0} → Shown V → Channel V
 channel_of x = record { capacity = x.capacity; sent = x.sent; value = λ position. slice_get x.window (position - oldest x.sent x.capacity); slots = x.slots }
 
 -- what is shown after a change. Of one value more: "If a value is sent when the channel is at capacity, the oldest value
--- currently held by the channel is released." (`put`)
-abbrev pub changed : {V : Type 0} → Shown V → Change V → Shown V
-changed x Keep = x
-changed x (Append v) = record x { sent = x.sent + 1; window = put x.capacity x.window v }
-changed x (Make kind position) = record x { slots = x.slots ++ Live kind position ∷ [] }
-changed x (Move h from to) = record x { slots = slice_set x.slots h (Live Receiver to) }
-changed x (Leave h kind position) = record x { slots = slice_set x.slots h Spent }
+-- currently held by the channel is released." (`window_after`)
+abbrev pub with_change : {V : Type 0} → Shown V → Change V → Shown V
+with_change x Keep = x
+with_change x (Append v) = record x { sent = x.sent + 1; window = window_after x.capacity x.window v }
+with_change x (Make kind position) = record x { slots = x.slots ++ Live kind position ∷ [] }
+with_change x (Move h from to) = record x { slots = slice_set x.slots h (Live Receiver to) }
+with_change x (Leave h kind position) = record x { slots = slice_set x.slots h Spent }
 
 -- the patch of a value that was sent
 abbrev pub patch_of_send : {V : Type 0} → Option V → BPatch V
@@ -50,14 +50,14 @@ patch_of_send (Some old) = Evicted old
 -- what undoes a change
 abbrev pub patch_for : {V : Type 0} → Shown V → Change V → BPatch V
 patch_for x Keep = Same
-patch_for x (Append v) = patch_of_send (evicted x.capacity x.window)
+patch_for x (Append v) = patch_of_send (eviction x.capacity x.window)
 patch_for x (Make kind position) = Made
 patch_for x (Move h from to) = Moved from
 patch_for x (Leave h kind position) = Left kind position
 
 -- a change and a reply, as the outcome of a call
 abbrev pub outcome_of : {V : Type 0} → Shown V → Change V × BReply V → Outcome (Shown V) (BReply V) (BPatch V)
-outcome_of x e = record { next = changed x e.0; reply = e.1; patch = patch_for x e.0 }
+outcome_of x e = record { next = with_change x e.0; reply = e.1; patch = patch_for x e.0 }
 
 -- what a call leads to
 abbrev pub outcome : {V : Type 0} → Shown V → BCall V → Outcome (Shown V) (BReply V) (BPatch V)
@@ -78,8 +78,8 @@ patch_of x call = (outcome x call).patch
 -- what was shown before this call, which left this patch
 abbrev pub back : {V : Type 0} → Shown V → BCall V → BPatch V → Shown V
 back x call Same = x
-back x call Pushed = record x { sent = x.sent - 1; window = unput None x.window }
-back x call (Evicted old) = record x { sent = x.sent - 1; window = unput (Some old) x.window }
+back x call Pushed = record x { sent = x.sent - 1; window = window_before None x.window }
+back x call (Evicted old) = record x { sent = x.sent - 1; window = window_before (Some old) x.window }
 back x call Made = record x { slots = take (length x.slots - 1) x.slots }
 back x call (Moved from) = record x { slots = slice_set x.slots (handle_of call) (Live Receiver from) }
 back x call (Left kind position) = record x { slots = slice_set x.slots (handle_of call) (Live kind position) }

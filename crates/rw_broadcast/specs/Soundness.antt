@@ -10,7 +10,7 @@ use Rattle.rw_handles.specs.declared.kinds.Kind.TheVariants.{Sender, Receiver, W
 use Rattle.rw_handles.specs.declared.kinds.Slot.{Slot}
 use Rattle.rw_handles.specs.declared.kinds.Slot.TheVariants.{Live, Spent}
 use Rattle.rw_handles.specs.declared.kinds.Found.TheVariants.{Handle}
-use Rattle.rw_handles.specs.Slots.{found}
+use Rattle.rw_handles.specs.Slots.{lookup}
 use Rattle.rw_handles.specs.declared.table.TheConstants.{MOST_HANDLES}
 use Rattle.rw_handles.proofs.Checks.{of_checked}
 use Rattle.rw_handles.proofs.SlotLaws.{found_at_is, found_at_wanted, set_back, slice_get-set, live_push, receiver_set, All-slice_get}
@@ -22,9 +22,9 @@ use Rattle.rw_broadcast.specs.declared.calls.BCall.TheVariants.{Send, Subscribe,
 use Rattle.rw_broadcast.specs.declared.calls.BReply.{BReply}
 use Rattle.rw_broadcast.specs.declared.calls.BReply.TheVariants.{Sent, Value, Lagged, Empty, Waits, New, Dropped, TooManyHandles}
 use Rattle.rw_broadcast.specs.Arithmetic.{lag}
-use Rattle.rw_broadcast.specs.Channel.{Change, Keep, Append, Make, Move, Leave, handle_of, wanted, makes, refused, is_closed, oldest, receivers, read, receive, effect_with, effect}
-use Rattle.rw_broadcast.specs.Shown.{Shown, channel_of, changed, patch_of_send, outcome_of, outcome, next, reply_of, patch_of, back, IsPlaced, IsAllowed, CanUnsend, Fits, weight, refuses, waits, strays}
-use Rattle.rw_ring.specs.Windows.{put, evicted, unput, unput-put, length-put}
+use Rattle.rw_broadcast.specs.Channel.{Change, Keep, Append, Make, Move, Leave, handle_of, wanted_kind, makes, fault_reply, is_closed, oldest, receivers, read, receive, effect_with, effect}
+use Rattle.rw_broadcast.specs.Shown.{Shown, channel_of, with_change, patch_of_send, outcome_of, outcome, next, reply_of, patch_of, back, IsPlaced, IsAllowed, CanUnsend, Fits, weight, refuses, waits, strays}
+use Rattle.rw_ring.specs.Windows.{window_after, eviction, window_before, window_before-after, length-window_after}
 
 -- the laws, of one change and reply of a call
 abbrev IsRight : {V : Type 0} → Shown V → BCall V → Change V × BReply V → Type 0
@@ -94,7 +94,7 @@ placed_more n (Live kind position) h = h
 placed_more n Spent h = h
 
 -- what a send evicts decides its patch
-back_send : {V : Type 0} (y : Shown V) (call : BCall V) (old : Option V) → back y call (patch_of_send old) ≡ record y { sent = y.sent - 1; window = unput old y.window }
+back_send : {V : Type 0} (y : Shown V) (call : BCall V) (old : Option V) → back y call (patch_of_send old) ≡ record y { sent = y.sent - 1; window = window_before old y.window }
 back_send y call None = refl
 back_send y call (Some old) = refl
 
@@ -107,17 +107,17 @@ fits_send y call false (v ∷ w) can room full = (can, (full refl).1)
 right_append : {V : Type 0} (x : Shown V) (call : BCall V) (v : V) (reply : BReply V) → refuses reply ≡ false → IsRight x call (Append v, reply)
 right_append x call v reply served =
     let one_less : x.sent + 1 - 1 ≡ x.sent = omega arith in
-    let old = evicted x.capacity x.window in
-    let y = changed x (Append v) in
+    let old = eviction x.capacity x.window in
+    let y = with_change x (Append v) in
     record {
       undone = λ ok.
           back_send y call old
-          ∙ ap (λ n. record x { sent = n; window = unput old (put x.capacity x.window v) }) one_less
-          ∙ ap (λ w. record x { window = w }) (unput-put x.capacity x.window v ok.some_capacity);
+          ∙ ap (λ n. record x { sent = n; window = window_before old (window_after x.capacity x.window v) }) one_less
+          ∙ ap (λ w. record x { window = w }) (window_before-after x.capacity x.window v ok.some_capacity);
       next_allowed = λ ok. record {
         some_capacity = ok.some_capacity;
         small_capacity = ok.small_capacity;
-        retained = length-put x.capacity x.window v x.sent ok.some_capacity ok.retained;
+        retained = length-window_after x.capacity x.window v x.sent ok.some_capacity ok.retained;
         few_slots = ok.few_slots;
         placed = All-weaker (IsPlaced x.sent) (IsPlaced (x.sent + 1)) (placed_more x.sent) x.slots ok.placed;
       };
@@ -146,7 +146,7 @@ right_receive x call position nothing here =
     (λ none. right_read x call position _ nothing here (omega (arith, ltb-false 0 behind none)) refl)
 
 -- each call, with the handle that it found
-right_with : {V : Type 0} (x : Shown V) (call : BCall V) (kind : Kind) (position : ℕ) → found (wanted call) x.slots (handle_of call) ≡ Handle kind position → (makes call ≡ true → length x.slots < MOST_HANDLES) → IsRight x call (effect_with (channel_of x) call kind position)
+right_with : {V : Type 0} (x : Shown V) (call : BCall V) (kind : Kind) (position : ℕ) → lookup (wanted_kind call) x.slots (handle_of call) ≡ Handle kind position → (makes call ≡ true → length x.slots < MOST_HANDLES) → IsRight x call (effect_with (channel_of x) call kind position)
 unfolding Stands
 right_with x (Send h v) kind position is few = sound_if IsAllowed weight back Fits refuses (outcome_of x) (receivers (channel_of x) == 0) (λ _. right_keep x _ _) (λ _. right_append x _ v (Sent (receivers (channel_of x))) refl)
 right_with x (Subscribe h) kind position is few = right_make x _ Receiver x.sent (omega arith) (few refl)
@@ -164,8 +164,8 @@ right_with x (CloneWeak h) kind position is few = right_make x _ Weak 0 refl (fe
 
 right : {V : Type 0} (x : Shown V) (call : BCall V) → IsRight x call (effect (channel_of x) call)
 right x call =
-    of_checked (IsRight x call) (λ fault. (Keep, refused fault)) (Keep, TooManyHandles) (makes call) (length x.slots) (effect_with (channel_of x) call)
-    (found (wanted call) x.slots (handle_of call))
+    of_checked (IsRight x call) (λ fault. (Keep, fault_reply fault)) (Keep, TooManyHandles) (makes call) (length x.slots) (effect_with (channel_of x) call)
+    (lookup (wanted_kind call) x.slots (handle_of call))
     (λ fault. right_keep x call _)
     (right_keep x call _)
     (right_with x call)

@@ -1,6 +1,6 @@
 //! The calls of a broadcast channel, their replies, and what a step leaves for its undoing.
 ghost use Rattle.std.specs.Prelude.{◌≡◌};
-ghost use Rattle.rw_broadcast.specs.Channel.{handle_of, makes, refused, wanted, with_handle};
+ghost use Rattle.rw_broadcast.specs.Channel.{handle_of, makes, fault_reply, wanted_kind, with_handle};
 ghost use Rattle.rw_broadcast.specs.Shown.{patch_of_send};
 
 use rw_handles::{HandleFault, Kind};
@@ -133,7 +133,7 @@ impl<V: Copy> BCall<V> {
 
     /// The kind that this handle has to be of; `None` where any kind will do.
     pub(crate) fn wanted(&self) -> Option<Kind>
-        ensures { result ≡ wanted self.now }
+        ensures { result ≡ wanted_kind self.now }
     {
         match self {
             BCall::Send(_, _)
@@ -168,7 +168,7 @@ impl<V: Copy> BCall<V> {
 impl<V: Copy> BReply<V> {
     /// The reply for a handle that can't be used.
     pub(crate) fn refused(fault: HandleFault) -> BReply<V>
-        ensures { result ≡ refused fault }
+        ensures { result ≡ fault_reply fault }
     {
         match fault {
             HandleFault::Unknown => BReply::Unknown,

@@ -2,7 +2,7 @@
 ghost use Rattle.std.specs.Prelude.{◌≡◌, ◌<◌, ◌≤◌, ◌↔◌, ◌⊎◌, IfOk};
 ghost use Rattle.rw_ring.specs.declared.ring.TheConstants.{MOST_CAPACITY};
 ghost use Rattle.rw_broadcast.specs.Arithmetic.{retained_capacity};
-ghost use Rattle.rw_broadcast.specs.Record.{opened};
+ghost use Rattle.rw_broadcast.specs.Record.{opening_record};
 ghost use Rattle.rw_broadcast.specs.Shown.{shown};
 
 mod readers;
@@ -62,7 +62,7 @@ impl<V: Copy> Broadcast<V> {
     /// Opens a channel with one sender, 0, and one receiver, 1. It retains as many values as the least power of two that is
     /// at least this capacity.
     pub fn open(alloc: Global, capacity: u32) -> Result<Broadcast<V>, OpenFault>
-        ensures ok { IfOk result (λ machine. machine.shown ≡ shown (opened capacity)) }
+        ensures ok { IfOk result (λ machine. machine.shown ≡ shown (opening_record capacity)) }
         ensures bad { (result ≡ Err OpenFault.BadCapacity) ↔ ((capacity ≡ 0) ⊎ (MOST_CAPACITY < capacity)) }
     {
         if capacity == 0 || capacity > MOST_CAPACITY {

@@ -7,14 +7,14 @@ use Rattle.std.proofs.lemmas.List.Elements.{All-push, All-nil}
 use Rattle.rw_lines.specs.declared.streams.StreamFault.{StreamFault}
 use Rattle.rw_lines.specs.declared.streams.StreamFault.TheVariants.{Read, Write, TooMuch, NoMemory}
 use Rattle.rw_lines.specs.Lines.{IsUnbroken, lines, unlines}
-use Rattle.rw_lines.specs.Reading.{kept, GivesLine, GivesLast, GivesNone, StopsBecause, StopsInLine}
+use Rattle.rw_lines.specs.Reading.{kept_part, GivesLine, GivesLast, GivesNone, StopsBecause, StopsInLine}
 use Rattle.rw_lines.proofs.Known.{Appends-none, Appends-then, Consumes-none, Consumes-then}
 use Rattle.rw_lines.proofs.LineLaws.{lines_line, lines_last, lines_unlines, unlines_push}
 use Rattle.rw_journal.specs.Run.{Run}
 use Rattle.rw_console.specs.Commands.{command_in, is_quit}
 use Rattle.rw_console.specs.Report.{output_of, outputs, commands_report, place_of}
 use Rattle.rw_console.specs.Streams.{Answers, Stops, Explains, Always}
-use Rattle.rw_lines.specs.Writing.{IsOfWriting, StopsWriting, WritesFront}
+use Rattle.rw_lines.specs.Writing.{IsOfWriting, StopsWriting, WritesPrefix}
 use Rattle.rw_console.proofs.Kept.{command_in-kept}
 
 pub record Answering (reader reader' writer writer' : Option (List ℕ)) (before allowed : ℕ) (start run : Run ℕ) (first place : ℕ) : Type 0 where
@@ -73,7 +73,7 @@ line_only text u = lines_line text [] u
 
 -- ---- the loop
 
-of_text : (line text : List ℕ) → line ≡ kept text → command_in line ≡ command_in text
+of_text : (line text : List ℕ) → line ≡ kept_part text → command_in line ≡ command_in text
 of_text line text fits = ap command_in fits ∙ command_in-kept text
 
 pub more_line : {r0 r r' w0 w w' : Option (List ℕ)} {before allowed allowed' : ℕ} {start run : Run ℕ} {first place : ℕ} {line : List ℕ} → (a : Answering r0 r w0 w before allowed start run first place) (l : GivesLine r r' allowed allowed' line) (quit : is_quit (command_in line) ≡ false)
@@ -162,7 +162,7 @@ stops_reading {r0 = r0} {r = r} {r' = r'} {w0 = w0} {w = w} {before = before} {a
   rest = outputs start place (lines s.text);
   read = Consumes-then r0 r r' (unlines a.ls) s.text a.read s.read;
   written = a.written;
-  front = sym (ap (outputs start first) (lines_unlines a.ls s.text a.each) ∙ a.follows (lines s.text));
+  prefix = sym (ap (outputs start first) (lines_unlines a.ls s.text a.each) ∙ a.follows (lines s.text));
   why = explains a s.text e s.why;
 }
 
@@ -173,12 +173,12 @@ explains_writing start first before bytes text few Write why = few
 explains_writing start first before bytes text few NoMemory why = few
 
 -- where writing the output of a line stopped
-stops_at : {r0 r r' w0 w w' : Option (List ℕ)} {before allowed : ℕ} {start run : Run ℕ} {first place : ℕ} {line : List ℕ} → (a : Answering r0 r w0 w before allowed start run first place) (e : StreamFault) (why : IsOfWriting e) (piece text : List ℕ) (few : length piece ≤ allowed) (fits : line ≡ kept text) (read : Consumes r r' piece) (one : lines piece ≡ text ∷ [])
-    (put : WritesFront w w' (output_of run place (command_in line))) → Stops r0 r' w0 w' (commands_report start first) Always before e
+stops_at : {r0 r r' w0 w w' : Option (List ℕ)} {before allowed : ℕ} {start run : Run ℕ} {first place : ℕ} {line : List ℕ} → (a : Answering r0 r w0 w before allowed start run first place) (e : StreamFault) (why : IsOfWriting e) (piece text : List ℕ) (few : length piece ≤ allowed) (fits : line ≡ kept_part text) (read : Consumes r r' piece) (one : lines piece ≡ text ∷ [])
+    (put : WritesPrefix w w' (output_of run place (command_in line))) → Stops r0 r' w0 w' (commands_report start first) Always before e
 stops_at {r0 = r0} {r = r} {r' = r'} {w0 = w0} {w = w} {w' = w'} {before = before} {start = start} {run = run} {first = first} {place = place} {line = line} a e why piece text few fits read one put =
     let c = of_text _ text fits in
     let out : List ℕ = output_of start place (command_in text) in
-    let put' : WritesFront w w' out = rw (← a.same, ← c) put in
+    let put' : WritesPrefix w w' out = rw (← a.same, ← c) put in
     let here : commands_report start first (unlines a.ls ++ piece) ≡ a.text ++ out =
     ap (outputs start first) (lines_unlines a.ls piece a.each ∙ ap (λ (x : List (List ℕ)). a.ls ++ x) one)
     ∙ a.follows (text ∷ []) ∙ ap (λ (x : List ℕ). a.text ++ x) (outputs_last start place text) in
@@ -188,7 +188,7 @@ stops_at {r0 = r0} {r = r} {r' = r'} {w0 = w0} {w = w} {w' = w'} {before = befor
       rest = put'.rest;
       read = Consumes-then r0 r r' (unlines a.ls) piece a.read read;
       written = Appends-then w0 w w' a.text put'.text a.written put'.written;
-      front = append_assoc a.text put'.text put'.rest ∙ ap (λ (x : List ℕ). a.text ++ x) put'.front ∙ sym here;
+      prefix = append_assoc a.text put'.text put'.rest ∙ ap (λ (x : List ℕ). a.text ++ x) put'.prefix ∙ sym here;
       why = explains_writing start first before (unlines a.ls ++ piece) (a.text ++ put'.text) (omega (arith, length-append (unlines a.ls) piece, a.count)) e why;
     }
 

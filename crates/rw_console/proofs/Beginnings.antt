@@ -12,6 +12,6 @@ stops_at_once r w report limit = record {
   rest = report [];
   read = Consumes-none r;
   written = Appends-none w;
-  front = refl;
+  prefix = refl;
   why = omega arith;
 }

@@ -15,7 +15,7 @@ use Rattle.rw_watch.specs.Machine.{mark_at}
 use Rattle.rw_watch.specs.Shown.{Shown as Watch}
 use Rattle.rw_world.specs.Kinds.{broadcast_shown, watch_shown}
 use Rattle.rw_world.specs.Machines.{ChanShown}
-use Rattle.rw_console.specs.Json.{natural, handle_json, handles_json, reader_json, readers_json, watcher_json, watchers_json, weak_member, broadcast_with, channel_json, world_json}
+use Rattle.rw_console.specs.Json.{natural, handle_json, handles_json, receiver_json, receivers_json, watcher_json, watchers_json, weak_member, broadcast_with, channel_json, world_json}
 
 abbrev is_floatless : List Data → Type 0
 is_floatless ds = items_have_float (items_of ds) ≡ false
@@ -51,12 +51,12 @@ handles : {X : Type 0} (kind : Kind) (slots : List (Slot X)) (n : ℕ) → is_fl
 unfolding handles_json
 handles kind slots n = of_filter_map _ (λ h. handle_at kind h (kind_at (slice_get slots h))) _
 
-reader_at : (x : Broadcast ℕ) (h : ℕ) (position : Option ℕ) → IsFloatlessIfThere (option_map (reader_json x h) position)
+reader_at : (x : Broadcast ℕ) (h : ℕ) (position : Option ℕ) → IsFloatlessIfThere (option_map (receiver_json x h) position)
 reader_at x h None = tt
 reader_at x h (Some position) = refl
 
-readers : (x : Broadcast ℕ) (n : ℕ) → is_floatless (readers_json x n)
-unfolding readers_json
+readers : (x : Broadcast ℕ) (n : ℕ) → is_floatless (receivers_json x n)
+unfolding receivers_json
 readers x n = of_filter_map _ (λ h. reader_at x h (position_at (slice_get x.slots h))) _
 
 watcher_at : (x : Watch ℕ) (h : ℕ) (mark : Option (Option ℕ)) → IsFloatlessIfThere (option_map (watcher_json x h) mark)

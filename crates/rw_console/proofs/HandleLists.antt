@@ -12,7 +12,7 @@ use Rattle.rw_broadcast.specs.Machine.{position_at}
 use Rattle.rw_broadcast.specs.Shown.{Shown as Broadcast}
 use Rattle.rw_watch.specs.Machine.{mark_at}
 use Rattle.rw_watch.specs.Shown.{Shown as Watch}
-use Rattle.rw_console.specs.Json.{of_handles, handle_json, handles_json, reader_json, readers_json, watcher_json, watchers_json}
+use Rattle.rw_console.specs.Json.{of_handles, handle_json, handles_json, receiver_json, receivers_json, watcher_json, watchers_json}
 
 range_more : (a n : ℕ) → range_with_len a (suc n) ≡ range_with_len a n ++ (a + n) ∷ []
 range_more a zero = let e : a ≡ a + 0 = omega arith in ap (λ (x : ℕ). x ∷ []) e
@@ -40,12 +40,12 @@ pub handles_json-none : {X : Type 0} (kind : Kind) (slots : List (Slot X)) → h
 unfolding handles_json
 handles_json-none kind slots = refl
 
-pub readers_json-more : (x : Broadcast ℕ) (n : ℕ) → readers_json x (n + 1) ≡ readers_json x n ++ option_to_list (option_map (reader_json x n) (position_at (slice_get x.slots n)))
-unfolding readers_json
-readers_json-more x n = of_handles-more (λ h. option_map (reader_json x h) (position_at (slice_get x.slots h))) n
+pub readers_json-more : (x : Broadcast ℕ) (n : ℕ) → receivers_json x (n + 1) ≡ receivers_json x n ++ option_to_list (option_map (receiver_json x n) (position_at (slice_get x.slots n)))
+unfolding receivers_json
+readers_json-more x n = of_handles-more (λ h. option_map (receiver_json x h) (position_at (slice_get x.slots h))) n
 
-pub readers_json-none : (x : Broadcast ℕ) → readers_json x 0 ≡ []
-unfolding readers_json
+pub readers_json-none : (x : Broadcast ℕ) → receivers_json x 0 ≡ []
+unfolding receivers_json
 readers_json-none x = refl
 
 pub watchers_json-more : (x : Watch ℕ) (n : ℕ) → watchers_json x (n + 1) ≡ watchers_json x n ++ option_to_list (option_map (watcher_json x n) (mark_at (slice_get x.slots n)))

@@ -1,12 +1,12 @@
 -- What is kept of a line says as much as the line.
 use Rattle.std.proofs.Common.{◌≡◌, ◌∷◌, [], ◌+◌, ℕ, List, refl, ap, length, inl, inr}
 use Rattle.std.proofs.lemmas.Bool.{cases_lt, lt-ltb}
-use Rattle.rw_lines.specs.Reading.{kept}
+use Rattle.rw_lines.specs.Reading.{kept_part}
 use Rattle.rw_lines.proofs.LineLaws.{kept_short, kept_long}
-use Rattle.rw_script.specs.Script.{Reading, at_line, with_line, after_line, is_mark}
+use Rattle.rw_script.specs.Script.{ScriptReader, at_line, with_line, after_line, is_mark}
 use Rattle.rw_console.specs.Commands.{command_in}
 
-pub command_in-kept : (text : List ℕ) → command_in (kept text) ≡ command_in text
+pub command_in-kept : (text : List ℕ) → command_in (kept_part text) ≡ command_in text
 unfolding command_in
 command_in-kept text =
     elim (cases_lt 256 (length text)) [
@@ -16,14 +16,14 @@ command_in-kept text =
 
 -- ---- lines of scripts
 
-pub is_mark-kept : (text : List ℕ) → is_mark (kept text) ≡ is_mark text
+pub is_mark-kept : (text : List ℕ) → is_mark (kept_part text) ≡ is_mark text
 is_mark-kept [] = refl
 is_mark-kept (a ∷ []) = refl
 is_mark-kept (a ∷ b ∷ []) = refl
 is_mark-kept (a ∷ b ∷ c ∷ []) = refl
 is_mark-kept (a ∷ b ∷ c ∷ d ∷ text) = refl
 
-with_line-kept : (r : Reading) (text : List ℕ) → with_line r (kept text) ≡ with_line r text
+with_line-kept : (r : ScriptReader) (text : List ℕ) → with_line r (kept_part text) ≡ with_line r text
 unfolding with_line
 with_line-kept r text =
     elim (cases_lt 256 (length text)) [
@@ -31,5 +31,5 @@ with_line-kept r text =
       | inr le ↦ ap (with_line r) (kept_short text le)
     ]
 
-pub after_line-kept : (r : Reading) (text : List ℕ) → after_line r (kept text) ≡ after_line r text
+pub after_line-kept : (r : ScriptReader) (text : List ℕ) → after_line r (kept_part text) ≡ after_line r text
 after_line-kept r text = ap (at_line (r.lines + 1)) (with_line-kept (record r { lines = r.lines + 1 }) text)

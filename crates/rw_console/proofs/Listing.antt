@@ -59,8 +59,8 @@ stops {w = w} {w1 = w1} {w2 = w2} {run = run} {i = i} e lt l put =
         text = l.text ++ put.1.text;
         rest = put.1.rest ++ behind;
         written = Appends-then w w1 w2 l.text put.1.text l.written put.1.written;
-        front = append_assoc l.text put.1.text (put.1.rest ++ behind)
-            ∙ ap (λ (x : List ℕ). l.text ++ x) (sym (append_assoc put.1.text put.1.rest behind) ∙ ap (λ (x : List ℕ). x ++ behind) put.1.front ∙ sym (lines_more run i lt))
+        prefix = append_assoc l.text put.1.text (put.1.rest ++ behind)
+            ∙ ap (λ (x : List ℕ). l.text ++ x) (sym (append_assoc put.1.text put.1.rest behind) ∙ ap (λ (x : List ℕ). x ++ behind) put.1.prefix ∙ sym (lines_more run i lt))
             ∙ l.rest;
       },
     )

@@ -9,17 +9,17 @@ use Rattle.std.proofs.lemmas.List.Elements.{All-push, All-nil}
 use Rattle.rw_lines.specs.declared.streams.StreamFault.{StreamFault}
 use Rattle.rw_lines.specs.declared.streams.StreamFault.TheVariants.{Read, Write, TooMuch, NoMemory}
 use Rattle.rw_lines.specs.Lines.{IsUnbroken, lines, unlines}
-use Rattle.rw_lines.specs.Reading.{kept, GivesLine, GivesLast, GivesNone, StopsBecause, StopsInLine}
+use Rattle.rw_lines.specs.Reading.{kept_part, GivesLine, GivesLast, GivesNone, StopsBecause, StopsInLine}
 use Rattle.rw_lines.proofs.Known.{Consumes-none, Consumes-then}
 use Rattle.rw_lines.proofs.LineLaws.{lines_last, lines_unlines, unlines_push}
 use Rattle.rw_script.specs.declared.faults.ScriptFault.{ScriptFault}
-use Rattle.rw_script.specs.Script.{Reading, opening, after_line, ended, script_from, script_in, after_mark, is_mark}
+use Rattle.rw_script.specs.Script.{ScriptReader, opening, after_line, script_at_end, script_from, script_in, after_mark, is_mark}
 use Rattle.rw_words.specs.Words.{◌>>=◌}
-use Rattle.rw_console.specs.Heads.{GivesScript, GivesAll, GivesFault, StopsInScript, ExplainsScript, HasMark}
+use Rattle.rw_console.specs.ScriptReading.{GivesScript, GivesAll, GivesFault, StopsInScript, ExplainsScript, HasMark}
 use Rattle.rw_console.proofs.Kept.{is_mark-kept, after_line-kept}
 use Rattle.rw_console.proofs.Answering.{line_after}
 
-pub record Scripting (reader reader' : Option (List ℕ)) (before allowed : ℕ) (reading : Reading) : Type 0 where
+pub record Scripting (reader reader' : Option (List ℕ)) (before allowed : ℕ) (reading : ScriptReader) : Type 0 where
   pub ls : List (List ℕ)
   pub each : All IsUnbroken ls
   pub read : Consumes reader reader' (unlines ls)
@@ -29,43 +29,43 @@ pub record Scripting (reader reader' : Option (List ℕ)) (before allowed : ℕ)
   pub script : (more : List (List ℕ)) → script_in (ls ++ more) ≡ script_from reading more
   pub rest : (more : List (List ℕ)) → after_mark (ls ++ more) ≡ after_mark more
 
-pub begins : (r : Option (List ℕ)) (before : ℕ) (reading : Reading) → reading ≡ opening → Scripting r r before before reading
+pub begins : (r : Option (List ℕ)) (before : ℕ) (reading : ScriptReader) → reading ≡ opening → Scripting r r before before reading
 begins r before reading fresh = record {
   ls = [];
   each = All-nil IsUnbroken;
   read = Consumes-none r;
   count = omega arith;
-  lines_fit = omega (arith, ap (λ (s : Reading). s.lines) fresh);
+  lines_fit = omega (arith, ap (λ (s : ScriptReader). s.lines) fresh);
   unmarked = refl;
-  script = λ more. ap (λ (s : Reading). script_from s more) (sym fresh);
+  script = λ more. ap (λ (s : ScriptReader). script_from s more) (sym fresh);
   rest = λ more. refl;
 }
 
 -- ---- one line of the script
 
-mark_of : (line text : List ℕ) → line ≡ kept text → is_mark line ≡ is_mark text
+mark_of : (line text : List ℕ) → line ≡ kept_part text → is_mark line ≡ is_mark text
 mark_of line text fits = ap is_mark fits ∙ is_mark-kept text
 
-reading_after : (s : Reading) (line text : List ℕ) → line ≡ kept text → after_line s text ≡ after_line s line
+reading_after : (s : ScriptReader) (line text : List ℕ) → line ≡ kept_part text → after_line s text ≡ after_line s line
 reading_after s line text fits = sym (ap (after_line s) fits ∙ after_line-kept s text)
 
 -- the script ends at a mark
-at_mark : (s : Reading) (text : List ℕ) (more : List (List ℕ)) → is_mark text ≡ true → script_from s (text ∷ more) ≡ ended s
-at_mark s text more e = cond-true (is_mark text) (ended s) (after_line s text >>= λ t. script_from t more) e
+at_mark : (s : ScriptReader) (text : List ℕ) (more : List (List ℕ)) → is_mark text ≡ true → script_from s (text ∷ more) ≡ script_at_end s
+at_mark s text more e = cond-true (is_mark text) (script_at_end s) (after_line s text >>= λ t. script_from t more) e
 
 rest_at_mark : (text : List ℕ) (more : List (List ℕ)) → is_mark text ≡ true → after_mark (text ∷ more) ≡ more
 rest_at_mark text more e = cond-true (is_mark text) more (after_mark more) e
 
-at_line_said : (s : Reading) (said : Result Reading ScriptFault) (text : List ℕ) (more : List (List ℕ)) → is_mark text ≡ false → after_line s text ≡ said → script_from s (text ∷ more) ≡ (said >>= λ t. script_from t more)
-at_line_said s said text more e a = cond-false (is_mark text) (ended s) (after_line s text >>= λ t. script_from t more) e ∙ ap (λ (r : Result Reading ScriptFault). r >>= λ t. script_from t more) a
+at_line_said : (s : ScriptReader) (said : Result ScriptReader ScriptFault) (text : List ℕ) (more : List (List ℕ)) → is_mark text ≡ false → after_line s text ≡ said → script_from s (text ∷ more) ≡ (said >>= λ t. script_from t more)
+at_line_said s said text more e a = cond-false (is_mark text) (script_at_end s) (after_line s text >>= λ t. script_from t more) e ∙ ap (λ (r : Result ScriptReader ScriptFault). r >>= λ t. script_from t more) a
 
 rest_at_line : (text : List ℕ) (more : List (List ℕ)) → is_mark text ≡ false → after_mark (text ∷ more) ≡ after_mark more
 rest_at_line text more e = cond-false (is_mark text) more (after_mark more) e
 
 -- ---- the loop
 
-pub more_line : {r0 r r' : Option (List ℕ)} {before allowed allowed' : ℕ} {reading : Reading} {line : List ℕ} → (s : Scripting r0 r before allowed reading) (l : GivesLine r r' allowed allowed' line)
-    (plain : is_mark line ≡ false) (reading' : Reading) (taken : (after_line reading line ≡ Ok reading') × (reading'.lines ≡ reading.lines + 1)) → Scripting r0 r' before allowed' reading'
+pub more_line : {r0 r r' : Option (List ℕ)} {before allowed allowed' : ℕ} {reading : ScriptReader} {line : List ℕ} → (s : Scripting r0 r before allowed reading) (l : GivesLine r r' allowed allowed' line)
+    (plain : is_mark line ≡ false) (reading' : ScriptReader) (taken : (after_line reading line ≡ Ok reading') × (reading'.lines ≡ reading.lines + 1)) → Scripting r0 r' before allowed' reading'
 more_line {r0 = r0} {r = r} {r' = r'} {reading = reading} s l plain reading' taken =
     let m : is_mark l.text ≡ false = sym (mark_of _ l.text l.fits) ∙ plain in
     let t : after_line reading l.text ≡ Ok reading' = reading_after reading _ l.text l.fits ∙ taken.0 in
@@ -81,8 +81,8 @@ more_line {r0 = r0} {r = r} {r' = r'} {reading = reading} s l plain reading' tak
     }
 
 -- at the mark
-pub ends_at_mark : {r0 r r' : Option (List ℕ)} {before allowed allowed' : ℕ} {reading : Reading} {line : List ℕ} → (s : Scripting r0 r before allowed reading) (l : GivesLine r r' allowed allowed' line)
-    (mark : is_mark line ≡ true) → GivesScript r0 r' before allowed' (ended reading) × (reading.lines ≤ before)
+pub ends_at_mark : {r0 r r' : Option (List ℕ)} {before allowed allowed' : ℕ} {reading : ScriptReader} {line : List ℕ} → (s : Scripting r0 r before allowed reading) (l : GivesLine r r' allowed allowed' line)
+    (mark : is_mark line ≡ true) → GivesScript r0 r' before allowed' (script_at_end reading) × (reading.lines ≤ before)
 ends_at_mark {r0 = r0} {r = r} {r' = r'} {reading = reading} s l mark =
     let m : is_mark l.text ≡ true = sym (mark_of _ l.text l.fits) ∙ mark in (
       record {
@@ -97,7 +97,7 @@ ends_at_mark {r0 = r0} {r = r} {r' = r'} {reading = reading} s l mark =
     )
 
 -- at the reader's end
-pub ends : {r0 r r' : Option (List ℕ)} {before allowed allowed' : ℕ} {reading : Reading} → (s : Scripting r0 r before allowed reading) (l : GivesNone r r' allowed allowed') → GivesAll r0 r' before (ended reading) × (reading.lines ≤ before)
+pub ends : {r0 r r' : Option (List ℕ)} {before allowed allowed' : ℕ} {reading : ScriptReader} → (s : Scripting r0 r before allowed reading) (l : GivesNone r r' allowed allowed') → GivesAll r0 r' before (script_at_end reading) × (reading.lines ≤ before)
 ends {r0 = r0} {r = r} {r' = r'} s l = (
   record {
     bytes = unlines s.ls ++ [];
@@ -114,8 +114,8 @@ last_lines : (ls : List (List ℕ)) (text : List ℕ) → All IsUnbroken ls → 
 last_lines ls text each u some = lines_unlines ls text each ∙ ap (λ (x : List (List ℕ)). ls ++ x) (lines_last text u some)
 
 -- at a mark without LF
-pub ends_at_last_mark : {r0 r r' : Option (List ℕ)} {before allowed allowed' : ℕ} {reading : Reading} {line : List ℕ} → (s : Scripting r0 r before allowed reading) (l : GivesLast r r' allowed allowed' line)
-    (mark : is_mark line ≡ true) → GivesAll r0 r' before (ended reading) × (reading.lines ≤ before)
+pub ends_at_last_mark : {r0 r r' : Option (List ℕ)} {before allowed allowed' : ℕ} {reading : ScriptReader} {line : List ℕ} → (s : Scripting r0 r before allowed reading) (l : GivesLast r r' allowed allowed' line)
+    (mark : is_mark line ≡ true) → GivesAll r0 r' before (script_at_end reading) × (reading.lines ≤ before)
 ends_at_last_mark {r0 = r0} {r = r} {r' = r'} {reading = reading} s l mark =
     let m : is_mark l.text ≡ true = sym (mark_of _ l.text l.fits) ∙ mark in
     let here = last_lines s.ls l.text s.each l.unbroken l.some in (
@@ -131,8 +131,8 @@ ends_at_last_mark {r0 = r0} {r = r} {r' = r'} {reading = reading} s l mark =
     )
 
 -- behind the last line
-pub ends_at_last_line : {r0 r r' : Option (List ℕ)} {before allowed allowed' : ℕ} {reading : Reading} {line : List ℕ} → (s : Scripting r0 r before allowed reading) (l : GivesLast r r' allowed allowed' line)
-    (plain : is_mark line ≡ false) (reading' : Reading) (taken : (after_line reading line ≡ Ok reading') × (reading'.lines ≡ reading.lines + 1)) → GivesAll r0 r' before (ended reading') × (reading'.lines ≤ before)
+pub ends_at_last_line : {r0 r r' : Option (List ℕ)} {before allowed allowed' : ℕ} {reading : ScriptReader} {line : List ℕ} → (s : Scripting r0 r before allowed reading) (l : GivesLast r r' allowed allowed' line)
+    (plain : is_mark line ≡ false) (reading' : ScriptReader) (taken : (after_line reading line ≡ Ok reading') × (reading'.lines ≡ reading.lines + 1)) → GivesAll r0 r' before (script_at_end reading') × (reading'.lines ≤ before)
 ends_at_last_line {r0 = r0} {r = r} {r' = r'} {reading = reading} s l plain reading' taken =
     let m : is_mark l.text ≡ false = sym (mark_of _ l.text l.fits) ∙ plain in
     let t : after_line reading l.text ≡ Ok reading' = reading_after reading _ l.text l.fits ∙ taken.0 in
@@ -149,7 +149,7 @@ ends_at_last_line {r0 = r0} {r = r} {r' = r'} {reading = reading} s l plain read
     )
 
 -- at a line that is at fault
-pub fault_last : {r0 r r' : Option (List ℕ)} {before allowed allowed' : ℕ} {reading : Reading} {line : List ℕ} → (s : Scripting r0 r before allowed reading) (l : GivesLast r r' allowed allowed' line)
+pub fault_last : {r0 r r' : Option (List ℕ)} {before allowed allowed' : ℕ} {reading : ScriptReader} {line : List ℕ} → (s : Scripting r0 r before allowed reading) (l : GivesLast r r' allowed allowed' line)
     (plain : is_mark line ≡ false) (f : ScriptFault) (refused : after_line reading line ≡ Err f) → GivesFault r0 r' before f
 fault_last {r0 = r0} {r = r} {r' = r'} {reading = reading} s l plain f refused =
     let m : is_mark l.text ≡ false = sym (mark_of _ l.text l.fits) ∙ plain in
@@ -162,7 +162,7 @@ fault_last {r0 = r0} {r = r} {r' = r'} {reading = reading} s l plain f refused =
       whole = inl l.ended;
     }
 
-pub fault_line : {r0 r r' : Option (List ℕ)} {before allowed allowed' : ℕ} {reading : Reading} {line : List ℕ} → (s : Scripting r0 r before allowed reading) (l : GivesLine r r' allowed allowed' line)
+pub fault_line : {r0 r r' : Option (List ℕ)} {before allowed allowed' : ℕ} {reading : ScriptReader} {line : List ℕ} → (s : Scripting r0 r before allowed reading) (l : GivesLine r r' allowed allowed' line)
     (plain : is_mark line ≡ false) (f : ScriptFault) (refused : after_line reading line ≡ Err f) → GivesFault r0 r' before f
 fault_line {r0 = r0} {r = r} {r' = r'} {reading = reading} s l plain f refused =
     let m : is_mark l.text ≡ false = sym (mark_of _ l.text l.fits) ∙ plain in
@@ -181,7 +181,7 @@ fault_line {r0 = r0} {r = r} {r' = r'} {reading = reading} s l plain f refused =
 no_mark : (ls : List (List ℕ)) → list_any is_mark ls ≡ false → HasMark ls → ⊥
 no_mark ls e h = cc
 
-explains : {r0 r : Option (List ℕ)} {before allowed : ℕ} {reading : Reading} → (s : Scripting r0 r before allowed reading) (part : List ℕ) (e : StreamFault) (why : StopsBecause part allowed e)
+explains : {r0 r : Option (List ℕ)} {before allowed : ℕ} {reading : ScriptReader} → (s : Scripting r0 r before allowed reading) (part : List ℕ) (e : StreamFault) (why : StopsBecause part allowed e)
     → ExplainsScript before (unlines s.ls ++ part) e
 explains s part Read why = (s.ls, part, s.each, why.0, refl, no_mark s.ls s.unmarked, omega (arith, s.count, length-append (unlines s.ls) part, why.1))
 explains s part TooMuch why = omega (arith, s.count, length-append (unlines s.ls) part)
@@ -189,7 +189,7 @@ explains s part Write why = absurd why
 explains s part NoMemory why = omega (arith, s.count, length-append (unlines s.ls) part, why.1)
 
 -- where reading stopped
-pub stops_reading : {r0 r r' : Option (List ℕ)} {before allowed : ℕ} {reading : Reading} → (s : Scripting r0 r before allowed reading) (e : StreamFault) (p : StopsInLine r r' allowed e)
+pub stops_reading : {r0 r r' : Option (List ℕ)} {before allowed : ℕ} {reading : ScriptReader} → (s : Scripting r0 r before allowed reading) (e : StreamFault) (p : StopsInLine r r' allowed e)
     → StopsInScript r0 r' before e
 stops_reading {r0 = r0} {r = r} {r' = r'} s e p = record {
   bytes = unlines s.ls ++ p.text;
@@ -198,7 +198,7 @@ stops_reading {r0 = r0} {r = r} {r' = r'} s e p = record {
 }
 
 -- for want of memory
-pub stops_line : {r0 r r' : Option (List ℕ)} {before allowed allowed' : ℕ} {reading : Reading} {line : List ℕ} → (s : Scripting r0 r before allowed reading) (l : GivesLine r r' allowed allowed' line)
+pub stops_line : {r0 r r' : Option (List ℕ)} {before allowed allowed' : ℕ} {reading : ScriptReader} {line : List ℕ} → (s : Scripting r0 r before allowed reading) (l : GivesLine r r' allowed allowed' line)
     → StopsInScript r0 r' before NoMemory
 stops_line {r0 = r0} {r = r} {r' = r'} s l = record {
   bytes = unlines s.ls ++ (l.text ++ 10 ∷ []);
@@ -206,7 +206,7 @@ stops_line {r0 = r0} {r = r} {r' = r'} s l = record {
   why = omega (arith, length-append (unlines s.ls) (l.text ++ 10 ∷ []), length-append l.text (10 ∷ []), l.count, s.count);
 }
 
-pub stops_last : {r0 r r' : Option (List ℕ)} {before allowed allowed' : ℕ} {reading : Reading} {line : List ℕ} → (s : Scripting r0 r before allowed reading) (l : GivesLast r r' allowed allowed' line)
+pub stops_last : {r0 r r' : Option (List ℕ)} {before allowed allowed' : ℕ} {reading : ScriptReader} {line : List ℕ} → (s : Scripting r0 r before allowed reading) (l : GivesLast r r' allowed allowed' line)
     → StopsInScript r0 r' before NoMemory
 stops_last {r0 = r0} {r = r} {r' = r'} s l = record {
   bytes = unlines s.ls ++ l.text;

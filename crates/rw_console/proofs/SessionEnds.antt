@@ -15,7 +15,7 @@ use Rattle.rw_console.specs.declared.sessions.Outcome.TheVariants.{Refused}
 use Rattle.rw_journal.specs.Run.{Run}
 use Rattle.rw_script.specs.Running.{run_of}
 use Rattle.rw_script.specs.Script.{Script, script_in, after_mark}
-use Rattle.rw_console.specs.Heads.{ExplainsScript, StopsInScript, HasMark, GivesScript, GivesAll, GivesFault}
+use Rattle.rw_console.specs.ScriptReading.{ExplainsScript, StopsInScript, HasMark, GivesScript, GivesAll, GivesFault}
 use Rattle.rw_navigator.specs.Places.{last_place}
 use Rattle.rw_console.specs.Report.{commands_report}
 use Rattle.rw_console.specs.SessionReport.{recording_of, fault_line, waiting_line, answer, outcome_at, outcome_of, report, outcome}
@@ -105,7 +105,7 @@ stops {r0 = r0} {r1 = r1} {r2 = r2} {w0 = w0} {w1 = w1} {w2 = w2} {after = after
       rest = d.rest;
       read = Consumes-then r0 r1 r2 (unlines h.ls) d.bytes h.read d.read;
       written = Appends-then w0 w1 w2 (said s) d.text first d.written;
-      front = append_assoc (said s) d.text d.rest ∙ ap (λ (x : List ℕ). said s ++ x) d.front ∙ sym (report_at h d.bytes);
+      prefix = append_assoc (said s) d.text d.rest ∙ ap (λ (x : List ℕ). said s ++ x) d.prefix ∙ sym (report_at h d.bytes);
       why = explains h d.bytes d.text e d.why;
     }
 
@@ -115,7 +115,7 @@ explains_writing limit bytes text few TooMuch why = absurd why
 explains_writing limit bytes text few Write why = few
 explains_writing limit bytes text few NoMemory why = few
 
--- a front of the report of these bytes was written
+-- a prefix of the report of these bytes was written
 stops_writing : {r0 r1 w0 w1 : Option (List ℕ)} → (limit : ℕ) (bytes output : List ℕ) (few : length bytes ≤ limit) (read : Consumes r0 r1 bytes) (here : report bytes ≡ output) (e : StreamFault) (put : StopsWriting w0 w1 output e)
     → Stops r0 r1 w0 w1 report HasMark limit e
 stops_writing limit bytes output few read here e put = record {
@@ -124,7 +124,7 @@ stops_writing limit bytes output few read here e put = record {
   rest = put.1.rest;
   read = read;
   written = put.1.written;
-  front = put.1.front ∙ sym here;
+  prefix = put.1.prefix ∙ sym here;
   why = explains_writing limit bytes put.1.text few e put.0;
 }
 
@@ -147,7 +147,7 @@ stops_in_script {limit = limit} w e s = record {
   rest = report s.bytes;
   read = s.read;
   written = Appends-none w;
-  front = refl;
+  prefix = refl;
   why = explains_script limit s.bytes e s.why;
 }
 

@@ -4,6 +4,7 @@ use Rattle.std.specs.Str.{bytes_eq}
 use Rattle.rw_lines.specs.Cut.{cut}
 use Rattle.rw_lines.specs.Lines.{is_skipped}
 use Rattle.rw_lines.specs.Numerals.{numeral_in}
+use Rattle.rw_lines.specs.declared.lines.TheConstants.{LONGEST_LINE}
 use Rattle.rw_navigator.specs.declared.moves.Move.TheVariants.{Back, Forward, Goto, Start, End}
 use Rattle.rw_navigator.specs.declared.worlds.condition.Cond.{Cond}
 use Rattle.rw_console.specs.declared.command.Command.{Command}
@@ -54,7 +55,7 @@ command_words line (Some p) = word_with p.0 p.1
 -- what a line asks for
 unfoldable pub command_in : List ℕ → Command
 command_in line =
-    if nat_lt 256 (length line) then Bad
+    if nat_lt LONGEST_LINE (length line) then Bad
     else if is_skipped line then Skip
     else command_words line (cut 32 line)
 

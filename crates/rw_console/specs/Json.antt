@@ -24,8 +24,8 @@ use Rattle.rw_world.specs.Machines.{ChanShown}
 abbrev pub natural : ℕ → Data
 natural n = number (unsigned n)
 
-abbrev pub row_of : List Data → Data
-row_of ds = array (items_of ds)
+abbrev pub array_of : List Data → Data
+array_of ds = array (items_of ds)
 
 abbrev pub members_in : List (List ℕ × Data) → Members
 members_in [] = no_members
@@ -53,8 +53,8 @@ handles_json kind slots n = of_handles (λ h. handle_json kind h (kind_at (slice
 -- ---- a broadcast
 
 -- the receiver with handle h, by its position
-abbrev pub reader_json : Broadcast ℕ → ℕ → ℕ → Data
-reader_json x h position = object_of (
+abbrev pub receiver_json : Broadcast ℕ → ℕ → ℕ → Data
+receiver_json x h position = object_of (
     (codes "handle", natural h)
     ∷ (codes "lag", natural (lag (broadcast.oldest (channel_of x)) position))
     ∷ (codes "position", natural position)
@@ -62,8 +62,8 @@ reader_json x h position = object_of (
     ∷ [])
 
 -- the live receivers among the first n handles
-unfoldable pub readers_json : Broadcast ℕ → ℕ → List Data
-readers_json x n = of_handles (λ h. option_map (reader_json x h) (position_at (slice_get x.slots h))) n
+unfoldable pub receivers_json : Broadcast ℕ → ℕ → List Data
+receivers_json x n = of_handles (λ h. option_map (receiver_json x h) (position_at (slice_get x.slots h))) n
 
 -- a broadcast, with these members behind `sent`
 abbrev pub broadcast_with : Broadcast ℕ → List (List ℕ × Data) → Data
@@ -73,13 +73,13 @@ broadcast_with x weak = object_of (
     ∷ (codes "kind", string (codes "broadcast"))
     ∷ (codes "made", natural (length x.slots))
     ∷ (codes "queued", natural (broadcast.queued (channel_of x)))
-    ∷ (codes "receivers", row_of (readers_json x (length x.slots)))
-    ∷ (codes "senders", row_of (handles_json Sender x.slots (length x.slots)))
+    ∷ (codes "receivers", array_of (receivers_json x (length x.slots)))
+    ∷ (codes "senders", array_of (handles_json Sender x.slots (length x.slots)))
     ∷ (codes "sent", natural x.sent)
-    ∷ (weak ++ (codes "window", row_of (map natural x.window)) ∷ []))
+    ∷ (weak ++ (codes "window", array_of (map natural x.window)) ∷ []))
 
 abbrev pub weak_member : Broadcast ℕ → List ℕ × Data
-weak_member x = (codes "weak", row_of (handles_json Weak x.slots (length x.slots)))
+weak_member x = (codes "weak", array_of (handles_json Weak x.slots (length x.slots)))
 
 -- there is a member for weak senders only where there are any
 abbrev pub weak_json : Broadcast ℕ → List (List ℕ × Data)
@@ -112,8 +112,8 @@ watch_json x = object_of (
     (codes "closed", boolean (watch.is_closed x))
     ∷ (codes "kind", string (codes "watch"))
     ∷ (codes "made", natural (length x.slots))
-    ∷ (codes "receivers", row_of (watchers_json x (length x.slots)))
-    ∷ (codes "senders", row_of (handles_json Sender x.slots (length x.slots)))
+    ∷ (codes "receivers", array_of (watchers_json x (length x.slots)))
+    ∷ (codes "senders", array_of (handles_json Sender x.slots (length x.slots)))
     ∷ (codes "value", natural x.value)
     ∷ (codes "version", natural x.version)
     ∷ [])
@@ -127,7 +127,7 @@ channel_json (watch_shown x) = watch_json x
 -- the state that is shown at a place of a run of so many entries
 unfoldable pub world_json : List (ChanShown ℕ) → (len place : ℕ) → Data
 world_json xs len place = object_of (
-    (codes "channels", row_of (map channel_json xs))
+    (codes "channels", array_of (map channel_json xs))
     ∷ (codes "len", natural len)
     ∷ (codes "place", natural place)
     ∷ [])

@@ -12,4 +12,4 @@ pub mod Walk
 pub mod Report
 pub mod Streams
 pub mod SessionReport
-pub mod Heads
+pub mod ScriptReading

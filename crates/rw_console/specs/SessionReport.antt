@@ -8,7 +8,7 @@ use Rattle.rw_script.specs.Faults.{fault_text}
 use Rattle.rw_script.specs.Running.{run_of}
 use Rattle.rw_script.specs.Script.{Script, script_in, after_mark}
 use Rattle.rw_world.specs.Machines.{of_world}
-use Rattle.rw_world.specs.Openings.{opened}
+use Rattle.rw_world.specs.Openings.{opening_row}
 use Rattle.rw_console.specs.declared.sessions.Outcome.{Outcome}
 use Rattle.rw_console.specs.declared.sessions.Outcome.TheVariants.{Done, Refused, Waited}
 use Rattle.rw_navigator.specs.Places.{last_place}
@@ -16,7 +16,7 @@ use Rattle.rw_console.specs.Report.{outputs}
 
 -- a script's run: its channels, and the journal of the calls before the first that would wait
 abbrev pub recording_of : Script → Run ℕ
-recording_of s = record { specs = s.specs; entries = journal_of of_world (opened s.specs) 0 (run_of s).calls }
+recording_of s = record { specs = s.specs; entries = journal_of of_world (opening_row s.specs) 0 (run_of s).calls }
 
 -- ---- the first lines
 

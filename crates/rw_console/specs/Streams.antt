@@ -23,14 +23,14 @@ Explains report begun limit bytes text TooMuch = length bytes ≡ limit + 1
 Explains report begun limit bytes text Write = length bytes ≤ limit
 Explains report begun limit bytes text NoMemory = length bytes ≤ limit
 
--- It read bytes and wrote a front of their report.
+-- It read bytes and wrote a prefix of their report.
 pub record Stops (reader reader' writer writer' : Option (List ℕ)) (report : List ℕ → List ℕ) (begun : List (List ℕ) → Type 0) (limit : ℕ) (fault : StreamFault) : Type 0 where
   pub bytes : List ℕ
   pub text : List ℕ
   pub rest : List ℕ
   pub read : Consumes reader reader' bytes
   pub written : Appends writer writer' text
-  pub front : text ++ rest ≡ report bytes
+  pub prefix : text ++ rest ≡ report bytes
   pub why : Explains report begun limit bytes text fault
 
 -- what commands ask for is begun from the first line on

@@ -13,7 +13,7 @@ use rw_lines::{Next, StreamFault, flush, next_line, put_out};
 use std::alloc::Global;
 use std::io::{Read, Write};
 
-/// Writes the entry that leads to a place. At an `Err` a front of its line was written.
+/// Writes the entry that leads to a place. At an `Err` a prefix of its line was written.
 fn write_step<W: Write>(
     walk: &Walk,
     place: u64,
@@ -30,7 +30,7 @@ fn write_step<W: Write>(
     put_out(writer, out)
 }
 
-/// Writes the run's entries, one by one. At an `Err` a front of them was written.
+/// Writes the run's entries, one by one. At an `Err` a prefix of them was written.
 fn write_entries<W: Write>(
     walk: &Walk,
     writer: &mut W,
@@ -45,7 +45,7 @@ fn write_entries<W: Write>(
     Ok(())
 }
 
-/// Writes what a command says, and does what it asks for. At an `Err` a front of its output was written.
+/// Writes what a command says, and does what it asks for. At an `Err` a prefix of its output was written.
 fn write_answer<W: Write>(
     walk: &mut Walk,
     command: Command,
@@ -67,7 +67,7 @@ fn write_answer<W: Write>(
     put_out(writer, out)
 }
 
-/// Does what a line asks for, and answers whether that was to quit. At an `Err` a front of its output was written.
+/// Does what a line asks for, and answers whether that was to quit. At an `Err` a prefix of its output was written.
 fn answer_line<W: Write>(
     walk: &mut Walk,
     writer: &mut W,

@@ -2,7 +2,7 @@
 
 ghost use Rattle.std.specs.Prelude.{◌≡◌, ◌++◌, ◌∷◌, [], codes, length, map, option_map, option_to_list, IfOk, OnOk};
 ghost use Rattle.serde_json.specs.View.{view};
-ghost use Rattle.rw_console.specs.Json.{broadcast_json, broadcast_with, channel_json, json_text, reader_json, readers_json, handle_json, handles_json, watch_json, watcher_json, watchers_json, weak_member, world_json, natural};
+ghost use Rattle.rw_console.specs.Json.{broadcast_json, broadcast_with, channel_json, json_text, receiver_json, receivers_json, handle_json, handles_json, watch_json, watcher_json, watchers_json, weak_member, world_json, natural};
 ghost use Rattle.rw_broadcast.specs.Machine.{position_at};
 ghost use Rattle.rw_watch.specs.Machine.{mark_at};
 ghost use Rattle.std.specs.Prelude.{slice_get};
@@ -104,7 +104,7 @@ fn broadcast_value(alloc: Global, channel: &Broadcast<u64>) -> Result<Value, All
 fn strong_value(alloc: Global, channel: &Broadcast<u64>) -> Result<Value, AllocError>
     ensures { IfOk result (λ value. view value ≡ broadcast_with channel.now.shown []) }
 {
-    let receivers = reader_values(alloc, channel)?;
+    let receivers = receiver_values(alloc, channel)?;
     let senders = broadcast_handles(alloc, channel, Kind::Sender)?;
     let window = window_values(alloc, channel)?;
     json!(in alloc; {
@@ -124,7 +124,7 @@ fn strong_value(alloc: Global, channel: &Broadcast<u64>) -> Result<Value, AllocE
 fn weak_value(alloc: Global, channel: &Broadcast<u64>) -> Result<Value, AllocError>
     ensures { IfOk result (λ value. view value ≡ broadcast_with channel.now.shown (weak_member channel.now.shown ∷ [])) }
 {
-    let receivers = reader_values(alloc, channel)?;
+    let receivers = receiver_values(alloc, channel)?;
     let senders = broadcast_handles(alloc, channel, Kind::Sender)?;
     let weak = broadcast_handles(alloc, channel, Kind::Weak)?;
     let window = window_values(alloc, channel)?;
@@ -173,12 +173,12 @@ fn broadcast_handles(
 }
 
 /// A live receiver of a broadcast.
-fn reader_value(
+fn receiver_value(
     alloc: Global,
     channel: &Broadcast<u64>,
     h: u32,
 ) -> Result<Option<Value>, AllocError>
-    ensures { IfOk result (λ value. option_map view value ≡ option_map (reader_json channel.now.shown h) (position_at (slice_get channel.now.shown.slots h))) }
+    ensures { IfOk result (λ value. option_map view value ≡ option_map (receiver_json channel.now.shown h) (position_at (slice_get channel.now.shown.slots h))) }
 {
     let Some(position) = channel.position(h) else {
         return Ok(None);
@@ -190,12 +190,12 @@ fn reader_value(
 }
 
 #[tactic(auto, using(crate::proofs::HandleLists::handle_lists))]
-fn reader_values(alloc: Global, channel: &Broadcast<u64>) -> Result<Vec<Value>, AllocError>
-    ensures { IfOk result (λ list. map view list.items ≡ readers_json channel.now.shown (length channel.now.shown.slots)) }
+fn receiver_values(alloc: Global, channel: &Broadcast<u64>) -> Result<Vec<Value>, AllocError>
+    ensures { IfOk result (λ list. map view list.items ≡ receivers_json channel.now.shown (length channel.now.shown.slots)) }
 {
     let mut list = Vec::new(alloc);
     'each_handle: for h in 0..channel.made() {
-        push_some(&mut list, reader_value(alloc, channel, h)?)?;
+        push_some(&mut list, receiver_value(alloc, channel, h)?)?;
     }
     Ok(list)
 }

@@ -2,7 +2,7 @@
 
 ghost use Rattle.std.specs.Prelude.{◌≡◌, ◌+◌, ◌-◌, ◌^◌, ◌<◌, Ok, Err, MatchOption, IfOk, IfErr};
 ghost use Rattle.rw_script.specs.Script.{opening, after_line};
-ghost use Rattle.rw_console.specs.Heads.{GivesSessionScript, GivesLines, StopsInScript};
+ghost use Rattle.rw_console.specs.ScriptReading.{GivesSessionScript, GivesLines, StopsInScript};
 
 use rw_lines::{Next, StreamFault, next_line};
 use rw_script::{Script, ScriptFault, ScriptFaultKind, ScriptReader, is_mark};
@@ -20,7 +20,7 @@ pub enum ScriptEnd {
     Fault(ScriptFault),
 }
 
-/// What the front of a session's bytes is.
+/// What the beginning of a session's bytes is.
 #[derive(Drop)]
 pub enum SessionScript {
     /// A script; commands follow.

@@ -4,7 +4,7 @@ ghost use Rattle.std.specs.Prelude.{◌≡◌, IfOk, IfErr, OnOk};
 ghost use Rattle.std.specs.Io.KnownBytes.{Appends};
 ghost use Rattle.rw_navigator.specs.Places.{last_place};
 ghost use Rattle.rw_script.specs.Running.{run_of};
-ghost use Rattle.rw_console.specs.Heads.{HasMark};
+ghost use Rattle.rw_console.specs.ScriptReading.{HasMark};
 ghost use Rattle.rw_console.specs.SessionReport.{fault_line, outcome, outcome_at, recording_of, report, waiting_line};
 ghost use Rattle.rw_lines.specs.Writing.{StopsWriting};
 ghost use Rattle.rw_console.specs.Streams.{Answers, Stops};
@@ -32,7 +32,7 @@ pub enum Outcome {
 /// The most bytes that a session reads.
 pub const MOST_BYTES: u64 = 268_435_456;
 
-/// Writes a script's fault. At an `Err` a front of it was written.
+/// Writes a script's fault. At an `Err` a prefix of it was written.
 fn refuse<W: Write>(alloc: Global, writer: &mut W, fault: ScriptFault) -> Result<(), SessionFault>
     ensures ok { OnOk result (Appends (W.contents writer.old) (W.contents writer.new) (fault_line fault)) }
     ensures err { IfErr result (StopsWriting (W.contents writer.old) (W.contents writer.new) (fault_line fault)) }
@@ -43,7 +43,7 @@ fn refuse<W: Write>(alloc: Global, writer: &mut W, fault: ScriptFault) -> Result
     put_whole(writer, line.as_bytes())
 }
 
-/// Writes which line would wait, if one would. At an `Err` a front of it was written.
+/// Writes which line would wait, if one would. At an `Err` a prefix of it was written.
 fn say_waiting<W: Write>(
     alloc: Global,
     writer: &mut W,
@@ -61,7 +61,7 @@ fn say_waiting<W: Write>(
     put_whole(writer, line.as_bytes())
 }
 
-/// Runs a script, and writes which line would wait, if one would. At an `Err` a front of that was written. At `Ok` it gives the
+/// Runs a script, and writes which line would wait, if one would. At an `Err` a prefix of that was written. At `Ok` it gives the
 /// walk at the last place of the script's run, and that line's number.
 fn begin<W: Write>(
     alloc: Global,

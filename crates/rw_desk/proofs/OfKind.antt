@@ -6,13 +6,13 @@ use Rattle.rw_world.specs.declared.opening.Spec.TheVariants.{Broadcast, Watch}
 use Rattle.rw_world.specs.declared.channels.ChanCall.TheVariants as call
 use Rattle.rw_world.specs.Channel.{strays_at}
 use Rattle.rw_world.specs.ChannelLaws.{kind_stays, strays_by_kind}
-use Rattle.rw_world.specs.Kinds.{broadcast_shown, watch_shown, kind_of}
+use Rattle.rw_world.specs.Kinds.{broadcast_shown, watch_shown, channel_kind}
 use Rattle.rw_world.specs.declared.channels.Chan.{Chan}
 use Rattle.rw_world.specs.declared.channels.ChanCall.{ChanCall}
 use Rattle.rw_world.specs.declared.channels.ChanReply.{ChanReply}
 use Rattle.rw_world.specs.declared.channels.ChanPatch.{ChanPatch}
 use Rattle.rw_world.specs.Machines.{ChanShown, of_broadcast, of_watch, of_chan}
-use Rattle.rw_world.specs.Openings.{opened_channel, kind_of_spec}
+use Rattle.rw_world.specs.Openings.{opened_channel, spec_kind}
 use Rattle.rw_world.specs.Specified.{ChanEntry}
 use Rattle.rw_journal.specs.Book.{Book, IsUnchanged, reply_to, state_of}
 use Rattle.rw_desk.specs.declared.faults.DeskFault.{DeskFault}
@@ -24,20 +24,20 @@ abbrev pub Books : Type 0 → Type 0
 Books V = Book (Chan V) (ChanCall V) (ChanReply V) (ChanPatch V)
 
 module _ {V : Type 0} where
-  kind_after : (x : ChanShown V) (es : List (ChanEntry V)) → kind_of (after_all of_chan x es) ≡ kind_of x
+  kind_after : (x : ChanShown V) (es : List (ChanEntry V)) → channel_kind (after_all of_chan x es) ≡ channel_kind x
   kind_after x [] = refl
   kind_after x (e ∷ es) = kind_after ((of_chan {V = V}).next x e.call) es ∙ kind_stays of_broadcast of_watch x e.call
 
-  kind_opened : (spec : Spec V) → kind_of (opened_channel spec) ≡ kind_of_spec spec
+  kind_opened : (spec : Spec V) → channel_kind (opened_channel spec) ≡ spec_kind spec
   kind_opened (Broadcast capacity) = refl
   kind_opened (Watch init) = refl
 
   -- a book's channel is of the kind of the spec that the book was opened from
-  pub kind_of_book : (spec : Spec V) (book : Books V) → IsOpenedFrom spec book → kind_of (state_of of_chan book) ≡ kind_of_spec spec
-  kind_of_book spec book opened = kind_after ((of_chan {V = V}).shown book.opening) book.entries ∙ (ap kind_of opened ∙ kind_opened spec)
+  pub kind_of_book : (spec : Spec V) (book : Books V) → IsOpenedFrom spec book → channel_kind (state_of of_chan book) ≡ spec_kind spec
+  kind_of_book spec book opened = kind_after ((of_chan {V = V}).shown book.opening) book.entries ∙ (ap channel_kind opened ∙ kind_opened spec)
 
   -- a call strays at a book exactly by the spec that the book was opened from
-  pub strays_by_spec : (spec : Spec V) (book : Books V) (c : ChanCall V) → IsOpenedFrom spec book → (of_chan {V = V}).is_straying (reply_to of_chan book c) ≡ strays_at (kind_of_spec spec) c
+  pub strays_by_spec : (spec : Spec V) (book : Books V) (c : ChanCall V) → IsOpenedFrom spec book → (of_chan {V = V}).is_straying (reply_to of_chan book c) ≡ strays_at (spec_kind spec) c
   strays_by_spec spec book c opened =
       strays_by_kind of_broadcast of_watch (state_of of_chan book) c ∙ ap (λ k. strays_at k c) (kind_of_book spec book opened)
 
@@ -74,5 +74,5 @@ module _ {V : Type 0} where
   receipt_given old new before now channel c (Err fault) recorded = tt
 
   -- a call that isn't stray by the spec isn't stray at the book
-  pub never_strays : (spec own : Spec V) (book : Books V) (c : ChanCall V) → IsOpenedFrom own book → own ≡ spec → strays_at (kind_of_spec spec) c ≡ false → (of_chan {V = V}).is_straying (reply_to of_chan book c) ≡ false
-  never_strays spec own book c opened same stays = strays_by_spec own book c opened ∙ (ap (λ s. strays_at (kind_of_spec s) c) same ∙ stays)
+  pub never_strays : (spec own : Spec V) (book : Books V) (c : ChanCall V) → IsOpenedFrom own book → own ≡ spec → strays_at (spec_kind spec) c ≡ false → (of_chan {V = V}).is_straying (reply_to of_chan book c) ≡ false
+  never_strays spec own book c opened same stays = strays_by_spec own book c opened ∙ (ap (λ s. strays_at (spec_kind s) c) same ∙ stays)

@@ -3,8 +3,8 @@ use Rattle.std.proofs.Common.{◌≡◌, ◌⊎◌, ℕ, zero, suc, Bool, true, 
 use Rattle.std.specs.Prelude.{map, ◌↔◌, IsErrAnd, IsErrOf, IsTrue, MatchOption}
 use Rattle.rw_handles.specs.declared.kinds.Found.{Found}
 use Rattle.rw_handles.specs.declared.kinds.Found.TheVariants.{Fault, Handle}
-use Rattle.rw_handles.specs.Slots.{found}
-use Rattle.rw_watch.specs.Channel.{changed, effect_found, is_closed, is_unseen, wanted}
+use Rattle.rw_handles.specs.Slots.{lookup}
+use Rattle.rw_watch.specs.Channel.{wait_effect, effect_found, is_closed, is_unseen, wanted_kind}
 use Rattle.rw_watch.specs.Shown.{Shown}
 use Rattle.rw_watch.specs.declared.calls.WCall.{WCall}
 use Rattle.rw_watch.specs.declared.calls.WCall.TheVariants.{Update, Changed}
@@ -15,7 +15,7 @@ use Rattle.rw_world.specs.declared.channels.ChanReply.TheVariants as reply
 use Rattle.rw_world.specs.Channel.{strays_at}
 use Rattle.rw_world.specs.Kinds.{broadcast_shown, watch_shown}
 use Rattle.rw_world.specs.Machines.{ChanShown, of_chan, of_watch}
-use Rattle.rw_world.specs.Openings.{kind_of_spec}
+use Rattle.rw_world.specs.Openings.{spec_kind}
 use Rattle.rw_world.specs.declared.opening.Spec.{Spec}
 use Rattle.rw_world.specs.declared.opening.Spec.TheVariants as spec
 use Rattle.rw_world.specs.Shapes.{stray_of}
@@ -42,20 +42,20 @@ module _ {V : Type 0} where
   change y h (Fault fault) no_wait = inr (inr (fault, refl))
   change y h (Handle kind mark) no_wait = go (is_unseen y.version mark) refl
     where
-      go : (unseen : Bool) → is_unseen y.version mark ≡ unseen → IsChange ((changed y h mark).1)
+      go : (unseen : Bool) → is_unseen y.version mark ≡ unseen → IsChange ((wait_effect y h mark).1)
       go true is = inl (rw is refl)
       go false is = closes (is_closed y) refl
         where
-          closes : (closed : Bool) → is_closed y ≡ closed → IsChange ((changed y h mark).1)
+          closes : (closed : Bool) → is_closed y ≡ closed → IsChange ((wait_effect y h mark).1)
           closes true shut = inr (inl (rw (is, shut) refl))
-          closes false shut = let waits : (of_watch {V = V}).is_waiting ((changed y h mark).1) ≡ true = rw (is, shut) refl in absurd (cc)
+          closes false shut = let waits : (of_watch {V = V}).is_waiting ((wait_effect y h mark).1) ≡ true = rw (is, shut) refl in absurd (cc)
 
   pub of_look : (old new : Pass V) (channel h : ℕ) (r : WReply V) → HasLooked channel h old new r → IsRead r
   of_look old new channel h r receipt = go receipt.state receipt.replied
     where
       go : (s : ChanShown V) → (of_chan {V = V}).reply_of s (call.W (Update h)) ≡ reply.W r → IsRead r
       go (broadcast_shown x) is = absurd (cc)
-      go (watch_shown y) is = let same : (effect_found y (Update h) (found (wanted {V = V} (Update h)) y.slots h)).1 ≡ r = cc in subst IsRead same (read y h (found (wanted {V = V} (Update h)) y.slots h))
+      go (watch_shown y) is = let same : (effect_found y (Update h) (lookup (wanted_kind {V = V} (Update h)) y.slots h)).1 ≡ r = cc in subst IsRead same (read y h (lookup (wanted_kind {V = V} (Update h)) y.slots h))
 
   pub of_change : (old new : Pass V) (channel h : ℕ) (r : WReply V) → HasChanged channel h old new r → IsChange r
   of_change old new channel h r receipt = go receipt.state receipt.replied
@@ -63,13 +63,13 @@ module _ {V : Type 0} where
       go : (s : ChanShown V) → (of_chan {V = V}).reply_of s (call.W (Changed h)) ≡ reply.W r → IsChange r
       go (broadcast_shown x) is = absurd (cc)
       go (watch_shown y) is =
-          let given = (effect_found y (Changed h) (found (wanted {V = V} (Changed h)) y.slots h)).1 in
+          let given = (effect_found y (Changed h) (lookup (wanted_kind {V = V} (Changed h)) y.slots h)).1 in
           let same : given ≡ r = cc in
           let no_wait : (of_watch {V = V}).is_waiting given ≡ false = ap (of_watch {V = V}).is_waiting same ∙ receipt.no_wait in
-          subst IsChange same (change y h (found (wanted {V = V} (Changed h)) y.slots h) no_wait)
+          subst IsChange same (change y h (lookup (wanted_kind {V = V} (Changed h)) y.slots h) no_wait)
 
   -- a watch's call strays where there is no watch
-  pub strays_alike : (specs : List (Spec V)) (channel : ℕ) (c : WCall V) → stray_of strays_at (map kind_of_spec specs) (row_call channel (call.W c)) ≡ has_no_watch specs channel
+  pub strays_alike : (specs : List (Spec V)) (channel : ℕ) (c : WCall V) → stray_of strays_at (map spec_kind specs) (row_call channel (call.W c)) ≡ has_no_watch specs channel
   strays_alike [] channel c = refl
   strays_alike (spec.Broadcast n ∷ specs) zero c = refl
   strays_alike (spec.Watch v ∷ specs) zero c = refl
@@ -92,7 +92,7 @@ error_is : {T E : Type 0} (r : Result T E) (e f : E) → IsErrAnd r (λ g. g ≡
 error_is (Ok x) e f told h = absurd told
 error_is (Err g) e f told h = let same : g ≡ f = cc in sym same ∙ told
 
-module _ {V T : Type 0} (specs : List (Spec V)) (channel : ℕ) (c : WCall V) (x : T) (told : IsErrOf (Ok x) NoChannel ↔ IsTrue (stray_of strays_at (map kind_of_spec specs) (row_call channel (call.W c)))) where
+module _ {V T : Type 0} (specs : List (Spec V)) (channel : ℕ) (c : WCall V) (x : T) (told : IsErrOf (Ok x) NoChannel ↔ IsTrue (stray_of strays_at (map spec_kind specs) (row_call channel (call.W c)))) where
   there_is : IsTrue (has_no_watch specs channel) → ⊥
   there_is none = no_fault x NoChannel (told.1 (subst IsTrue (sym (strays_alike specs channel c)) none))
 
@@ -101,7 +101,7 @@ module _ {V T : Type 0} (specs : List (Spec V)) (channel : ℕ) (c : WCall V) (x
   answered_there y = (λ h. absurd (no_fault y NoChannel h), λ none. absurd (there_is none))
 
   -- and at a fault
-  pub broken_there : {U : Type 0} (d : WCall V) (e : DeskFault) (r : Result U DeskFault) → IsErrAnd r (λ f. f ≡ e) → (IsErrOf {T = T} (Err e) NoChannel ↔ IsTrue (stray_of strays_at (map kind_of_spec specs) (row_call channel (call.W d))))
+  pub broken_there : {U : Type 0} (d : WCall V) (e : DeskFault) (r : Result U DeskFault) → IsErrAnd r (λ f. f ≡ e) → (IsErrOf {T = T} (Err e) NoChannel ↔ IsTrue (stray_of strays_at (map spec_kind specs) (row_call channel (call.W d))))
       → (IsErrOf r NoChannel ↔ IsTrue (has_no_watch specs channel))
   broken_there d e r is told2 = (
     λ h. subst IsTrue (strays_alike specs channel d) (told2.0 (ap (λ f. Err f) (sym (error_is r e NoChannel is h)))),

@@ -8,7 +8,7 @@ use Rattle.rw_world.specs.declared.rows.RowCall.{RowCall}
 use Rattle.rw_world.specs.Channel.{strays_at}
 use Rattle.rw_world.specs.declared.channels.ChanCall.{ChanCall}
 use Rattle.rw_world.specs.declared.channels.ChanReply.{ChanReply}
-use Rattle.rw_world.specs.Openings.{kind_of_spec, refusal}
+use Rattle.rw_world.specs.Openings.{spec_kind, refusal}
 use Rattle.rw_world.specs.Shapes.{stray_of}
 use Rattle.rw_desk.specs.declared.faults.DeskFault.{DeskFault}
 use Rattle.rw_desk.specs.declared.faults.DeskFault.TheVariants.{NoChannel}
@@ -64,4 +64,4 @@ has_no_watch specs channel = no_watch_at (slice_get specs channel)
 pub record IsAnswered {V X : Type 0} (specs : List (Spec V)) (old new : Pass V) (channel : ℕ) (call : ChanCall V) (reply_of : X → ChanReply V) (answer : Result X DeskFault) : Type 0 where
   pub receipt : IfOk answer (λ x. HasReceipt old new channel call (reply_of x))
   pub refused : OnErr answer (new ≡ old)
-  pub no_channel : IsErrOf answer NoChannel ↔ IsTrue (stray_of strays_at (map kind_of_spec specs) (row_call channel call))
+  pub no_channel : IsErrOf answer NoChannel ↔ IsTrue (stray_of strays_at (map spec_kind specs) (row_call channel call))

@@ -1,7 +1,7 @@
 -- A wait for a value of which a closure is true.
 use Rattle.std.specs.Prelude.{◌≡◌, ◌⊎◌, ℕ, zero, suc, Bool, true, false, Result, MatchResult}
 use Rattle.rw_handles.specs.declared.kinds.HandleFault.{HandleFault}
-use Rattle.rw_watch.specs.Channel.{refused}
+use Rattle.rw_watch.specs.Channel.{fault_reply}
 use Rattle.rw_watch.specs.declared.calls.WCall.TheVariants.{Update, Changed}
 use Rattle.rw_watch.specs.declared.calls.WReply.{WReply}
 use Rattle.rw_watch.specs.declared.calls.WReply.TheVariants.{Value, Done, Closed}
@@ -12,7 +12,7 @@ use Rattle.rw_desk.specs.Passes.{HasReceipt, Pass}
 
 -- the reply says that the handle can't be used
 abbrev pub IsHandleRefusal : {V : Type 0} → WReply V → Type 0
-IsHandleRefusal r = (fault : HandleFault) × (r ≡ refused fault)
+IsHandleRefusal r = (fault : HandleFault) × (r ≡ fault_reply fault)
 
 module _ {V : Type 0} (channel receiver : ℕ) where
   -- the pass has one receipt more, of a read that marks the value as seen

@@ -4,7 +4,7 @@ ghost use Rattle.std.specs.Prelude.{◌≡◌, ◌↔◌, ◌<◌, ◌≤◌, �
 ghost use Rattle.rw_law.specs.declared.limits.TheConstants.{MOST_ACTORS};
 ghost use Rattle.rw_world.specs.declared.opening.TheConstants.{MOST_CHANNELS};
 ghost use Rattle.rw_world.specs.Channel.{strays_at};
-ghost use Rattle.rw_world.specs.Openings.{has_bad_capacity, kind_of_spec, refusal};
+ghost use Rattle.rw_world.specs.Openings.{has_bad_capacity, spec_kind, refusal};
 ghost use Rattle.rw_world.specs.Shapes.{stray_of};
 ghost use Rattle.rw_desk.specs.Desks.{HasOpened, IsAnswered, ends_at, refusal_to_open, row_call};
 ghost use Rattle.rw_desk.specs.Passes.{fresh_pass};
@@ -120,8 +120,8 @@ impl<V: Payload> Desk<V> {
 
     /// The spec and the lock of a channel, if there is one for this call.
     pub(crate) fn place(&self, channel: u32, call: &ChanCall<V>) -> Option<(&Spec<V>, &Place<V>)>
-        ensures none { IsNone result ↔ IsTrue (stray_of strays_at (map kind_of_spec self.now.specs) (row_call channel call.now)) }
-        ensures some { IfSome result (λ r. strays_at (kind_of_spec r.0.now) call.now ≡ false) }
+        ensures none { IsNone result ↔ IsTrue (stray_of strays_at (map spec_kind self.now.specs) (row_call channel call.now)) }
+        ensures some { IfSome result (λ r. strays_at (spec_kind r.0.now) call.now ≡ false) }
     {
         let at = channel as usize;
         let spec = self.specs.get(at)?;
@@ -134,7 +134,7 @@ impl<V: Payload> Desk<V> {
 
 /// Whether a call is of the other kind than the channel of this spec.
 pub fn strays<V: Copy>(spec: &Spec<V>, call: &ChanCall<V>) -> bool
-    ensures { result ≡ strays_at (kind_of_spec spec.now) call.now }
+    ensures { result ≡ strays_at (spec_kind spec.now) call.now }
 {
     match (spec, call) {
         (Spec::Broadcast(_), ChanCall::B(_)) => false,

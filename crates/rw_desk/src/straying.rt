@@ -15,7 +15,7 @@ use rw_world::World;
 
 /// The least actor that was seen to stray, or the number past all actors, and the first place at which it does.
 #[derive(Clone, Copy)]
-struct Front {
+struct FirstStray {
     actor: u32,
     place: usize,
 }
@@ -52,26 +52,26 @@ fn follow_all<V: Payload>(
     passes: &[Pass<V>],
     entries: &[Entry<World<V>>],
     places: &mut [usize],
-) -> Front
+) -> FirstStray
     requires places { places.old ≡ replicate MOST_ACTORS 0 }
     ensures places { length places.new ≡ MOST_ACTORS }
     ensures few { result.actor ≤ MOST_ACTORS }
     ensures at { AreAt passes.now entries.now places.new result.actor }
     ensures strays { StraysAt passes.now entries.now result }
 {
-    let mut front = Front {
+    let mut nearest = FirstStray {
         actor: MOST_ACTORS,
         place: 0,
     };
     for entry in entries {
-        if entry.actor < front.actor && !follow(passes, places, entry) {
-            front = Front {
+        if entry.actor < nearest.actor && !follow(passes, places, entry) {
+            nearest = FirstStray {
                 actor: entry.actor,
                 place: places[entry.actor as usize],
             };
         }
     }
-    front
+    nearest
 }
 
 /// The least actor below a bound who has a receipt at its place.
@@ -98,12 +98,12 @@ pub(crate) fn strayed<V: Payload>(
     ensures some { IfSome result (λ r. IsStray passes.now entries.now r.0 r.1) }
 {
     let mut places = [0usize; MOST_ACTORS as usize];
-    let front = follow_all(passes, entries, &mut places);
-    if let Some(actor) = first_left(passes, &places, front.actor) {
+    let nearest = follow_all(passes, entries, &mut places);
+    if let Some(actor) = first_left(passes, &places, nearest.actor) {
         return Some((actor, places[actor as usize] as u64));
     }
-    if front.actor < MOST_ACTORS {
-        return Some((front.actor, front.place as u64));
+    if nearest.actor < MOST_ACTORS {
+        return Some((nearest.actor, nearest.place as u64));
     }
     None
 }

@@ -3,8 +3,8 @@ use Rattle.std.specs.Prelude.{ℕ, List, Option, take}
 use Rattle.rw_devices.specs.declared.writers.FailingWriter.{FailingWriter}
 
 -- the bytes that it took
-abbrev pub written : FailingWriter → List ℕ
-written w = w.kept.items
+abbrev pub bytes_written : FailingWriter → List ℕ
+bytes_written w = w.kept.items
 
 -- the first so many of them, that it handed on
 abbrev pub handed_on : FailingWriter → List ℕ

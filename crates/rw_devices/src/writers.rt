@@ -24,12 +24,12 @@ pub struct FailingWriter {
 }
 
 impl FailingWriter {
-    ghost use Rattle.rw_devices.specs.Writers.{written, handed_on, most_of, calls_of, flushes_of};
+    ghost use Rattle.rw_devices.specs.Writers.{bytes_written, handed_on, most_of, calls_of, flushes_of};
 
     /// Takes at most `most` bytes at a call, which may be none. So many calls, flushes among them, go well before the one
     /// that fails, or all do.
     pub fn new(alloc: Global, most: usize, calls: Option<u64>) -> FailingWriter
-        ensures written { written result ≡ [] }
+        ensures written { bytes_written result ≡ [] }
         ensures handed { handed_on result ≡ [] }
         ensures most { most_of result ≡ most }
         ensures calls { calls_of result ≡ calls }
@@ -46,7 +46,7 @@ impl FailingWriter {
 
     /// The bytes that were written.
     pub fn written(&self) -> &[u8]
-        ensures { result.now ≡ written self.now }
+        ensures { result.now ≡ bytes_written self.now }
     {
         self.kept.as_slice()
     }
@@ -67,16 +67,16 @@ impl FailingWriter {
 }
 
 impl Write for FailingWriter {
-    ghost use Rattle.rw_devices.specs.Writers.{written, handed_on, most_of, calls_of, flushes_of};
+    ghost use Rattle.rw_devices.specs.Writers.{bytes_written, handed_on, most_of, calls_of, flushes_of};
 
-    ghost contents = { λ w. Some (written w) };
+    ghost contents = { λ w. Some (bytes_written w) };
 
     fn write(&mut self, buf: &[u8]) -> Result<usize>
         // It fails at that call, and for want of memory.
         ensures fails { IsTrue (is_due (calls_of self.old)) → IsErr result }
         ensures count { IfOk result (λ n. n ≡ min (length buf.now) (most_of self.old)) }
         ensures bound { WritesAtMost result buf.now }
-        ensures bytes { WriteAppends (Some (written self.old)) (Some (written self.new)) result
+        ensures bytes { WriteAppends (Some (bytes_written self.old)) (Some (bytes_written self.new)) result
             buf.now }
         ensures most { most_of self.new ≡ most_of self.old }
         ensures calls { calls_of self.new ≡ after_call (calls_of self.old) }
@@ -94,8 +94,8 @@ impl Write for FailingWriter {
     fn flush(&mut self) -> Result<()>
         ensures fails { IsErr result ↔ IsTrue (is_due (calls_of self.old)) }
         ensures counted { OnOk result (flushes_of self.new ≡ min (flushes_of self.old + 1) (2 ^ 64 - 1)) }
-        ensures bytes { written self.new ≡ written self.old }
-        ensures handed { OnOk result (handed_on self.new ≡ written self.old) }
+        ensures bytes { bytes_written self.new ≡ bytes_written self.old }
+        ensures handed { OnOk result (handed_on self.new ≡ bytes_written self.old) }
         ensures held { OnErr result (handed_on self.new ≡ handed_on self.old) }
         ensures most { most_of self.new ≡ most_of self.old }
         ensures calls { calls_of self.new ≡ after_call (calls_of self.old) }

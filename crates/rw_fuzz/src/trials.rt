@@ -15,14 +15,14 @@ use std::alloc::Global;
 
 /// How many bytes a text has up to the number of its version. The first line of what is written has another one where the text is of
 /// version 1, and as many bytes.
-const HEAD: usize = 13;
+const VERSION_AT: usize = 13;
 
 /// The last line of a text.
 const LAST: &[u8] = b"end\n";
 
 /// A text from behind the number of its version.
 fn behind_version(text: &[u8]) -> &[u8] {
-    let (_, rest) = text.split_at(HEAD.min(text.len()));
+    let (_, rest) = text.split_at(VERSION_AT.min(text.len()));
     rest
 }
 

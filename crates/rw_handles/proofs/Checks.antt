@@ -7,7 +7,7 @@ use Rattle.rw_handles.specs.declared.kinds.HandleFault.{HandleFault}
 use Rattle.rw_handles.specs.declared.kinds.Found.{Found}
 use Rattle.rw_handles.specs.declared.kinds.Found.TheVariants.{Fault, Handle}
 use Rattle.rw_handles.specs.declared.table.TheConstants.{MOST_HANDLES}
-use Rattle.rw_handles.specs.Channels.{checked}
+use Rattle.rw_handles.specs.Channels.{answer_of_check}
 
 -- what a call that makes a handle learns of the check on their number
 room_for_more : (b : Bool) (n : ℕ) → (b && nat_le MOST_HANDLES n) ≡ false → b ≡ true → n < MOST_HANDLES
@@ -18,7 +18,7 @@ room_for_more false n h is = cc
 pub of_checked : {X E : Type 0} (P : E → Type 0) (refused : HandleFault → E) (too_many : E) (makes : Bool) (made : ℕ) (served : Kind → X → E) (f : Found X)
     → ((fault : HandleFault) → P (refused fault)) → P too_many
     → ((kind : Kind) (x : X) → f ≡ Handle kind x → (makes ≡ true → made < MOST_HANDLES) → P (served kind x))
-    → P (checked refused too_many makes made served f)
+    → P (answer_of_check refused too_many makes made served f)
 of_checked P refused too_many makes made served (Fault fault) faulty many serves = faulty fault
 of_checked P refused too_many makes made served (Handle kind x) faulty many serves =
     by_number (makes && nat_le MOST_HANDLES made) (λ few. serves kind x refl (room_for_more makes made few)) where

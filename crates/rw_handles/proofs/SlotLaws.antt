@@ -10,10 +10,10 @@ use Rattle.rw_handles.specs.declared.kinds.Kind.TheVariants.{Sender, Receiver, W
 use Rattle.rw_handles.specs.declared.kinds.Slot.{Slot}
 use Rattle.rw_handles.specs.declared.kinds.Slot.TheVariants.{Live, Spent}
 use Rattle.rw_handles.specs.declared.kinds.Found.TheVariants.{Fault, Handle}
-use Rattle.rw_handles.specs.Slots.{serves, same_kind, found_at, values, IsLive, IsReceiver}
+use Rattle.rw_handles.specs.Slots.{serves, same_kind, lookup_at, values, IsLive, IsReceiver}
 
 -- a handle that is found stands under its number
-pub found_at_is : {X : Type 0} (wanted : Option Kind) (o : Option (Slot X)) (kind : Kind) (x : X) → found_at wanted o ≡ Handle kind x → o ≡ Some (Live kind x)
+pub found_at_is : {X : Type 0} (wanted : Option Kind) (o : Option (Slot X)) (kind : Kind) (x : X) → lookup_at wanted o ≡ Handle kind x → o ≡ Some (Live kind x)
 found_at_is wanted None kind x h = cc
 found_at_is wanted (Some Spent) kind x h = cc
 found_at_is wanted (Some (Live own y)) kind x h = found_live (serves wanted own) own y kind x h where
@@ -34,7 +34,7 @@ same_kind_is Weak Weak h = refl
 same_kind_is _ _ h = cc
 
 -- and where a kind is wanted, it is of that kind
-pub found_at_wanted : {X : Type 0} (wanted : Kind) (o : Option (Slot X)) (kind : Kind) (x : X) → found_at (Some wanted) o ≡ Handle kind x → o ≡ Some (Live wanted x)
+pub found_at_wanted : {X : Type 0} (wanted : Kind) (o : Option (Slot X)) (kind : Kind) (x : X) → lookup_at (Some wanted) o ≡ Handle kind x → o ≡ Some (Live wanted x)
 found_at_wanted wanted None kind x h = cc
 found_at_wanted wanted (Some Spent) kind x h = cc
 found_at_wanted wanted (Some (Live own y)) kind x h = found_live (same_kind wanted own) (same_kind_is wanted own) y h where

@@ -6,17 +6,17 @@ use Rattle.rw_handles.specs.declared.kinds.Kind.{Kind}
 use Rattle.rw_handles.specs.declared.kinds.HandleFault.{HandleFault}
 use Rattle.rw_handles.specs.declared.kinds.Found.{Found}
 use Rattle.rw_handles.specs.declared.kinds.Found.TheVariants.{Fault, Handle}
-use Rattle.rw_handles.specs.Handles.{Handles}
+use Rattle.rw_handles.specs.Handles.{Table}
 use Rattle.rw_handles.specs.declared.table.TheConstants.{MOST_HANDLES}
 
 -- what a call comes to, by the check of its handle: it is refused for a fault of the handle, or, where it makes one more
 -- than may be made, for too many; otherwise the live handle serves it
-abbrev pub checked : {X E : Type 0} → (refused : HandleFault → E) → (too_many : E) → (makes : Bool) → (made : ℕ) → (served : Kind → X → E) → Found X → E
-checked refused too_many makes made served (Fault fault) = refused fault
-checked refused too_many makes made served (Handle kind x) = if makes && nat_le MOST_HANDLES made then too_many else served kind x
+abbrev pub answer_of_check : {X E : Type 0} → (refused : HandleFault → E) → (too_many : E) → (makes : Bool) → (made : ℕ) → (served : Kind → X → E) → Found X → E
+answer_of_check refused too_many makes made served (Fault fault) = refused fault
+answer_of_check refused too_many makes made served (Handle kind x) = if makes && nat_le MOST_HANDLES made then too_many else served kind x
 
 -- what a channel shows is allowed, and there is memory for all that its limit allows
-pub record HasRoom {V X : Type 0} (IsAllowed : V → Type 0) (weight : V → ℕ) (machine : Machine V) (handles : Handles X) : Type 0 where
+pub record HasRoom {V X : Type 0} (IsAllowed : V → Type 0) (weight : V → ℕ) (machine : Machine V) (handles : Table X) : Type 0 where
   pub allowed : IsAllowed machine.shown
   pub within : weight machine.shown ≤ machine.limit
   pub small_limit : machine.limit ≤ MOST_WEIGHT

@@ -16,10 +16,10 @@ UndropUndoesDrop X = (slots : List (Slot X)) (id : ℕ) (kind : Kind) (x : X) �
     → slice_set (slice_set slots id Spent) id (Live kind x) ≡ slots
 
 -- the slots after the value under a number was written
-abbrev pub written : {X : Type 0} → List (Slot X) → ℕ → X → List (Slot X)
-written slots id x = slice_set slots id (with_value x (slice_get slots id))
+abbrev pub with_value_at : {X : Type 0} → List (Slot X) → ℕ → X → List (Slot X)
+with_value_at slots id x = slice_set slots id (with_value x (slice_get slots id))
 
 -- writing the old value again gives the slots from before a write
 abbrev pub SetUndoesSet : Type 0 → Type 0
 SetUndoesSet X = (slots : List (Slot X)) (id : ℕ) (kind : Kind) (old new : X) → slice_get slots id ≡ Some (Live kind old)
-    → written (written slots id new) id old ≡ slots
+    → with_value_at (with_value_at slots id new) id old ≡ slots

@@ -22,14 +22,14 @@ serves None kind = true
 serves (Some wanted) kind = same_kind wanted kind
 
 -- what is found where this stands under a number, if anything
-abbrev pub found_at : {X : Type 0} → Option Kind → Option (Slot X) → Found X
-found_at wanted None = Fault Unknown
-found_at wanted (Some Spent) = Fault Gone
-found_at wanted (Some (Live kind x)) = cond (serves wanted kind) (Handle kind x) (Fault WrongKind)
+abbrev pub lookup_at : {X : Type 0} → Option Kind → Option (Slot X) → Found X
+lookup_at wanted None = Fault Unknown
+lookup_at wanted (Some Spent) = Fault Gone
+lookup_at wanted (Some (Live kind x)) = cond (serves wanted kind) (Handle kind x) (Fault WrongKind)
 
 -- the handle of this number, where it is alive and of the wanted kind
-abbrev pub found : {X : Type 0} → Option Kind → List (Slot X) → ℕ → Found X
-found wanted slots h = found_at wanted (slice_get slots h)
+abbrev pub lookup : {X : Type 0} → Option Kind → List (Slot X) → ℕ → Found X
+lookup wanted slots h = lookup_at wanted (slice_get slots h)
 
 -- whether a handle was found, or the fault
 abbrev pub look_answer : {X : Type 0} → Found X → Result (Unit {0}) HandleFault

@@ -2,7 +2,7 @@
 ghost use Rattle.std.specs.Prelude.{◌≡◌, ◌+◌, ◌-◌, ◌<◌, ◌≤◌, ◌++◌, ◌∷◌, [], length, take, slice_get, slice_set, Some, IfOk, OnOk, IsOk};
 ghost use Rattle.rw_handles.specs.declared.kinds.Kind.TheVariants.{Sender, Receiver};
 ghost use Rattle.rw_handles.specs.declared.kinds.Slot.TheVariants.{Live, Spent};
-ghost use Rattle.rw_handles.specs.Slots.{IsLive, found, look_answer, serves, alive, kind_at, receiver_at, value_at, with_value};
+ghost use Rattle.rw_handles.specs.Slots.{IsLive, lookup, look_answer, serves, alive, kind_at, receiver_at, value_at, with_value};
 ghost use Rattle.rw_handles.specs.declared.table.TheConstants.{MOST_HANDLES};
 
 use crate::kinds::{Found, HandleFault, Kind, Slot};
@@ -26,10 +26,10 @@ impl<X: Copy> Model for Table<X> {
     ghost use Rattle.rw_handles.specs.declared.kinds.Kind.{Kind};
     ghost use Rattle.rw_handles.specs.Slots.{alive};
     ghost use Rattle.rw_handles.specs.declared.table.TheConstants.{MOST_HANDLES};
-    ghost use Rattle.rw_handles.specs.Handles.{Handles};
+    ghost use Rattle.rw_handles.specs.Handles.{Table};
     ghost use Rattle.rw_handles.specs.Tally.{tally_of};
 
-    ghost Value = { Handles X };
+    ghost Value = { Table X };
 
     ghost view = { λ t. record { slots = t.slots.items; room = vec_capacity t.slots - vec_len t.slots } };
 
@@ -205,7 +205,7 @@ impl<X: Copy> Table<X> {
 
     /// The handle of this number, where it is alive and of the wanted kind, if one is wanted.
     pub fn find(&self, id: u32, wanted: Option<Kind>) -> Found<X>
-        ensures { result ≡ found wanted self.now.slots id }
+        ensures { result ≡ lookup wanted self.now.slots id }
     {
         match self.slot(id) {
             None => Found::Fault(HandleFault::Unknown),
@@ -222,7 +222,7 @@ impl<X: Copy> Table<X> {
 
     /// Whether the number is that of a live handle of this kind.
     pub fn look(&self, id: u32, kind: Kind) -> Result<(), HandleFault>
-        ensures { result ≡ look_answer (found (Some kind) self.now.slots id) }
+        ensures { result ≡ look_answer (lookup (Some kind) self.now.slots id) }
     {
         match self.find(id, Some(kind)) {
             Found::Fault(fault) => Err(fault),

@@ -1,13 +1,14 @@
 -- The lines of bytes, a line at a time.
-use Rattle.std.proofs.Common.{◌≡◌, ◌++◌, ◌∷◌, [], ◌<◌, ◌≤◌, ℕ, List, true, not, refl, sym, ap, ◌∙◌, append_assoc, length, All, arith, eqb, Some, None}
+use Rattle.std.proofs.Common.{◌≡◌, ◌++◌, ◌+◌, ◌∷◌, [], ◌<◌, ◌≤◌, ℕ, List, true, not, refl, sym, ap, ◌∙◌, append_assoc, length, All, arith, eqb, Some, None}
 use Rattle.std.specs.List.{onto_first}
 use Rattle.std.proofs.lemmas.Bool.{cond-false, and_parts, not-true}
 use Rattle.std.proofs.lemmas.List.{flat_map_more, take_all, length-take}
 use Rattle.std.proofs.lemmas.List.Concat.{flat_map-cons}
 use Rattle.std.proofs.lemmas.List.Elements.{All-head, All-tail}
 use Rattle.rw_lines.specs.Cut.{cut, lacks}
+use Rattle.rw_lines.specs.declared.lines.TheConstants.{LONGEST_LINE}
 use Rattle.rw_lines.specs.Lines.{lines, unlines, IsUnbroken, is_skipped}
-use Rattle.rw_lines.specs.Reading.{kept}
+use Rattle.rw_lines.specs.Reading.{kept_part}
 use Rattle.rw_lines.proofs.CutLaws.{cut_parts, lacks_uncut}
 
 lines-cons : (b : ℕ) (bs : List ℕ) → not (eqb b 10) ≡ true → lines (b ∷ bs) ≡ onto_first b (lines bs)
@@ -49,12 +50,12 @@ lines_uncut bytes e some = lines_last bytes (lacks_uncut 10 bytes e) some
 
 -- ---- what is kept of a line says of it what the line does
 
-pub kept_short : (text : List ℕ) → length text ≤ 256 → kept text ≡ text
-kept_short text le = take_all 257 text (omega arith)
+pub kept_short : (text : List ℕ) → length text ≤ LONGEST_LINE → kept_part text ≡ text
+kept_short text le = take_all (LONGEST_LINE + 1) text (omega arith)
 
-pub kept_long : (text : List ℕ) → 256 < length text → 256 < length (kept text)
-kept_long text lt = omega (arith, length-take 257 text)
+pub kept_long : (text : List ℕ) → LONGEST_LINE < length text → LONGEST_LINE < length (kept_part text)
+kept_long text lt = omega (arith, length-take (LONGEST_LINE + 1) text)
 
-pub is_skipped-kept : (text : List ℕ) → is_skipped (kept text) ≡ is_skipped text
+pub is_skipped-kept : (text : List ℕ) → is_skipped (kept_part text) ≡ is_skipped text
 is_skipped-kept [] = refl
 is_skipped-kept (b ∷ text) = refl

@@ -12,7 +12,7 @@ lines (b ∷ bs) = if b == 10 then [] ∷ lines bs else onto_first b (lines bs)
 abbrev pub unlines : List (List ℕ) → List ℕ
 unlines ls = flat_map (λ l. l ++ 10 ∷ []) ls
 
--- a line, or a front of one: there is no LF in it
+-- a line, or a prefix of one: there is no LF in it
 abbrev pub IsUnbroken : List ℕ → Type 0
 IsUnbroken text = IsTrue (lacks 10 text)
 

@@ -4,12 +4,12 @@ use Rattle.std.specs.Io.KnownBytes.{Appends}
 use Rattle.rw_lines.specs.declared.streams.StreamFault.{StreamFault}
 use Rattle.rw_lines.specs.declared.streams.StreamFault.TheVariants.{Read, Write, TooMuch, NoMemory}
 
--- a front of the output was written
-pub record WritesFront (writer writer' : Option (List ℕ)) (output : List ℕ) : Type 0 where
+-- a prefix of the output was written
+pub record WritesPrefix (writer writer' : Option (List ℕ)) (output : List ℕ) : Type 0 where
   pub text : List ℕ
   pub rest : List ℕ
   pub written : Appends writer writer' text
-  pub front : text ++ rest ≡ output
+  pub prefix : text ++ rest ≡ output
 
 -- a fault of writing alone
 abbrev pub IsOfWriting : StreamFault → Type 0
@@ -18,6 +18,6 @@ IsOfWriting TooMuch = ⊥
 IsOfWriting Write = ⊤
 IsOfWriting NoMemory = ⊤
 
--- writing stopped at this fault, where a front of the output was written
+-- writing stopped at this fault, where a prefix of the output was written
 abbrev pub StopsWriting : Option (List ℕ) → Option (List ℕ) → List ℕ → StreamFault → Type 0
-StopsWriting writer writer' output fault = IsOfWriting fault × WritesFront writer writer' output
+StopsWriting writer writer' output fault = IsOfWriting fault × WritesPrefix writer writer' output

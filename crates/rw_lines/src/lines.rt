@@ -1,8 +1,8 @@
 //! Lines of bytes.
 
-ghost use Rattle.std.specs.Prelude.{◌≡◌, IfOk, IfErr};
+ghost use Rattle.std.specs.Prelude.{◌≡◌, ◌-◌, length, IfOk, IfErr};
 ghost use Rattle.rw_lines.specs.Lines.{is_skipped};
-ghost use Rattle.rw_lines.specs.Reading.{GivesNext, StopsInLine};
+ghost use Rattle.rw_lines.specs.Reading.{GivesNext, IsKept, StopsInLine};
 
 use crate::streams::{StreamFault, next_byte};
 use std::io::Read;
@@ -21,10 +21,11 @@ pub enum Next {
     End,
 }
 
-/// Reads the next line into `line`, without its LF. Of a line that is too long 257 bytes are kept, which show that it is.
+/// Reads the next line into `line`, without its LF. Of a line that is too long one byte more than the longest line has is kept,
+/// which shows that it is.
 ///
 /// `allowed` is how many bytes the reader may still give, and counts down. Memory is taken only until `line` has held
-/// the longest line. After an `Err` neither of the two says anything.
+/// the longest line. After an `Err` the two say how much came, and how much of it was kept.
 pub fn next_line<R: Read>(
     reader: &mut R,
     allowed: &mut u64,
@@ -34,6 +35,7 @@ pub fn next_line<R: Read>(
         allowed.old allowed.new line.new.items) }
     ensures err { IfErr result
         (StopsInLine (R.remaining reader.old) (R.remaining reader.new) allowed.old) }
+    ensures kept { IfErr result (IsKept (allowed.old - allowed.new) (length line.new.items)) }
 {
     line.clear();
     'each_byte: loop {

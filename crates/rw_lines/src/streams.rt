@@ -2,9 +2,8 @@
 //!
 //! Neither a read nor a write is tried again: an interruption is a failure like any other.
 
-ghost use Rattle.std.specs.Prelude.{◌≡◌, ◌<◌, take, length, option_to_list, IsNone, IfOk, IfErr, OnOk};
+ghost use Rattle.std.specs.Prelude.{◌≡◌, ◌<◌, take, length, option_to_list, IsNone, IfOk, IfErr, OnErr, OnOk};
 ghost use Rattle.std.specs.Io.KnownBytes.{Keeps, Appends, Consumes, IsAtEnd};
-ghost use Rattle.rw_lines.specs.declared.streams.StreamFault.TheVariants.{Write};
 ghost use Rattle.rw_lines.specs.Writing.{StopsWriting};
 
 use std::io;
@@ -32,14 +31,6 @@ pub enum StreamFault {
 #[error("write fault after {written} bytes")]
 pub struct ShortWrite {
     pub written: usize,
-}
-
-impl From<ShortWrite> for StreamFault {
-    ghost from_gives = { λ _ e. e ≡ Write };
-
-    fn from(_short: ShortWrite) -> StreamFault {
-        StreamFault::Write
-    }
 }
 
 /// The next byte, or none at the end.
@@ -83,10 +74,12 @@ pub fn flush<W: io::Write>(writer: &mut W) -> Result<(), StreamFault>
     writer.flush().map_err(|_| StreamFault::Write)
 }
 
-/// The same for a caller that doesn't count: at an `Err` the writer holds a front of the bytes.
+/// The same for a caller that doesn't count: at an `Err` the writer holds a prefix of the bytes.
 pub fn put_out<W: io::Write>(writer: &mut W, bytes: &[u8]) -> Result<(), StreamFault>
     ensures ok { OnOk result (Appends (W.contents writer.old) (W.contents writer.new) bytes.now) }
     ensures err { IfErr result (StopsWriting (W.contents writer.old) (W.contents writer.new) bytes.now) }
+    ensures fault { IfErr result (λ e. e ≡ StreamFault.Write) }
+    ensures some { OnErr result (0 < length bytes.now) }
 {
     match put(writer, bytes) {
         Ok(()) => Ok(()),
@@ -94,10 +87,11 @@ pub fn put_out<W: io::Write>(writer: &mut W, bytes: &[u8]) -> Result<(), StreamF
     }
 }
 
-/// Writes all of the bytes, and makes the writer hand them on. At an `Err` it holds a front of them.
+/// Writes all of the bytes, and makes the writer hand them on. At an `Err` it holds a prefix of them.
 pub fn put_whole<W: io::Write>(writer: &mut W, bytes: &[u8]) -> Result<(), StreamFault>
     ensures ok { OnOk result (Appends (W.contents writer.old) (W.contents writer.new) bytes.now) }
     ensures err { IfErr result (StopsWriting (W.contents writer.old) (W.contents writer.new) bytes.now) }
+    ensures fault { IfErr result (λ e. e ≡ StreamFault.Write) }
 {
     put_out(writer, bytes)?;
     flush(writer)

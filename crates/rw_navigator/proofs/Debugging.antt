@@ -8,10 +8,10 @@ use Rattle.rw_law.specs.declared.journal.Entry.{Entry}
 use Rattle.rw_law.specs.Journal.{after_all, after, IsLegal}
 use Rattle.rw_world.specs.declared.opening.Spec.{Spec}
 use Rattle.rw_world.specs.Machines.{ChanShown, of_world}
-use Rattle.rw_world.specs.Openings.{opened}
+use Rattle.rw_world.specs.Openings.{opening_row}
 use Rattle.rw_world.specs.Records.{IsDocumented, ShowsAtPlaces, RecordsAsDocumented}
 use Rattle.rw_world.specs.Specified.{WorldEntry}
-use Rattle.rw_navigator.specs.Debugger.{Visit, as_run, seen, IsDebugger, StandsAt, WentTo}
+use Rattle.rw_navigator.specs.Debugger.{Visit, as_run, debugger_at, IsDebugger, StandsAt, WentTo}
 use Rattle.rw_navigator.specs.Hits.{is_hit, hit_below, hit_above}
 use Rattle.rw_navigator.specs.Navigator.{IsNavigator, MovedTo, start_of}
 use Rattle.rw_navigator.specs.Places.{last_place}
@@ -28,7 +28,7 @@ first_of_next-same t u same p (suc n) = rw (same (p + 1), first_of_next-same t u
 
 module _ {V : Type 0} where
   -- a visit from the opening of the specs
-  pub begun : ShowsAtPlaces V → RecordsAsDocumented V → (specs : List (Spec V)) (visit : Visit V) → start_of of_world visit ≡ opened specs → IsLegal of_world (opened specs) visit.entries
+  pub begun : ShowsAtPlaces V → RecordsAsDocumented V → (specs : List (Spec V)) (visit : Visit V) → start_of of_world visit ≡ opening_row specs → IsLegal of_world (opening_row specs) visit.entries
       → IsDebugger specs visit
   begun shows recorded specs visit start legal = record {
     shows = λ n. ap (λ x. after of_world x visit.entries n) start ∙ shows specs visit.entries n;
@@ -37,7 +37,7 @@ module _ {V : Type 0} where
 
   -- a visit to a run's entries that stands at place p
   pub stands : ShowsAtPlaces V → (specs : List (Spec V)) (visit : Visit V) (run : Run V) (p : ℕ) → specs ≡ run.specs → visit.entries ≡ run.entries → visit.place ≡ p
-      → (of_world {V = V}).shown visit.machine.state ≡ after of_world (opened run.specs) run.entries p → visit.machine.turns ≡ 0 → StandsAt (seen specs visit) run p
+      → (of_world {V = V}).shown visit.machine.state ≡ after of_world (opening_row run.specs) run.entries p → visit.machine.turns ≡ 0 → StandsAt (debugger_at specs visit) run p
   stands shows specs visit run p same_specs same_entries place shown turns = record {
     run_is =
         ap (λ (s : List (Spec V)). as_run s visit.entries) same_specs ∙ ap (as_run run.specs) same_entries;
@@ -47,8 +47,8 @@ module _ {V : Type 0} where
   }
 
   -- after all entries a world is at the last place
-  pub at_last_place : (run : Run V) → after_all of_world (opened run.specs) run.entries ≡ after of_world (opened run.specs) run.entries (last_place run)
-  at_last_place run = ap (after_all of_world (opened run.specs)) (sym (take-length run.entries))
+  pub at_last_place : (run : Run V) → after_all of_world (opening_row run.specs) run.entries ≡ after of_world (opening_row run.specs) run.entries (last_place run)
+  at_last_place run = ap (after_all of_world (opening_row run.specs)) (sym (take-length run.entries))
 
   module _ (specs : List (Spec V)) (v w : Visit V) (is : IsDebugger specs v) (p n : ℕ) where
     -- it is a debugger still, and went where the visit went
@@ -58,7 +58,7 @@ module _ {V : Type 0} where
       documented = subst (λ es. IsDocumented specs es) (sym moved.entries) is.documented;
     }
 
-    pub went : MovedTo of_world v w p n → WentTo (seen specs v) (seen specs w) p n
+    pub went : MovedTo of_world v w p n → WentTo (debugger_at specs v) (debugger_at specs w) p n
     went moved = record {
       run = ap (as_run specs) moved.entries;
       place = moved.place;
@@ -72,26 +72,26 @@ module _ {V : Type 0} where
       still_on (Ok a) moved left = still moved
       still_on (Err e) moved left = subst (λ x. IsDebugger specs x) (sym left) is
 
-      pub went_on : (r : Result A E) → OnOk r (MovedTo of_world v w p n) → OnOk r (WentTo (seen specs v) (seen specs w) p n)
+      pub went_on : (r : Result A E) → OnOk r (MovedTo of_world v w p n) → OnOk r (WentTo (debugger_at specs v) (debugger_at specs w) p n)
       went_on (Ok a) moved = went moved
       went_on (Err e) moved = tt
 
-      pub left_on : (r : Result A E) → OnErr r (w ≡ v) → OnErr r (seen specs w ≡ seen specs v)
+      pub left_on : (r : Result A E) → OnErr r (w ≡ v) → OnErr r (debugger_at specs w ≡ debugger_at specs v)
       left_on (Ok a) left = tt
-      left_on (Err e) left = ap (seen specs) left
+      left_on (Err e) left = ap (debugger_at specs) left
 
   -- the hits of the visit are those of the run
   same_hits : (specs : List (Spec V)) (v : Visit V) → IsDebugger specs v → (on_step : Bool) (step : WorldEntry V → Bool) (state : List (ChanShown V) → Bool) (p : ℕ)
-      → hit of_world on_step step state v p ≡ is_hit (seen specs v).run on_step step state p
+      → hit of_world on_step step state v p ≡ is_hit (debugger_at specs v).run on_step step state p
   same_hits specs v is true step state p = refl
   same_hits specs v is false step state p = rw (is.shows p, is.shows (p - 1)) refl
 
   pub found_below : (specs : List (Spec V)) (v : Visit V) → IsDebugger specs v → (on_step : Bool) (step : WorldEntry V → Bool) (state : List (ChanShown V) → Bool)
-      → last_below (hit of_world on_step step state v) v.place ≡ hit_below (seen specs v).run on_step step state v.place
+      → last_below (hit of_world on_step step state v) v.place ≡ hit_below (debugger_at specs v).run on_step step state v.place
   found_below specs v is on_step step state = last_below-same _ _ (same_hits specs v is on_step step state) v.place
 
   pub found_above : (specs : List (Spec V)) (v : Visit V) → IsDebugger specs v → (on_step : Bool) (step : WorldEntry V → Bool) (state : List (ChanShown V) → Bool)
-      → first_above (hit of_world on_step step state v) v.place (length v.entries) ≡ hit_above (seen specs v).run on_step step state v.place
+      → first_above (hit of_world on_step step state v) v.place (length v.entries) ≡ hit_above (debugger_at specs v).run on_step step state v.place
   found_above specs v is on_step step state = first_of_next-same _ _ (same_hits specs v is on_step step state) v.place (length v.entries - v.place)
 
 -- ---- recorded replies

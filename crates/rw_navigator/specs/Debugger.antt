@@ -66,8 +66,8 @@ module _ {V : Type 0} where
   -- ---- inside
 
   -- what callers see of a visit to the journal of these specs
-  abbrev pub seen : List (Spec V) → Visit V → Debugger V
-  seen specs visit = record {
+  abbrev pub debugger_at : List (Spec V) → Visit V → Debugger V
+  debugger_at specs visit = record {
     run = as_run specs visit.entries;
     place = visit.place;
     shown = (of_world {V = V}).shown visit.machine.state;

@@ -9,13 +9,13 @@ use Rattle.rw_text.specs.Faults.{fault_text}
 use Rattle.rw_text.specs.Reading.{reading_of}
 
 -- what the commands write over a run, or a journal text's first fault
-abbrev pub shown : Result (Run ℕ) TextFault → List ℕ → List ℕ
-shown (Ok run) commands = commands_report run (last_place run) commands
-shown (Err fault) commands = codes "journal fault " ++ fault_text fault ++ codes "\n"
+abbrev pub page_report : Result (Run ℕ) TextFault → List ℕ → List ℕ
+page_report (Ok run) commands = commands_report run (last_place run) commands
+page_report (Err fault) commands = codes "journal fault " ++ fault_text fault ++ codes "\n"
 
 -- what the commands write over the run whose journal text the first bytes are
 abbrev pub page_of : List ℕ → List ℕ → List ℕ
-page_of journal commands = shown (reading_of numbers journal) commands
+page_of journal commands = page_report (reading_of numbers journal) commands
 
 -- this text stands at the front of a buffer
 abbrev pub Holds : List ℕ → ℕ → List ℕ → Type 0

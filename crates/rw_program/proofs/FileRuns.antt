@@ -5,7 +5,7 @@ use Rattle.std.proofs.lemmas.List.{append-nil, length-append}
 use Rattle.rw_console.specs.SessionReport.{recording_of}
 use Rattle.rw_console.specs.declared.sessions.TheConstants.{MOST_BYTES}
 use Rattle.rw_journal.specs.Run.{Run}
-use Rattle.rw_lines.specs.Writing.{WritesFront}
+use Rattle.rw_lines.specs.Writing.{WritesPrefix}
 use Rattle.rw_lines.specs.declared.streams.StreamFault.{StreamFault}
 use Rattle.rw_lines.proofs.Known.{Appends-none}
 use Rattle.rw_lines.specs.declared.streams.StreamFault.TheVariants.{Write, NoMemory}
@@ -17,7 +17,7 @@ use Rattle.rw_text.specs.Texts.{text, text_of}
 use Rattle.rw_program.specs.declared.reading.Refusal.{Refusal}
 use Rattle.rw_program.specs.declared.reading.Refusal.TheVariants as refusal
 use Rattle.rw_program.specs.Contents.{HasNoScript, HasNoText, IsNoScript, IsNoText, ReadsWhole}
-use Rattle.rw_program.specs.Endings.{recorded, text_fault_line}
+use Rattle.rw_program.specs.Endings.{end_of_record, text_fault_line}
 use Rattle.rw_program.specs.Files.{Closes, ExplainsReading, Fails, OverFile, TellsLine, TellsWhy}
 use Rattle.rw_program.specs.Statuses.{Tells}
 use Rattle.rw_program.specs.Verbs.{Salvages}
@@ -44,19 +44,19 @@ over Unmade (bytes, read, ended, few, said) make = record { bytes = bytes; read 
 
 -- ---- what is written
 
--- nothing is a front of any text
-pub no_front : (out : Option (List ℕ)) (text : List ℕ) → WritesFront out out text
-no_front out text = record { text = []; rest = text; written = Appends-none out; front = refl }
+-- nothing is a prefix of any text
+pub no_prefix : (out : Option (List ℕ)) (text : List ℕ) → WritesPrefix out out text
+no_prefix out text = record { text = []; rest = text; written = Appends-none out; prefix = refl }
 
 -- memory ran out before anything was written
 pub ran_out : {out : Option (List ℕ)} {line : List ℕ} {status : ℕ} (text : List ℕ) → Tells line status (Err NoMemory) → Fails out out line status text
-ran_out {out = out} text told = record { fault = NoMemory; why = tt; front = no_front out text; told = told }
+ran_out {out = out} text told = record { fault = NoMemory; why = tt; prefix = no_prefix out text; told = told }
 
 -- a line was told when a text was written, or memory ran out
 pub told_after : {out out' : Option (List ℕ)} {line : List ℕ} {status : ℕ} (text told : List ℕ) (answered : ℕ) → Appends out out' text → TellsLine line status told answered
     → Closes out out' line status (record { written = text; told = told; status = answered })
 told_after text told answered written (inl said) = inl (record { written = written; told = said.0; answered = said.1 })
-told_after text told answered written (inr memory) = inr (record { fault = NoMemory; why = tt; front = record { text = text; rest = []; written = written; front = append-nil text }; told = memory })
+told_after text told answered written (inr memory) = inr (record { fault = NoMemory; why = tt; prefix = record { text = text; rest = []; written = written; prefix = append-nil text }; told = memory })
 
 -- a run of a script's channels and journal is the script's
 same_run : (run : Run ℕ) (script : Script) → run.specs ≡ (recording_of script).specs → run.entries ≡ (recording_of script).entries → run ≡ recording_of script
@@ -64,24 +64,24 @@ same_run run script specs entries =
     ap (λ specs. record { specs = specs; entries = run.entries }) specs
     ∙ ap (λ entries. record { specs = script.specs; entries = entries }) entries
 
-some_front : (front rest : List ℕ) → 0 < length front → 0 < length (front ++ rest)
-some_front front rest some = omega (arith, length-append front rest)
+some_prefix : (prefix rest : List ℕ) → 0 < length prefix → 0 < length (prefix ++ rest)
+some_prefix prefix rest some = omega (arith, length-append prefix rest)
 
 -- a journal text has its first line
 some_text : (run : Run ℕ) → 0 < length (text numbers run)
 unfolding text_of
-some_text run = some_front (codes "ttd-journal 2\n") _ (lit< tt)
+some_text run = some_prefix (codes "ttd-journal 2\n") _ (lit< tt)
 
--- the writer failed when a front of a journal was written
-pub unwritten : {out out' : Option (List ℕ)} {line : List ℕ} {status : ℕ} (run : Run ℕ) (told : List ℕ) (answered : ℕ) (fault : StreamFault) → fault ≡ Write → WritesFront out out' (text numbers run) → Tells line status (Err fault)
+-- the writer failed when a prefix of a journal was written
+pub unwritten : {out out' : Option (List ℕ)} {line : List ℕ} {status : ℕ} (run : Run ℕ) (told : List ℕ) (answered : ℕ) (fault : StreamFault) → fault ≡ Write → WritesPrefix out out' (text numbers run) → Tells line status (Err fault)
     → Closes out out' line status (record { written = text numbers run; told = told; status = answered })
-unwritten {line = line} {status = status} run told answered fault write front said = inr (record { fault = Write; why = some_text run; front = front; told = subst (λ (e : StreamFault). Tells line status (Err e)) write said })
+unwritten {line = line} {status = status} run told answered fault write prefix said = inr (record { fault = Write; why = some_text run; prefix = prefix; told = subst (λ (e : StreamFault). Tells line status (Err e)) write said })
 
--- a front of a script's journal
+-- a prefix of a script's journal
 pub closes_not : {out out' : Option (List ℕ)} {line : List ℕ} {status : ℕ} (script : Script) (run : Run ℕ) → run.specs ≡ (recording_of script).specs → run.entries ≡ (recording_of script).entries
-    → (fault : StreamFault) → fault ≡ Write → WritesFront out out' (text numbers run) → Tells line status (Err fault) → Closes out out' line status (recorded (Ok script))
-closes_not {out = out} {out' = out'} script run specs entries fault write front told =
-    unwritten (recording_of script) _ _ fault write (subst (λ (r : Run ℕ). WritesFront out out' (text numbers r)) (same_run run script specs entries) front) told
+    → (fault : StreamFault) → fault ≡ Write → WritesPrefix out out' (text numbers run) → Tells line status (Err fault) → Closes out out' line status (end_of_record (Ok script))
+closes_not {out = out} {out' = out'} script run specs entries fault write prefix told =
+    unwritten (recording_of script) _ _ fault write (subst (λ (r : Run ℕ). WritesPrefix out out' (text numbers r)) (same_run run script specs entries) prefix) told
 
 -- ---- salvage
 

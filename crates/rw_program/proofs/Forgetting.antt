@@ -27,7 +27,7 @@ module _ (report : List ℕ → List ℕ) (outcome : List ℕ → Outcome) (begu
     record { bytes = done.bytes; few = done.few; read = tt; written = tt; whole = whole_any r' done.bytes _ done.whole },
     same,
   )
-  ends_any r r' w w' (Err fault) s = record { bytes = s.bytes; text = s.text; rest = s.rest; read = tt; written = tt; front = s.front; why = s.why }
+  ends_any r r' w w' (Err fault) s = record { bytes = s.bytes; text = s.text; rest = s.rest; read = tt; written = tt; prefix = s.prefix; why = s.why }
 
   pub runs_any : {r r' w w' : Option (List ℕ)} {line : List ℕ} {status : ℕ} → Runs report outcome begun r r' w w' line status → Runs report outcome begun None None None None line status
   runs_any {r = r} {r' = r'} {w = w} {w' = w'} s = record { ended = s.ended; commands = ends_any r r' w w' s.ended s.commands; told = s.told }
@@ -35,7 +35,7 @@ module _ (report : List ℕ → List ℕ) (outcome : List ℕ → Outcome) (begu
 pub closes_any : (w w' : Option (List ℕ)) (line : List ℕ) (status : ℕ) (ending : Ending) → Closes w w' line status ending → Closes None None line status ending
 closes_any w w' line status ending (inl c) = inl (record { written = tt; told = c.told; answered = c.answered })
 closes_any w w' line status ending (inr f) =
-    inr (record { fault = f.fault; why = f.why; front = record { text = f.front.text; rest = f.front.rest; written = tt; front = f.front.front }; told = f.told })
+    inr (record { fault = f.fault; why = f.why; prefix = record { text = f.prefix.text; rest = f.prefix.rest; written = tt; prefix = f.prefix.prefix }; told = f.told })
 
 debugs_any : (r r' w w' : Option (List ℕ)) (line : List ℕ) (status : ℕ) (said : Result (Run ℕ) TextFault) → Debugs r r' w w' line status said → Debugs None None None None line status said
 debugs_any r r' w w' line status (Ok run) d = runs_any _ _ _ d

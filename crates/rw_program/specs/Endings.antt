@@ -33,21 +33,21 @@ refused_text fault = record { written = text_fault_line fault; told = []; status
 
 -- ---- `record`: the journal text of a script's run; which line would wait is told behind it
 
-abbrev pub recorded : Result Script ScriptFault → Ending
-recorded (Ok script) = record { written = text numbers (recording_of script); told = waiting_line (run_of script).waits; status = status_of (Ok (outcome_at (run_of script).waits)) }
-recorded (Err fault) = refused_script fault
+abbrev pub end_of_record : Result Script ScriptFault → Ending
+end_of_record (Ok script) = record { written = text numbers (recording_of script); told = waiting_line (run_of script).waits; status = status_of (Ok (outcome_at (run_of script).waits)) }
+end_of_record (Err fault) = refused_script fault
 
 abbrev pub record_of : List ℕ → Ending
-record_of bytes = recorded (script_in (lines bytes))
+record_of bytes = end_of_record (script_in (lines bytes))
 
 -- ---- `check`: how many entries a journal text has
 
-abbrev pub checked : Result (Run ℕ) TextFault → Ending
-checked (Ok run) = record { written = codes "ok " ++ decimal (length run.entries) ++ codes "\n"; told = []; status = 0 }
-checked (Err fault) = refused_text fault
+abbrev pub end_of_check : Result (Run ℕ) TextFault → Ending
+end_of_check (Ok run) = record { written = codes "ok " ++ decimal (length run.entries) ++ codes "\n"; told = []; status = 0 }
+end_of_check (Err fault) = refused_text fault
 
 abbrev pub check_of : List ℕ → Ending
-check_of bytes = checked (reading_of numbers bytes)
+check_of bytes = end_of_check (reading_of numbers bytes)
 
 -- ---- `salvage`: the journal text of what a text holds that was cut off; how many of its bytes say that is told
 
@@ -55,9 +55,9 @@ abbrev pub kept_line : ℕ → List ℕ
 kept_line count = codes "kept " ++ decimal count ++ codes " bytes\n"
 
 -- a fault is told, since a journal would be written
-abbrev pub salvaged : Result (Run ℕ × ℕ) TextFault → Ending
-salvaged (Ok p) = record { written = text numbers p.0; told = kept_line p.1; status = 0 }
-salvaged (Err fault) = record { written = []; told = text_fault_line fault; status = 1 }
+abbrev pub end_of_salvage : Result (Run ℕ × ℕ) TextFault → Ending
+end_of_salvage (Ok p) = record { written = text numbers p.0; told = kept_line p.1; status = 0 }
+end_of_salvage (Err fault) = record { written = []; told = text_fault_line fault; status = 1 }
 
 abbrev pub salvaging_of : List ℕ → Ending
-salvaging_of bytes = salvaged (salvage_of numbers bytes)
+salvaging_of bytes = end_of_salvage (salvage_of numbers bytes)

@@ -10,7 +10,7 @@ use Rattle.rw_journal.specs.Run.{Run}
 use Rattle.rw_console.specs.SessionReport.{fault_line, outcome_at, waiting_line}
 use Rattle.rw_lines.specs.declared.streams.StreamFault.{StreamFault}
 use Rattle.rw_lines.specs.declared.streams.StreamFault.TheVariants.{Read, Write, TooMuch, NoMemory}
-use Rattle.rw_lines.specs.Writing.{WritesFront}
+use Rattle.rw_lines.specs.Writing.{WritesPrefix}
 use Rattle.rw_text.specs.declared.faults.TextFault.{TextFault}
 use Rattle.rw_program.specs.declared.reading.Refusal.{Refusal}
 use Rattle.rw_program.specs.declared.reading.Refusal.TheVariants as refusal
@@ -27,7 +27,7 @@ ExplainsReading count TooMuch = MOST_BYTES < count
 ExplainsReading count NoMemory = count ≤ MOST_BYTES
 ExplainsReading count Write = ⊥
 
--- a front of a file was read
+-- a prefix of a file was read
 abbrev pub StopsReading : Option (List ℕ) → Option (List ℕ) → StreamFault → Type 0
 StopsReading file file' fault = (bytes : List ℕ) × Consumes file file' bytes × ExplainsReading (length bytes) fault
 
@@ -50,7 +50,7 @@ pub record Comes (out out' : Option (List ℕ)) (line : List ℕ) (status : ℕ)
 pub record Fails (out out' : Option (List ℕ)) (line : List ℕ) (status : ℕ) (text : List ℕ) : Type 0 where
   pub fault : StreamFault
   pub why : ExplainsWriting text fault
-  pub front : WritesFront out out' text
+  pub prefix : WritesPrefix out out' text
   pub told : Tells line status (Err fault)
 
 -- it came to this ending, but for a fault of writing

@@ -1,7 +1,7 @@
 -- How the program ends, by its words, whatever files and streams gave and took.
 use Rattle.std.specs.Prelude.{◌≡◌, ◌⊎◌, ℕ, List, None, Err}
 use Rattle.rw_lines.specs.declared.streams.StreamFault.TheVariants.{Read, NoMemory}
-use Rattle.rw_console.specs.Heads.{HasMark}
+use Rattle.rw_console.specs.ScriptReading.{HasMark}
 use Rattle.rw_console.specs.SessionReport.{outcome, report}
 use Rattle.rw_program.specs.declared.words.Asked.{Asked}
 use Rattle.rw_program.specs.declared.words.Asked.TheVariants.{Session, Over, Threads}

@@ -2,7 +2,7 @@
 
 ghost use Rattle.std.specs.Prelude.{◌≡◌, ◌≤◌, ◌<◌, ℕ, List, [], length, IfErr, OnOk};
 ghost use Rattle.std.specs.Io.KnownBytes.{Appends, Keeps};
-ghost use Rattle.rw_lines.specs.Writing.{WritesFront};
+ghost use Rattle.rw_lines.specs.Writing.{WritesPrefix};
 ghost use Rattle.rw_law.specs.Numbers.{numbers};
 ghost use Rattle.rw_text.specs.Texts.{text};
 ghost use Rattle.rw_program.specs.Endings.{kept_line};
@@ -82,11 +82,11 @@ fn say_waiting(alloc: Global, waits: Option<u64>) -> Ended
     }
 }
 
-/// Writes a run's journal text, and hands it on. At an `Err` the writer failed, when a front of it was written.
+/// Writes a run's journal text, and hands it on. At an `Err` the writer failed, when a prefix of it was written.
 pub(crate) fn write_journal<W: Write>(run: &Run<u64>, out: &mut W) -> Result<(), SessionFault>
     ensures ok { OnOk result (Appends (W.contents out.old) (W.contents out.new) (text numbers run.now)) }
     ensures fault { IfErr result (λ fault. fault ≡ SessionFault.Write) }
-    ensures front { IfErr result (λ _. WritesFront (W.contents out.old) (W.contents out.new) (text numbers run.now)) }
+    ensures prefix { IfErr result (λ _. WritesPrefix (W.contents out.old) (W.contents out.new) (text numbers run.now)) }
 {
     match rw_text::write(run, out) {
         Ok(_) => flush(out),

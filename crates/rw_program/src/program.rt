@@ -3,7 +3,7 @@
 ghost use Rattle.std.specs.Prelude.{◌≡◌, ◌≢◌, ◌≤◌, ◌⊎◌, ℕ, List, Option, [], IfOk, IfErr};
 ghost use Rattle.std.specs.Io.KnownBytes.{Keeps};
 ghost use Rattle.std.specs.IoError.{error_kind};
-ghost use Rattle.rw_console.specs.Heads.{HasMark};
+ghost use Rattle.rw_console.specs.ScriptReading.{HasMark};
 ghost use Rattle.rw_console.specs.SessionReport.{outcome, report};
 ghost use Rattle.rw_program.specs.Files.{TellsOnly};
 ghost use Rattle.rw_program.specs.Lines.{line_of};

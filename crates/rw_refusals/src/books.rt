@@ -1,6 +1,7 @@
 //! Books: opened, made ready, and called one call at a time and by lists.
 
 ghost use Rattle.std.specs.Prelude.{◌<◌, All};
+ghost use Rattle.rw_law.specs.declared.limits.TheConstants.{MOST_ACTORS};
 
 use crate::machines::SPECS;
 use crate::met::{Met, TRIES};
@@ -39,7 +40,7 @@ pub fn take<M: Shows>(
     actor: u32,
     call: M::Call,
 ) -> Result<(u64, M::Reply), TakeFault>
-    requires { actor < 64 }
+    requires { actor < MOST_ACTORS }
 {
     let (length, place) = (book.len(), book.machine().place());
     for _ in 0..TRIES {
@@ -74,7 +75,7 @@ fn run<M: Shows>(
     book: &mut Book<M>,
     calls: &[(u32, M::Call)],
 ) -> Result<(), (u64, TakeFault)>
-    requires { All (λ call. call.0 < 64) calls.now }
+    requires { All (λ call. call.0 < MOST_ACTORS) calls.now }
 {
     let mut rest = calls;
     for _ in 0..TRIES {

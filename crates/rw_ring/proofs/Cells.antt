@@ -6,9 +6,9 @@ use Rattle.std.proofs.lemmas.Nat.{mod_below, div-add-mod'}
 use Rattle.std.proofs.lemmas.Bool.{le-ltb, lt-ltb, cases_lt}
 use Rattle.std.proofs.lemmas.List.{append_assoc, append-nil, length_push, length-append, take_at, drop_at, set_at, get_or_append_left, get_or-append_right, get_or-take, get_or-drop}
 use Rattle.std.proofs.lemmas.Option.{slice_get-get_or}
-use Rattle.rw_ring.specs.Cells.{rotated, in_order}
+use Rattle.rw_ring.specs.Cells.{rotation, in_order}
 use Rattle.rw_law.proofs.Lists.{push_back}
-use Rattle.rw_ring.specs.Windows.{put, unput}
+use Rattle.rw_ring.specs.Windows.{window_after, window_before}
 
 -- a list with one element told apart from those before and behind it
 record Split {V : Type 0} (cells : List V) (i : ℕ) : Type 0 where
@@ -23,12 +23,12 @@ split [] i within = absurd (omega arith)
 split (x ∷ xs) zero within = record { before = []; at = x; behind = xs; is = refl; long = refl }
 split (x ∷ xs) (suc i) within = let s = split xs i (omega arith) in record { before = x ∷ s.before; at = s.at; behind = s.behind; is = ap (λ l. x ∷ l) s.is; long = ap suc s.long }
 
-rotated_at : {V : Type 0} (n : ℕ) (a b : List V) → length a ≡ n → rotated n (a ++ b) ≡ b ++ a
+rotated_at : {V : Type 0} (n : ℕ) (a b : List V) → length a ≡ n → rotation n (a ++ b) ≡ b ++ a
 rotated_at n a b long = rw (drop_at a b n long, take_at a b n long) refl
 
 -- past the last cell comes the first
-rotated_whole : {V : Type 0} (cells : List V) → rotated (length cells) cells ≡ rotated 0 cells
-rotated_whole cells = ap (rotated (length cells)) (sym (append-nil cells)) ∙ (rotated_at (length cells) cells [] refl ∙ sym (append-nil cells))
+rotated_whole : {V : Type 0} (cells : List V) → rotation (length cells) cells ≡ rotation 0 cells
+rotated_whole cells = ap (rotation (length cells)) (sym (append-nil cells)) ∙ (rotated_at (length cells) cells [] refl ∙ sym (append-nil cells))
 
 -- the remainder of a sum
 mod_sum : (n i k : ℕ) → (n + i) % k ≡ (n % k + i) % k
@@ -47,39 +47,39 @@ cell_round n i k long short =
     let once : n % k + i ≡ n % k + i - k + k = omega arith in
     mod_sum n i k ∙ (ap (λ m. m % k) once ∙ (add-mod_right (n % k + i - k) k ∙ mod-eq_of_lt short))
 
-rotated_next : {V : Type 0} (k n : ℕ) (cells : List V) → 0 < k → length cells ≡ k → rotated ((n + 1) % k) cells ≡ rotated (n % k + 1) cells
+rotated_next : {V : Type 0} (k n : ℕ) (cells : List V) → 0 < k → length cells ≡ k → rotation ((n + 1) % k) cells ≡ rotation (n % k + 1) cells
 rotated_next k n cells some full = elim (cases_lt (n % k + 1) k) [
-  | inl short ↦ ap (λ m. rotated m cells) (cell_on n 1 k short)
+  | inl short ↦ ap (λ m. rotation m cells) (cell_on n 1 k short)
   | inr long ↦
       let last : n % k + 1 ≡ length cells = omega (arith, mod_below n k some) in
       let first : n % k + 1 - k ≡ 0 = omega (arith, mod_below n k some) in
-      ap (λ m. rotated m cells) (cell_round n 1 k long (omega arith) ∙ first) ∙ (sym (rotated_whole cells) ∙ ap (λ m. rotated m cells) (sym last))
+      ap (λ m. rotation m cells) (cell_round n 1 k long (omega arith) ∙ first) ∙ (sym (rotated_whole cells) ∙ ap (λ m. rotation m cells) (sym last))
 ]
 
 -- before an eviction the values stand in the cells as they are
 pub young : {V : Type 0} (k n : ℕ) (cells : List V) → n ≤ k → length cells ≡ n → in_order k n cells ≡ cells
 young k n cells few long = elim (cases_lt n k) [
-  | inl short ↦ ap (λ m. rotated m cells) (mod-eq_of_lt short ∙ sym long) ∙ (rotated_whole cells ∙ append-nil cells)
+  | inl short ↦ ap (λ m. rotation m cells) (mod-eq_of_lt short ∙ sym long) ∙ (rotated_whole cells ∙ append-nil cells)
   | inr whole ↦
       let same : n ≡ k = omega arith in
-      ap (λ m. rotated m cells) (ap (λ m. m % k) same ∙ mod_self k) ∙ append-nil cells
+      ap (λ m. rotation m cells) (ap (λ m. m % k) same ∙ mod_self k) ∙ append-nil cells
 ]
 
-put_room : {V : Type 0} (k : ℕ) (w : List V) (v : V) → length w < k → put k w v ≡ w ++ v ∷ []
+put_room : {V : Type 0} (k : ℕ) (w : List V) (v : V) → length w < k → window_after k w v ≡ w ++ v ∷ []
 put_room k w v room = rw (lt-ltb (length w) k room) refl
 
-put_evicting : {V : Type 0} (k : ℕ) (w : List V) (v : V) → k ≤ length w → put k w v ≡ drop 1 w ++ v ∷ []
+put_evicting : {V : Type 0} (k : ℕ) (w : List V) (v : V) → k ≤ length w → window_after k w v ≡ drop 1 w ++ v ∷ []
 put_evicting k w v full = rw (le-ltb (length w) k full) refl
 
 -- one more value, where a cell is left
-pub push_puts : {V : Type 0} (k n : ℕ) (cells : List V) (v : V) → n < k → length cells ≡ n → in_order k (n + 1) (cells ++ v ∷ []) ≡ put k (in_order k n cells) v
+pub push_puts : {V : Type 0} (k n : ℕ) (cells : List V) (v : V) → n < k → length cells ≡ n → in_order k (n + 1) (cells ++ v ∷ []) ≡ window_after k (in_order k n cells) v
 push_puts k n cells v room long =
     young k (n + 1) (cells ++ v ∷ []) (omega arith) (omega (arith, length_push cells v))
-    ∙ (sym (put_room k cells v (omega arith)) ∙ ap (λ w. put k w v) (sym (young k n cells (omega arith) long)))
+    ∙ (sym (put_room k cells v (omega arith)) ∙ ap (λ w. window_after k w v) (sym (young k n cells (omega arith) long)))
 
 -- the order of full cells, and after a write to the cell of the next value
 oldest_first : {V : Type 0} (k n : ℕ) (cells : List V) (s : Split cells (n % k)) → in_order k n cells ≡ s.at ∷ s.behind ++ s.before
-oldest_first k n cells s = ap (rotated (n % k)) s.is ∙ rotated_at (n % k) s.before (s.at ∷ s.behind) s.long
+oldest_first k n cells s = ap (rotation (n % k)) s.is ∙ rotated_at (n % k) s.before (s.at ∷ s.behind) s.long
 
 written : {V : Type 0} (i : ℕ) (cells : List V) (s : Split cells i) (v : V) → set cells i v ≡ s.before ++ v ∷ s.behind
 written i cells s v = ap (λ l. set l i v) s.is ∙ set_at s.before s.at s.behind v i s.long
@@ -88,10 +88,10 @@ newest_last : {V : Type 0} (k n : ℕ) (cells : List V) (s : Split cells (n % k)
 newest_last k n cells s some full =
     let split_behind : cells ≡ (s.before ++ s.at ∷ []) ++ s.behind = s.is ∙ sym (append_assoc s.before (s.at ∷ []) s.behind) in
     let long : length (s.before ++ s.at ∷ []) ≡ n % k + 1 = omega (arith, length_push s.before s.at, s.long) in
-    rotated_next k n cells some full ∙ (ap (rotated (n % k + 1)) split_behind ∙ rotated_at (n % k + 1) (s.before ++ s.at ∷ []) s.behind long)
+    rotated_next k n cells some full ∙ (ap (rotation (n % k + 1)) split_behind ∙ rotated_at (n % k + 1) (s.before ++ s.at ∷ []) s.behind long)
 
 -- one more value, where all cells are full: it's written over the oldest one
-pub write_puts : {V : Type 0} (k n : ℕ) (cells : List V) (v : V) → 0 < k → k ≤ n → length cells ≡ k → in_order k (n + 1) (set cells (n % k) v) ≡ put k (in_order k n cells) v
+pub write_puts : {V : Type 0} (k n : ℕ) (cells : List V) (v : V) → 0 < k → k ≤ n → length cells ≡ k → in_order k (n + 1) (set cells (n % k) v) ≡ window_after k (in_order k n cells) v
 write_puts k n cells v some many full =
     let s = split cells (n % k) (omega (arith, mod_below n k some)) in
     let now : Split (set cells (n % k) v) (n % k) = record { before = s.before; at = v; behind = s.behind; is = written (n % k) cells s v; long = s.long } in
@@ -99,17 +99,17 @@ write_puts k n cells v some many full =
     let long : k ≤ length w = omega (arith, length-append (s.at ∷ s.behind) s.before, length-append s.before (s.at ∷ s.behind), ap length s.is) in
     newest_last k n (set cells (n % k) v) now some (omega (arith, length-set cells (n % k) v))
     ∙ (sym (append_assoc s.behind s.before (v ∷ []))
-    ∙ (sym (put_evicting k w v long) ∙ ap (λ l. put k l v) (sym (oldest_first k n cells s))))
+    ∙ (sym (put_evicting k w v long) ∙ ap (λ l. window_after k l v) (sym (oldest_first k n cells s))))
 
 -- and taken back: the evicted value is written over it
-pub write_unputs : {V : Type 0} (k n : ℕ) (cells : List V) (v : V) → 0 < k → length cells ≡ k → in_order k n (set cells (n % k) v) ≡ unput (Some v) (in_order k (n + 1) cells)
+pub write_unputs : {V : Type 0} (k n : ℕ) (cells : List V) (v : V) → 0 < k → length cells ≡ k → in_order k n (set cells (n % k) v) ≡ window_before (Some v) (in_order k (n + 1) cells)
 write_unputs k n cells v some full =
     let s = split cells (n % k) (omega (arith, mod_below n k some)) in
     let now : Split (set cells (n % k) v) (n % k) = record { before = s.before; at = v; behind = s.behind; is = written (n % k) cells s v; long = s.long } in
     let last = sym (append_assoc s.behind s.before (s.at ∷ [])) in
     oldest_first k n (set cells (n % k) v) now
     ∙ (ap (λ l. v ∷ l) (sym (push_back (s.behind ++ s.before) s.at))
-    ∙ ap (unput (Some v)) (sym (newest_last k n cells s some full ∙ last)))
+    ∙ ap (window_before (Some v)) (sym (newest_last k n cells s some full ∙ last)))
 
 -- the place in order of the cell so many places on
 rotated_get : {V : Type 0} (k n i : ℕ) (cells : List V) (d : V) → 0 < k → length cells ≡ k → i < k → get_or (in_order k n cells) i d ≡ get_or cells ((n + i) % k) d

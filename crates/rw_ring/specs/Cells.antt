@@ -2,9 +2,9 @@
 use Rattle.std.specs.Prelude.{ℕ, ◌%◌, List, ◌++◌, take, drop}
 
 -- the cells from this one on, and then those before it
-abbrev pub rotated : {V : Type 0} → ℕ → List V → List V
-rotated first cells = drop first cells ++ take first cells
+abbrev pub rotation : {V : Type 0} → ℕ → List V → List V
+rotation first cells = drop first cells ++ take first cells
 
 -- the values in the cells, the oldest first: it stands in the cell that the next value is put in, where all are full
 abbrev pub in_order : {V : Type 0} → ℕ → ℕ → List V → List V
-in_order capacity count cells = rotated (count % capacity) cells
+in_order capacity count cells = rotation (count % capacity) cells

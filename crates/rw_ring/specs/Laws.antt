@@ -1,21 +1,21 @@
 -- What a window is, among all the values that were put.
 use Rattle.std.specs.Prelude.{◌≡◌, ℕ, ◌+◌, ◌-◌, ◌<◌, ◌≤◌, min, List, [], ◌∷◌, ◌++◌, length, slice_get, is_some, nat_lt}
-use Rattle.rw_ring.specs.Windows.{put, evicted, unput, last_values}
+use Rattle.rw_ring.specs.Windows.{window_after, eviction, window_before, last_values}
 
 -- taking a value back gives the window from before it
 abbrev pub UnputUndoesPut : Type 0 → Type 0
 UnputUndoesPut V = (capacity : ℕ) (window : List V) (v : V) → 0 < capacity
-    → unput (evicted capacity window) (put capacity window v) ≡ window
+    → window_before (eviction capacity window) (window_after capacity window v) ≡ window
 
 -- what a value evicts is what taking it back asks for: something where more were put than are kept
 abbrev pub PutFitsUnput : Type 0 → Type 0
 PutFitsUnput V = (capacity : ℕ) (window : List V) (count : ℕ) → 0 < capacity → length window ≡ min count capacity
-    → is_some (evicted capacity window) ≡ nat_lt capacity (count + 1)
+    → is_some (eviction capacity window) ≡ nat_lt capacity (count + 1)
 
 -- with one more value, the last values of all are still those in the window
 abbrev pub PutKeepsTheLast : Type 0 → Type 0
 PutKeepsTheLast V = (capacity : ℕ) (all : List V) (v : V) → 0 < capacity
-    → put capacity (last_values capacity all) v ≡ last_values capacity (all ++ v ∷ [])
+    → window_after capacity (last_values capacity all) v ≡ last_values capacity (all ++ v ∷ [])
 
 -- a value of the window has its position among all
 abbrev pub ReadsByPosition : Type 0 → Type 0

@@ -6,7 +6,7 @@ use Rattle.std.proofs.lemmas.List.{length_push, drop-drop, drop-append-le}
 use Rattle.rw_law.proofs.Lists.{push_back}
 
 -- what a ring shows
-pub record Window (V : Type 0) : Type 0 where
+pub record Ring (V : Type 0) : Type 0 where
   -- how many values are kept
   pub capacity : ℕ
   -- how many were ever put
@@ -15,11 +15,11 @@ pub record Window (V : Type 0) : Type 0 where
   pub values : List V
 
 -- before the first value
-abbrev pub opened : {V : Type 0} → ℕ → Window V
-opened capacity = record { capacity = capacity; count = 0; values = [] }
+abbrev pub empty_window : {V : Type 0} → ℕ → Ring V
+empty_window capacity = record { capacity = capacity; count = 0; values = [] }
 
 -- the position of the oldest value that is kept
-abbrev pub oldest : {V : Type 0} → Window V → ℕ
+abbrev pub oldest : {V : Type 0} → Ring V → ℕ
 oldest w = w.count - w.capacity
 
 -- the last of all values that were put
@@ -27,39 +27,39 @@ abbrev pub last_values : {V : Type 0} → ℕ → List V → List V
 last_values capacity all = drop (length all - capacity) all
 
 -- the window after one more value
-abbrev pub put : {V : Type 0} → ℕ → List V → V → List V
-put capacity window v = if nat_lt (length window) capacity then window ++ v ∷ [] else drop 1 window ++ v ∷ []
+abbrev pub window_after : {V : Type 0} → ℕ → List V → V → List V
+window_after capacity window v = if nat_lt (length window) capacity then window ++ v ∷ [] else drop 1 window ++ v ∷ []
 
 -- the value that is evicted for it
-abbrev pub evicted : {V : Type 0} → ℕ → List V → Option V
-evicted capacity window = if nat_lt (length window) capacity then None else slice_get window 0
+abbrev pub eviction : {V : Type 0} → ℕ → List V → Option V
+eviction capacity window = if nat_lt (length window) capacity then None else slice_get window 0
 
 -- the window from before a value, given the value that was evicted for it
-abbrev pub unput : {V : Type 0} → Option V → List V → List V
-unput None window = take (length window - 1) window
-unput (Some v) window = v ∷ take (length window - 1) window
+abbrev pub window_before : {V : Type 0} → Option V → List V → List V
+window_before None window = take (length window - 1) window
+window_before (Some v) window = v ∷ take (length window - 1) window
 
 -- by whether there is room
-unput-put_by : {V : Type 0} (b : Bool) (w : List V) (v : V) → (b ≡ false → 0 < length w) → unput (cond b None (slice_get w 0)) (cond b (w ++ v ∷ []) (drop 1 w ++ v ∷ [])) ≡ w
-unput-put_by true w v some = push_back w v
-unput-put_by false [] v some = absurd (omega (arith, some refl))
-unput-put_by false (x ∷ xs) v some = ap (λ ys. x ∷ ys) (push_back xs v)
+window_before-after_by : {V : Type 0} (b : Bool) (w : List V) (v : V) → (b ≡ false → 0 < length w) → window_before (cond b None (slice_get w 0)) (cond b (w ++ v ∷ []) (drop 1 w ++ v ∷ [])) ≡ w
+window_before-after_by true w v some = push_back w v
+window_before-after_by false [] v some = absurd (omega (arith, some refl))
+window_before-after_by false (x ∷ xs) v some = ap (λ ys. x ∷ ys) (push_back xs v)
 
 -- the window from before a value
-pub unput-put : {V : Type 0} (capacity : ℕ) (w : List V) (v : V) → 0 < capacity → unput (evicted capacity w) (put capacity w v) ≡ w
-unput-put capacity w v some = unput-put_by (nat_lt (length w) capacity) w v (λ full. omega (arith, ltb-false (length w) capacity full))
+pub window_before-after : {V : Type 0} (capacity : ℕ) (w : List V) (v : V) → 0 < capacity → window_before (eviction capacity w) (window_after capacity w v) ≡ w
+window_before-after capacity w v some = window_before-after_by (nat_lt (length w) capacity) w v (λ full. omega (arith, ltb-false (length w) capacity full))
 
 -- a window grows up to its capacity
-pub length-put : {V : Type 0} (capacity : ℕ) (w : List V) (v : V) (n : ℕ) → 0 < capacity → length w ≡ min n capacity → length (put capacity w v) ≡ min (n + 1) capacity
-length-put capacity w v n some is =
+pub length-window_after : {V : Type 0} (capacity : ℕ) (w : List V) (v : V) (n : ℕ) → 0 < capacity → length w ≡ min n capacity → length (window_after capacity w v) ≡ min (n + 1) capacity
+length-window_after capacity w v n some is =
     let P = λ (l : List _). length l ≡ min (n + 1) capacity in
     cond_both (nat_lt (length w) capacity) _ _ P
     (λ room. omega (arith, ltb-true (length w) capacity room, length_push w v))
     (λ full. omega (arith, ltb-false (length w) capacity full, length_push (drop 1 w) v, length-drop 1 w))
 
 -- the last values of a list with one more value
-pub put-drop : {V : Type 0} (capacity : ℕ) (s : List V) (v : V) → 0 < capacity → put capacity (drop (length s - capacity) s) v ≡ drop (length (s ++ v ∷ []) - capacity) (s ++ v ∷ [])
-put-drop capacity s v some =
+pub window_after-drop : {V : Type 0} (capacity : ℕ) (s : List V) (v : V) → 0 < capacity → window_after capacity (drop (length s - capacity) s) v ≡ drop (length (s ++ v ∷ []) - capacity) (s ++ v ∷ [])
+window_after-drop capacity s v some =
     let P = λ (l : List _). l ≡ drop (length (s ++ v ∷ []) - capacity) (s ++ v ∷ []) in
     let w = drop (length s - capacity) s in
     cond_both (nat_lt (length w) capacity) _ _ P
@@ -73,8 +73,8 @@ put-drop capacity s v some =
     rw (one_more, drop-append-le, drop-drop) refl)
 
 -- a value is evicted where more were put than are kept
-pub is_some-evicted : {V : Type 0} (capacity : ℕ) (w : List V) (n : ℕ) → 0 < capacity → length w ≡ min n capacity → is_some (evicted capacity w) ≡ nat_lt capacity (n + 1)
-is_some-evicted capacity w n some is =
+pub is_some-eviction : {V : Type 0} (capacity : ℕ) (w : List V) (n : ℕ) → 0 < capacity → length w ≡ min n capacity → is_some (eviction capacity w) ≡ nat_lt capacity (n + 1)
+is_some-eviction capacity w n some is =
     let P = λ (o : Option _). is_some o ≡ nat_lt capacity (n + 1) in
     cond_both (nat_lt (length w) capacity) _ _ P
     (λ room. sym (le-ltb capacity (n + 1) (omega (arith, ltb-true (length w) capacity room))))

@@ -2,7 +2,7 @@
 ghost use Rattle.std.specs.Prelude.{◌≡◌, ◌+◌, ◌-◌, ◌<◌, ◌≤◌, min, [], length, slice_get, None, IfOk, is_some, nat_lt};
 ghost use Rattle.rw_ring.specs.declared.ring.TheConstants.{MOST_CAPACITY};
 ghost use Rattle.rw_law.specs.declared.limits.TheConstants.{MOST_WEIGHT};
-ghost use Rattle.rw_ring.specs.Windows.{put, evicted, unput, oldest, opened};
+ghost use Rattle.rw_ring.specs.Windows.{window_after, eviction, window_before, oldest, empty_window};
 
 use rw_law::NoMemory;
 use std::alloc::Global;
@@ -24,9 +24,9 @@ impl<V: Copy> Model for Ring<V> {
     ghost use Rattle.std.specs.Prelude.{◌≡◌, ◌<◌, ◌≤◌, min, vec_len, vec_capacity};
     ghost use Rattle.rw_ring.specs.Cells.{in_order};
     ghost use Rattle.rw_ring.specs.declared.ring.TheConstants.{MOST_CAPACITY};
-    ghost use Rattle.rw_ring.specs.Windows.{Window};
+    ghost use Rattle.rw_ring.specs.Windows.{Ring};
 
-    ghost Value = { Window V };
+    ghost Value = { Ring V };
 
     ghost view = { λ r. record { capacity = r.capacity; count = r.count; values = in_order r.capacity r.count r.cells.items } };
 
@@ -38,7 +38,7 @@ impl<V: Copy> Ring<V> {
     pub fn new(alloc: Global, capacity: u64) -> Result<Self, NoMemory>
         requires some { 0 < capacity }
         requires most { capacity ≤ MOST_CAPACITY }
-        ensures { IfOk result (λ r. r ≡ opened capacity) }
+        ensures { IfOk result (λ r. r ≡ empty_window capacity) }
     {
         Ok(Ring {
             cells: Vec::with_capacity(alloc, capacity as usize)?,
@@ -85,8 +85,8 @@ impl<V: Copy> Ring<V> {
     /// Puts one more value, and gives the one that is evicted for it.
     pub fn put(&mut self, v: V) -> Option<V>
         requires { self.old.count < MOST_WEIGHT }
-        ensures evicted { result ≡ evicted self.old.capacity self.old.values }
-        ensures values { self.new.values ≡ put self.old.capacity self.old.values v }
+        ensures evicted { result ≡ eviction self.old.capacity self.old.values }
+        ensures values { self.new.values ≡ window_after self.old.capacity self.old.values v }
         ensures count { self.new.count ≡ self.old.count + 1 }
         ensures capacity { self.new.capacity ≡ self.old.capacity }
     {
@@ -104,7 +104,7 @@ impl<V: Copy> Ring<V> {
     pub fn unput(&mut self, evicted: Option<V>)
         requires some { 0 < self.old.count }
         requires evicted { is_some evicted ≡ nat_lt self.old.capacity self.old.count }
-        ensures values { self.new.values ≡ unput evicted self.old.values }
+        ensures values { self.new.values ≡ window_before evicted self.old.values }
         ensures count { self.new.count ≡ self.old.count - 1 }
         ensures capacity { self.new.capacity ≡ self.old.capacity }
     {

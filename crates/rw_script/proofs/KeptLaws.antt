@@ -6,7 +6,7 @@ use Rattle.std.proofs.lemmas.Bool.{cond-false, le-ltb, ne_eqb}
 use Rattle.rw_world.specs.declared.opening.Spec.{Spec}
 use Rattle.rw_world.specs.declared.opening.OpenFault.TheVariants.{NoChannels, TooManyChannels, BadCapacity}
 use Rattle.rw_world.specs.Openings.{has_bad_capacity, refusal}
-use Rattle.rw_script.specs.Script.{Reading, actors_of}
+use Rattle.rw_script.specs.Script.{ScriptReader, actors_of}
 use Rattle.rw_script.specs.Kept.{IsReading, IsScript}
 use Rattle.rw_script.proofs.NameLaws.{no_place}
 
@@ -23,7 +23,7 @@ opens_with n o some few none =
 pub opens : (specs : List (Spec ℕ)) → 0 < length specs → length specs ≤ 64 → All (λ s. has_bad_capacity s ≡ false) specs → refusal specs ≡ None
 opens specs some few good = opens_with (length specs) (position has_bad_capacity specs) some few (all_good specs good)
 
-pub script_kept : (r : Reading) → IsReading r → 0 < length r.specs → IsScript (record { specs = r.specs; actors = actors_of r; steps = r.steps })
+pub script_kept : (r : ScriptReader) → IsReading r → 0 < length r.specs → IsScript (record { specs = r.specs; actors = actors_of r; steps = r.steps })
 script_kept r kept some = record {
   opens = opens r.specs some kept.few_channels kept.good_channels;
   some_actor = kept.some_actor;

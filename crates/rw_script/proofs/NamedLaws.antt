@@ -5,19 +5,19 @@ use Rattle.rw_lines.specs.Cut.{cut}
 use Rattle.rw_lines.specs.Tokens.{is_name}
 use Rattle.rw_lines.proofs.CutLaws.{cut_parts}
 use Rattle.rw_words.specs.Arguments.{rest_text}
-use Rattle.rw_script.specs.Fields.{bound_in, named, named_parts, named_in}
-use Rattle.rw_words.specs.Words.{head_of, rest_of}
+use Rattle.rw_script.specs.Fields.{bound_in, named_call, named_parts, named_in}
+use Rattle.rw_words.specs.Words.{first_part, rest_of}
 use Rattle.rw_words.proofs.WordLaws.{joined}
 
 -- a text in three parts
-pub whole_text : (text : List ℕ) (p : List ℕ × List ℕ) → cut 32 text ≡ Some p → text ≡ p.0 ++ 32 ∷ (head_of p.1 (cut 32 p.1) ++ rest_text (rest_of (cut 32 p.1)))
+pub whole_text : (text : List ℕ) (p : List ℕ × List ℕ) → cut 32 text ≡ Some p → text ≡ p.0 ++ 32 ∷ (first_part p.1 (cut 32 p.1) ++ rest_text (rest_of (cut 32 p.1)))
 whole_text text p e = (cut_parts 32 text p e).1 ∙ ap (λ (x : List ℕ). p.0 ++ 32 ∷ x) (joined p.1 (cut 32 p.1) refl)
 
 -- where there are no names, the text stays
-pub plain_text : (word handle : List ℕ) (more : Option (List ℕ)) → is_name handle ≡ false → is_some (bound_in more) ≡ false → (named word handle more).text ≡ word ++ 32 ∷ (handle ++ rest_text more)
+pub plain_text : (word handle : List ℕ) (more : Option (List ℕ)) → is_name handle ≡ false → is_some (bound_in more) ≡ false → (named_call word handle more).text ≡ word ++ 32 ∷ (handle ++ rest_text more)
 plain_text word handle more h b = rw (h, b) refl
 
-pub named_whole : (text : List ℕ) (p : List ℕ × List ℕ) → cut 32 text ≡ Some p → named_in text ≡ named p.0 (head_of p.1 (cut 32 p.1)) (rest_of (cut 32 p.1))
+pub named_whole : (text : List ℕ) (p : List ℕ × List ℕ) → cut 32 text ≡ Some p → named_in text ≡ named_call p.0 (first_part p.1 (cut 32 p.1)) (rest_of (cut 32 p.1))
 unfolding named_in
 named_whole text p e = ap (named_parts text) e
 

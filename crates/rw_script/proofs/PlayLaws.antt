@@ -17,14 +17,14 @@ use Rattle.rw_world.specs.declared.channels.ChanCall.{ChanCall}
 use Rattle.rw_world.specs.declared.channels.ChanReply.{ChanReply}
 use Rattle.rw_world.specs.declared.channels.ChanPatch.{ChanPatch}
 use Rattle.rw_world.specs.Machines.{ChanShown, of_chan, of_world}
-use Rattle.rw_world.specs.Openings.{opened, kind_of_spec}
+use Rattle.rw_world.specs.Openings.{opening_row, spec_kind}
 use Rattle.rw_world.specs.Records.{ChannelRecord, opened_records, next_records, reply_from, records_after, shown_after, RepliesByRecords}
 use Rattle.rw_world.specs.Specified.{WorldEntry, StraysBySpecs}
 use Rattle.rw_journal.specs.Book.{Book, last_stamp_from, last_stamp, opening_of, state_of, reply_to}
 use Rattle.rw_journal.specs.Interleaving.{CountsFrom, interleaving_of}
 use Rattle.rw_script.specs.declared.steps.ScriptStep.{ScriptStep}
 use Rattle.rw_script.specs.Kept.{IsScriptStep}
-use Rattle.rw_script.specs.Running.{Ran, IsMade, call_of, filled, made_after, made_by, onto, run_from, run_of, with_handle}
+use Rattle.rw_script.specs.Running.{Ran, IsMade, call_of, with_made_handle, made_after, made_by, onto, run_from, run_of, with_handle}
 use Rattle.rw_script.specs.Script.{Script}
 
 -- ---- calls keep their kind
@@ -35,11 +35,11 @@ strays_with broadcast (call.W c) h = refl
 strays_with watch (call.B c) h = refl
 strays_with watch (call.W c) h = refl
 
-strays_filled : (k : ChannelKind) (c : ChanCall ℕ) (name : Option ℕ) (made : List ℕ) → strays_at k (filled c name made) ≡ strays_at k c
+strays_filled : (k : ChannelKind) (c : ChanCall ℕ) (name : Option ℕ) (made : List ℕ) → strays_at k (with_made_handle c name made) ≡ strays_at k c
 strays_filled k c None made = refl
 strays_filled k c (Some name) made = strays_with k c (get_or made name 4294967295)
 
-stray_filled : (o : Option ChannelKind) (c : ChanCall ℕ) (name : Option ℕ) (made : List ℕ) → option_map_or (λ k. strays_at k (filled c name made)) o true ≡ option_map_or (λ k. strays_at k c) o true
+stray_filled : (o : Option ChannelKind) (c : ChanCall ℕ) (name : Option ℕ) (made : List ℕ) → option_map_or (λ k. strays_at k (with_made_handle c name made)) o true ≡ option_map_or (λ k. strays_at k c) o true
 stray_filled None c name made = refl
 stray_filled (Some k) c name made = strays_filled k c name made
 
@@ -75,12 +75,12 @@ abbrev put_before : List (ℕ × RowCall (ChanCall ℕ)) → Ran → Ran
 put_before cs ran = record { calls = cs ++ ran.calls; waits = ran.waits }
 
 pub record Played (script : Script) (book : WorldBook) (made : List ℕ) (index : ℕ) : Type 0 where
-  pub opening : opening_of of_world book ≡ opened script.specs
+  pub opening : opening_of of_world book ≡ opening_row script.specs
   pub counts : CountsFrom 0 book.entries
   pub count : length book.entries ≡ index
   pub rest : run_of script ≡ put_before (interleaving_of book.entries) (run_from (records_after (opened_records script.specs) (calls_of book.entries)) made (drop index script.steps))
 
-pub begins : (script : Script) (book : WorldBook) (made : List ℕ) → opening_of of_world book ≡ opened script.specs → book.entries ≡ [] → made ≡ [] → Played script book made 0
+pub begins : (script : Script) (book : WorldBook) (made : List ℕ) → opening_of of_world book ≡ opening_row script.specs → book.entries ≡ [] → made ≡ [] → Played script book made 0
 begins script book made opening fresh none = record {
   opening = opening;
   counts = rw fresh tt;
@@ -92,7 +92,7 @@ begins script book made opening fresh none = record {
 answered : (script : Script) (book : WorldBook) (made : List ℕ) (index : ℕ) → RepliesByRecords ℕ → Played script book made index → (c : RowCall (ChanCall ℕ))
     → reply_to of_world book c ≡ reply_from (records_after (opened_records script.specs) (calls_of book.entries)) c
 answered script book made index documented p c =
-    ap (λ x. (of_world {V = ℕ}).reply_of x c) (ap (λ x. after_all of_world x book.entries) p.opening ∙ shown_by_calls (opened script.specs) book.entries)
+    ap (λ x. (of_world {V = ℕ}).reply_of x c) (ap (λ x. after_all of_world x book.entries) p.opening ∙ shown_by_calls (opening_row script.specs) book.entries)
     ∙ documented script.specs (calls_of book.entries) c
 
 -- no call of a step strays
@@ -101,7 +101,7 @@ pub never_strays : (script : Script) (book : WorldBook) (made : List ℕ) (index
 never_strays script book made index specified p step ok =
     let c : RowCall (ChanCall ℕ) = (call_of step made).1 in
     ap (λ x. (of_world {V = ℕ}).is_straying ((of_world {V = ℕ}).reply_of (after_all of_world x book.entries) c)) p.opening
-    ∙ (specified script.specs book.entries c ∙ (stray_filled (slice_get (map kind_of_spec script.specs) step.channel) step.call step.target made ∙ ok.kind))
+    ∙ (specified script.specs book.entries c ∙ (stray_filled (slice_get (map spec_kind script.specs) step.channel) step.call step.target made ∙ ok.kind))
 
 run_waits : (world : List (ChannelRecord ℕ)) (made : List ℕ) (step : ScriptStep) (steps : List ScriptStep) → (of_chan {V = ℕ}).is_waiting (reply_from world (call_of step made).1) ≡ true
     → run_from world made (step ∷ steps) ≡ record { calls = []; waits = Some step.line }

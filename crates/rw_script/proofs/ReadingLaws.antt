@@ -8,22 +8,22 @@ use Rattle.rw_words.proofs.WordLaws.{bind_ok}
 use Rattle.rw_script.specs.declared.faults.ScriptFault.{ScriptFault}
 use Rattle.rw_script.specs.declared.faults.ScriptFaultKind.TheVariants.{NoChannels, NoMemory}
 use Rattle.rw_script.specs.Memory.{Adds, AsksMemory, after_lines}
-use Rattle.rw_script.specs.Script.{Reading, Script, actors_of, after_line, ended, is_mark, opening, script_from, script_in}
+use Rattle.rw_script.specs.Script.{ScriptReader, Script, actors_of, after_line, script_at_end, is_mark, opening, script_from, script_in}
 use Rattle.rw_script.proofs.Spared.{spared}
 
 -- the script ends at a mark
-pub at_mark : (r : Reading) (line : List ℕ) (more : List (List ℕ)) → is_mark line ≡ true → script_from r (line ∷ more) ≡ ended r
-at_mark r line more e = cond-true (is_mark line) (ended r) (after_line r line >>= λ s. script_from s more) e
+pub at_mark : (r : ScriptReader) (line : List ℕ) (more : List (List ℕ)) → is_mark line ≡ true → script_from r (line ∷ more) ≡ script_at_end r
+at_mark r line more e = cond-true (is_mark line) (script_at_end r) (after_line r line >>= λ s. script_from s more) e
 
 -- and goes on at any other line
-pub at_other : (r : Reading) (line : List ℕ) (more : List (List ℕ)) (said : Result Reading ScriptFault) → is_mark line ≡ false → after_line r line ≡ said → script_from r (line ∷ more) ≡ (said >>= λ s. script_from s more)
-at_other r line more said e a = cond-false (is_mark line) (ended r) (after_line r line >>= λ s. script_from s more) e ∙ ap (λ (x : Result Reading ScriptFault). x >>= λ s. script_from s more) a
+pub at_other : (r : ScriptReader) (line : List ℕ) (more : List (List ℕ)) (said : Result ScriptReader ScriptFault) → is_mark line ≡ false → after_line r line ≡ said → script_from r (line ∷ more) ≡ (said >>= λ s. script_from s more)
+at_other r line more said e a = cond-false (is_mark line) (script_at_end r) (after_line r line >>= λ s. script_from s more) e ∙ ap (λ (x : Result ScriptReader ScriptFault). x >>= λ s. script_from s more) a
 
 abbrev ended_as : Bool → ℕ → Script → Result Script ScriptFault
 ended_as b n script = cond b (Err (record { line = n; kind = NoChannels })) (Ok script)
 
 -- what was read leads on to the whole, and counts its lines, which were taken
-pub record HasRead (bytes rest : List ℕ) (r : Reading) : Type 0 where
+pub record HasRead (bytes rest : List ℕ) (r : ScriptReader) : Type 0 where
   pub whole : script_from r (lines rest) ≡ script_in (lines bytes)
   pub count : r.lines + length rest ≤ length bytes
   pub before : List (List ℕ)
@@ -31,18 +31,18 @@ pub record HasRead (bytes rest : List ℕ) (r : Reading) : Type 0 where
   pub number : r.lines ≡ length before
   pub taken : after_lines opening before ≡ Ok r
 
-one_more : (r : Reading) (before : List (List ℕ)) (line : List ℕ) (s t : Reading) → after_lines r before ≡ Ok s → after_line s line ≡ Ok t → after_lines r (before ++ line ∷ []) ≡ Ok t
+one_more : (r : ScriptReader) (before : List (List ℕ)) (line : List ℕ) (s t : ScriptReader) → after_lines r before ≡ Ok s → after_line s line ≡ Ok t → after_lines r (before ++ line ∷ []) ≡ Ok t
 one_more r [] line s t e h = let same : r ≡ s = cc in rw (same, h) refl
 one_more r (b ∷ bs) line s t e h =
     let a = bind_ok (after_line r b) (λ v. after_lines v bs) s e in
-    ap (λ (x : Result Reading ScriptFault). x >>= λ v. after_lines v (bs ++ line ∷ [])) a.1 ∙ one_more a.0 bs line s t a.2 h
+    ap (λ (x : Result ScriptReader ScriptFault). x >>= λ v. after_lines v (bs ++ line ∷ [])) a.1 ∙ one_more a.0 bs line s t a.2 h
 
 next_lines : (ls before after more : List (List ℕ)) (line : List ℕ) → ls ≡ before ++ after → after ≡ line ∷ more → ls ≡ before ++ line ∷ more
 next_lines ls before after more line e h = e ∙ ap (λ (x : List (List ℕ)). before ++ x) h
 
-module _ (bytes rest line next : List ℕ) (r : Reading) (h : HasRead bytes rest r) (first : lines rest ≡ line ∷ lines next) where
+module _ (bytes rest line next : List ℕ) (r : ScriptReader) (h : HasRead bytes rest r) (first : lines rest ≡ line ∷ lines next) where
   -- one line more was taken
-  pub read_more : (s : Reading) → is_mark line ≡ false → after_line r line ≡ Ok s → s.lines ≡ r.lines + 1 → length next < length rest → HasRead bytes next s
+  pub read_more : (s : ScriptReader) → is_mark line ≡ false → after_line r line ≡ Ok s → s.lines ≡ r.lines + 1 → length next < length rest → HasRead bytes next s
   read_more s plain said counted shorter = record {
     whole = sym (at_other r line (lines next) (Ok s) plain said) ∙ (ap (script_from r) (sym first) ∙ h.whole);
     count = omega (arith, h.count, shorter, counted);
@@ -71,6 +71,6 @@ ended_at true n script fault h = λ want. cc
 ended_at false n script fault h = absurd cc
 
 -- at its end a script has no want of memory
-pub ended_spares : (r : Reading) (result : Result Script ScriptFault) → result ≡ ended r → (X : ScriptFault → Type 0) → IfErr result (λ fault. fault.kind ≡ NoMemory → X fault)
+pub ended_spares : (r : ScriptReader) (result : Result Script ScriptFault) → result ≡ script_at_end r → (X : ScriptFault → Type 0) → IfErr result (λ fault. fault.kind ≡ NoMemory → X fault)
 ended_spares r (Ok script) e X = tt
 ended_spares r (Err fault) e X = λ want. absurd (ended_at (eqb (length r.specs) 0) (r.lines + 1) (record { specs = r.specs; actors = actors_of r; steps = r.steps }) fault (sym e) want)

@@ -5,7 +5,7 @@ use Rattle.rw_lines.specs.Cut.{cut}
 use Rattle.rw_lines.specs.Numerals.{numeral_in}
 use Rattle.rw_lines.specs.Tokens.{is_word, is_name}
 use Rattle.rw_words.specs.Arguments.{◌>>=◌, rest_text}
-use Rattle.rw_words.specs.Words.{head_of, rest_of}
+use Rattle.rw_words.specs.Words.{first_part, rest_of}
 
 -- ---- the fields
 
@@ -17,7 +17,7 @@ number_field text = do
   Some (n, p.1)
 
 abbrev pub begins_with_word : List ℕ → Bool
-begins_with_word text = is_word (head_of text (cut 32 text))
+begins_with_word text = is_word (first_part text (cut 32 text))
 
 -- a step line: an actor's numeral, a channel's numeral, and the text of a call, which begins with a word
 unfoldable pub fields_in : List ℕ → Option (ℕ × ℕ × List ℕ)
@@ -55,20 +55,20 @@ abbrev pub handle_text : List ℕ → List ℕ
 handle_text handle = if is_name handle then codes "0" else handle
 
 -- what follows the handle, without `as NAME`
-abbrev pub unbound : Option (List ℕ) → Option (List ℕ)
-unbound more = if is_some (bound_in more) then None else more
+abbrev pub without_binding : Option (List ℕ) → Option (List ℕ)
+without_binding more = if is_some (bound_in more) then None else more
 
 -- of a word, a handle and what follows
-abbrev pub named : List ℕ → List ℕ → Option (List ℕ) → Named
-named word handle more = record {
-  text = word ++ 32 ∷ (handle_text handle ++ rest_text (unbound more));
+abbrev pub named_call : List ℕ → List ℕ → Option (List ℕ) → Named
+named_call word handle more = record {
+  text = word ++ 32 ∷ (handle_text handle ++ rest_text (without_binding more));
   target = name_in handle;
   bound = bound_in more;
 }
 
 abbrev pub named_parts : List ℕ → Option (List ℕ × List ℕ) → Named
 named_parts text None = record { text = text; target = None; bound = None }
-named_parts text (Some p) = named p.0 (head_of p.1 (cut 32 p.1)) (rest_of (cut 32 p.1))
+named_parts text (Some p) = named_call p.0 (first_part p.1 (cut 32 p.1)) (rest_of (cut 32 p.1))
 
 -- what stands before the first space is the word, what stands before the next one the handle
 unfoldable pub named_in : List ℕ → Named

@@ -2,19 +2,19 @@
 use Rattle.std.specs.Prelude.{◌≡◌, ◌≤◌, ◌<◌, ℕ, List, All, length, map, false, None}
 use Rattle.rw_world.specs.declared.opening.Spec.{Spec}
 use Rattle.rw_world.specs.Channel.{strays_at}
-use Rattle.rw_world.specs.Openings.{has_bad_capacity, kind_of_spec, refusal}
+use Rattle.rw_world.specs.Openings.{has_bad_capacity, spec_kind, refusal}
 use Rattle.rw_world.specs.Shapes.{stray_of}
 use Rattle.rw_law.specs.declared.limits.TheConstants.{MOST_ACTORS}
 use Rattle.rw_world.specs.declared.opening.TheConstants.{MOST_CHANNELS}
 use Rattle.rw_script.specs.declared.reader.TheConstants.{MOST_STEPS}
 use Rattle.rw_script.specs.declared.steps.ScriptStep.{ScriptStep}
-use Rattle.rw_script.specs.Script.{Script, Reading, actors_of}
+use Rattle.rw_script.specs.Script.{Script, ScriptReader, actors_of}
 
 -- the actor is there, and the channel is there and of the call's kind
 pub record IsScriptStep (specs : List (Spec ℕ)) (actors : ℕ) (step : ScriptStep) : Type 0 where
   pub actor : step.actor < actors
   pub channel : step.channel < length specs
-  pub kind : stray_of strays_at (map kind_of_spec specs) (record { channel = step.channel; call = step.call }) ≡ false
+  pub kind : stray_of strays_at (map spec_kind specs) (record { channel = step.channel; call = step.call }) ≡ false
 
 -- the channels open, there are 1 to 64 actors and at most 1,048,576 steps, each of them of an actor and on a channel
 pub record IsScript (s : Script) : Type 0 where
@@ -25,7 +25,7 @@ pub record IsScript (s : Script) : Type 0 where
   pub steps : All (IsScriptStep s.specs s.actors) s.steps
 
 -- the same on the way, where there may be no channel yet; no step binds two names
-pub record IsReading (r : Reading) : Type 0 where
+pub record IsReading (r : ScriptReader) : Type 0 where
   pub good_channels : All (λ s. has_bad_capacity s ≡ false) r.specs
   pub few_channels : length r.specs ≤ MOST_CHANNELS
   pub some_actor : 1 ≤ actors_of r

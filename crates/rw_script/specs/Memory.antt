@@ -4,27 +4,27 @@ use Rattle.rw_words.specs.Words.{◌>>=◌}
 use Rattle.rw_script.specs.declared.faults.ScriptFaultKind.{ScriptFaultKind}
 use Rattle.rw_script.specs.declared.faults.ScriptFaultKind.TheVariants.{NoMemory}
 use Rattle.rw_script.specs.declared.faults.ScriptFault.{ScriptFault}
-use Rattle.rw_script.specs.Script.{Reading, after_line, opening}
+use Rattle.rw_script.specs.Script.{ScriptReader, after_line, opening}
 
 -- memory is asked for at a line that adds a channel or a step; its faults are found before
-abbrev pub Adds : {E : Type 0} → Reading → Result Reading E → Type 0
+abbrev pub Adds : {E : Type 0} → ScriptReader → Result ScriptReader E → Type 0
 Adds old (Ok new) = length old.specs + length old.steps < length new.specs + length new.steps
 Adds old (Err fault) = ⊥
 
 -- a line was taken as said, or refused as said, or memory ran out where it was asked for; old, new: what was said before it and after it
-abbrev pub TakesLine : {X : Type 0} → Result X ScriptFaultKind → Reading → Reading → Result Reading ScriptFaultKind → Type 0
+abbrev pub TakesLine : {X : Type 0} → Result X ScriptFaultKind → ScriptReader → ScriptReader → Result ScriptReader ScriptFaultKind → Type 0
 TakesLine (Ok x) old new said = said ≡ Ok new
 TakesLine (Err kind) old new said = (said ≡ Err kind) ⊎ ((kind ≡ NoMemory) × Adds old said)
 
 -- the same, with the line's number
-abbrev pub Takes : {X : Type 0} → Result X ScriptFault → Reading → Reading → Result Reading ScriptFault → Type 0
+abbrev pub Takes : {X : Type 0} → Result X ScriptFault → ScriptReader → ScriptReader → Result ScriptReader ScriptFault → Type 0
 Takes (Ok x) old new said = said ≡ Ok new
 Takes (Err fault) old new said = (said ≡ Err fault) ⊎ ((fault.kind ≡ NoMemory) × Adds old said)
 
 -- ---- a whole script
 
 -- what lines say that follow those which say r, or the first fault
-abbrev pub after_lines : Reading → List (List ℕ) → Result Reading ScriptFault
+abbrev pub after_lines : ScriptReader → List (List ℕ) → Result ScriptReader ScriptFault
 after_lines r [] = Ok r
 after_lines r (line ∷ more) = after_line r line >>= λ s. after_lines s more
 
@@ -33,7 +33,7 @@ pub record AsksMemory (ls : List (List ℕ)) (number : ℕ) : Type 0 where
   pub before : List (List ℕ)
   pub line : List ℕ
   pub after : List (List ℕ)
-  pub reading : Reading
+  pub reading : ScriptReader
   pub lines : ls ≡ before ++ line ∷ after
   pub counted : number ≡ length before + 1
   pub taken : after_lines opening before ≡ Ok reading

@@ -35,13 +35,13 @@ with_handle (call.B c) h = call.B (broadcast.with_handle c h)
 with_handle (call.W c) h = call.W (watch.with_handle c h)
 
 -- the step's call, with the handle that its name stands for; made: the handles that the names so far stand for
-abbrev pub filled : ChanCall ℕ → Option ℕ → List ℕ → ChanCall ℕ
-filled c None made = c
-filled c (Some name) made = with_handle c (get_or made name NEVER_MADE)
+abbrev pub with_made_handle : ChanCall ℕ → Option ℕ → List ℕ → ChanCall ℕ
+with_made_handle c None made = c
+with_made_handle c (Some name) made = with_handle c (get_or made name NEVER_MADE)
 
 -- the actor and the call of a step
 abbrev pub call_of : ScriptStep → List ℕ → ℕ × RowCall (ChanCall ℕ)
-call_of step made = (step.actor, record { channel = step.channel; call = filled step.call step.target made })
+call_of step made = (step.actor, record { channel = step.channel; call = with_made_handle step.call step.target made })
 
 -- the handle that a call made, by its reply
 abbrev pub made_on_broadcast : {V : Type 0} → BReply V → ℕ

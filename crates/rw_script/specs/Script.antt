@@ -5,6 +5,7 @@ use Rattle.std.specs.Str.{bytes_eq}
 use Rattle.rw_lines.specs.Cut.{cut}
 use Rattle.rw_lines.specs.Lines.{is_skipped}
 use Rattle.rw_lines.specs.Numerals.{numeral_in}
+use Rattle.rw_lines.specs.declared.lines.TheConstants.{LONGEST_LINE}
 use Rattle.rw_world.specs.declared.opening.Spec.{Spec}
 use Rattle.rw_world.specs.declared.opening.Spec.TheVariants as spec
 use Rattle.rw_law.specs.declared.limits.TheConstants.{MOST_ACTORS}
@@ -29,7 +30,7 @@ pub record Script : Type 0 where
   pub steps : List ScriptStep
 
 -- what the lines of a script say so far
-pub record Reading : Type 0 where
+pub record ScriptReader : Type 0 where
   -- how many lines were read, skipped ones counted
   pub lines : ℕ
   pub specs : List (Spec ℕ)
@@ -40,11 +41,11 @@ pub record Reading : Type 0 where
   pub names : List Bound
 
 -- before the first line
-abbrev pub opening : Reading
+abbrev pub opening : ScriptReader
 opening = record { lines = 0; specs = []; actors = None; steps = []; names = [] }
 
 -- there is one actor where no line says how many there are
-abbrev pub actors_of : Reading → ℕ
+abbrev pub actors_of : ScriptReader → ℕ
 actors_of r = unwrap_or r.actors 1
 
 -- ---- channel lines and the actors line
@@ -65,13 +66,13 @@ unfoldable pub head_in : List ℕ → Option HeadLine
 head_in line = head_after (cut 32 line)
 
 -- channel lines, and the actors line behind them, have their place before the actors line and the first step
-abbrev pub is_in_head : Reading → Bool
+abbrev pub is_in_head : ScriptReader → Bool
 is_in_head r = is_none r.actors && nat_eq (length r.steps) 0
 
-abbrev pub with_spec : Reading → Spec ℕ → Result Reading ScriptFaultKind
+abbrev pub with_spec : ScriptReader → Spec ℕ → Result ScriptReader ScriptFaultKind
 with_spec r s = if nat_lt (length r.specs) MOST_CHANNELS then Ok (record r { specs = r.specs ++ s ∷ [] }) else Err TooManyChannels
 
-abbrev pub with_head : Reading → HeadLine → Result Reading ScriptFaultKind
+abbrev pub with_head : ScriptReader → HeadLine → Result ScriptReader ScriptFaultKind
 with_head r (Broadcast n) = if nat_le 1 n && nat_le n MOST_CAPACITY then with_spec r (spec.Broadcast n) else Err BadCapacity
 with_head r (Watch v) = with_spec r (spec.Watch v)
 with_head r (Actors n) = if nat_le 1 n && nat_le n MOST_ACTORS then Ok (record r { actors = Some n }) else Err BadActors
@@ -83,11 +84,11 @@ is_broadcast (spec.Broadcast n) = true
 is_broadcast (spec.Watch v) = false
 
 -- what the channel is opened as that an actor calls
-abbrev pub spec_for : Reading → ℕ → ℕ → Result (Spec ℕ) ScriptFaultKind
+abbrev pub spec_for : ScriptReader → ℕ → ℕ → Result (Spec ℕ) ScriptFaultKind
 spec_for r actor channel = if nat_lt actor (actors_of r) then or_fault UnknownChannel (slice_get r.specs channel) else Err UnknownActor
 
 -- one step more, on the line that was read last, with the name that it binds
-abbrev pub with_said : Reading → ℕ → ℕ → Said → Option ℕ → Result Reading ScriptFaultKind
+abbrev pub with_said : ScriptReader → ℕ → ℕ → Said → Option ℕ → Result ScriptReader ScriptFaultKind
 with_said r actor channel said target =
     if is_bound_again r.names said.bound then Err NameTaken
     else if nat_lt (length r.steps) MOST_STEPS then Ok (record r {
@@ -96,7 +97,7 @@ with_said r actor channel said target =
     })
     else Err TooManySteps
 
-unfoldable pub with_step : Reading → List ℕ → Result Reading ScriptFaultKind
+unfoldable pub with_step : ScriptReader → List ℕ → Result ScriptReader ScriptFaultKind
 with_step r line = do
   f ← or_fault Syntax (fields_in line)
   s ← spec_for r f.0 f.1
@@ -106,33 +107,33 @@ with_step r line = do
 
 -- ---- any line
 
-abbrev pub with_words : Reading → Option HeadLine → List ℕ → Result Reading ScriptFaultKind
+abbrev pub with_words : ScriptReader → Option HeadLine → List ℕ → Result ScriptReader ScriptFaultKind
 with_words r (Some head) line = with_head r head
 with_words r None line = with_step r line
 
-abbrev pub head_of_line : Reading → List ℕ → Option HeadLine
+abbrev pub head_of_line : ScriptReader → List ℕ → Option HeadLine
 head_of_line r line = if is_in_head r then head_in line else None
 
 -- what is said with the line that was read last, or what is wrong with it
-unfoldable pub with_line : Reading → List ℕ → Result Reading ScriptFaultKind
+unfoldable pub with_line : ScriptReader → List ℕ → Result ScriptReader ScriptFaultKind
 with_line r line =
-    if nat_lt 256 (length line) then Err TooLong
+    if nat_lt LONGEST_LINE (length line) then Err TooLong
     else if is_skipped line then Ok r
     else with_words r (head_of_line r line) line
 
 -- ---- all lines
 
-abbrev pub at_line : ℕ → Result Reading ScriptFaultKind → Result Reading ScriptFault
+abbrev pub at_line : ℕ → Result ScriptReader ScriptFaultKind → Result ScriptReader ScriptFault
 at_line n (Ok r) = Ok r
 at_line n (Err kind) = Err (record { line = n; kind = kind })
 
 -- one line more, or its fault
-abbrev pub after_line : Reading → List ℕ → Result Reading ScriptFault
+abbrev pub after_line : ScriptReader → List ℕ → Result ScriptReader ScriptFault
 after_line r line = at_line (r.lines + 1) (with_line (record r { lines = r.lines + 1 }) line)
 
 -- the script where it ends: at the mark, which is the next line, or at the end of the input
-abbrev pub ended : Reading → Result Script ScriptFault
-ended r =
+abbrev pub script_at_end : ScriptReader → Result Script ScriptFault
+script_at_end r =
     if nat_eq (length r.specs) 0 then Err (record { line = r.lines + 1; kind = NoChannels })
     else Ok (record { specs = r.specs; actors = actors_of r; steps = r.steps })
 
@@ -141,9 +142,9 @@ abbrev pub is_mark : List ℕ → Bool
 is_mark line = bytes_eq line (codes "---")
 
 -- the script of these lines, up to the mark or the end, or its first fault
-abbrev pub script_from : Reading → List (List ℕ) → Result Script ScriptFault
-script_from r [] = ended r
-script_from r (line ∷ ls) = if is_mark line then ended r else (after_line r line >>= λ s. script_from s ls)
+abbrev pub script_from : ScriptReader → List (List ℕ) → Result Script ScriptFault
+script_from r [] = script_at_end r
+script_from r (line ∷ ls) = if is_mark line then script_at_end r else (after_line r line >>= λ s. script_from s ls)
 
 abbrev pub script_in : List (List ℕ) → Result Script ScriptFault
 script_in ls = script_from opening ls

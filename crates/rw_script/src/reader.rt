@@ -4,9 +4,10 @@ ghost use Rattle.std.specs.Prelude.{◌≡◌, ◌+◌, ◌-◌, ◌^◌, ◌<�
 ghost use Rattle.rw_law.specs.declared.limits.TheConstants.{MOST_ACTORS};
 ghost use Rattle.rw_world.specs.declared.opening.TheConstants.{MOST_CHANNELS};
 ghost use Rattle.rw_script.specs.Memory.{Takes, TakesLine};
-ghost use Rattle.rw_world.specs.Openings.{has_bad_capacity, kind_of_spec};
+ghost use Rattle.rw_world.specs.Openings.{has_bad_capacity, spec_kind};
+ghost use Rattle.rw_lines.specs.declared.lines.TheConstants.{LONGEST_LINE};
 ghost use Rattle.rw_script.specs.Kept.{IsScriptStep};
-ghost use Rattle.rw_script.specs.Script.{actors_of, after_line, ended, is_broadcast, is_in_head, is_mark, opening, spec_for, with_head, with_line, with_said, with_spec, with_step};
+ghost use Rattle.rw_script.specs.Script.{actors_of, after_line, script_at_end, is_broadcast, is_in_head, is_mark, opening, spec_for, with_head, with_line, with_said, with_spec, with_step};
 ghost use Rattle.rw_script.specs.StepLines.{kind_if, said_of, target_in};
 ghost use Rattle.rw_words.specs.Words.{map_ok};
 
@@ -40,10 +41,10 @@ pub struct ScriptReader {
 }
 
 impl Model for ScriptReader {
-    ghost use Rattle.rw_script.specs.Script.{Reading};
+    ghost use Rattle.rw_script.specs.Script.{ScriptReader};
     ghost use Rattle.rw_script.specs.Kept.{IsReading};
 
-    ghost Value = { Reading };
+    ghost Value = { ScriptReader };
 
     ghost view = { λ r. record { lines = r.lines; specs = r.specs.items; actors = r.actors; steps = r.steps.items; names = r.names } };
 
@@ -95,7 +96,7 @@ impl ScriptReader {
     /// The script that ends here. It takes no memory.
     pub fn finish(self) -> Result<Script, ScriptFault>
         requires { self.lines < 2 ^ 64 - 1 }
-        ensures { result ≡ ended self }
+        ensures { result ≡ script_at_end self }
     {
         let ScriptReader {
             alloc: _,
@@ -189,7 +190,7 @@ impl ScriptReader {
     /// Takes a step line.
     #[tactic(auto, unfolding(crate::specs::Script::with_step))]
     fn take_step(&mut self, line: &[u8]) -> Result<(), ScriptFaultKind>
-        requires { length line.now ≤ 256 }
+        requires { length line.now ≤ LONGEST_LINE }
         ensures taken { TakesLine result self.old self.new (with_step self.old line.now) }
         ensures unchanged { OnErr result (self.new ≡ self.old) }
         ensures lines { self.new.lines ≡ self.old.lines }
@@ -207,7 +208,7 @@ impl ScriptReader {
     fn is_broadcast(&self, actor: u64, channel: u64) -> Result<bool, ScriptFaultKind>
         ensures kind { result ≡ map_ok is_broadcast (spec_for self.now actor channel) }
         ensures actor { OnOk result (actor < actors_of self.now) }
-        ensures channel { IfOk result (λ b. slice_get (map kind_of_spec self.now.specs) channel ≡ Some (kind_if b)) }
+        ensures channel { IfOk result (λ b. slice_get (map spec_kind self.now.specs) channel ≡ Some (kind_if b)) }
         ensures small { OnOk result ((actor < MOST_ACTORS) × (channel < MOST_CHANNELS)) }
     {
         if actor >= u64::from(self.actors.unwrap_or(1)) {

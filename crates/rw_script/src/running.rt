@@ -6,8 +6,8 @@ ghost use Rattle.rw_journal.specs.declared.book.TheConstants.{MOST_ENTRIES};
 ghost use Rattle.rw_journal.specs.Book.{last_stamp, opening_of, reply_to};
 ghost use Rattle.rw_journal.specs.Interleaving.{CountsFrom, interleaving_of, journal_of};
 ghost use Rattle.rw_world.specs.Machines.{of_world};
-ghost use Rattle.rw_world.specs.Openings.{opened, refusal};
-ghost use Rattle.rw_script.specs.Running.{IsMade, call_of, filled, made_by, run_of, with_handle};
+ghost use Rattle.rw_world.specs.Openings.{opening_row, refusal};
+ghost use Rattle.rw_script.specs.Running.{IsMade, call_of, with_made_handle, made_by, run_of, with_handle};
 
 use crate::script::Script;
 use crate::steps::ScriptStep;
@@ -61,7 +61,7 @@ fn with_handle(call: ChanCall<u64>, handle: u32) -> ChanCall<u64>
 
 /// The step's call, with the handle that its name stands for.
 pub(crate) fn filled(step: &ScriptStep, made: &[u32]) -> ChanCall<u64>
-    ensures { result ≡ filled step.now.call step.now.target made.now }
+    ensures { result ≡ with_made_handle step.now.call step.now.target made.now }
 {
     match step.target {
         None => step.call,
@@ -123,9 +123,9 @@ fn run_steps(
     book: &mut Book<World<u64>>,
     script: &Script,
 ) -> Result<Option<u64>, NoMemory>
-    requires opened { opening_of of_world book.old ≡ opened script.now.specs }
+    requires opened { opening_of of_world book.old ≡ opening_row script.now.specs }
     requires fresh { book.old.entries ≡ [] }
-    ensures opened { OnOk result (opening_of of_world book.new ≡ opened script.now.specs) }
+    ensures opened { OnOk result (opening_of of_world book.new ≡ opening_row script.now.specs) }
     ensures calls { OnOk result (interleaving_of book.new.entries ≡ (run_of script.now).calls) }
     ensures stamps { OnOk result (CountsFrom 0 book.new.entries) }
     ensures waits { IfOk result (λ waits. waits ≡ (run_of script.now).waits) }
@@ -152,7 +152,7 @@ pub struct Played {
 
 /// A book without entries, on the world that a script opens.
 fn book_of(alloc: Global, script: &Script) -> Result<Book<World<u64>>, NoMemory>
-    ensures opened { IfOk result (λ book. opening_of of_world book ≡ opened script.now.specs) }
+    ensures opened { IfOk result (λ book. opening_of of_world book ≡ opening_row script.now.specs) }
     ensures fresh { IfOk result (λ book. book.entries ≡ []) }
 {
     match open(alloc, script.specs()) {
@@ -167,8 +167,8 @@ fn book_of(alloc: Global, script: &Script) -> Result<Book<World<u64>>, NoMemory>
 pub fn play(alloc: Global, script: &Script) -> Result<Played, RunFault>
     ensures specs { IfOk result (λ played. played.specs.items ≡ script.now.specs) }
     ensures opens { IfOk result (λ played. refusal played.specs.items ≡ None) }
-    ensures opened { IfOk result (λ played. opening_of of_world played.book ≡ opened played.specs.items) }
-    ensures entries { IfOk result (λ played. played.book.entries ≡ journal_of of_world (opened script.now.specs) 0 (run_of script.now).calls) }
+    ensures opened { IfOk result (λ played. opening_of of_world played.book ≡ opening_row played.specs.items) }
+    ensures entries { IfOk result (λ played. played.book.entries ≡ journal_of of_world (opening_row script.now.specs) 0 (run_of script.now).calls) }
     ensures waits { IfOk result (λ played. played.waits ≡ (run_of script.now).waits) }
     ensures fault { IfErr result (λ fault. fault ≡ RunFault.NoMemory) }
 {
@@ -191,7 +191,7 @@ pub fn play(alloc: Global, script: &Script) -> Result<Played, RunFault>
 /// The same as a run.
 pub fn run_one(alloc: Global, script: &Script) -> Result<(Run<u64>, Option<u64>), RunFault>
     ensures specs { IfOk result (λ ran. ran.0.specs ≡ script.now.specs) }
-    ensures entries { IfOk result (λ ran. ran.0.entries ≡ journal_of of_world (opened script.now.specs) 0 (run_of script.now).calls) }
+    ensures entries { IfOk result (λ ran. ran.0.entries ≡ journal_of of_world (opening_row script.now.specs) 0 (run_of script.now).calls) }
     ensures waits { IfOk result (λ ran. ran.1 ≡ (run_of script.now).waits) }
     ensures fault { IfErr result (λ fault. fault ≡ RunFault.NoMemory) }
 {

@@ -2,8 +2,9 @@
 
 ghost use Rattle.std.specs.Prelude.{◌≡◌, ◌≤◌, ◌+◌, ◌++◌, ◌∷◌, length, option_map, take, false, IfOk};
 ghost use Rattle.rw_world.specs.Channel.{strays_at};
+ghost use Rattle.rw_lines.specs.declared.lines.TheConstants.{LONGEST_LINE};
 ghost use Rattle.rw_words.specs.Arguments.{rest_text};
-ghost use Rattle.rw_script.specs.Fields.{bound_in, handle_text, name_in, named};
+ghost use Rattle.rw_script.specs.Fields.{bound_in, handle_text, name_in, named_call};
 ghost use Rattle.rw_law.specs.Numbers.{numbers};
 ghost use Rattle.rw_script.specs.StepLines.{kind_if, makes, said_by, said_in, said_of};
 ghost use Rattle.rw_words.specs.Texts.{call_in};
@@ -85,10 +86,10 @@ fn call_of_parts(
     handle: &[u8],
     more: Option<&[u8]>,
 ) -> Result<ChanCall<u64>, WordFault>
-    requires short { length text.now ≤ 256 }
+    requires short { length text.now ≤ LONGEST_LINE }
     requires whole { text.now ≡ word.now ++ 32 ∷ (handle.now ++ rest_text (option_map (λ m. m.now) more)) }
     ensures kind { IfOk result (λ call. strays_at (kind_if broadcast) call ≡ false) }
-    ensures call { result ≡ call_in numbers broadcast (named word.now handle.now (option_map (λ m. m.now) more.entry)).text }
+    ensures call { result ≡ call_in numbers broadcast (named_call word.now handle.now (option_map (λ m. m.now) more.entry)).text }
 {
     let binds = bound_of(more).is_some();
     if !binds && !is_name(handle) {
@@ -124,7 +125,7 @@ fn said_by<'a>(
 /// What the text of a call says, in the words of a broadcast or else of a watch.
 #[tactic(auto, unfolding(crate::specs::StepLines::said_in, crate::specs::Fields::named_in))]
 pub(crate) fn read_said(broadcast: bool, text: &[u8]) -> Result<SaidCall<'_>, ScriptFaultKind>
-    requires { length text.now ≤ 256 }
+    requires { length text.now ≤ LONGEST_LINE }
     ensures said { map_ok said_of result ≡ said_in broadcast text.now }
     ensures kind { IfOk result (λ said. strays_at (kind_if broadcast) said.call ≡ false) }
 {

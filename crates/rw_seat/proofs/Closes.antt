@@ -5,7 +5,7 @@ use Rattle.std.proofs.lemmas.List.Elements.{All-pop, All-same, All-nil}
 use Rattle.rw_seat.specs.declared.view.View.{View}
 use Rattle.rw_seat.specs.declared.view.Old.{Old}
 use Rattle.rw_seat.specs.Journals.{IsIn, IsQuiet}
-use Rattle.rw_seat.specs.Rule.{joined, Fits, OldsFit, Kept, Known, OldsKnown}
+use Rattle.rw_seat.specs.Rule.{joined_view, Fits, OldsFit, Kept, Known, OldsKnown}
 use mathlib.Core.Option.{some}
 use lib.ListN.{get_elem?}
 use Rattle.atomic_table.specs.Table.{Final, Seen}
@@ -55,9 +55,9 @@ module _ {E S : Type 0} (author : E → ℕ) where
   pub known_fits : (h : List E) (v : View E S) → Fits author h v → Known author h v
   known_fits h v fit = (fit.0, olds_known author h v.front v.numbers v.olds fit.1)
 
-  pub known_joined : (h : List E) (v w j : View E S) → j ≡ joined v w → Known author h j → Known author h v × Known author h w
+  pub known_joined : (h : List E) (v w j : View E S) → j ≡ joined_view v w → Known author h j → Known author h v × Known author h w
   known_joined h v w j is k =
-      let k' : Known author h (joined v w) = subst (Known author h) is k in
+      let k' : Known author h (joined_view v w) = subst (Known author h) is k in
       let r = split_known author h v.olds w.olds k'.1.1.1 in ((k'.1.0, r.0), (k'.1.1.0, r.1))
 
   pub known_one : (h : List E) (v : View E S) (n : ℕ) → v.numbers ≡ n ∷ [] → Known author h v → IsQuiet author (n ∷ []) v.front h

@@ -12,9 +12,9 @@ use Rattle.rw_world.specs.declared.channels.Chan.{Chan}
 use Rattle.rw_world.specs.declared.channels.ChanCall.{ChanCall}
 use Rattle.rw_world.specs.Channel.{strays_at}
 use Rattle.rw_world.specs.ChannelLaws.{kind_stays, strays_by_kind}
-use Rattle.rw_world.specs.Kinds.{kind_of}
+use Rattle.rw_world.specs.Kinds.{channel_kind}
 use Rattle.rw_world.specs.Machines.{ChanShown, of_broadcast, of_chan, of_watch}
-use Rattle.rw_world.specs.Openings.{kind_of_spec, opened_channel}
+use Rattle.rw_world.specs.Openings.{spec_kind, opened_channel}
 use Rattle.rw_world.specs.Shapes.{stray_of}
 use Rattle.rw_world.specs.Specified.{ChanEntry}
 use Rattle.rw_journal.specs.Book.{IsBook, RisesFrom}
@@ -82,44 +82,44 @@ module _ {V : Type 0} where
         ∙ (sym (get_or-map (λ (x : Hand V). x.home) hands at hand hand.home within_hands)
         ∙ (ap (λ (hs : List (Home (Chan V))). get_or hs at hand.home) same ∙ get_or_from_slice_get homes at home hand.home there))
 
-  kind_after : (x : ChanShown V) (es : List (ChanEntry V)) → kind_of (after_all of_chan x es) ≡ kind_of x
+  kind_after : (x : ChanShown V) (es : List (ChanEntry V)) → channel_kind (after_all of_chan x es) ≡ channel_kind x
   kind_after x [] = refl
   kind_after x (e ∷ es) = kind_after ((of_chan {V = V}).next x e.call) es ∙ kind_stays of_broadcast of_watch x e.call
 
-  kind_opened : (spec : Spec V) → kind_of (opened_channel spec) ≡ kind_of_spec spec
+  kind_opened : (spec : Spec V) → channel_kind (opened_channel spec) ≡ spec_kind spec
   kind_opened (Broadcast capacity) = refl
   kind_opened (Watch init) = refl
 
   -- after any front a call strays exactly by the spec
-  strays_after : (spec : Spec V) (es : List (ChanEntry V)) (call : ChanCall V) → (of_chan {V = V}).is_straying ((of_chan {V = V}).reply_of (after_all of_chan (opened_channel spec) es) call) ≡ strays_at (kind_of_spec spec) call
+  strays_after : (spec : Spec V) (es : List (ChanEntry V)) (call : ChanCall V) → (of_chan {V = V}).is_straying ((of_chan {V = V}).reply_of (after_all of_chan (opened_channel spec) es) call) ≡ strays_at (spec_kind spec) call
   strays_after spec es call =
       strays_by_kind of_broadcast of_watch (after_all of_chan (opened_channel spec) es) call ∙ ap (λ k. strays_at k call) (kind_after (opened_channel spec) es ∙ kind_opened spec)
 
   -- a call that isn't of the other kind than the channel has no such fault
-  no_stray : (spec : Spec V) (home : Home (Chan V)) (old new : Pass V) (seen now : List (ChanEntry V)) (call : ChanCall V) → opening_at home ≡ Some (opened_channel spec) → strays_at (kind_of_spec spec) call ≡ false
+  no_stray : (spec : Spec V) (home : Home (Chan V)) (old new : Pass V) (seen now : List (ChanEntry V)) (call : ChanCall V) → opening_at home ≡ Some (opened_channel spec) → strays_at (spec_kind spec) call ≡ false
       → IsNotMade home old new seen now call NoChannel → ⊥
   no_stray spec home old new seen now call from stays refused =
       let strays = of_opening (λ x. IsFaultAfter x now old.clock call NoChannel) home (opened_channel spec) refused.reason from in
       true≢false (sym strays ∙ (strays_after spec now call ∙ stays))
 
   -- where a call has no channel, nothing was seen
-  pub refused_stray : (specs : List (Spec V)) (seat : DeskSeat V) (at : ℕ) (call : ChanCall V) → IsTrue (stray_of strays_at (map kind_of_spec specs) (row_call at call)) → IsAnswered specs seat seat at call (Err NoChannel)
+  pub refused_stray : (specs : List (Spec V)) (seat : DeskSeat V) (at : ℕ) (call : ChanCall V) → IsTrue (stray_of strays_at (map spec_kind specs) (row_call at call)) → IsAnswered specs seat seat at call (Err NoChannel)
   refused_stray specs seat at call strays = record {
     made = record {
       seen = record { pass = refl; fronts = λ c. quiet_self author_of (seat.pass.actor ∷ []) (front_at seat.hands c) };
-      reason = why (slice_get specs at) (subst (λ o. IsTrue (option_map_or (λ k. strays_at k call) o true)) (slice_get-map kind_of_spec specs at) strays);
+      reason = why (slice_get specs at) (subst (λ o. IsTrue (option_map_or (λ k. strays_at k call) o true)) (slice_get-map spec_kind specs at) strays);
     };
     elsewhere = λ c other. refl;
     no_channel = ((λ no. strays), (λ t. refl));
   }
     where
-      why : (o : Option (Spec V)) → IsTrue (option_map_or (λ k. strays_at k call) (option_map kind_of_spec o) true)
+      why : (o : Option (Spec V)) → IsTrue (option_map_or (λ k. strays_at k call) (option_map spec_kind o) true)
           → MatchOption o (NoChannel ≡ NoChannel) (λ spec. IsFaultAfter (opened_channel spec) (front_at seat.hands at) seat.pass.clock call NoChannel)
       why None t = refl
       why (Some spec) t = strays_after spec (front_at seat.hands at) call ∙ t
 
-  stays_in : (specs : List (Spec V)) (at : ℕ) (spec : Spec V) (call : ChanCall V) → slice_get specs at ≡ Some spec → strays_at (kind_of_spec spec) call ≡ false
-      → stray_of strays_at (map kind_of_spec specs) (row_call at call) ≡ false
+  stays_in : (specs : List (Spec V)) (at : ℕ) (spec : Spec V) (call : ChanCall V) → slice_get specs at ≡ Some spec → strays_at (spec_kind spec) call ≡ false
+      → stray_of strays_at (map spec_kind specs) (row_call at call) ≡ false
   stays_in specs at spec call there stays = rw (slice_get-map, there) stays
 
   legal_begins : (x : ChanShown V) (f rest : List (ChanEntry V)) → IsLegal of_chan x (f ++ rest) → IsLegal of_chan x f
@@ -177,7 +177,7 @@ module _ {V : Type 0} where
 
   -- what a desk answers, from what the hand's call came to
   pub answered : (specs : List (Spec V)) (pass new : Pass V) (hands : List (Hand V)) (at : ℕ) (hand h : Hand V) (home : Home (Chan V)) (spec : Spec V) (call : ChanCall V) (answer : Result (Answered V) DeskFault)
-      → at < length hands → hand ≡ get_or hands at hand → slice_get specs at ≡ Some spec → opening_at home ≡ Some (opened_channel spec) → strays_at (kind_of_spec spec) call ≡ false
+      → at < length hands → hand ≡ get_or hands at hand → slice_get specs at ≡ Some spec → opening_at home ≡ Some (opened_channel spec) → strays_at (spec_kind spec) call ≡ false
       → IsDeskSeat new (insert (remove hands at) at h)
       → IfOk answer (IsMade pass new hand.front h.front at call) → IfErr answer (IsNotMade home pass new hand.front h.front call)
       → IsAnswered specs (record { pass = pass; hands = hands }) (record { pass = new; hands = insert (remove hands at) at h }) at call answer

@@ -10,3 +10,4 @@ pub mod Handing
 pub mod Desks
 pub mod Closings
 pub mod Giving
+pub mod Sends

@@ -8,7 +8,7 @@ use Rattle.atomic_table.specs.Table.{State, Me, Act, step, keeps, takes, gives, 
 use Rattle.atomic_table.proofs.Lists.{set_again, set_here, set_else, at_longer}
 use Rattle.rw_seat.specs.declared.view.View.{View}
 use Rattle.rw_seat.specs.Journals.{IsIn, Apart, Distinct, IsQuiet, Adds}
-use Rattle.rw_seat.specs.Rule.{numbers_from, view_of, resting, spent, joined, first_part, other_part, Fits, Agree, AtHome, IsOut, Kept, Takes, Gives}
+use Rattle.rw_seat.specs.Rule.{numbers_from, view_of, resting, spent_view, joined_view, first_part, other_part, Fits, Agree, AtHome, IsOut, Kept, Takes, Gives}
 use Rattle.rw_seat.proofs.Journals.{in_from, quiet_self, quiet_more, olds_more}
 use Rattle.rw_seat.proofs.Views.{from_distinct, at_within, each_set, agree_set, each_split, agree_split, each_join, agree_join}
 
@@ -198,9 +198,9 @@ module _ {B E S : Type 0} (author : E → ℕ) (start : B → S) (journal : B �
       )
 
   -- joining a seat
-  pub joins : (id other m : ℕ) (v w : View E S) → IsIn m v.numbers → v.held ≡ false → w.held ≡ false → Joins Rule id v other w (joined v w) spent
+  pub joins : (id other m : ℕ) (v w : View E S) → IsIn m v.numbers → v.held ≡ false → w.held ≡ false → Joins Rule id v other w (joined_view v w) spent_view
   joins id other m v w living idle still s r atv ne got =
-      let a : View E S = joined v w in
+      let a : View E S = joined_view v w in
       let atw : get_elem? s.views other ≡ some w = sym (set_else s.views id other a ne) ∙ got in (
         r.0,
         agree_join author o r.0 seats s.views id other m v w living atv atw ne r.1,
@@ -214,7 +214,7 @@ module _ {B E S : Type 0} (author : E → ℕ) (start : B → S) (journal : B �
               p.2,
               p.3,
               p.4,
-              set_else (set s.views id a) other p.0 spent no ∙ (set_else s.views id p.0 a ni ∙ p.5),
+              set_else (set s.views id a) other p.0 spent_view no ∙ (set_else s.views id p.0 a ni ∙ p.5),
               each_join author (λ j u. u.held ≡ true → j ≡ p.0) s.views id other a (λ j u x y e t. p.6 j u e t) (λ t. absurd (off t)) (λ t. absurd (off t)),
             ))
             r.2,
@@ -249,14 +249,14 @@ module _ {B : Type 0} where
   same_book l b x r p q = ap slot_in (sym q ∙ p)
 
 module _ {E S : Type 0} (author : E → ℕ) where
-  pub joined_numbers : (v w j : View E S) (a b : ℕ) → j ≡ joined v w → v.numbers ≡ a ∷ [] → w.numbers ≡ b ∷ [] → j.numbers ≡ a ∷ (b ∷ [])
+  pub joined_numbers : (v w j : View E S) (a b : ℕ) → j ≡ joined_view v w → v.numbers ≡ a ∷ [] → w.numbers ≡ b ∷ [] → j.numbers ≡ a ∷ (b ∷ [])
   joined_numbers v w j a b is p q = ap (λ (x : View E S). x.numbers) is ∙ (λ i. p i ++ q i)
 
   -- what the taking after a joining tells of both seats
-  pub met_one : (v w j : View E S) (h : List E) (n : ℕ) → j ≡ joined v w → Fits author h j → v.numbers ≡ n ∷ [] → IsQuiet author (n ∷ []) v.front h
+  pub met_one : (v w j : View E S) (h : List E) (n : ℕ) → j ≡ joined_view v w → Fits author h j → v.numbers ≡ n ∷ [] → IsQuiet author (n ∷ []) v.front h
   met_one v w j h n is fit p = subst (λ (ns : List ℕ). IsQuiet author ns v.front h) p (subst (Fits author h) is fit).1.2
 
-  pub met_two : (v w j : View E S) (h : List E) (n : ℕ) → j ≡ joined v w → Fits author h j → w.numbers ≡ n ∷ [] → IsQuiet author (n ∷ []) w.front h
+  pub met_two : (v w j : View E S) (h : List E) (n : ℕ) → j ≡ joined_view v w → Fits author h j → w.numbers ≡ n ∷ [] → IsQuiet author (n ∷ []) w.front h
   met_two v w j h n is fit q = subst (λ (ns : List ℕ). IsQuiet author ns w.front h) q (subst (Fits author h) is fit).1.3.2
 
 pub splits_view : {B E S : Type 0} (author : E → ℕ) (start : B → S) (journal : B → List E) (o : S) (seats id m : ℕ) (ms : List ℕ) (from : Option S) (f : List E) (u : View E S) → u ≡ resting (m ∷ ms) from f

@@ -7,7 +7,7 @@ use lib.ListN.{get_elem?}
 use Rattle.atomic_table.proofs.Lists.{at_set}
 use Rattle.rw_seat.specs.declared.view.View.{View}
 use Rattle.rw_seat.specs.Journals.{IsIn, Apart, Distinct, longer}
-use Rattle.rw_seat.specs.Rule.{numbers_from, resting, spent, joined, Fits, AreApart, Agree}
+use Rattle.rw_seat.specs.Rule.{numbers_from, resting, spent_view, joined_view, Fits, AreApart, Agree}
 use Rattle.rw_seat.proofs.Journals.{in_append, in_left, in_right, in_from, longer_starts, quiet_later, quiet_fewer, quiet_both, olds_append, olds_wider}
 
 pub from_distinct : (n k : ℕ) → Distinct (numbers_from n k)
@@ -58,7 +58,7 @@ fuse_one id other n k i j (inl a) (inr b) = absurd (b.0 a.0)
 fuse_one id other n k i j (inr a) (inl b) = absurd (a.0 b.0)
 fuse_one id other n k i j (inr a) (inr b) = a.1 ∙ sym b.1
 
-fits_spent : {E : Type 0} (S : Type 0) (author : E → ℕ) (h : List E) → Fits {S = S} author h spent
+fits_spent : {E : Type 0} (S : Type 0) (author : E → ℕ) (h : List E) → Fits {S = S} author h spent_view
 fits_spent S author h = ((h, refl, λ n i. absurd i), tt)
 
 module _ {E S : Type 0} (author : E → ℕ) where
@@ -139,17 +139,17 @@ module _ {E S : Type 0} (author : E → ℕ) where
             (λ n i. agree.started id v at m (inl refl)) (λ n i. agree.started id v at m (inl refl));
       }
 
-  pub each_join : (P : ℕ → View E S → Type 0) (views : List (View E S)) (id other : ℕ) (a : View E S) → ((j : ℕ) (u : View E S) → j ≢ id → j ≢ other → get_elem? views j ≡ some u → P j u) → P id a → P other spent
-      → (j : ℕ) (u : View E S) → get_elem? (set (set views id a) other spent) j ≡ some u → P j u
+  pub each_join : (P : ℕ → View E S → Type 0) (views : List (View E S)) (id other : ℕ) (a : View E S) → ((j : ℕ) (u : View E S) → j ≢ id → j ≢ other → get_elem? views j ≡ some u → P j u) → P id a → P other spent_view
+      → (j : ℕ) (u : View E S) → get_elem? (set (set views id a) other spent_view) j ≡ some u → P j u
   each_join P views id other a others both gone j u e = ⊎_elim
-      (λ (x : (j ≡ other) × (spent ≡ u)). subst (λ (z : ℕ × View E S). P z.0 z.1) (λ i. (sym x.0 i, x.1 i)) gone)
+      (λ (x : (j ≡ other) × (spent_view ≡ u)). subst (λ (z : ℕ × View E S). P z.0 z.1) (λ i. (sym x.0 i, x.1 i)) gone)
       (λ (t : (j ≢ other) × (get_elem? (set views id a) j ≡ some u)). ⊎_elim
       (λ (x : (j ≡ id) × (a ≡ u)). subst (λ (z : ℕ × View E S). P z.0 z.1) (λ i. (sym x.0 i, x.1 i)) both)
       (λ (x : (j ≢ id) × (get_elem? views j ≡ some u)). others j u x.0 t.0 x.1)
       (at_set views id j a u t.1))
-      (at_set (set views id a) other j spent u e)
+      (at_set (set views id a) other j spent_view u e)
 
-  fits_joined : (h : List E) (v w : View E S) → Fits author h v → Fits author h w → Fits author h (joined v w)
+  fits_joined : (h : List E) (v w : View E S) → Fits author h v → Fits author h w → Fits author h (joined_view v w)
   fits_joined h v w a b =
       let f : List E = v.front in
       let g : List E = w.front in
@@ -173,10 +173,10 @@ module _ {E S : Type 0} (author : E → ℕ) where
       )
 
   pub agree_join : (o : S) (h : List E) (seats : ℕ) (views : List (View E S)) (id other m : ℕ) (v w : View E S) → IsIn m v.numbers → get_elem? views id ≡ some v → get_elem? views other ≡ some w → other ≢ id
-      → Agree author o h seats views → Agree author o h seats (set (set views id (joined v w)) other spent)
+      → Agree author o h seats views → Agree author o h seats (set (set views id (joined_view v w)) other spent_view)
   agree_join o h seats views id other m v w living atv atw ne agree =
-      let a : View E S = joined v w in
-      let from : (j : ℕ) (u : View E S) → get_elem? (set (set views id a) other spent) j ≡ some u → Origin views (Fuse id other) j u =
+      let a : View E S = joined_view v w in
+      let from : (j : ℕ) (u : View E S) → get_elem? (set (set views id a) other spent_view) j ≡ some u → Origin views (Fuse id other) j u =
       each_join (Origin views (Fuse id other)) views id other a
       (λ j u ni no e n i. (j, u, e, i, inr (no, refl)))
       (λ n i. ⊎_elim
@@ -185,8 +185,8 @@ module _ {E S : Type 0} (author : E → ℕ) where
       (in_append n v.numbers w.numbers i))
       (λ n i. absurd i) in record {
         fits = each_join (λ j u. Fits author h u) views id other a (λ j u ni no e. agree.fits j u e) (fits_joined h v w (agree.fits id v atv) (agree.fits other w atw)) (fits_spent S author h);
-        apart = apart_via views (set (set views id a) other spent) (Fuse id other) (λ n k i j x y. fuse_one id other n k i j x y) from agree.apart;
-        below = below_via seats views (set (set views id a) other spent) (Fuse id other) from agree.below;
+        apart = apart_via views (set (set views id a) other spent_view) (Fuse id other) (λ n k i j x y. fuse_one id other n k i j x y) from agree.apart;
+        below = below_via seats views (set (set views id a) other spent_view) (Fuse id other) from agree.below;
         distinct = each_join (λ j u. Distinct u.numbers) views id other a (λ j u ni no e. agree.distinct j u e)
             (distinct_append v.numbers w.numbers (agree.distinct id v atv) (agree.distinct other w atw) (agree.apart id other v w (λ e. ne (sym e)) atv atw)) tt;
         started = each_join (λ j u. (n : ℕ) → IsIn n u.numbers → u.start ≡ Some o) views id other a (λ j u ni no e. agree.started j u e)

@@ -21,15 +21,15 @@ module _ {E S : Type 0} where
   resting ns o f = view_of ns o f false []
 
   -- what a joining leaves of the seat that joins
-  abbrev pub spent : View E S
-  spent = resting [] None []
+  abbrev pub spent_view : View E S
+  spent_view = resting [] None []
 
   abbrev pub old_of : View E S → Old E
   old_of v = record { numbers = v.numbers; front = v.front }
 
   -- the numbers of both, the longer front, and both fronts as old ones
-  abbrev pub joined : View E S → View E S → View E S
-  joined v w = view_of (v.numbers ++ w.numbers) v.start (longer v.front w.front) false (old_of v ∷ old_of w ∷ (v.olds ++ w.olds))
+  abbrev pub joined_view : View E S → View E S → View E S
+  joined_view v w = view_of (v.numbers ++ w.numbers) v.start (longer v.front w.front) false (old_of v ∷ old_of w ∷ (v.olds ++ w.olds))
 
   -- the first number, and the others
   abbrev pub first_part : View E S → View E S
@@ -89,10 +89,6 @@ module _ {B E S : Type 0} (author : E → ℕ) (start : B → S) (journal : B �
   Gives st m found w = (b : B) → m.1 ≡ (0, Some b) ∷ [] → w ≡ (resting m.0.numbers m.0.start (journal b), [])
 
 module _ {B E S : Type 0} where
-  -- what a seat has seen
-  abbrev pub front_of : Me (Option B) (View E S) → List E
-  front_of m = m.0.front
-
   -- a seat of one number with its hand empty
   abbrev pub HasOne : ℕ → Me (Option B) (View E S) → Type 0
   HasOne n m = m ≡ (resting (n ∷ []) m.0.start m.0.front, [])

@@ -7,7 +7,7 @@ use Rattle.rw_world.specs.declared.channels.Chan.{Chan}
 use Rattle.rw_world.specs.declared.channels.ChanCall.{ChanCall}
 use Rattle.rw_world.specs.Channel.{strays_at}
 use Rattle.rw_world.specs.Machines.{ChanShown, of_chan}
-use Rattle.rw_world.specs.Openings.{kind_of_spec, opened_channel, refusal}
+use Rattle.rw_world.specs.Openings.{spec_kind, opened_channel, refusal}
 use Rattle.rw_world.specs.Shapes.{stray_of}
 use Rattle.rw_desk.specs.declared.faults.DeskFault.{DeskFault}
 use Rattle.rw_desk.specs.declared.faults.DeskFault.TheVariants.{NoChannel}
@@ -58,7 +58,7 @@ module _ {V : Type 0} where
   pub record IsAnswered (specs : List (Spec V)) (old new : DeskSeat V) (channel : ℕ) (call : ChanCall V) (answer : Result (Answered V) DeskFault) : Type 0 where
     pub made : MatchResult answer (HasCalled old new channel call) (IsRefused specs old new channel call)
     pub elsewhere : IsElsewhereAsBefore channel old new
-    pub no_channel : IsErrOf answer NoChannel ↔ IsTrue (stray_of strays_at (map kind_of_spec specs) (row_call channel call))
+    pub no_channel : IsErrOf answer NoChannel ↔ IsTrue (stray_of strays_at (map spec_kind specs) (row_call channel call))
 
   -- the passes of seats
   abbrev pub passes_in : List (DeskSeat V) → List (Pass V)

@@ -1,6 +1,7 @@
 //! The hand-off: one book, which seats take by turns.
 
 ghost use Rattle.std.specs.Prelude.{◌≡◌, ◌<◌, ◌≤◌, ◌∷◌, [], ℕ, Some, length, map, slice_get, vec_capacity, IfOk, All};
+ghost use Rattle.rw_law.specs.declared.limits.TheConstants.{MOST_ACTORS};
 ghost use Rattle.rw_seat.specs.Journals.{IsQuiet};
 ghost use Rattle.rw_seat.specs.Rule.{numbers_from, resting};
 
@@ -25,13 +26,14 @@ pub struct HandOff<B: Keeps + Drop> {
 
 impl<B: Keeps + Drop> Model for HandOff<B> {
     ghost use Rattle.std.specs.Prelude.{◌≡◌, ◌<◌, ◌≤◌, Some};
+    ghost use Rattle.rw_law.specs.declared.limits.TheConstants.{MOST_ACTORS};
     ghost use Rattle.rw_seat.specs.Hands.{HandOff as Seen};
 
     ghost Value = { Seen B.Start };
 
     ghost view = { λ h. record { home = record { table = h.table.shared.table_id; start = Some (B.start h.table.shared.key.book.value) }; seats = h.seats } };
 
-    ghost invariant = { λ h. (h.table.shared.table_id.words ≡ 1) × (h.table.shared.table_id.slots ≡ 1) × (h.table.shared.key.seats ≡ h.seats) × (0 < h.seats) × (h.seats ≤ 64) };
+    ghost invariant = { λ h. (h.table.shared.table_id.words ≡ 1) × (h.table.shared.table_id.slots ≡ 1) × (h.table.shared.key.seats ≡ h.seats) × (0 < h.seats) × (h.seats ≤ MOST_ACTORS) };
 }
 
 /// A seat of a hand-off. It has a number, and a front: the journal that it has seen.
@@ -68,7 +70,7 @@ impl<B: Keeps + Drop> HandOff<B> {
         book: B,
         seats: u32,
     ) -> Result<(HandOff<B>, Vec<HandSeat<B>>), NoMemory>
-        requires { (0 < seats) × (seats ≤ 64) }
+        requires { (0 < seats) × (seats ≤ MOST_ACTORS) }
         ensures count { IfOk result (λ r. r.0.seats ≡ seats) }
         ensures start { IfOk result (λ r. r.0.home.start ≡ Some (B.start book)) }
         ensures home { IfOk result (λ r. All (λ s. s.home ≡ r.0.home) r.1.items) }

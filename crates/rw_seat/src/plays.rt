@@ -1,7 +1,7 @@
 //! The rule of the table under a hand-off, and what its steps tell. `specs/Rule.antt` has both in words.
 
 ghost use Rattle.std.specs.Prelude.{Some};
-ghost use Rattle.rw_seat.specs.Rule.{Kept, Takes, Gives, resting, numbers_from, first_part, other_part, joined, spent};
+ghost use Rattle.rw_seat.specs.Rule.{Kept, Takes, Gives, resting, numbers_from, first_part, other_part, joined_view, spent_view};
 
 use crate::view::{Opening, View};
 use atomic_table::{Join, Play, Split, TableRule};
@@ -50,7 +50,7 @@ impl<E, S> Split<View<E, S>> for Deal {
 pub struct Meet;
 
 impl<E, S> Join<View<E, S>> for Meet {
-    ghost both = { joined };
+    ghost both = { joined_view };
 
-    ghost spent = { spent };
+    ghost spent = { spent_view };
 }

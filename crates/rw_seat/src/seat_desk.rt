@@ -3,7 +3,7 @@
 ghost use Rattle.std.specs.Prelude.{◌≡◌, ◌↔◌, ◌≤◌, false, Some, length, map, slice_get, IfNone, IfSome, IsNone, IsTrue};
 ghost use Rattle.rw_world.specs.Channel.{strays_at};
 ghost use Rattle.rw_world.specs.declared.opening.Spec.{Spec as Specs};
-ghost use Rattle.rw_world.specs.Openings.{kind_of_spec, opened_channel};
+ghost use Rattle.rw_world.specs.Openings.{spec_kind, opened_channel};
 ghost use Rattle.rw_world.specs.Shapes.{stray_of};
 ghost use Rattle.rw_desk.specs.Desks.{row_call};
 ghost use Rattle.rw_seat.specs.Journals.{StartsWith};
@@ -97,9 +97,9 @@ impl<V: Payload> SeatDesk<V> {
 
     /// The hand-off of a channel, if there is one for this call.
     fn hand_off(&self, channel: u32, call: &ChanCall<V>) -> Option<&HandOff<Book<Chan<V>>>>
-        ensures none { IsNone result ↔ IsTrue (stray_of strays_at (map kind_of_spec self.now.specs) (row_call channel call.now)) }
+        ensures none { IsNone result ↔ IsTrue (stray_of strays_at (map spec_kind self.now.specs) (row_call channel call.now)) }
         ensures home { IfSome result (λ h. slice_get self.now.homes channel ≡ Some h.now.home) }
-        ensures spec { IfSome result (λ h. (spec : Specs V) × (slice_get self.now.specs channel ≡ Some spec) × (opening_at h.now.home ≡ Some (opened_channel spec)) × (strays_at (kind_of_spec spec) call.now ≡ false)) }
+        ensures spec { IfSome result (λ h. (spec : Specs V) × (slice_get self.now.specs channel ≡ Some spec) × (opening_at h.now.home ≡ Some (opened_channel spec)) × (strays_at (spec_kind spec) call.now ≡ false)) }
     {
         let at = channel as usize;
         if strays(self.specs.get(at)?, call) {

@@ -1,9 +1,9 @@
-//! Tests: worked rows of the channels, of books and runs, of sessions and of journal texts, and each library's own small cases.
+//! Tests: worked rows of the channels, of books and runs, and of journal texts, and each library's own small cases.
 //!
-//! They stand here and not beside what they test, since a crate that holds tests is proved twice.
-//! The one contract is the rows themselves: what is called, read or typed, and what is answered, shown or written, from the
-//! channels' documentation and not from the code. Start reading at `channels/playing.rt`, which plays a row of calls, and at
-//! `sessions/playing.rt`, which plays a session.
+//! They stand here and not beside what they test, since a crate that holds tests is proved twice. What can be seen as the bytes of
+//! a run of the program is none of them: the runs in `tests/program` show it.
+//! The one contract is the rows themselves: what is called or read, and what is answered, shown or written, from the channels'
+//! documentation and not from the code. Start reading at `channels/playing.rt`, which plays a row of calls.
 #![tactic(auto)]
 
 pub mod cell;

@@ -1,12 +1,4 @@
-//! Whole sessions, byte for byte.
+//! Sessions: devices that fail, and input without end.
 
-mod broadcasts;
-mod commands;
-mod conditions;
 mod devices;
-mod handle_limit;
 mod limits;
-mod playing;
-mod refusals;
-mod transcripts;
-mod watches;

@@ -1,7 +1,6 @@
 //! Texts of runs that are read, written and read again, and texts of none.
 
 mod faults;
-mod reading;
 mod round_trips;
 pub mod rows;
 mod salvaging;

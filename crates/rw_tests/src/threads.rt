@@ -2,8 +2,10 @@
 
 use crate::flags::is_set_in_time;
 use crate::plain::{entries_of, play_on_threads};
-use crate::scripts::{push_line, script_of};
+use rw_law::{Entry, NoMemory, Payload, Reversible};
 use rw_script::Gate;
+use rw_words::write_entry;
+use rw_world::World;
 use std::alloc::Global;
 use std::process::Abort;
 use std::sync::Wait;
@@ -54,6 +56,28 @@ impl Gate for Meeting {
     }
 
     fn after(&self, _actor: u32, _i: u64) {}
+}
+
+/// The bytes of a script.
+fn script_of(alloc: Global, text: &str) -> Result<Vec<u8>, Fail> {
+    let mut script = Vec::new(alloc);
+    for byte in text.bytes() {
+        script.push(if byte == b'/' { b'\n' } else { byte })?;
+    }
+    Ok(script)
+}
+
+/// An entry's line with `/` behind it.
+fn push_line<V: Payload>(text: &mut Vec<u8>, entry: &Entry<World<V>>) -> Result<(), NoMemory> {
+    if World::<V>::waits(&entry.reply) || World::<V>::strays(&entry.reply) {
+        text.extend_from_slice(b"not recorded/")?;
+        return Ok(());
+    }
+    let mut out = [0u8; 256];
+    let length = write_entry(entry, &mut out);
+    text.extend_from_slice(&out[..length])?;
+    text.push(b'/')?;
+    Ok(())
 }
 
 /// The entries of the run that a script's threads make, as their lines with `/` behind each.

@@ -8,6 +8,7 @@ mod calls;
 mod desks;
 mod playing;
 mod resident;
+mod seats;
 
 use anyhow::Result;
 use calls::{broadcast_pairs, watch_pairs};
@@ -16,6 +17,7 @@ use resident::Cost;
 use rw_desk::Kept;
 use rw_law::Entry;
 use rw_world::{Chan, Spec};
+use seats::{cost_of_seat, time_seats_apart};
 use std::alloc::Global;
 use std::io;
 use std::num::nearest_u64_to_f64;
@@ -89,6 +91,25 @@ fn broadcasts<R: Clock + Files + AllocGlobal + Threads + Wait + Sync + Print + E
     Ok(())
 }
 
+/// Times one seat and two, on broadcasts.
+fn by_seats<R: Clock + Files + AllocGlobal + Threads + Wait + Sync + Print + Eprint>(
+    rt: &R,
+    alloc: Global,
+    count: u64,
+) -> Result<()> {
+    let calls = broadcast_pairs(alloc, count)?;
+    let made = cost_of_seat(rt, alloc, Spec::Broadcast(1_024), &calls)?;
+    report_cost(rt, "broadcast pairs by a seat", made, count)?;
+    let apart = time_seats_apart(rt, alloc, count)?;
+    report(
+        rt,
+        "broadcast pairs by two seats, two threads on two channels",
+        apart,
+        count.saturating_mul(2),
+    )?;
+    Ok(())
+}
+
 /// Times one thread on a watch.
 fn watches<R: Clock + Files + AllocGlobal + Wait + Print + Eprint>(
     rt: &R,
@@ -125,6 +146,7 @@ pub fn measure<R: Clock + Files + AllocGlobal + Threads + Wait + Sync + Print + 
     )?;
     eprintln!(rt; "nanoseconds each:")?;
     broadcasts(rt, alloc, count)?;
+    by_seats(rt, alloc, count)?;
     watches(rt, alloc, count)?;
     closing(rt, alloc, count)?;
     Ok(())

@@ -1,7 +1,8 @@
 //! Threads on desks: storms, which look for a call that is lost, and what calls cost.
 //!
-//! `rw_threads storm SEEDS CALLS` makes CALLS calls for each of the seeds 0, 1, .., and has other threads wait for them. Standard output
-//! has a line for each seed, which doesn't tell in which order the threads came; standard error tells how many calls were recorded.
+//! `rw_threads storm SEEDS CALLS` makes CALLS calls for each of the seeds 0, 1, .., and has other threads wait for them; then it makes as many
+//! by seats, which meet. Standard output has a line for each of the two, which doesn't tell in which order the threads came; standard error
+//! tells how many calls were recorded.
 //!
 //! `rw_threads bench COUNT` makes COUNT calls of each workload. The times go to standard error, with the bytes of an entry, of a receipt,
 //! and of memory in use. Standard output has what was done, which is the same each time.
@@ -12,6 +13,7 @@
 ghost use Rattle.std.specs.Prelude.{◌≡◌};
 
 mod bench;
+mod seats;
 mod shared;
 mod storm;
 
@@ -20,10 +22,12 @@ use bench::measure;
 use std::alloc::Global;
 use std::env::{self, Env};
 use std::rt::Files;
-use std::sync::Wait;
+use std::sync::atomic::{AtomicBool, Ordering};
+use std::sync::{Arc, Wait};
+use std::thread;
 use std::thread::Threads;
-use std::time::Clock;
-use storm::{PLAYERS, WAITERS, play_seed};
+use std::time::{Clock, Duration};
+use storm::{PLAYERS, SEATS, WAITERS, play_seats, play_seed};
 
 /// How many seeds are taken where no number is given.
 const DEFAULT_SEEDS: u64 = 2;
@@ -33,6 +37,9 @@ const DEFAULT_CALLS: u64 = 16_000;
 
 /// How many calls of each workload are made where no number is given.
 const DEFAULT_COUNT: u64 = 1_000;
+
+/// How often it is looked whether a seed was played, a hundredth of a second apart. A seed takes a second or two.
+const MOST_LOOKS: u64 = 10_000;
 
 /// The number at this place of the command line, or else the default.
 fn asked(rt: &(impl Env + Alloc), place: usize, default: u64) -> Result<u64> {
@@ -44,18 +51,47 @@ fn asked(rt: &(impl Env + Alloc), place: usize, default: u64) -> Result<u64> {
     }
 }
 
+/// Plays a seed in a thread of its own. Where that doesn't end in time, somebody waits for a wake-up that was lost: nobody waits
+/// for that thread then, and it ends with the program.
+fn play_in_time<R: Threads + Wait + Clock + Copy + Send + Sync + 'static>(
+    rt: R,
+    alloc: Global,
+    seed: u64,
+    calls: u64,
+) -> Result<u64> {
+    let is_played = Arc::new(alloc, AtomicBool::new(false))?;
+    let theirs = Arc::try_clone(&is_played)?;
+    let player = thread::spawn(&rt, move || {
+        let recorded = play_seed(&rt, alloc, seed, calls);
+        theirs.store(true, Ordering::SeqCst);
+        recorded
+    })?;
+    for _ in 0..MOST_LOOKS {
+        if is_played.load(Ordering::SeqCst) {
+            return player.join(&rt);
+        }
+        thread::sleep(&rt, Duration::from_millis(10));
+    }
+    bail!("a wait does not end")
+}
+
 /// Makes so many calls for each of so many seeds.
-fn storms<R: Threads + Wait + Sync + Print + Eprint>(
+fn storms<R: Threads + Wait + Clock + Copy + Send + Sync + Print + Eprint + 'static>(
     rt: &R,
     alloc: Global,
     seeds: u64,
     calls: u64,
 ) -> Result<()> {
     for seed in 0..seeds {
-        let recorded = play_seed(rt, alloc, seed, calls)?;
+        let recorded = play_in_time(*rt, alloc, seed, calls)?;
         eprintln!(rt; "seed {seed}: {recorded} calls recorded")?;
         println!(rt;
             "seed {seed}: {calls} calls of {PLAYERS} threads, {WAITERS} others waited and were told, closed, each actor's receipts are its entries"
+        )?;
+        let recorded = play_seats(rt, alloc, seed, calls)?;
+        eprintln!(rt; "seed {seed}: {recorded} calls of seats recorded")?;
+        println!(rt;
+            "seed {seed}: {SEATS} seats in two threads, which met by twos, closed, each seat's receipts are its entries, each front is its entry's place"
         )?;
     }
     Ok(())

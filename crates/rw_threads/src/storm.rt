@@ -8,17 +8,21 @@ ghost use Rattle.std.specs.Prelude.{◌≡◌};
 
 mod channels;
 mod generator;
+mod notes;
 mod playing;
 mod receipts;
+mod seats;
 mod waiting;
 
 use crate::shared::Shared;
 use anyhow::{Context, Result, bail};
 use channels::SPECS;
 pub use channels::{PLAYERS, WAITERS};
+pub use notes::SEATS;
 use playing::{Played, act_all, prepare};
 use receipts::{agree, receipts_of};
 use rw_desk::{Desk, Pass};
+pub use seats::play_seats;
 use std::alloc::{AllocError, Global};
 use std::sync::Wait;
 use std::thread::Threads;

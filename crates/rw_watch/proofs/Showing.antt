@@ -9,8 +9,8 @@ use Rattle.rw_watch.specs.declared.calls.WCall.{WCall}
 use Rattle.rw_watch.specs.declared.calls.WReply.{WReply}
 use Rattle.rw_watch.specs.Channel.{Change, Keep, Write, Make, Mark, Leave, effect}
 use Rattle.rw_watch.specs.Record as whole
-use Rattle.rw_watch.specs.Record.{Record, told_count, last_value, channel_of, step, opened, after}
-use Rattle.rw_watch.specs.Shown.{Shown, shown, raised, changed, next, reply_of, IsAllowed, IsMarked}
+use Rattle.rw_watch.specs.Record.{Record, told_count, last_value, channel_of, step, opening_record, after}
+use Rattle.rw_watch.specs.Shown.{Shown, shown, version_after, with_change, next, reply_of, IsAllowed, IsMarked}
 use Rattle.rw_watch.specs.Laws.{shown_after, ShowsItsSteps, ShowsItsRecord, RepliesByRecord, ShowsAllowed, IsShownBySome, IsDocumented}
 use Rattle.rw_watch.specs.Soundness.{watch_laws}
 
@@ -18,17 +18,17 @@ last_value-push : {V : Type 0} (v : V) (changes : List (V × Bool)) (w : V) (tol
 last_value-push v [] w told = refl
 last_value-push v (change ∷ changes) w told = last_value-push change.0 changes w told
 
-told_count-push : {V : Type 0} (changes : List (V × Bool)) (w : V) (told : Bool) → told_count (changes ++ (w, told) ∷ []) ≡ raised (told_count changes) told
+told_count-push : {V : Type 0} (changes : List (V × Bool)) (w : V) (told : Bool) → told_count (changes ++ (w, told) ∷ []) ≡ version_after (told_count changes) told
 told_count-push changes w told = fold_push _ 0 changes (w, told) ∙ raised_is (told_count changes) told where
-  raised_is : (n : ℕ) (told : Bool) → n + cond told 1 0 ≡ raised n told
+  raised_is : (n : ℕ) (told : Bool) → n + cond told 1 0 ≡ version_after n told
   raised_is n true = refl
   raised_is n false = omega arith
 
-shown-changed : {V : Type 0} (r : Record V) (change : Change V) → changed (shown r) change ≡ shown (whole.changed r change)
+shown-changed : {V : Type 0} (r : Record V) (change : Change V) → with_change (shown r) change ≡ shown (whole.with_change r change)
 shown-changed r Keep = refl
 shown-changed r (Write w told) =
-    sym (ap (λ n. record (shown (whole.changed r (Write w told))) { version = n }) (told_count-push r.changes w told)
-    ∙ ap (λ v. record (shown r) { version = raised (told_count r.changes) told; value = v }) (last_value-push r.initial r.changes w told))
+    sym (ap (λ n. record (shown (whole.with_change r (Write w told))) { version = n }) (told_count-push r.changes w told)
+    ∙ ap (λ v. record (shown r) { version = version_after (told_count r.changes) told; value = v }) (last_value-push r.initial r.changes w told))
 shown-changed r (Make kind mark) = refl
 shown-changed r (Mark h from to) = refl
 shown-changed r (Leave h kind mark) = refl
@@ -43,7 +43,7 @@ documented {V} x y call reply same_reply same_next r is =
     let here : P (shown r) = subst P (sym is) (same_reply, same_next) in
     (here.0, here.1 ∙ (shows_its_steps V r call).1)
 
-allowed_opening : {V : Type 0} (initial : V) → IsAllowed (shown (opened initial))
+allowed_opening : {V : Type 0} (initial : V) → IsAllowed (shown (opening_record initial))
 allowed_opening {V} initial = record {
   few_slots = omega arith;
   marked = All-push (IsMarked 0) (Live Sender None ∷ []) (Live Receiver (Some 0)) (All-push (IsMarked 0) [] (Live Sender None) (All-nil (IsMarked 0)) refl) (omega arith);
@@ -56,18 +56,18 @@ allowed_after {V} r (call ∷ calls) ok =
     allowed_after (step r call).0 calls (subst P (shows_its_steps V r call).1 (watch_laws.next_allowed (shown r) call ok))
 
 pub shows_allowed : (V : Type 0) → ShowsAllowed V
-shows_allowed V initial calls = allowed_after (opened initial) calls (allowed_opening initial)
+shows_allowed V initial calls = allowed_after (opening_record initial) calls (allowed_opening initial)
 
 shows_after : {V : Type 0} (r : Record V) (calls : List (WCall V)) → shown_after (shown r) calls ≡ shown (after r calls)
 shows_after r [] = refl
 shows_after {V} r (call ∷ calls) = ap (λ x. shown_after x calls) (shows_its_steps V r call).1 ∙ shows_after (step r call).0 calls
 
 pub shows_its_record : (V : Type 0) → ShowsItsRecord V
-shows_its_record V initial calls = shows_after (opened initial) calls
+shows_its_record V initial calls = shows_after (opening_record initial) calls
 
 pub replies_by_record : (V : Type 0) → RepliesByRecord V
 replies_by_record V initial calls call =
-    ap (λ (x : Shown V). reply_of x call) (shows_its_record V initial calls) ∙ (shows_its_steps V (after (opened initial) calls) call).0
+    ap (λ (x : Shown V). reply_of x call) (shows_its_record V initial calls) ∙ (shows_its_steps V (after (opening_record initial) calls) call).0
 
 -- so many changes, each told, that give the same value again
 abbrev told_again : {V : Type 0} → V → ℕ → List (V × Bool)

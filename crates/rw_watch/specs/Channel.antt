@@ -10,8 +10,8 @@ use Rattle.rw_handles.specs.declared.kinds.Slot.{Slot}
 use Rattle.rw_handles.specs.declared.kinds.HandleFault.{HandleFault}
 use Rattle.rw_handles.specs.declared.kinds.HandleFault.TheVariants as fault
 use Rattle.rw_handles.specs.declared.kinds.Found.{Found}
-use Rattle.rw_handles.specs.Channels.{checked}
-use Rattle.rw_handles.specs.Slots.{found, alive}
+use Rattle.rw_handles.specs.Channels.{answer_of_check}
+use Rattle.rw_handles.specs.Slots.{lookup, alive}
 use Rattle.rw_watch.specs.declared.calls.WCall.{WCall}
 use Rattle.rw_watch.specs.declared.calls.WCall.TheVariants.{Send, SendReplace, Modify, Subscribe, CloneSender, CloneReceiver, Borrow, Update, HasChanged, Changed, MarkChanged, MarkUnchanged, DropHandle, ReceiverCount, IsClosed, AwaitClosed}
 use Rattle.rw_watch.specs.declared.calls.WReply.{WReply}
@@ -97,23 +97,23 @@ with_handle (IsClosed h) g = IsClosed g
 with_handle (AwaitClosed h) g = AwaitClosed g
 
 -- the kind that this handle has to be of; None: any
-abbrev pub wanted : {V : Type 0} → WCall V → Option Kind
-wanted (Send h v) = Some Sender
-wanted (SendReplace h v) = Some Sender
-wanted (Modify told h v) = Some Sender
-wanted (Subscribe h) = Some Sender
-wanted (CloneSender h) = Some Sender
-wanted (CloneReceiver h) = Some Receiver
-wanted (Borrow h) = None
-wanted (Update h) = Some Receiver
-wanted (HasChanged h) = Some Receiver
-wanted (Changed h) = Some Receiver
-wanted (MarkChanged h) = Some Receiver
-wanted (MarkUnchanged h) = Some Receiver
-wanted (DropHandle h) = None
-wanted (ReceiverCount h) = Some Sender
-wanted (IsClosed h) = Some Sender
-wanted (AwaitClosed h) = Some Sender
+abbrev pub wanted_kind : {V : Type 0} → WCall V → Option Kind
+wanted_kind (Send h v) = Some Sender
+wanted_kind (SendReplace h v) = Some Sender
+wanted_kind (Modify told h v) = Some Sender
+wanted_kind (Subscribe h) = Some Sender
+wanted_kind (CloneSender h) = Some Sender
+wanted_kind (CloneReceiver h) = Some Receiver
+wanted_kind (Borrow h) = None
+wanted_kind (Update h) = Some Receiver
+wanted_kind (HasChanged h) = Some Receiver
+wanted_kind (Changed h) = Some Receiver
+wanted_kind (MarkChanged h) = Some Receiver
+wanted_kind (MarkUnchanged h) = Some Receiver
+wanted_kind (DropHandle h) = None
+wanted_kind (ReceiverCount h) = Some Sender
+wanted_kind (IsClosed h) = Some Sender
+wanted_kind (AwaitClosed h) = Some Sender
 
 -- whether a call makes a handle, where it isn't refused
 abbrev pub makes : {V : Type 0} → WCall V → Bool
@@ -123,10 +123,10 @@ makes (CloneReceiver h) = true
 makes _ = false
 
 -- the reply for a handle that can't be used
-abbrev pub refused : {V : Type 0} → HandleFault → WReply V
-refused fault.Unknown = Unknown
-refused fault.Gone = Gone
-refused fault.WrongKind = WrongKind
+abbrev pub fault_reply : {V : Type 0} → HandleFault → WReply V
+fault_reply fault.Unknown = Unknown
+fault_reply fault.Gone = Gone
+fault_reply fault.WrongKind = WrongKind
 
 -- "This method fails if the channel is closed, which is the case when every receiver has been dropped." The value then "isn't made
 -- available for future receivers (but returned with the `SendError`)".
@@ -149,8 +149,8 @@ has_changed c mark = if is_closed c then Closed else Flag (is_unseen c.version m
 -- "If the current value in the channel has not yet been marked seen when this method is called, the method marks that value
 -- seen and returns immediately. If the newest value has already been marked seen, then the method sleeps until a new message
 -- is sent by a Sender connected to this Receiver, or until all Senders are dropped."
-abbrev pub changed : {V : Type 0} → Channel V → (h : ℕ) → Option ℕ → Change V × WReply V
-changed c h mark = if is_unseen c.version mark
+abbrev pub wait_effect : {V : Type 0} → Channel V → (h : ℕ) → Option ℕ → Change V × WReply V
+wait_effect c h mark = if is_unseen c.version mark
     then (see c h mark, Done)
     else (Keep, if is_closed c then Closed else Waits)
 
@@ -177,7 +177,7 @@ effect_with c (Borrow h) kind mark = (Keep, Value c.value)
 -- "Returns a reference to the most recently sent value and marks that value as seen."
 effect_with c (Update h) kind mark = (see c h mark, Value c.value)
 effect_with c (HasChanged h) kind mark = (Keep, has_changed c mark)
-effect_with c (Changed h) kind mark = changed c h mark
+effect_with c (Changed h) kind mark = wait_effect c h mark
 -- "After invoking this method `has_changed()` returns `true` and `changed()` returns immediately, regardless of whether a new
 -- value has been sent."
 effect_with c (MarkChanged h) kind mark = (Mark h mark None, Done)
@@ -192,8 +192,8 @@ effect_with c (AwaitClosed h) kind mark = (Keep, await_closed c)
 -- the same, where the handle is looked for: a call is checked for an unknown number, a dropped handle, one of the wrong
 -- kind, and too many handles, in this order
 abbrev pub effect_found : {V : Type 0} → Channel V → WCall V → Found (Option ℕ) → Change V × WReply V
-effect_found c call f = checked (λ fault. (Keep, refused fault)) (Keep, TooManyHandles) (makes call) (length c.slots) (effect_with c call) f
+effect_found c call f = answer_of_check (λ fault. (Keep, fault_reply fault)) (Keep, TooManyHandles) (makes call) (length c.slots) (effect_with c call) f
 
 -- what a call does, and its reply
 abbrev pub effect : {V : Type 0} → Channel V → WCall V → Change V × WReply V
-effect c call = effect_found c call (found (wanted call) c.slots (handle_of call))
+effect c call = effect_found c call (lookup (wanted_kind call) c.slots (handle_of call))

@@ -3,7 +3,7 @@ use Rattle.std.specs.Prelude.{◌≡◌, List}
 use Rattle.std.specs.List.{fold}
 use Rattle.rw_watch.specs.declared.calls.WCall.{WCall}
 use Rattle.rw_watch.specs.declared.calls.WReply.{WReply}
-use Rattle.rw_watch.specs.Record.{Record, step, opened, after}
+use Rattle.rw_watch.specs.Record.{Record, step, opening_record, after}
 use Rattle.rw_watch.specs.Shown.{Shown, shown, next, reply_of, IsAllowed}
 
 -- what a channel that shows x shows after these calls
@@ -17,16 +17,16 @@ ShowsItsSteps V = (r : Record V) (call : WCall V) → (reply_of (shown r) call �
 
 -- after any calls from its opening a channel shows what its record shows
 abbrev pub ShowsItsRecord : Type 0 → Type 0
-ShowsItsRecord V = (initial : V) (calls : List (WCall V)) → shown_after (shown (opened initial)) calls ≡ shown (after (opened initial) calls)
+ShowsItsRecord V = (initial : V) (calls : List (WCall V)) → shown_after (shown (opening_record initial)) calls ≡ shown (after (opening_record initial) calls)
 
 -- after any calls from its opening a channel replies to a call as its record does
 abbrev pub RepliesByRecord : Type 0 → Type 0
 RepliesByRecord V = (initial : V) (calls : List (WCall V)) (call : WCall V)
-    → reply_of (shown_after (shown (opened initial)) calls) call ≡ (step (after (opened initial) calls) call).1
+    → reply_of (shown_after (shown (opening_record initial)) calls) call ≡ (step (after (opening_record initial) calls) call).1
 
 -- what a channel shows after any calls is allowed
 abbrev pub ShowsAllowed : Type 0 → Type 0
-ShowsAllowed V = (initial : V) (calls : List (WCall V)) → IsAllowed (shown (after (opened initial) calls))
+ShowsAllowed V = (initial : V) (calls : List (WCall V)) → IsAllowed (shown (after (opening_record initial) calls))
 
 -- whatever is shown, some record shows it
 abbrev pub IsShownBySome : Type 0 → Type 0

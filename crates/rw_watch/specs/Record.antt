@@ -19,8 +19,8 @@ abbrev pub first_slots : List (Slot (Option ℕ))
 first_slots = Live Sender None ∷ Live Receiver (Some 0) ∷ []
 
 -- a channel at its opening
-abbrev pub opened : {V : Type 0} → V → Record V
-opened initial = record { initial = initial; changes = []; slots = first_slots }
+abbrev pub opening_record : {V : Type 0} → V → Record V
+opening_record initial = record { initial = initial; changes = []; slots = first_slots }
 
 -- how many of these changes were told
 abbrev pub told_count : {V : Type 0} → List (V × Bool) → ℕ
@@ -36,16 +36,16 @@ abbrev pub channel_of : {V : Type 0} → Record V → Channel V
 channel_of r = record { version = told_count r.changes; value = last_value r.initial r.changes; slots = r.slots }
 
 -- the record after a change
-abbrev pub changed : {V : Type 0} → Record V → Change V → Record V
-changed r Keep = r
-changed r (Write v told) = record r { changes = r.changes ++ (v, told) ∷ [] }
-changed r (Make kind mark) = record r { slots = r.slots ++ Live kind mark ∷ [] }
-changed r (Mark h from to) = record r { slots = slice_set r.slots h (Live Receiver to) }
-changed r (Leave h kind mark) = record r { slots = slice_set r.slots h Spent }
+abbrev pub with_change : {V : Type 0} → Record V → Change V → Record V
+with_change r Keep = r
+with_change r (Write v told) = record r { changes = r.changes ++ (v, told) ∷ [] }
+with_change r (Make kind mark) = record r { slots = r.slots ++ Live kind mark ∷ [] }
+with_change r (Mark h from to) = record r { slots = slice_set r.slots h (Live Receiver to) }
+with_change r (Leave h kind mark) = record r { slots = slice_set r.slots h Spent }
 
 -- the documented step: the record after a call, and the reply
 abbrev pub step : {V : Type 0} → Record V → WCall V → Record V × WReply V
-step r call = let e = effect (channel_of r) call in (changed r e.0, e.1)
+step r call = let e = effect (channel_of r) call in (with_change r e.0, e.1)
 
 -- the record after these calls
 abbrev pub after : {V : Type 0} → Record V → List (WCall V) → Record V

@@ -24,20 +24,20 @@ abbrev pub shown : {V : Type 0} → Record V → Shown V
 shown r = channel_of r
 
 -- the version after a change that is told or not
-abbrev pub raised : ℕ → (told : Bool) → ℕ
-raised version told = if told then version + 1 else version
+abbrev pub version_after : ℕ → (told : Bool) → ℕ
+version_after version told = if told then version + 1 else version
 
 -- the version before it
 abbrev pub version_before : ℕ → (told : Bool) → ℕ
 version_before version told = if told then version - 1 else version
 
 -- what is shown after a change
-abbrev pub changed : {V : Type 0} → Shown V → Change V → Shown V
-changed x Keep = x
-changed x (Write v told) = record x { version = raised x.version told; value = v }
-changed x (Make kind mark) = record x { slots = x.slots ++ Live kind mark ∷ [] }
-changed x (Mark h from to) = record x { slots = slice_set x.slots h (Live Receiver to) }
-changed x (Leave h kind mark) = record x { slots = slice_set x.slots h Spent }
+abbrev pub with_change : {V : Type 0} → Shown V → Change V → Shown V
+with_change x Keep = x
+with_change x (Write v told) = record x { version = version_after x.version told; value = v }
+with_change x (Make kind mark) = record x { slots = x.slots ++ Live kind mark ∷ [] }
+with_change x (Mark h from to) = record x { slots = slice_set x.slots h (Live Receiver to) }
+with_change x (Leave h kind mark) = record x { slots = slice_set x.slots h Spent }
 
 -- the patch of a receiver's mark, which was this one before
 abbrev pub patch_of_mark : {V : Type 0} → Option ℕ → WPatch V
@@ -59,7 +59,7 @@ patch_for x (Leave h kind mark) = patch_of_drop kind mark
 
 -- a change and a reply, as the outcome of a call
 abbrev pub outcome_of : {V : Type 0} → Shown V → Change V × WReply V → Outcome (Shown V) (WReply V) (WPatch V)
-outcome_of x e = record { next = changed x e.0; reply = e.1; patch = patch_for x e.0 }
+outcome_of x e = record { next = with_change x e.0; reply = e.1; patch = patch_for x e.0 }
 
 -- what a call leads to
 abbrev pub outcome : {V : Type 0} → Shown V → WCall V → Outcome (Shown V) (WReply V) (WPatch V)

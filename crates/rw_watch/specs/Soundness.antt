@@ -8,7 +8,7 @@ use Rattle.rw_handles.specs.declared.kinds.Kind.TheVariants.{Sender, Receiver}
 use Rattle.rw_handles.specs.declared.kinds.Slot.{Slot}
 use Rattle.rw_handles.specs.declared.kinds.Slot.TheVariants.{Live, Spent}
 use Rattle.rw_handles.specs.declared.kinds.Found.TheVariants.{Handle}
-use Rattle.rw_handles.specs.Slots.{found, IsReceiver}
+use Rattle.rw_handles.specs.Slots.{lookup, IsReceiver}
 use Rattle.rw_handles.specs.declared.table.TheConstants.{MOST_HANDLES}
 use Rattle.rw_handles.proofs.Checks.{of_checked}
 use Rattle.rw_handles.proofs.SlotLaws.{found_at_is, found_at_wanted, set_back, slice_get-set, live_push, receiver_set, All-slice_get}
@@ -19,8 +19,8 @@ use Rattle.rw_watch.specs.declared.calls.WCall.{WCall}
 use Rattle.rw_watch.specs.declared.calls.WCall.TheVariants.{Send, SendReplace, Modify, Subscribe, CloneSender, CloneReceiver, Borrow, Update, HasChanged, Changed, MarkChanged, MarkUnchanged, DropHandle, ReceiverCount, IsClosed, AwaitClosed}
 use Rattle.rw_watch.specs.declared.calls.WReply.{WReply}
 use Rattle.rw_watch.specs.declared.calls.WReply.TheVariants.{Stored, Old, Told, New, Value, Waits, Done, Dropped, TooManyHandles}
-use Rattle.rw_watch.specs.Channel.{Change, Keep, Write, Make, Mark, Leave, handle_of, wanted, makes, refused, has_no_receiver, is_unseen, effect_with, effect}
-use Rattle.rw_watch.specs.Shown.{Shown, changed, patch_of_mark, patch_of_drop, outcome_of, outcome, next, reply_of, patch_of, back, IsMark, IsMarked, IsAllowed, Fits, weight, refuses, waits, strays}
+use Rattle.rw_watch.specs.Channel.{Change, Keep, Write, Make, Mark, Leave, handle_of, wanted_kind, makes, fault_reply, has_no_receiver, is_unseen, effect_with, effect}
+use Rattle.rw_watch.specs.Shown.{Shown, with_change, patch_of_mark, patch_of_drop, outcome_of, outcome, next, reply_of, patch_of, back, IsMark, IsMarked, IsAllowed, Fits, weight, refuses, waits, strays}
 
 -- the laws, of one change and reply of a call
 abbrev IsRight : {V : Type 0} → Shown V → WCall V → Change V × WReply V → Type 0
@@ -83,7 +83,7 @@ fits_drop y call kind (Some seen) spent marked = (spent, marked)
 right_mark : {V : Type 0} (x : Shown V) (call : WCall V) (from to : Option ℕ) (reply : WReply V) → Stands x call (Live Receiver from) → IsMark x.version to → refuses reply ≡ false → IsRight x call (Mark (handle_of call) from to, reply)
 unfolding Stands
 right_mark x call from to reply here mark served =
-    let y = changed x (Mark (handle_of call) from to) in
+    let y = with_change x (Mark (handle_of call) from to) in
     record {
       undone = λ _. back_mark y call from ∙ ap (λ slots. record x { slots = slots }) (set_back x.slots (handle_of call) (Live Receiver to) (Live Receiver from) here);
       next_allowed = set_allowed x call (Live Receiver to) mark;
@@ -99,7 +99,7 @@ right_see x call from reply here served = right_mark x call from (Some x.version
 right_leave : {V : Type 0} (x : Shown V) (call : WCall V) (kind : Kind) (mark : Option ℕ) → Stands x call (Live kind mark) → IsRight x call (Leave (handle_of call) kind mark, Dropped)
 unfolding Stands
 right_leave x call kind mark here =
-    let y = changed x (Leave (handle_of call) kind mark) in
+    let y = with_change x (Leave (handle_of call) kind mark) in
     record {
       undone = λ _. back_drop y call kind mark ∙ ap (λ slots. record x { slots = slots }) (set_back x.slots (handle_of call) Spent (Live kind mark) here);
       next_allowed = set_allowed x call Spent tt;
@@ -137,7 +137,7 @@ right_write x call v false reply served = record {
 }
 
 -- each call, with the handle that it found
-right_with : {V : Type 0} (x : Shown V) (call : WCall V) (kind : Kind) (mark : Option ℕ) → found (wanted call) x.slots (handle_of call) ≡ Handle kind mark → (makes call ≡ true → length x.slots < MOST_HANDLES) → IsRight x call (effect_with x call kind mark)
+right_with : {V : Type 0} (x : Shown V) (call : WCall V) (kind : Kind) (mark : Option ℕ) → lookup (wanted_kind call) x.slots (handle_of call) ≡ Handle kind mark → (makes call ≡ true → length x.slots < MOST_HANDLES) → IsRight x call (effect_with x call kind mark)
 unfolding Stands
 right_with x (Send h v) kind mark is few = sound_if IsAllowed weight back Fits refuses (outcome_of x) (has_no_receiver x) (λ _. right_keep x _ _) (λ _. right_write x _ v true Stored refl)
 right_with x (SendReplace h v) kind mark is few = right_write x _ v true (Old x.value) refl
@@ -161,8 +161,8 @@ right_with x (AwaitClosed h) kind mark is few = right_keep x _ _
 
 right : {V : Type 0} (x : Shown V) (call : WCall V) → IsRight x call (effect x call)
 right x call =
-    of_checked (IsRight x call) (λ fault. (Keep, refused fault)) (Keep, TooManyHandles) (makes call) (length x.slots) (effect_with x call)
-    (found (wanted call) x.slots (handle_of call))
+    of_checked (IsRight x call) (λ fault. (Keep, fault_reply fault)) (Keep, TooManyHandles) (makes call) (length x.slots) (effect_with x call)
+    (lookup (wanted_kind call) x.slots (handle_of call))
     (λ fault. right_keep x call _)
     (right_keep x call _)
     (right_with x call)

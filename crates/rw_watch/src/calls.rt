@@ -1,6 +1,6 @@
 //! The calls of a watch channel, their replies, and what a step leaves for its undoing.
 ghost use Rattle.std.specs.Prelude.{◌≡◌};
-ghost use Rattle.rw_watch.specs.Channel.{handle_of, makes, refused, wanted, with_handle};
+ghost use Rattle.rw_watch.specs.Channel.{handle_of, makes, fault_reply, wanted_kind, with_handle};
 ghost use Rattle.rw_watch.specs.Shown.{patch_of_drop, patch_of_mark};
 
 use rw_handles::{HandleFault, Kind};
@@ -154,7 +154,7 @@ impl<V: Copy> WCall<V> {
 
     /// The kind that this handle has to be of; `None` where either kind will do.
     pub(crate) fn wanted(&self) -> Option<Kind>
-        ensures { result ≡ wanted self.now }
+        ensures { result ≡ wanted_kind self.now }
     {
         match self {
             WCall::Send(_, _)
@@ -189,7 +189,7 @@ impl<V: Copy> WCall<V> {
 impl<V: Copy> WReply<V> {
     /// The reply for a handle that can't be used.
     pub(crate) fn refused(fault: HandleFault) -> WReply<V>
-        ensures { result ≡ refused fault }
+        ensures { result ≡ fault_reply fault }
     {
         match fault {
             HandleFault::Unknown => WReply::Unknown,

@@ -1,6 +1,6 @@
 //! The machine of a watch channel.
 ghost use Rattle.std.specs.Prelude.{◌≡◌, IfOk};
-ghost use Rattle.rw_watch.specs.Record.{opened};
+ghost use Rattle.rw_watch.specs.Record.{opening_record};
 ghost use Rattle.rw_watch.specs.Shown.{shown};
 
 mod readers;
@@ -36,7 +36,7 @@ impl<V: Copy> Model for Watch<V> {
 impl<V: Copy> Watch<V> {
     /// Opens a channel with this value, one sender, 0, and one receiver, 1, which has seen it.
     pub fn open(alloc: Global, init: V) -> Result<Watch<V>, NoMemory>
-        ensures { IfOk result (λ machine. machine.shown ≡ shown (opened init)) }
+        ensures { IfOk result (λ machine. machine.shown ≡ shown (opening_record init)) }
     {
         Ok(Watch {
             value: init,

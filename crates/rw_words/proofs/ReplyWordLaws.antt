@@ -16,7 +16,7 @@ use Rattle.rw_words.specs.declared.watch.WatchReplyWord.{WatchReplyWord}
 use Rattle.rw_words.specs.declared.watch.WatchReplyWord.TheVariants as watch_word
 use Rattle.rw_words.specs.declared.reply_word.ReplyWord.TheVariants.{Broadcast, Watch}
 use Rattle.rw_words.specs.Arguments.{args_text, rest_text}
-use Rattle.rw_words.specs.Words.{spelled}
+use Rattle.rw_words.specs.Words.{text_of_parts}
 use Rattle.rw_words.specs.Texts.{ReplyOf, reply_text}
 use Rattle.rw_words.specs.BroadcastWords as broadcast
 use Rattle.rw_words.specs.WatchWords as watch
@@ -52,11 +52,11 @@ first_word_is : (word : List ℕ) (o : Option (List ℕ)) → lacks 32 word ≡ 
 first_word_is word None plain = rw (append-nil word, cut_lacks 32 word plain) refl
 first_word_is word (Some rest) plain = rw (cut_joined 32 word rest plain) refl
 
-broadcast_first : {V : Type 0} (k : Ghosts V) (o : Option (BroadcastReplyWord × Args V)) → IfSome (option_map (λ p. Broadcast p.0) o) (λ w. first_word (spelled k (broadcast.replies_table k) o) ≡ reply_word_text w)
+broadcast_first : {V : Type 0} (k : Ghosts V) (o : Option (BroadcastReplyWord × Args V)) → IfSome (option_map (λ p. Broadcast p.0) o) (λ w. first_word (text_of_parts k (broadcast.replies_table k) o) ≡ reply_word_text w)
 broadcast_first k None = tt
 broadcast_first k (Some p) = first_word_is (broadcast.reply_word_text p.0) (args_text k p.1) (broadcast_plain p.0)
 
-watch_first : {V : Type 0} (k : Ghosts V) (o : Option (WatchReplyWord × Args V)) → IfSome (option_map (λ p. Watch p.0) o) (λ w. first_word (spelled k (watch.replies_table k) o) ≡ reply_word_text w)
+watch_first : {V : Type 0} (k : Ghosts V) (o : Option (WatchReplyWord × Args V)) → IfSome (option_map (λ p. Watch p.0) o) (λ w. first_word (text_of_parts k (watch.replies_table k) o) ≡ reply_word_text w)
 watch_first k None = tt
 watch_first k (Some p) = first_word_is (watch.reply_word_text p.0) (args_text k p.1) (watch_plain p.0)
 

@@ -8,12 +8,12 @@ use Rattle.rw_words.specs.declared.reply_word.ReplyWord.{ReplyWord}
 use Rattle.rw_words.specs.declared.reply_word.ReplyWord.TheVariants.{Broadcast, Watch}
 use Rattle.rw_words.specs.BroadcastWords as broadcast
 use Rattle.rw_words.specs.WatchWords as watch
-use Rattle.rw_words.specs.Words.{head_of}
+use Rattle.rw_words.specs.Words.{first_part}
 use Rattle.rw_words.specs.Texts.{ReplyOf}
 
 -- what stands before the first space of a text
 abbrev pub first_word : List ℕ → List ℕ
-first_word text = head_of text (cut 32 text)
+first_word text = first_part text (cut 32 text)
 
 abbrev pub reply_word_text : ReplyWord → List ℕ
 reply_word_text (Broadcast w) = broadcast.reply_word_text w

@@ -4,7 +4,7 @@ ghost use Rattle.std.specs.Prelude.{◌≡◌, option_map};
 ghost use Rattle.rw_lines.specs.Cut.{cut};
 ghost use Rattle.rw_lines.specs.Numerals.{numeral_in};
 ghost use Rattle.rw_words.specs.Arguments.{flag_named, number_value_flag_named, number_value_named, value_named};
-ghost use Rattle.rw_words.specs.Words.{alone, flag_in, handle_in, handle_value_flag_in, handle_value_in, handle_within, head_of, number_in, rest_of, value_in};
+ghost use Rattle.rw_words.specs.Words.{when_alone, flag_in, handle_in, handle_value_flag_in, handle_value_in, handle_within, first_part, number_in, rest_of, value_in};
 
 use rw_law::Payload;
 use rw_lines::{cut, numeral};
@@ -38,7 +38,7 @@ pub(crate) enum Args<V> {
 
 /// The word at the front, and what stands behind the space after it.
 pub fn first_word(text: &[u8]) -> (&[u8], Option<&[u8]>)
-    ensures word { result.0.now ≡ head_of text.now (cut 32 text.now) }
+    ensures word { result.0.now ≡ first_part text.now (cut 32 text.now) }
     ensures rest { option_map (λ r. r.now) result.1 ≡ rest_of (cut 32 text.now) }
 {
     match cut(text, b' ') {
@@ -85,7 +85,7 @@ fn number_value_flag_named<V: Payload>(text: &[u8]) -> Option<(u64, (V, bool))>
 
 /// The thing that was named by its word alone.
 pub(crate) fn alone<T: Copy>(rest: Option<&[u8]>, thing: T) -> Result<T, WordFault>
-    ensures { result ≡ alone (option_map (λ r. r.now) rest.entry) thing }
+    ensures { result ≡ when_alone (option_map (λ r. r.now) rest.entry) thing }
 {
     match rest {
         None => Ok(thing),

@@ -15,10 +15,10 @@ use Rattle.rw_world.specs.declared.rows.RowCall.{RowCall}
 use Rattle.rw_world.specs.Channel.{no_channel}
 use Rattle.rw_world.specs.ChannelLaws.{channel_laws}
 use Rattle.rw_world.specs.Kinds.{broadcast_shown, watch_shown}
-use Rattle.rw_world.specs.Lists.{modified, Each}
+use Rattle.rw_world.specs.Lists.{map_at, Each}
 use Rattle.rw_world.specs.declared.channels.ChanCall.{ChanCall}
 use Rattle.rw_world.specs.Machines.{ChanShown, of_broadcast, of_watch, of_chan, of_world}
-use Rattle.rw_world.specs.Openings.{opened_channel, opened}
+use Rattle.rw_world.specs.Openings.{opened_channel, opening_row}
 use Rattle.rw_world.specs.Records.{ChannelRecord, broadcast_record, watch_record, opened_records, step_of, next_records, records_after, shown_record, shown_records, shown_after, ShowsItsRecords, RepliesByRecords, ShowsItsSteps}
 use Rattle.rw_world.specs.RowLaws.{row_laws}
 
@@ -44,7 +44,7 @@ module _ {V : Type 0} where
   replies_step (watch_record r) (call.W d) allowed = ap reply.W (watch.shows_its_steps V r d).0
 
   shows_step_at : (rs : List (ChannelRecord V)) (i : ℕ) (c : ChanCall V) → AreAllowed (shown_records rs)
-      → shown_records (modified (λ r. (step_of r c).0) rs i) ≡ modified (λ x. (of_chan {V = V}).next x c) (shown_records rs) i
+      → shown_records (map_at (λ r. (step_of r c).0) rs i) ≡ map_at (λ x. (of_chan {V = V}).next x c) (shown_records rs) i
   shows_step_at [] i c allowed = refl
   shows_step_at (r ∷ rs) zero c allowed = ap (λ x. x ∷ shown_records rs) (sym (shows_step r c allowed.0))
   shows_step_at (r ∷ rs) (suc i) c allowed = ap (λ xs. shown_record r ∷ xs) (shows_step_at rs i c allowed.1)
@@ -75,7 +75,7 @@ module _ {V : Type 0} where
   allowed_opened (Broadcast capacity ∷ specs) = (broadcast.shows_allowed V capacity [], allowed_opened specs)
   allowed_opened (Watch init ∷ specs) = (watch.shows_allowed V init [], allowed_opened specs)
 
-  pub shows_opened : (specs : List (Spec V)) → shown_records (opened_records specs) ≡ opened specs
+  pub shows_opened : (specs : List (Spec V)) → shown_records (opened_records specs) ≡ opening_row specs
   shows_opened [] = refl
   shows_opened (Broadcast capacity ∷ specs) = ap (λ xs. opened_channel (Broadcast capacity) ∷ xs) (shows_opened specs)
   shows_opened (Watch init ∷ specs) = ap (λ xs. opened_channel (Watch init) ∷ xs) (shows_opened specs)

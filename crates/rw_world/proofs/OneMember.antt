@@ -1,12 +1,12 @@
 -- One member of a row, and the row.
 use Rattle.std.proofs.Common.{◌≡◌, ℕ, zero, suc, ◌+◌, ◌<◌, ◌≤◌, List, [], ◌∷◌, length, map, get_or, set, drop, Some, None, MatchOption, refl, ap, arith, add-one}
 use Rattle.std.specs.Prelude.{slice_get, min}
-use Rattle.rw_world.specs.Lists.{modified, greatest, least}
+use Rattle.rw_world.specs.Lists.{map_at, greatest, least}
 
 -- what the members show, where the member y takes the place i, or where there is no place i
 module _ {M V : Type 0} (shown : M → V) where
   -- a member that now shows f of what the one in its place showed
-  pub view_at : (f : V → V) (xs : List M) (i : ℕ) (d y : M) → i < length xs → shown y ≡ f (shown (get_or xs i d)) → map shown (set xs i y) ≡ modified f (map shown xs) i
+  pub view_at : (f : V → V) (xs : List M) (i : ℕ) (d y : M) → i < length xs → shown y ≡ f (shown (get_or xs i d)) → map shown (set xs i y) ≡ map_at f (map shown xs) i
   view_at f [] i d y within change = refl
   view_at f (x ∷ xs) zero d y within change = ap (λ v. v ∷ map shown xs) change
   view_at f (x ∷ xs) (suc i) d y within change =
@@ -32,7 +32,7 @@ module _ {M V : Type 0} (shown : M → V) where
       let below : i < length xs = omega arith in
       ap (λ vs. shown x ∷ vs) (same_at xs i d y below same)
 
-  pub modified_past : (f : V → V) (xs : List M) (i : ℕ) → length xs ≤ i → map shown xs ≡ modified f (map shown xs) i
+  pub modified_past : (f : V → V) (xs : List M) (i : ℕ) → length xs ≤ i → map shown xs ≡ map_at f (map shown xs) i
   modified_past f [] i past = refl
   modified_past f (x ∷ xs) zero past = absurd (omega arith)
   modified_past f (x ∷ xs) (suc i) past = ap (λ vs. shown x ∷ vs) (modified_past f xs i (omega arith))

@@ -3,12 +3,12 @@ use Rattle.std.proofs.Common.{◌≡◌, ℕ, zero, suc, Bool, true, List, [], �
 use Rattle.std.specs.Prelude.{slice_get}
 use Rattle.std.specs.Option.{option_map_or}
 use Rattle.rw_law.specs.declared.machine.Reversible.{Ghosts}
-use Rattle.rw_world.specs.Lists.{modified}
+use Rattle.rw_world.specs.Lists.{map_at}
 use Rattle.rw_world.specs.Row.{Missing, next}
 use Rattle.rw_world.specs.Shapes.{KeepsKind, StraysByKind, KeepsShape, KeepsShapeThroughout, StraysByShape}
 
 module _ {M C R P : Type 0} (m : Ghosts M C R P) {K : Type 0} (kind : m.View → K) (strays_at : K → C → Bool) where
-  shape_at : KeepsKind m kind strays_at → (xs : List m.View) (i : ℕ) (c : C) → map kind (modified (λ x. m.next x c) xs i) ≡ map kind xs
+  shape_at : KeepsKind m kind strays_at → (xs : List m.View) (i : ℕ) (c : C) → map kind (map_at (λ x. m.next x c) xs i) ≡ map kind xs
   shape_at keeps [] i c = refl
   shape_at keeps (x ∷ xs) zero c = ap (λ k. k ∷ map kind xs) (keeps x c)
   shape_at keeps (x ∷ xs) (suc i) c = ap (λ ks. kind x ∷ ks) (shape_at keeps xs i c)

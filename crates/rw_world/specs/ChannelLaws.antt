@@ -2,7 +2,7 @@
 use Rattle.std.proofs.Common.{◌≡◌, ◌+◌, ◌≤◌, true, refl, ap, arith}
 use Rattle.rw_law.specs.Journal.{LawsOf}
 use Rattle.rw_law.specs.Laws.{Laws}
-use Rattle.rw_world.specs.Kinds.{Shown, broadcast_shown, watch_shown, kind_of}
+use Rattle.rw_world.specs.Kinds.{Shown, broadcast_shown, watch_shown, channel_kind}
 use Rattle.rw_world.specs.Channel.{OfBroadcast, OfWatch, strays_at, IsAllowed, weigh, next, reply_of, patch_of, back, Fits, refuses, waits, strays}
 use Rattle.rw_world.specs.declared.channels.ChanCall.{ChanCall}
 use Rattle.rw_world.specs.declared.channels.ChanCall.TheVariants as call
@@ -11,14 +11,14 @@ use Rattle.rw_world.specs.declared.channels.ChanReply.TheVariants as reply
 
 module _ {V : Type 0} (b : OfBroadcast V) (w : OfWatch V) where
   -- a call doesn't change the kind
-  pub kind_stays : (x : Shown b.View w.View) (c : ChanCall V) → kind_of (next b w x c) ≡ kind_of x
+  pub kind_stays : (x : Shown b.View w.View) (c : ChanCall V) → channel_kind (next b w x c) ≡ channel_kind x
   kind_stays (broadcast_shown x) (call.B c) = refl
   kind_stays (broadcast_shown x) (call.W d) = refl
   kind_stays (watch_shown y) (call.B c) = refl
   kind_stays (watch_shown y) (call.W d) = refl
 
   -- a call strays exactly where it is of the other kind
-  pub strays_by_kind : (x : Shown b.View w.View) (c : ChanCall V) → strays b w (reply_of b w x c) ≡ strays_at (kind_of x) c
+  pub strays_by_kind : (x : Shown b.View w.View) (c : ChanCall V) → strays b w (reply_of b w x c) ≡ strays_at (channel_kind x) c
   strays_by_kind (broadcast_shown x) (call.B c) = refl
   strays_by_kind (broadcast_shown x) (call.W d) = refl
   strays_by_kind (watch_shown y) (call.B c) = refl

@@ -9,6 +9,6 @@ pub data Shown (V W : Type 0) : Type 0 where
   broadcast_shown : V → Shown V W
   watch_shown : W → Shown V W
 
-abbrev pub kind_of : {V W : Type 0} → Shown V W → ChannelKind
-kind_of (broadcast_shown x) = broadcast
-kind_of (watch_shown y) = watch
+abbrev pub channel_kind : {V W : Type 0} → Shown V W → ChannelKind
+channel_kind (broadcast_shown x) = broadcast
+channel_kind (watch_shown y) = watch

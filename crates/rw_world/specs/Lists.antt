@@ -3,10 +3,10 @@ use Rattle.std.specs.Prelude.{ℕ, zero, suc, max, min, List, [], ◌∷◌}
 use Rattle.rw_law.specs.declared.limits.TheConstants.{MOST_WEIGHT}
 
 -- the list with f of the element at index i, where there is one
-abbrev pub modified : {X : Type 0} → (X → X) → List X → ℕ → List X
-modified f [] i = []
-modified f (x ∷ xs) zero = f x ∷ xs
-modified f (x ∷ xs) (suc i) = x ∷ modified f xs i
+abbrev pub map_at : {X : Type 0} → (X → X) → List X → ℕ → List X
+map_at f [] i = []
+map_at f (x ∷ xs) zero = f x ∷ xs
+map_at f (x ∷ xs) (suc i) = x ∷ map_at f xs i
 
 -- P holds of each element
 abbrev pub Each : {X : Type 0} → (X → Type 0) → List X → Type 0

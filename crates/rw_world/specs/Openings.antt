@@ -2,9 +2,9 @@
 use Rattle.std.specs.Prelude.{Bool, false, ◌||◌, nat_eq, nat_lt, if◌then◌else◌, List, length, map, position, Option, Some}
 use Rattle.std.specs.Option.{option_map}
 use Rattle.rw_ring.specs.declared.ring.TheConstants.{MOST_CAPACITY}
-use Rattle.rw_broadcast.specs.Record.{opened as opened_broadcast}
+use Rattle.rw_broadcast.specs.Record.{opening_record as opened_broadcast}
 use Rattle.rw_broadcast.specs.Shown.{shown as shown_broadcast}
-use Rattle.rw_watch.specs.Record.{opened as opened_watch}
+use Rattle.rw_watch.specs.Record.{opening_record as opened_watch}
 use Rattle.rw_watch.specs.Shown.{shown as shown_watch}
 use Rattle.rw_world.specs.declared.opening.TheConstants.{MOST_CHANNELS}
 use Rattle.rw_world.specs.declared.opening.Spec.{Spec}
@@ -21,13 +21,13 @@ module _ {V : Type 0} where
   opened_channel (Watch init) = watch_shown (shown_watch (opened_watch init))
 
   -- what a world shows at its opening
-  abbrev pub opened : List (Spec V) → List (ChanShown V)
-  opened specs = map opened_channel specs
+  abbrev pub opening_row : List (Spec V) → List (ChanShown V)
+  opening_row specs = map opened_channel specs
 
   -- the kind of channel that is opened
-  abbrev pub kind_of_spec : Spec V → ChannelKind
-  kind_of_spec (Broadcast capacity) = broadcast
-  kind_of_spec (Watch init) = watch
+  abbrev pub spec_kind : Spec V → ChannelKind
+  spec_kind (Broadcast capacity) = broadcast
+  spec_kind (Watch init) = watch
 
   -- a capacity of 0, or above the greatest
   abbrev pub has_bad_capacity : Spec V → Bool

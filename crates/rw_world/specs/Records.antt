@@ -13,11 +13,11 @@ use Rattle.rw_world.specs.declared.opening.Spec.{Spec}
 use Rattle.rw_world.specs.declared.opening.Spec.TheVariants.{Broadcast, Watch}
 use Rattle.rw_world.specs.declared.rows.RowCall.{RowCall}
 use Rattle.rw_world.specs.Kinds.{broadcast_shown, watch_shown}
-use Rattle.rw_world.specs.Lists.{modified}
+use Rattle.rw_world.specs.Lists.{map_at}
 use Rattle.rw_world.specs.declared.channels.ChanCall.{ChanCall}
 use Rattle.rw_world.specs.declared.channels.ChanReply.{ChanReply}
 use Rattle.rw_world.specs.Machines.{ChanShown, of_world}
-use Rattle.rw_world.specs.Openings.{opened}
+use Rattle.rw_world.specs.Openings.{opening_row}
 use Rattle.rw_world.specs.Specified.{WorldEntry}
 
 -- the record of a channel of either kind
@@ -28,8 +28,8 @@ pub data ChannelRecord (V : Type 0) : Type 0 where
 module _ {V : Type 0} where
   -- a channel at its opening
   abbrev pub opened_record : Spec V → ChannelRecord V
-  opened_record (Broadcast capacity) = broadcast_record (broadcast.opened capacity)
-  opened_record (Watch init) = watch_record (watch.opened init)
+  opened_record (Broadcast capacity) = broadcast_record (broadcast.opening_record capacity)
+  opened_record (Watch init) = watch_record (watch.opening_record init)
 
   -- a world at its opening
   abbrev pub opened_records : List (Spec V) → List (ChannelRecord V)
@@ -45,7 +45,7 @@ module _ {V : Type 0} where
 
   -- a world after a call: its channel makes the documented step, the others stay
   abbrev pub next_records : List (ChannelRecord V) → RowCall (ChanCall V) → List (ChannelRecord V)
-  next_records rs c = modified (λ r. (step_of r c.call).0) rs c.channel
+  next_records rs c = map_at (λ r. (step_of r c.call).0) rs c.channel
 
   -- the reply to a call: that of its channel, or NoChannel where there is no such channel
   abbrev pub reply_from : List (ChannelRecord V) → RowCall (ChanCall V) → ChanReply V
@@ -95,20 +95,20 @@ module _ {V : Type 0} where
 -- after any calls a world shows what its documented records show
 abbrev pub ShowsItsRecords : Type 0 → Type 0
 ShowsItsRecords V = (specs : List (Spec V)) (calls : List (RowCall (ChanCall V)))
-    → shown_records (records_after (opened_records specs) calls) ≡ shown_after (opened specs) calls
+    → shown_records (records_after (opened_records specs) calls) ≡ shown_after (opening_row specs) calls
 
 -- after any calls a world replies to a call as documented
 abbrev pub RepliesByRecords : Type 0 → Type 0
 RepliesByRecords V = (specs : List (Spec V)) (calls : List (RowCall (ChanCall V))) (c : RowCall (ChanCall V))
-    → (of_world {V = V}).reply_of (shown_after (opened specs) calls) c ≡ reply_from (records_after (opened_records specs) calls) c
+    → (of_world {V = V}).reply_of (shown_after (opening_row specs) calls) c ≡ reply_from (records_after (opened_records specs) calls) c
 
 -- after the first n entries of a journal a world shows what its documented records show there
 abbrev pub ShowsAtPlaces : Type 0 → Type 0
-ShowsAtPlaces V = (specs : List (Spec V)) (es : List (WorldEntry V)) (n : ℕ) → after of_world (opened specs) es n ≡ documented_at specs es n
+ShowsAtPlaces V = (specs : List (Spec V)) (es : List (WorldEntry V)) (n : ℕ) → after of_world (opening_row specs) es n ≡ documented_at specs es n
 
 -- a journal that is legal from the specs has the documented replies
 abbrev pub RecordsAsDocumented : Type 0 → Type 0
-RecordsAsDocumented V = (specs : List (Spec V)) (es : List (WorldEntry V)) → IsLegal of_world (opened specs) es → IsDocumented specs es
+RecordsAsDocumented V = (specs : List (Spec V)) (es : List (WorldEntry V)) → IsLegal of_world (opening_row specs) es → IsDocumented specs es
 
 -- a step on what records show, where that is allowed, is their documented step: its reply is theirs, and what is shown after it
 -- is what the records after it show

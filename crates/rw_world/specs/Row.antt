@@ -4,7 +4,7 @@ use Rattle.std.specs.Prelude.{ℕ, List, map, slice_get, MatchOption}
 use Rattle.std.specs.Option.{option_map_or}
 use Rattle.rw_law.specs.declared.machine.Reversible.{Ghosts}
 use Rattle.rw_world.specs.declared.rows.RowCall.{RowCall}
-use Rattle.rw_world.specs.Lists.{modified, Each, greatest, least}
+use Rattle.rw_world.specs.Lists.{map_at, Each, greatest, least}
 
 -- what a call gets whose channel isn't there
 pub record Missing (R P : Type 0) : Type 0 where
@@ -13,10 +13,10 @@ pub record Missing (R P : Type 0) : Type 0 where
 
 module _ {M C R P : Type 0} (m : Ghosts M C R P) where
   abbrev pub next : List m.View → RowCall C → List m.View
-  next xs c = modified (λ x. m.next x c.call) xs c.channel
+  next xs c = map_at (λ x. m.next x c.call) xs c.channel
 
   abbrev pub back : List m.View → RowCall C → P → List m.View
-  back xs c p = modified (λ x. m.back x c.call p) xs c.channel
+  back xs c p = map_at (λ x. m.back x c.call p) xs c.channel
 
   -- the patch fits the channel's own machine; where there is no such channel, any patch will do
   abbrev pub Fits : List m.View → RowCall C → P → Type 0

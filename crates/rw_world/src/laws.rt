@@ -1,7 +1,7 @@
 //! Laws of rows and of worlds, for the layers above. Each is the contract of a function that does nothing.
 
 ghost use Rattle.rw_law.specs.Journal.{IsLegal, after_all};
-ghost use Rattle.rw_world.specs.Kinds.{kind_of};
+ghost use Rattle.rw_world.specs.Kinds.{channel_kind};
 ghost use Rattle.rw_world.specs.Channel.{no_channel, strays_at};
 ghost use Rattle.rw_world.specs.Commuting.{Commutes};
 ghost use Rattle.rw_world.specs.Shapes.{KeepsShape, KeepsShapeThroughout, StraysByShape};
@@ -27,9 +27,9 @@ pub fn legal_by_parts<M: Member>()
 
 /// No step changes which kind of channel stands at which number, and a call gets `NoChannel` exactly by that.
 pub fn shape<V: Copy>()
-    ensures keeps { KeepsShape ⟦<Chan<V> as Reversible>⟧ kind_of strays_at }
-    ensures throughout { KeepsShapeThroughout ⟦<Chan<V> as Reversible>⟧ kind_of strays_at no_channel }
-    ensures strays { StraysByShape ⟦<Chan<V> as Reversible>⟧ kind_of strays_at no_channel }
+    ensures keeps { KeepsShape ⟦<Chan<V> as Reversible>⟧ channel_kind strays_at }
+    ensures throughout { KeepsShapeThroughout ⟦<Chan<V> as Reversible>⟧ channel_kind strays_at no_channel }
+    ensures strays { StraysByShape ⟦<Chan<V> as Reversible>⟧ channel_kind strays_at no_channel }
 {}
 
 /// A world opens with the kinds of channels that its specs name. After any journal a call gets `NoChannel` exactly by the

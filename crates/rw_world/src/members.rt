@@ -3,7 +3,7 @@
 ghost use Rattle.std.specs.Prelude.{◌≡◌, ◌≤◌, ◌<◌, false, true, length, map, slice_get, Some, MatchOption, OnOk, IsOk};
 ghost use Rattle.std.specs.Option.{option_map};
 ghost use Rattle.rw_law.specs.declared.limits.TheConstants.{MOST_WEIGHT};
-ghost use Rattle.rw_world.specs.Lists.{modified, Each, greatest, least};
+ghost use Rattle.rw_world.specs.Lists.{map_at, Each, greatest, least};
 ghost use Rattle.rw_world.specs.Row.{Missing};
 
 use rw_law::{MOST_WEIGHT, NoMemory, Reversible};
@@ -29,7 +29,7 @@ pub trait Member: Reversible {
 pub fn apply_at<M: Reversible>(members: &mut [M], i: usize, call: &M::Call) -> (M::Reply, M::Patch)
     requires within { i < length members.old }
     requires room { greatest M.weigh (map M.shown members.old) < least M.reserved members.old }
-    ensures view { map M.shown members.new ≡ modified (λ x. M.next x call.now) (map M.shown members.old) i }
+    ensures view { map M.shown members.new ≡ map_at (λ x. M.next x call.now) (map M.shown members.old) i }
     ensures reply { Some result.0 ≡ option_map (λ x. M.reply_of x call.now) (slice_get (map M.shown members.old) i) }
     ensures patch { Some result.1 ≡ option_map (λ x. M.patch_of x call.now) (slice_get (map M.shown members.old) i) }
     ensures room { least M.reserved members.new ≡ least M.reserved members.old }
@@ -41,7 +41,7 @@ pub fn apply_at<M: Reversible>(members: &mut [M], i: usize, call: &M::Call) -> (
 pub fn undo_at<M: Reversible>(members: &mut [M], i: usize, call: &M::Call, patch: &M::Patch)
     requires within { i < length members.old }
     requires fits { MatchOption (slice_get (map M.shown members.old) i) (Unit {0}) (λ x. M.fits x call.now patch.now) }
-    ensures view { map M.shown members.new ≡ modified (λ x. M.back x call.now patch.now) (map M.shown members.old) i }
+    ensures view { map M.shown members.new ≡ map_at (λ x. M.back x call.now patch.now) (map M.shown members.old) i }
     ensures room { least M.reserved members.new ≡ least M.reserved members.old }
 {
     members[i].undo(call, patch);

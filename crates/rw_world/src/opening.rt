@@ -1,7 +1,7 @@
 //! Opening worlds.
 
 ghost use Rattle.std.specs.Prelude.{◌≡◌, ◌≤◌, ◌<◌, false, length, map, position, All, IfOk, IfSome, IfNone, IsNone, MatchResult};
-ghost use Rattle.rw_world.specs.Openings.{has_bad_capacity, opened, opened_channel, refusal};
+ghost use Rattle.rw_world.specs.Openings.{has_bad_capacity, opening_row, opened_channel, refusal};
 
 use crate::channels::Chan;
 use crate::rows::Row;
@@ -106,7 +106,7 @@ pub fn refusal_of<V: Copy>(specs: &[Spec<V>]) -> Option<OpenFault>
 /// Opens the channels.
 fn open_all<V: Copy>(alloc: Global, specs: &[Spec<V>]) -> Result<World<V>, NoMemory>
     requires { All (λ spec. has_bad_capacity spec ≡ false) specs.now }
-    ensures { IfOk result (λ world. ⟦<World<V> as Reversible>⟧.shown world ≡ opened specs.now) }
+    ensures { IfOk result (λ world. ⟦<World<V> as Reversible>⟧.shown world ≡ opening_row specs.now) }
 {
     let mut channels = Vec::with_capacity(alloc, specs.len())?;
     for spec in specs {
@@ -118,7 +118,7 @@ fn open_all<V: Copy>(alloc: Global, specs: &[Spec<V>]) -> Result<World<V>, NoMem
 /// Opens a world with a channel for each spec, under the numbers 0, 1, 2, .. . Each has a sender, 0, and a receiver, 1.
 pub fn open<V: Copy>(alloc: Global, specs: &[Spec<V>]) -> Result<World<V>, OpenFault>
     ensures refused { IfSome (refusal specs.now) (λ fault. result ≡ Err fault) }
-    ensures opened { IfNone (refusal specs.now) (MatchResult result (λ world. ⟦<World<V> as Reversible>⟧.shown world ≡ opened specs.now) (λ fault. fault ≡ OpenFault.NoMemory)) }
+    ensures opened { IfNone (refusal specs.now) (MatchResult result (λ world. ⟦<World<V> as Reversible>⟧.shown world ≡ opening_row specs.now) (λ fault. fault ≡ OpenFault.NoMemory)) }
     ensures light { IfOk result (λ world. ⟦<World<V> as Reversible>⟧.weigh (⟦<World<V> as Reversible>⟧.shown world) ≤ 2) }
 {
     if let Some(fault) = refusal_of(specs) {

@@ -90,7 +90,7 @@ impl<T: Clone> Receiver<T> {
     ///
     /// # Panics
     ///
-    /// Where the channel has made 65,536 senders and receivers.
+    /// Where the channel has made 65,536 senders, weak senders and receivers.
     pub fn resubscribe(&self) -> Receiver<T> {
         let handle = made(
             self.channel

@@ -71,7 +71,7 @@ impl<T> Sender<T> {
     ///
     /// # Panics
     ///
-    /// Where the channel has made 65,536 senders and receivers.
+    /// Where the channel has made 65,536 senders, weak senders and receivers.
     pub fn subscribe(&self) -> Receiver<T> {
         let handle = made(
             self.channel
@@ -168,7 +168,7 @@ impl<T> Sender<T> {
 impl<T> Clone for Sender<T> {
     /// # Panics
     ///
-    /// Where the channel has made 65,536 senders and receivers.
+    /// Where the channel has made 65,536 senders, weak senders and receivers.
     fn clone(&self) -> Sender<T> {
         let handle = made(
             self.channel

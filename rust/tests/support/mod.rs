@@ -1,9 +1,13 @@
 //! What several tests share.
 #![allow(dead_code)]
 
+pub mod parts;
+
 use std::future::Future;
+use std::io::Write;
+use std::path::Path;
 use std::pin::pin;
-use std::process::Command;
+use std::process::{Command, Stdio};
 use std::sync::mpsc::{self, RecvTimeoutError};
 use std::task::{Context, Poll, Waker};
 use std::time::Duration;
@@ -77,4 +81,21 @@ pub fn accepted(recorder: &Recorder, name: &str) -> u64 {
     std::fs::remove_file(&path).unwrap();
     std::fs::remove_file(path.with_extension("names")).unwrap();
     entries
+}
+
+/// What `ttd debug` writes for these commands over a journal, where the variable `YOVANELUM_TTD` names the program.
+pub fn debugged(journal: &Path, commands: &str) -> Option<String> {
+    let ttd = std::env::var_os("YOVANELUM_TTD")?;
+    let mut walk = Command::new(ttd)
+        .arg("debug")
+        .arg(journal)
+        .stdin(Stdio::piped())
+        .stdout(Stdio::piped())
+        .spawn()
+        .unwrap();
+    let mut input = walk.stdin.take().unwrap();
+    input.write_all(commands.as_bytes()).unwrap();
+    drop(input);
+    let written = walk.wait_with_output().unwrap().stdout;
+    Some(String::from_utf8(written).unwrap())
 }

@@ -3,11 +3,11 @@ ghost use Rattle.std.specs.Prelude.{◌≡◌, ◌-◌, ◌<◌, ◌≤◌, leng
 ghost use Rattle.rw_handles.specs.declared.kinds.Kind.TheVariants.{Receiver};
 ghost use Rattle.rw_handles.specs.declared.kinds.Slot.TheVariants.{Live};
 ghost use Rattle.rw_handles.specs.declared.kinds.Found.TheVariants.{Handle};
-ghost use Rattle.rw_handles.specs.Slots.{found};
+ghost use Rattle.rw_handles.specs.Slots.{lookup};
 ghost use Rattle.rw_handles.specs.declared.table.TheConstants.{MOST_HANDLES};
-ghost use Rattle.rw_broadcast.specs.Channel.{Keep, Make, Move, Leave, send, read, receive, upgrade, effect, effect_with, handle_of, wanted, makes, oldest, receivers};
+ghost use Rattle.rw_broadcast.specs.Channel.{Keep, Make, Move, Leave, send, read, receive, upgrade, effect, effect_with, handle_of, wanted_kind, makes, oldest, receivers};
 ghost use Rattle.rw_broadcast.specs.Shown.{CanUnsend, IsPlaced, channel_of, weight};
-ghost use Rattle.rw_ring.specs.Windows.{unput};
+ghost use Rattle.rw_ring.specs.Windows.{window_before};
 ghost use Rattle.rw_broadcast.specs.Machine.{Takes};
 
 use super::Broadcast;
@@ -125,7 +125,7 @@ impl<V: Copy> Broadcast<V> {
     /// Makes a call with the live handle that it found.
     fn perform(&mut self, call: &BCall<V>, kind: Kind, position: u64) -> (BReply<V>, BPatch<V>)
         requires room { weight self.old.shown < self.old.limit }
-        requires found { found (wanted call.now) self.old.shown.slots (handle_of call.now) ≡ Handle kind position }
+        requires found { lookup (wanted_kind call.now) self.old.shown.slots (handle_of call.now) ≡ Handle kind position }
         requires few { IsTrue (makes call.now) → length self.old.shown.slots < MOST_HANDLES }
         ensures { Takes self.old self.new result (effect_with (channel_of self.old.shown) call.now kind position) }
     {
@@ -169,7 +169,7 @@ impl<V: Copy> Broadcast<V> {
     pub(super) fn unsend(&mut self, evicted: Option<V>)
         requires some { CanUnsend self.old.shown }
         requires evicted { is_some evicted ≡ nat_lt self.old.shown.capacity self.old.shown.sent }
-        ensures shown { self.new.shown ≡ record self.old.shown { sent = self.old.shown.sent - 1; window = unput evicted self.old.shown.window } }
+        ensures shown { self.new.shown ≡ record self.old.shown { sent = self.old.shown.sent - 1; window = window_before evicted self.old.shown.window } }
         ensures room { self.new.limit ≡ self.old.limit }
     {
         self.values.unput(evicted);

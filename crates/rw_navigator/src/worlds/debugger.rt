@@ -8,7 +8,7 @@ ghost use Rattle.rw_navigator.specs.Moves.{answer_to, answers_to, distance_betwe
 ghost use Rattle.rw_navigator.specs.Places.{last_place, shown_at};
 ghost use Rattle.rw_navigator.specs.Search.{first_above, last_below, most_above, most_below, step_hit, TestsView};
 ghost use Rattle.rw_world.specs.Machines.{ChanShown};
-ghost use Rattle.rw_world.specs.Openings.{opened, refusal};
+ghost use Rattle.rw_world.specs.Openings.{opening_row, refusal};
 ghost use Rattle.rw_world.specs.Records.{IsDocumented};
 
 use crate::conditions::Probe;
@@ -30,11 +30,11 @@ pub struct Debugger<V: Copy> {
 }
 
 impl<V: Copy> Model for Debugger<V> {
-    ghost use Rattle.rw_navigator.specs.Debugger.{Debugger as Seen, IsDebugger, seen};
+    ghost use Rattle.rw_navigator.specs.Debugger.{Debugger as Seen, IsDebugger, debugger_at};
 
     ghost Value = { Seen V };
 
-    ghost view = { λ a. seen a.specs.items a.visit };
+    ghost view = { λ a. debugger_at a.specs.items a.visit };
 
     ghost invariant = { λ a. IsDebugger a.specs.items a.visit };
 }
@@ -58,7 +58,7 @@ impl<V: Copy> Debugger<V> {
     /// call is made again. It takes no memory.
     pub fn of_book(specs: Vec<Spec<V>>, book: Book<World<V>>) -> Debugger<V>
         requires opens { refusal specs.items ≡ None }
-        requires opened { opening_of ⟦<World<V> as Reversible>⟧ book ≡ opened specs.items }
+        requires opened { opening_of ⟦<World<V> as Reversible>⟧ book ≡ opening_row specs.items }
         ensures { StandsAt result (as_run specs.items book.entries) (length book.entries) }
     {
         let (start, machine, entries) = book.into_whole();

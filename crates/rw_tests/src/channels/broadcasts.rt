@@ -52,7 +52,7 @@ impl Shows for Broadcast<u64> {
 }
 
 /// Records a row and walks it, on channels of this capacity.
-fn play_at(rt: &impl Abort, alloc: Global, capacity: u32, steps: &[Row]) -> Result<(), Fail>
+fn play_at(rt: &impl Abort, alloc: Global, capacity: u32, steps: &[Wanted]) -> Result<(), Fail>
     requires { length steps.now < 100 }
 {
     let recorded = Broadcast::open(alloc, capacity)?;
@@ -60,7 +60,7 @@ fn play_at(rt: &impl Abort, alloc: Global, capacity: u32, steps: &[Row]) -> Resu
     play(rt, alloc, recorded, walked, steps)
 }
 
-type Row = Expected<BCall<u64>, BReply<u64>, Place>;
+type Wanted = Expected<BCall<u64>, BReply<u64>, Place>;
 
 /// What a channel of this capacity shows at its opening.
 pub fn opening(capacity: u64) -> Place {
@@ -97,7 +97,7 @@ fn overrun_walked_back(rt: HostRuntime) -> Result<(), Fail> {
         receivers: [None, Some((3, 0, 0)), None],
         ..overrun
     };
-    let steps: &[Row] = &[
+    let steps: &[Wanted] = &[
         Expected::new(BCall::Send(0, 1), BReply::Sent(1)),
         Expected::to(BCall::Send(0, 2), BReply::Sent(1), full),
         Expected::to(BCall::Send(0, 3), BReply::Sent(1), overrun),
@@ -122,7 +122,7 @@ fn capacity_is_rounded_up(rt: HostRuntime) -> Result<(), Fail> {
         receivers: [None, Some((1, 4, 0)), None],
         ..overrun
     };
-    let steps: &[Row] = &[
+    let steps: &[Wanted] = &[
         Expected::new(BCall::Send(0, 1), BReply::Sent(1)),
         Expected::new(BCall::Send(0, 2), BReply::Sent(1)),
         Expected::new(BCall::Send(0, 3), BReply::Sent(1)),
@@ -143,7 +143,7 @@ fn lagged_then_closed(rt: HostRuntime) -> Result<(), Fail> {
         receivers: [None, Some((2, 0, 0)), None],
         ..opening(1)
     };
-    let steps: &[Row] = &[
+    let steps: &[Wanted] = &[
         Expected::new(BCall::Send(0, 1), BReply::Sent(1)),
         Expected::new(BCall::Send(0, 2), BReply::Sent(1)),
         Expected::new(BCall::DropHandle(0), BReply::Dropped),
@@ -161,7 +161,7 @@ fn send_without_receivers(rt: HostRuntime) -> Result<(), Fail> {
         receivers: [None; 3],
         ..opening(4)
     };
-    let steps: &[Row] = &[
+    let steps: &[Wanted] = &[
         Expected::to(BCall::DropHandle(1), BReply::Dropped, alone),
         Expected::to(BCall::Send(0, 9), BReply::NoReceivers(9), alone),
         Expected::new(BCall::Subscribe(0), BReply::New(2)),
@@ -188,7 +188,7 @@ fn drop_reads_the_rest(rt: HostRuntime) -> Result<(), Fail> {
         receivers: [None; 3],
         ..unread
     };
-    let steps: &[Row] = &[
+    let steps: &[Wanted] = &[
         Expected::new(BCall::Send(0, 5), BReply::Sent(1)),
         Expected::to(BCall::Send(0, 6), BReply::Sent(1), unread),
         Expected::to(BCall::DropHandle(1), BReply::Dropped, dropped),
@@ -211,7 +211,7 @@ fn resubscribe_skips_the_backlog(rt: HostRuntime) -> Result<(), Fail> {
         receivers: [None, Some((0, 5, 3)), Some((5, 0, 0))],
         ..opening(2)
     };
-    let steps: &[Row] = &[
+    let steps: &[Wanted] = &[
         Expected::new(BCall::Send(0, 1), BReply::Sent(1)),
         Expected::new(BCall::Send(0, 2), BReply::Sent(1)),
         Expected::new(BCall::Send(0, 3), BReply::Sent(1)),
@@ -227,7 +227,7 @@ fn resubscribe_skips_the_backlog(rt: HostRuntime) -> Result<(), Fail> {
 
 #[test]
 fn sender_len_counts_the_slowest(rt: HostRuntime) -> Result<(), Fail> {
-    let steps: &[Row] = &[
+    let steps: &[Wanted] = &[
         Expected::new(BCall::Subscribe(0), BReply::New(2)),
         Expected::new(BCall::Send(0, 10), BReply::Sent(2)),
         Expected::new(BCall::Send(0, 20), BReply::Sent(2)),
@@ -243,7 +243,7 @@ fn sender_len_counts_the_slowest(rt: HostRuntime) -> Result<(), Fail> {
 
 #[test]
 fn refused_handles(rt: HostRuntime) -> Result<(), Fail> {
-    let steps: &[Row] = &[
+    let steps: &[Wanted] = &[
         Expected::to(BCall::Send(5, 1), BReply::Unknown, opening(2)),
         Expected::to(BCall::Send(1, 1), BReply::WrongKind, opening(2)),
         Expected::to(BCall::Recv(0), BReply::WrongKind, opening(2)),
@@ -267,7 +267,7 @@ fn weak_senders(rt: HostRuntime) -> Result<(), Fail> {
         kinds: [None, Some(Kind::Receiver), Some(Kind::Weak)],
         ..downgraded
     };
-    let steps: &[Row] = &[
+    let steps: &[Wanted] = &[
         Expected::to(BCall::Downgrade(0), BReply::New(2), downgraded),
         Expected::new(BCall::Upgrade(2), BReply::New(3)),
         Expected::new(BCall::DropHandle(0), BReply::Dropped),
@@ -281,7 +281,7 @@ fn weak_senders(rt: HostRuntime) -> Result<(), Fail> {
 
 #[test]
 fn weak_senders_refused(rt: HostRuntime) -> Result<(), Fail> {
-    let steps: &[Row] = &[
+    let steps: &[Wanted] = &[
         Expected::new(BCall::Downgrade(0), BReply::New(2)),
         Expected::new(BCall::CloneWeak(2), BReply::New(3)),
         Expected::new(BCall::Send(2, 1), BReply::WrongKind),
@@ -299,7 +299,7 @@ fn weak_senders_refused(rt: HostRuntime) -> Result<(), Fail> {
 /// That too many handles were made is seen before it is that there is no sender.
 #[test]
 fn upgrade_at_the_handle_limit(rt: HostRuntime) -> Result<(), Fail> {
-    let mut steps: Vec<Row> = Vec::new(rt.alloc());
+    let mut steps: Vec<Wanted> = Vec::new(rt.alloc());
     steps.push(Expected::new(BCall::Downgrade(0), BReply::New(2)))?;
     for number in 3..65_536 {
         steps.push(Expected::new(BCall::CloneWeak(2), BReply::New(number)))?;
@@ -330,7 +330,7 @@ fn handle_limit(rt: HostRuntime) -> Result<(), Fail> {
         made: 65_536,
         ..opening(1)
     };
-    let mut steps: Vec<Row> = Vec::new(rt.alloc());
+    let mut steps: Vec<Wanted> = Vec::new(rt.alloc());
     for number in 2..65_536 {
         steps.push(Expected::new(BCall::CloneSender(0), BReply::New(number)))?;
     }
@@ -358,7 +358,7 @@ fn greatest_capacity_overrun_by_one(rt: HostRuntime) -> Result<(), Fail> {
         receivers: [None, Some((0, 65_537, 1)), None],
         ..full
     };
-    let mut steps: Vec<Row> = Vec::new(rt.alloc());
+    let mut steps: Vec<Wanted> = Vec::new(rt.alloc());
     for value in 0..65_535 {
         steps.push(Expected::new(BCall::Send(0, value), BReply::Sent(1)))?;
     }

@@ -40,7 +40,7 @@ impl Shows for Watch<u64> {
 }
 
 /// Records a row and walks it, on channels of this value.
-fn play_at(rt: &impl Abort, alloc: Global, init: u64, steps: &[Row]) -> Result<(), Fail>
+fn play_at(rt: &impl Abort, alloc: Global, init: u64, steps: &[Wanted]) -> Result<(), Fail>
     requires { length steps.now < 100 }
 {
     let recorded = Watch::open(alloc, init)?;
@@ -49,7 +49,7 @@ fn play_at(rt: &impl Abort, alloc: Global, init: u64, steps: &[Row]) -> Result<(
     play(rt, alloc, recorded, walked, steps)
 }
 
-type Row = Expected<WCall<u64>, WReply<u64>, Place>;
+type Wanted = Expected<WCall<u64>, WReply<u64>, Place>;
 
 /// What a channel of this value shows at its opening.
 pub fn opening(value: u64) -> Place {
@@ -74,7 +74,7 @@ fn same_value_is_a_change(rt: HostRuntime) -> Result<(), Fail> {
         receivers: [None, Some((Some(1), true)), None],
         ..unseen
     };
-    let steps: &[Row] = &[
+    let steps: &[Wanted] = &[
         Expected::new(WCall::HasChanged(1), WReply::Flag(false)),
         Expected::new(WCall::Send(0, 7), WReply::Stored),
         Expected::to(WCall::HasChanged(1), WReply::Flag(true), unseen),
@@ -94,7 +94,7 @@ fn last_change_of_a_closed_watch(rt: HostRuntime) -> Result<(), Fail> {
         receivers: [None, Some((Some(1), true)), None],
         ..opening(7)
     };
-    let steps: &[Row] = &[
+    let steps: &[Wanted] = &[
         Expected::new(WCall::Send(0, 8), WReply::Stored),
         Expected::new(WCall::DropHandle(0), WReply::Dropped),
         Expected::new(WCall::HasChanged(1), WReply::Closed),
@@ -107,7 +107,7 @@ fn last_change_of_a_closed_watch(rt: HostRuntime) -> Result<(), Fail> {
 
 #[test]
 fn watch_without_receivers(rt: HostRuntime) -> Result<(), Fail> {
-    let steps: &[Row] = &[
+    let steps: &[Wanted] = &[
         Expected::new(WCall::DropHandle(1), WReply::Dropped),
         Expected::new(WCall::IsClosed(0), WReply::Flag(true)),
         Expected::new(WCall::AwaitClosed(0), WReply::Done),
@@ -128,7 +128,7 @@ fn silent_modification(rt: HostRuntime) -> Result<(), Fail> {
         value: 5,
         ..opening(1)
     };
-    let steps: &[Row] = &[
+    let steps: &[Wanted] = &[
         Expected::new(
             WCall::Modify {
                 told: false,
@@ -159,7 +159,7 @@ fn marks_are_cloned(rt: HostRuntime) -> Result<(), Fail> {
         receivers: [None, Some((Some(0), true)), Some((Some(0), true))],
         ..cloned
     };
-    let steps: &[Row] = &[
+    let steps: &[Wanted] = &[
         Expected::new(WCall::MarkChanged(1), WReply::Done),
         Expected::new(WCall::MarkChanged(1), WReply::Done),
         Expected::new(WCall::CloneReceiver(1), WReply::New(2)),
@@ -186,7 +186,7 @@ fn four_steps_back(rt: HostRuntime) -> Result<(), Fail> {
         receivers: [None, None, Some((Some(1), true))],
         ..alone
     };
-    let steps: &[Row] = &[
+    let steps: &[Wanted] = &[
         Expected::to(WCall::DropHandle(1), WReply::Dropped, alone),
         Expected::new(
             WCall::Modify {
@@ -205,7 +205,7 @@ fn four_steps_back(rt: HostRuntime) -> Result<(), Fail> {
 
 #[test]
 fn refused_and_waiting_calls(rt: HostRuntime) -> Result<(), Fail> {
-    let steps: &[Row] = &[
+    let steps: &[Wanted] = &[
         Expected::to(WCall::Send(5, 1), WReply::Unknown, opening(3)),
         Expected::to(WCall::Update(0), WReply::WrongKind, opening(3)),
         Expected::to(WCall::Changed(1), WReply::Waits, opening(3)),

@@ -19,15 +19,15 @@ fn steps(alloc: Global, marks: &[(u32, u64)]) -> Result<Vec<StampedCall<u64>>, A
 }
 
 /// The actors and stamps of two channels' entries, and why they aren't merged or in which order.
-type Row<'a> = (
+type Case<'a> = (
     &'a [(u32, u64)],
     &'a [(u32, u64)],
     Result<&'a [(u64, u32)], MergeFault>,
 );
 
-/// Merges the journals of a row.
-fn merge_row(rt: &impl Abort, alloc: Global, row: &Row) -> Result<(), Fail> {
-    let (first, second, wanted) = row;
+/// Merges the journals of a case.
+fn merge_case(rt: &impl Abort, alloc: Global, case: &Case) -> Result<(), Fail> {
+    let (first, second, wanted) = case;
     let (first, second) = (steps(alloc, first)?, steps(alloc, second)?);
     let specs = [Spec::Broadcast(2), Spec::Broadcast(2)];
     match merged(alloc, &specs, &[first.as_slice(), second.as_slice()])? {
@@ -39,7 +39,7 @@ fn merge_row(rt: &impl Abort, alloc: Global, row: &Row) -> Result<(), Fail> {
 
 #[test]
 fn merges(rt: HostRuntime) -> Result<(), Fail> {
-    let rows: [Row; 6] = [
+    let cases: [Case; 6] = [
         (
             &[(0, 1), (0, 3)],
             &[(1, 1), (1, 2)],
@@ -57,8 +57,8 @@ fn merges(rt: HostRuntime) -> Result<(), Fail> {
         ),
         (&[], &[], Ok(&[])),
     ];
-    for row in &rows {
-        merge_row(&rt, rt.alloc(), row)?;
+    for case in &cases {
+        merge_case(&rt, rt.alloc(), case)?;
     }
     Ok(())
 }

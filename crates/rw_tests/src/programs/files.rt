@@ -1,4 +1,4 @@
-//! Scripts and journal texts in files: what is written, what is told, and the statuses.
+//! Scripts and journal texts in files, each kind of work once, and streams that fail.
 
 use rw_devices::{FailingReader, FailingWriter};
 use rw_program::{check_file, debug_file, record_file, salvage_file};
@@ -10,148 +10,18 @@ pub const SCRIPT: &[u8] = b"broadcast 4\n0 0 send 0 7\n0 0 try-recv 1\n0 0 drop 
 pub const JOURNAL: &[u8] =
     b"ttd-journal 2\nbroadcast 4\nsteps\n1 0 0 send 0 7 = sent 1\n2 0 0 try-recv 1 = value 7\n3 0 0 drop 0 = dropped\nend\n";
 
-/// The same in version 1.
-const OLD_JOURNAL: &[u8] =
-    b"ttd-journal 1\nbroadcast 4\nsteps\n1 0 0 send 0 7 = sent 1\n2 0 0 try-recv 1 = value 7\n3 0 0 drop 0 = dropped\nend\n";
-
-/// A file, the answered status, what is written, and what is told on the stream for errors.
-type Case = (&'static [u8], u8, &'static [u8], &'static [u8]);
-
-#[test]
-fn records_scripts(rt: HostRuntime) -> Result<(), Fail> {
-    let cases: [Case; 5] = [
-        (SCRIPT, 0, JOURNAL, b""),
-        (
-            b"broadcast 2\n0 0 recv 1\n0 0 send 0 1\n---\nlist\n",
-            3,
-            b"ttd-journal 2\nbroadcast 2\nsteps\nend\n",
-            b"would wait 2\n",
-        ),
-        (b"broadcast 0\n", 1, b"", b"script fault 1 bad-capacity\n"),
-        (b"", 1, b"", b"script fault 1 no-channels\n"),
-        // What follows the mark isn't judged.
-        (
-            b"watch 3\n---\nno command",
-            0,
-            b"ttd-journal 2\nwatch 3\nsteps\nend\n",
-            b"",
-        ),
-    ];
-    for (script, status, written, told) in cases {
-        let mut file = FailingReader::new(script, 7, None);
-        let mut out = FailingWriter::new(rt.alloc(), 64, None);
-        let mut err = FailingWriter::new(rt.alloc(), 64, None);
-        let answered = record_file(&rt, rt.alloc(), &mut file, false, &mut out, &mut err);
-        assert_eq!(rt; answered, status);
-        assert_eq!(rt; out.handed_on(), written);
-        assert_eq!(rt; err.written(), told);
-    }
-    Ok(())
-}
-
-#[test]
-fn records_scripts_with_threads(rt: HostRuntime) -> Result<(), Fail> {
-    let cases: [Case; 3] = [
-        (SCRIPT, 0, JOURNAL, b""),
-        // One call waits for that of the other thread.
-        (
-            b"broadcast 2\nactors 2\n0 0 recv 1\n1 0 send 0 5\n",
-            0,
-            b"ttd-journal 2\nbroadcast 2\nsteps\n1 1 0 send 0 5 = sent 1\n2 0 0 recv 1 = value 5\nend\n",
-            b"",
-        ),
-        (b"broadcast 0\n", 1, b"", b"script fault 1 bad-capacity\n"),
-    ];
-    for (script, status, written, told) in cases {
-        let mut file = FailingReader::new(script, 7, None);
-        let mut out = FailingWriter::new(rt.alloc(), 64, None);
-        let mut err = FailingWriter::new(rt.alloc(), 64, None);
-        let answered = record_file(&rt, rt.alloc(), &mut file, true, &mut out, &mut err);
-        assert_eq!(rt; answered, status);
-        assert_eq!(rt; out.handed_on(), written);
-        assert_eq!(rt; err.written(), told);
-    }
-    Ok(())
-}
-
-#[test]
-fn checks_journals(rt: HostRuntime) -> Result<(), Fail> {
-    let cases: [Case; 7] = [
-        (JOURNAL, 0, b"ok 3\n", b""),
-        (OLD_JOURNAL, 0, b"ok 3\n", b""),
-        (
-            b"ttd-journal 1\nbroadcast 4\nsteps\n1 0 0 send 0 7 = sent 1\n2 0 0 try-recv 1 = value 8\n3 0 0 drop 0 = dropped\nend\n",
-            1,
-            b"journal fault wrong-reply 5\n",
-            b"",
-        ),
-        (
-            b"ttd-journal 1\nbroadcast 4\nsteps\n1 0 0 send 0 07 = sent 1\nend\n",
-            1,
-            b"journal fault malformed 4\n",
-            b"",
-        ),
-        (
-            b"ttd-journal 1\nbroadcast 4\nsteps\n1 0 0 send 0 7 = sent 1\n1 0 0 try-recv 1 = value 7\nend\n",
-            1,
-            b"journal fault wrong-order 5\n",
-            b"",
-        ),
-        (
-            b"ttd-journal 1\nbroadcast 0\n",
-            1,
-            b"journal fault limit-exceeded 2\n",
-            b"",
-        ),
-        (b"", 1, b"journal fault truncated\n", b""),
-    ];
-    for (text, status, written, told) in cases {
-        let mut file = FailingReader::new(text, 7, None);
-        let mut out = FailingWriter::new(rt.alloc(), 64, None);
-        let mut err = FailingWriter::new(rt.alloc(), 64, None);
-        let answered = check_file(rt.alloc(), &mut file, &mut out, &mut err);
-        assert_eq!(rt; answered, status);
-        assert_eq!(rt; out.handed_on(), written);
-        assert_eq!(rt; err.written(), told);
-    }
-    Ok(())
-}
-
 #[test]
 fn salvages_journals(rt: HostRuntime) -> Result<(), Fail> {
-    let cases: [Case; 7] = [
-        (JOURNAL, 0, JOURNAL, b"kept 110 bytes\n"),
-        (OLD_JOURNAL, 0, JOURNAL, b"kept 110 bytes\n"),
-        (
-            &OLD_JOURNAL[..90],
-            0,
-            b"ttd-journal 2\nbroadcast 4\nsteps\n1 0 0 send 0 7 = sent 1\n2 0 0 try-recv 1 = value 7\nend\n",
-            b"kept 83 bytes\n",
-        ),
-        (
-            &JOURNAL[..32],
-            0,
-            b"ttd-journal 2\nbroadcast 4\nsteps\nend\n",
-            b"kept 32 bytes\n",
-        ),
-        (&JOURNAL[..31], 1, b"", b"journal fault truncated\n"),
-        (
-            b"ttd-journal 1\nbroadcast 4\nsteps\n1 0 0 send 0 7 = sent 2\n2 0 0 try-re",
-            1,
-            b"",
-            b"journal fault wrong-reply 4\n",
-        ),
-        (b"", 1, b"", b"journal fault truncated\n"),
-    ];
-    for (text, status, written, told) in cases {
-        let mut file = FailingReader::new(text, 7, None);
-        let mut out = FailingWriter::new(rt.alloc(), 64, None);
-        let mut err = FailingWriter::new(rt.alloc(), 64, None);
-        let answered = salvage_file(rt.alloc(), &mut file, &mut out, &mut err);
-        assert_eq!(rt; answered, status);
-        assert_eq!(rt; out.handed_on(), written);
-        assert_eq!(rt; err.written(), told);
-    }
+    // Two whole entry lines, and a part of a third.
+    let mut file = FailingReader::new(&JOURNAL[..90], 7, None);
+    let mut out = FailingWriter::new(rt.alloc(), 64, None);
+    let mut err = FailingWriter::new(rt.alloc(), 64, None);
+    let answered = salvage_file(rt.alloc(), &mut file, &mut out, &mut err);
+    let written: &[u8] =
+        b"ttd-journal 2\nbroadcast 4\nsteps\n1 0 0 send 0 7 = sent 1\n2 0 0 try-recv 1 = value 7\nend\n";
+    assert_eq!(rt; answered, 0);
+    assert_eq!(rt; out.handed_on(), written);
+    assert_eq!(rt; err.written(), b"kept 83 bytes\n".as_slice());
     Ok(())
 }
 

@@ -4,7 +4,6 @@ use rw_console::{Outcome, SessionFault};
 use rw_devices::{FailingReader, FailingWriter};
 use rw_program::{said, session_on, status};
 use rw_script::{ScriptFault, ScriptFaultKind};
-use std::io;
 use std::test::Fail;
 
 #[test]
@@ -62,26 +61,5 @@ fn runs_on_three_streams(rt: HostRuntime) -> Result<(), Fail> {
         assert_eq!(rt; writer.handed_on(), report);
         assert_eq!(rt; errors.written(), line);
     }
-    Ok(())
-}
-
-/// LF without end.
-#[derive(Drop)]
-struct EndlessLines;
-
-impl io::Read for EndlessLines {
-    fn read(&mut self, buf: &mut [u8]) -> io::Result<usize> {
-        buf.fill(b'\n');
-        Ok(buf.len())
-    }
-}
-
-#[test]
-fn too_much_input(rt: HostRuntime) -> Result<(), Fail> {
-    let mut errors = FailingWriter::new(rt.alloc(), 64, None);
-    let mut writer = FailingWriter::new(rt.alloc(), 64, None);
-    let answered = session_on(rt.alloc(), &mut EndlessLines, &mut writer, &mut errors);
-    assert_eq!(rt; answered, 4);
-    assert_eq!(rt; errors.written(), b"read fault\n".as_slice());
     Ok(())
 }

@@ -3,9 +3,9 @@ ghost use Rattle.std.specs.Prelude.{◌≡◌, ◌<◌, ◌≤◌, length, slice
 ghost use Rattle.rw_handles.specs.declared.kinds.Kind.TheVariants.{Receiver};
 ghost use Rattle.rw_handles.specs.declared.kinds.Slot.TheVariants.{Live};
 ghost use Rattle.rw_handles.specs.declared.kinds.Found.TheVariants.{Handle};
-ghost use Rattle.rw_handles.specs.Slots.{found};
+ghost use Rattle.rw_handles.specs.Slots.{lookup};
 ghost use Rattle.rw_handles.specs.declared.table.TheConstants.{MOST_HANDLES};
-ghost use Rattle.rw_watch.specs.Channel.{Keep, Write, Make, Mark, Leave, receivers, has_no_receiver, is_unseen, send, see, has_changed, changed, await_closed, effect, effect_with, handle_of, wanted, makes};
+ghost use Rattle.rw_watch.specs.Channel.{Keep, Write, Make, Mark, Leave, receivers, has_no_receiver, is_unseen, send, see, has_changed, wait_effect, await_closed, effect, effect_with, handle_of, wanted_kind, makes};
 ghost use Rattle.rw_watch.specs.Shown.{CanUntell, IsAllowed, IsMark, IsMarked, weight, version_before};
 ghost use Rattle.rw_watch.specs.Machine.{Takes};
 
@@ -127,7 +127,7 @@ impl<V: Copy> Watch<V> {
     /// Tells a receiver of a value that it has not seen, which it then has.
     fn changed(&mut self, handle: u32, mark: Option<u64>) -> (WReply<V>, WPatch<V>)
         requires { slice_get self.old.shown.slots handle ≡ Some (Live Receiver mark) }
-        ensures { Takes self.old self.new result (changed self.old.shown handle mark) }
+        ensures { Takes self.old self.new result (wait_effect self.old.shown handle mark) }
     {
         if self.is_unseen(mark) {
             self.see(handle, mark, WReply::Done)
@@ -152,7 +152,7 @@ impl<V: Copy> Watch<V> {
     /// Makes a call with the live handle that it found.
     fn perform(&mut self, call: &WCall<V>, kind: Kind, mark: Option<u64>) -> (WReply<V>, WPatch<V>)
         requires room { weight self.old.shown < self.old.limit }
-        requires found { found (wanted call.now) self.old.shown.slots (handle_of call.now) ≡ Handle kind mark }
+        requires found { lookup (wanted_kind call.now) self.old.shown.slots (handle_of call.now) ≡ Handle kind mark }
         requires few { IsTrue (makes call.now) → length self.old.shown.slots < MOST_HANDLES }
         ensures { Takes self.old self.new result (effect_with self.old.shown call.now kind mark) }
     {

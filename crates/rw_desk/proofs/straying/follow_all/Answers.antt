@@ -6,7 +6,7 @@ use Rattle.rw_desk.specs.Settling.{receipt_of}
 use Rattle.rw_desk.specs.Straying.{AreAt, IsAt}
 use Rattle.rw_desk.proofs.Following.{moved, skipped, stuck_below, stuck_here}
 use Rattle.rw_desk.proofs.straying.follow_all.Goals as goal
-use Rattle.rw_desk.proofs.straying.follow_all.Goals.{then-entry-front+then-not-follow, else-entry-front, else-entry-front-via-then-entry-front+else-not-follow, else-entry-front-via-else-entry-front}
+use Rattle.rw_desk.proofs.straying.follow_all.Goals.{then-entry-nearest+then-not-follow, else-entry-nearest, else-entry-nearest-via-then-entry-nearest+else-not-follow, else-entry-nearest-via-else-entry-nearest}
 
 pub loop-entry-init : goal.loop-entry-init
 loop-entry-init g c =
@@ -25,30 +25,30 @@ loop-entry-preserved g c =
     let e = c.entry-item.result in
     let i = c.loop-entry.entry-index in
     let places = c.loop-entry.places in
-    let bound = c.loop-entry.front.actor in
+    let bound = c.loop-entry.nearest.actor in
     let within = c.loop-entry-test.true in
     let at = c.entry-item.is in
     let inv = c.loop-entry.invariant in
-    elim c.if-entry-front.branch [
-      | then-entry-front+then-not-follow w ↦
-          let below = w.if-entry-front.true in
+    elim c.if-entry-nearest.branch [
+      | then-entry-nearest+then-not-follow w ↦
+          let below = w.if-entry-nearest.true in
           let other : slice_get (receipts_of e.actor ps) (get_or places e.actor 0) ≢ Some (receipt_of e) = λ h. let both : false ≡ true = w.if-not-follow.ensures.same.1 h in cc in
-          rw (w.front-is, w.places-is, w.if-not-follow.ensures.places) (inv.0, omega (arith, below, inv.1), stuck_below ps es i e within at places bound inv.2 below, λ known. stuck_here ps es i e within at places bound inv.2 below other)
-      | else-entry-front w ↦ elim w.else-entry-front.branch [
-        | else-entry-front-via-then-entry-front+else-not-follow v ↦
-            let below = v.if-entry-front.true in
+          rw (w.nearest-is, w.places-is, w.if-not-follow.ensures.places) (inv.0, omega (arith, below, inv.1), stuck_below ps es i e within at places bound inv.2 below, λ known. stuck_here ps es i e within at places bound inv.2 below other)
+      | else-entry-nearest w ↦ elim w.else-entry-nearest.branch [
+        | else-entry-nearest-via-then-entry-nearest+else-not-follow v ↦
+            let below = v.if-entry-nearest.true in
             let wide : e.actor < length places = omega (arith, below, inv.0, inv.1) in
-            rw (w.front-is, w.places-is, v.places-is, v.if-not-follow.ensures.places) (
+            rw (w.nearest-is, w.places-is, v.places-is, v.if-not-follow.ensures.places) (
               length-set places e.actor (get_or places e.actor 0 + 1) ∙ inv.0,
               inv.1,
               moved ps es i e within at places bound inv.2 below wide (v.if-not-follow.ensures.same.0 refl),
               inv.3,
             )
-        | else-entry-front-via-else-entry-front v ↦
-            rw (w.front-is, w.places-is, v.places-is) (inv.0, inv.1, skipped ps es i e within at places bound inv.2 (omega (arith, v.if-entry-front.false)), inv.3)
+        | else-entry-nearest-via-else-entry-nearest v ↦
+            rw (w.nearest-is, w.places-is, v.places-is) (inv.0, inv.1, skipped ps es i e within at places bound inv.2 (omega (arith, v.if-entry-nearest.false)), inv.3)
       ]
     ]
 
 pub returns-clause-at : goal.returns-clause-at
 returns-clause-at g c =
-    subst (λ es. AreAt c.args.passes.now es c.loop-entry.places c.loop-entry.front.actor) (take_all c.loop-entry.entry-index c.args.entries.now (omega arith)) c.loop-entry.invariant.2
+    subst (λ es. AreAt c.args.passes.now es c.loop-entry.places c.loop-entry.nearest.actor) (take_all c.loop-entry.entry-index c.args.entries.now (omega arith)) c.loop-entry.invariant.2

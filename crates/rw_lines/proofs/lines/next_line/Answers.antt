@@ -1,11 +1,23 @@
 use Rattle.std.proofs.Common.{◌++◌, ◌∷◌, [], arith, refl}
+use Rattle.std.proofs.lemmas.Result.{err_from_is_err_and}
 use Rattle.std.proofs.lemmas.Grind.{common_steps}
 use Rattle.std.proofs.lemmas.List.{length_push}
 use Rattle.rw_lines.proofs.CutLaws.{lacks-append, lacks_one}
 use Rattle.rw_lines.proofs.Known.{Consumes-then}
-use Rattle.rw_lines.proofs.PartLine.{next_part}
+use Rattle.rw_lines.proofs.PartLine.{kept_at_read, kept_of_part, next_part}
 use Rattle.rw_lines.proofs.lines.next_line.Goals as goal
 use Rattle.rw_lines.proofs.lines.next_line.Goals.{else-len-le-LONGEST_LINE-via-then-len-le-LONGEST_LINE+else-is_err, else-len-le-LONGEST_LINE-via-else-len-le-LONGEST_LINE}
+
+pub returns-in_err-byte-clause-kept : goal.returns-in_err-byte-clause-kept
+returns-in_err-byte-clause-kept g c =
+    let p = err_from_is_err_and c.from_residual.result c.from_residual.ensures.1 in
+    rw (p.1, p.2) (kept_at_read c.each_byte.invariant (c.in_err-byte.ensures.err).0)
+
+pub returns-then-allowed-eq0-clause-kept : goal.returns-then-allowed-eq0-clause-kept
+returns-then-allowed-eq0-clause-kept g c = kept_of_part c.each_byte.invariant
+
+pub returns-then-is_err-clause-kept : goal.returns-then-is_err-clause-kept
+returns-then-is_err-clause-kept g c = grind (arith, kept_of_part c.each_byte.invariant, common_steps)
 
 pub returns-then-allowed-eq0-clause-err : goal.returns-then-allowed-eq0-clause-err
 returns-then-allowed-eq0-clause-err g c =

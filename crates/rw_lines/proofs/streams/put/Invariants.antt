@@ -4,7 +4,7 @@ use Rattle.rw_lines.proofs.streams.put.Given as goal
 
 abbrev pub invariant-each_write : goal.invariant-each_write
 invariant-each_write g l = record {
-  front : Appends (g.W.Write.contents l.fn.writer) (g.W.Write.contents l.writer) (take l.written l.bytes);
+  prefix : Appends (g.W.Write.contents l.fn.writer) (g.W.Write.contents l.writer) (take l.written l.bytes);
   within : l.written ≤ length l.bytes;
 }
 

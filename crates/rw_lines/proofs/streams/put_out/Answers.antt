@@ -9,6 +9,6 @@ returns-in-Err-clause-err g c = (
     text = _;
     rest = drop c.in-Err.field-0.written c.args.bytes.now;
     written = c.in-Err.ensures.err;
-    front = take-append-drop c.in-Err.field-0.written c.args.bytes.now;
+    prefix = take-append-drop c.in-Err.field-0.written c.args.bytes.now;
   },
 )

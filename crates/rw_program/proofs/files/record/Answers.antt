@@ -6,4 +6,4 @@ pub returns : goal.returns
 returns g c =
     let e = c.in-Err-write_journal.ensures in
     let told = c.of-in-Err-write_journal.ensures in
-    over _ c.in-Ok.ensures.script (λ bytes said. rw said (closes_not c.in-Ok.script _ (search rules) (search rules) c.in-Err-write_journal.fault e.fault e.front (told.line, told.status)))
+    over _ c.in-Ok.ensures.script (λ bytes said. rw said (closes_not c.in-Ok.script _ (search rules) (search rules) c.in-Err-write_journal.fault e.fault e.prefix (told.line, told.status)))

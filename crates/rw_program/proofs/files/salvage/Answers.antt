@@ -11,4 +11,4 @@ pub returns : goal.returns
 returns g c =
     let e = c.in-Err-write_journal.ensures in
     let told = c.of.ensures in
-    over _ c.in-Ok.ensures.held (λ bytes said. rw said (unwritten _ _ 0 c.in-Err-write_journal.fault e.fault e.front (told.line, told.status)))
+    over _ c.in-Ok.ensures.held (λ bytes said. rw said (unwritten _ _ 0 c.in-Err-write_journal.fault e.fault e.prefix (told.line, told.status)))

@@ -4,12 +4,12 @@ use Rattle.rw_law.specs.Numbers.{numbers}
 use Rattle.rw_text.specs.Texts.{text}
 use Rattle.rw_program.proofs.files.write_journal.Goals as goal
 
-pub returns-in-Err-clause-front : goal.returns-in-Err-clause-front
-returns-in-Err-clause-front g c =
-    let front = c.in-Err.ensures.err in
+pub returns-in-Err-clause-prefix : goal.returns-in-Err-clause-prefix
+returns-in-Err-clause-prefix g c =
+    let prefix = c.in-Err.ensures.err in
     record {
       text = _;
-      rest = drop front.n (text numbers c.args.run.now);
-      written = front.written;
-      front = take-append-drop front.n (text numbers c.args.run.now);
+      rest = drop prefix.n (text numbers c.args.run.now);
+      written = prefix.written;
+      prefix = take-append-drop prefix.n (text numbers c.args.run.now);
     }

@@ -1,0 +1,7 @@
+//! Hand-offs, and desks with seats.
+
+mod hand_offs;
+mod one_thread;
+mod plain;
+mod shared;
+mod threads;

@@ -1,0 +1,71 @@
+//! A desk with a channel whose journal is full.
+
+use super::plain::{b_receiver_count, b_send, call, close, open, receipts, w_send};
+use rw_broadcast::{BCall, BReply};
+use rw_desk::{BTx, Desk, DeskFault, Ends, Pass};
+use rw_law::Entry;
+use rw_watch::{WCall, WReply};
+use rw_world::{ChanCall, ChanReply, Spec, World};
+use std::process::Abort;
+use std::sync::Wait;
+use std::test::Fail;
+
+/// Sends as many values as a channel's journal has entries.
+fn fill<R: Wait + Abort>(rt: &R, desk: &Desk<u64>, pass: &mut Pass<u64>, sender: &BTx) {
+    for value in 1..=1_048_576 {
+        let sent = b_send(desk, rt, pass, sender, value);
+        assert_eq!(rt; sent, Ok(BReply::Sent(1)));
+    }
+}
+
+/// A call on the full channel is refused, whatever it is, but one that strays.
+fn is_full<R: Wait + Abort>(rt: &R, desk: &Desk<u64>, pass: &mut Pass<u64>, sender: &BTx) {
+    let full = Err(DeskFault::JournalFull);
+    assert_eq!(rt; b_send(desk, rt, pass, sender, 9), full);
+    assert_eq!(rt; b_receiver_count(desk, rt, pass, sender), full);
+    let borrow = ChanCall::W(WCall::Borrow(1));
+    let strayed = call(desk, rt, pass, 0, borrow);
+    assert_eq!(rt; strayed, Err(DeskFault::NoChannel));
+    assert_eq!(rt;
+        (pass.stamp(), receipts(pass).len()),
+        (1_048_576, 1_048_576)
+    );
+}
+
+/// The last entries are the last one of the full channel, and one of the other.
+fn ends_on_both(rt: &impl Abort, entries: &[Entry<World<u64>>]) -> Result<(), Fail> {
+    let [.., last, other] = entries else {
+        return Err(Fail::from("no two entries"));
+    };
+    assert_eq!(rt; (last.stamp, last.call.channel), (1_048_576, 0));
+    assert_eq!(rt; last.call.call, ChanCall::B(BCall::Send(0, 1_048_576)));
+    assert_eq!(rt; (other.stamp, other.call.channel), (1_048_577, 1));
+    assert_eq!(rt; other.reply, ChanReply::W(WReply::Stored));
+    Ok(())
+}
+
+#[test]
+fn a_full_channel_of_a_desk(rt: HostRuntime) -> Result<(), Fail> {
+    let alloc = rt.alloc();
+    let specs = [Spec::Broadcast(1), Spec::Watch(1u64)];
+    let (desk, mut passes, mut ends) = open(alloc, &specs, 1)?;
+    let Some(Ends::Watch(writer, _reader)) = ends.pop() else {
+        return Err(Fail::from("no watch"));
+    };
+    let Some(Ends::Broadcast(sender, _receiver)) = ends.pop() else {
+        return Err(Fail::from("no broadcast"));
+    };
+    let mut pass = passes.pop().ok_or("no pass")?;
+    fill(&rt, &desk, &mut pass, &sender);
+    is_full(&rt, &desk, &mut pass, &sender);
+    is_full(&rt, &desk, &mut pass, &sender);
+    let stored = w_send(&desk, &rt, &mut pass, &writer, 2);
+    assert_eq!(rt; stored, Ok(WReply::Stored));
+    assert_eq!(rt; pass.stamp(), 1_048_577);
+    passes.push(pass)?;
+    let Ok(run) = close(desk, alloc, passes) else {
+        return Err(Fail::from("not closed"));
+    };
+    assert_eq!(rt; run.len(), 1_048_577);
+    ends_on_both(&rt, run.entries())
+}

@@ -1,0 +1,101 @@
+//! What the player of a seat keeps of its answers, and whether these fit each other and the run.
+
+ghost use Rattle.std.specs.Prelude.{◌≡◌};
+
+use super::channels::SPECS;
+use super::generator::{Choice, Generator};
+use rw_desk::DeskFault;
+use rw_journal::Run;
+use rw_seat::Answered;
+use std::alloc::Global;
+
+/// How many channels there are.
+const CHANNELS: usize = SPECS.len();
+
+/// How many seats play.
+pub const SEATS: u32 = 4;
+
+/// What chooses a player's calls, and what was answered.
+#[derive(Drop)]
+pub struct Notes {
+    generator: Generator,
+    // The last front of each channel that was told, by a call's answer or at a meeting.
+    seen: [u64; CHANNELS],
+    // The front of each call that was made, in order.
+    fronts: Vec<u64>,
+    // Whether each answer was one that may follow those before it.
+    fits: bool,
+}
+
+impl Notes {
+    /// The notes of a player before its first call.
+    pub fn new(alloc: Global, seed: u64, player: u32) -> Notes {
+        Notes {
+            generator: Generator::new(seed, player),
+            seen: [0; CHANNELS],
+            fronts: Vec::new(alloc),
+            fits: true,
+        }
+    }
+
+    /// The next call.
+    pub fn choose(&mut self) -> Choice {
+        self.generator.choose()
+    }
+
+    /// Hears of a call's answer. Its front has to be above what was seen of the channel.
+    pub fn hear(&mut self, channel: u32, answer: Result<Answered<u64>, DeskFault>) {
+        match (answer, self.seen.get_mut(channel as usize)) {
+            (Ok(answered), Some(seen)) => {
+                self.generator.hear(channel, &answered.reply);
+                self.fits &= *seen < answered.front;
+                *seen = answered.front;
+                self.fits &= self.fronts.push(answered.front).is_ok();
+            }
+            (Err(DeskFault::Waits), Some(_)) => {}
+            _ => self.fits = false,
+        }
+    }
+
+    /// Hears of a meeting with another. What is seen then has to be at least what each had seen.
+    pub fn hear_of_meeting(&mut self, other: &Notes, channel: u32, length: Option<u64>) {
+        let at = channel as usize;
+        match (length, self.seen.get_mut(at), other.seen.get(at)) {
+            (Some(length), Some(seen), Some(theirs)) => {
+                self.fits &= *seen <= length && *theirs <= length;
+                *seen = length;
+            }
+            (None, None, None) => {}
+            _ => self.fits = false,
+        }
+    }
+}
+
+/// How many entries of the run each actor made, where the front of each entry's answer was its place in its channel's journal.
+fn calls_in_place(run: &Run<u64>, notes: &[Notes]) -> Option<[usize; SEATS as usize]> {
+    let mut lengths = [0u64; CHANNELS];
+    let mut made = [0usize; SEATS as usize];
+    for entry in run.entries() {
+        let (channel, actor) = (entry.call.channel as usize, entry.actor as usize);
+        let length = lengths.get_mut(channel)?;
+        let calls = made.get_mut(actor)?;
+        *length = length.wrapping_add(1);
+        if notes.get(actor)?.fronts.get(*calls) != Some(&*length) {
+            return None;
+        }
+        *calls = calls.wrapping_add(1);
+    }
+    Some(made)
+}
+
+/// Whether each answer's front was the place of its entry in its channel's journal, and all answers fit. The notes are in the
+/// order of the actors' numbers.
+pub fn are_places(run: &Run<u64>, notes: &[Notes]) -> bool {
+    let Some(made) = calls_in_place(run, notes) else {
+        return false;
+    };
+    notes
+        .iter()
+        .zip(made)
+        .all(|(notes, calls)| notes.fits && notes.fronts.len() == calls)
+}

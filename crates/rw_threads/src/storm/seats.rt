@@ -1,0 +1,285 @@
+//! The storm of a desk with seats: four seats make calls, two in each of two threads, and the two of a thread meet in between.
+//! Each two of them share a thread in one of three rounds.
+
+ghost use Rattle.std.specs.Prelude.{All, IfOk, IfSome};
+ghost use Rattle.rw_seat.specs.SeatDesks.{IsSeatOf};
+
+use super::channels::{OWN_HANDLES, SECOND_HANDLES, SPECS};
+use super::notes::{Notes, SEATS, are_places};
+use super::receipts::{agree, receipts_of_seats};
+use crate::seats::{Seated, close, last_seat, open, with_seat};
+use anyhow::{Result, bail};
+use rw_seat::{DeskSeat, SeatDesk};
+use rw_world::ChanCall;
+use std::alloc::{AllocError, Global};
+use std::sync::Wait;
+use std::thread;
+use std::thread::Threads;
+
+/// How many rounds there are.
+const ROUNDS: u64 = 3;
+
+/// After so many calls of each seat two seats meet.
+const BETWEEN_MEETINGS: u64 = 16;
+
+/// A seat, and what its player keeps of its answers.
+#[derive(Drop)]
+struct Player {
+    seat: DeskSeat<u64>,
+    notes: Notes,
+}
+
+/// One call by a player's seat.
+fn call<D: Seated, R: Wait>(
+    rt: &R,
+    desk: &D,
+    player: Player,
+    channel: u32,
+    call: ChanCall<u64>,
+) -> Player
+    requires { D.owns desk.now player.seat }
+    ensures { D.owns desk.now result.seat }
+{
+    let Player { seat, mut notes } = player;
+    let (seat, answer) = desk.call(rt, seat, channel, call);
+    notes.hear(channel, answer);
+    Player { seat, notes }
+}
+
+/// Makes these calls.
+fn call_all<D: Seated, R: Wait>(
+    rt: &R,
+    desk: &D,
+    mut player: Player,
+    calls: &[(u32, ChanCall<u64>)],
+) -> Player
+    requires { D.owns desk.now player.seat }
+    ensures { D.owns desk.now result.seat }
+{
+    for (channel, asked) in calls {
+        player = call(rt, desk, player, *channel, *asked);
+    }
+    player
+}
+
+/// Makes the handles that the players name as their own.
+fn prepare<D: Seated, R: Wait>(rt: &R, desk: &D, player: Player) -> Player
+    requires { D.owns desk.now player.seat }
+    ensures { D.owns desk.now result.seat }
+{
+    let mut player = call_all(rt, desk, player, &SECOND_HANDLES);
+    for _ in 0..SEATS {
+        player = call_all(rt, desk, player, &OWN_HANDLES);
+    }
+    player
+}
+
+/// The next call of a player.
+fn play<D: Seated, R: Wait>(rt: &R, desk: &D, player: Player) -> Player
+    requires { D.owns desk.now player.seat }
+    ensures { D.owns desk.now result.seat }
+{
+    let Player { seat, mut notes } = player;
+    let choice = notes.choose();
+    call(
+        rt,
+        desk,
+        Player { seat, notes },
+        choice.channel,
+        choice.call,
+    )
+}
+
+/// Lets two players' seats meet.
+fn meet<D: Seated, R: Wait>(
+    rt: &R,
+    desk: &D,
+    pair: (Player, Player),
+    channel: u32,
+) -> (Player, Player)
+    requires { D.owns desk.now pair.0.seat × D.owns desk.now pair.1.seat }
+    ensures { D.owns desk.now result.0.seat × D.owns desk.now result.1.seat }
+{
+    let (one, two) = pair;
+    let Player {
+        seat: first,
+        mut notes,
+    } = one;
+    let Player {
+        seat: second,
+        notes: theirs,
+    } = two;
+    let (first, second, length) = desk.meet(rt, first, second, channel);
+    notes.hear_of_meeting(&theirs, channel, length);
+    let one = Player { seat: first, notes };
+    let two = Player {
+        seat: second,
+        notes: theirs,
+    };
+    (one, two)
+}
+
+/// Makes so many calls by each of two seats, in turn. In between they meet, on one channel after the other, and on one that isn't there.
+fn play_pair<D: Seated, R: Wait>(
+    rt: &R,
+    desk: &D,
+    mut pair: (Player, Player),
+    calls: u64,
+) -> (Player, Player)
+    requires { D.owns desk.now pair.0.seat × D.owns desk.now pair.1.seat }
+    ensures { D.owns desk.now result.0.seat × D.owns desk.now result.1.seat }
+{
+    for i in 0..calls {
+        let (one, two) = pair;
+        pair = (play(rt, desk, one), play(rt, desk, two));
+        if i % BETWEEN_MEETINGS == 0 {
+            let channel = (i / BETWEEN_MEETINGS) % (SPECS.len() as u64 + 1);
+            pair = meet(rt, desk, pair, channel as u32);
+        }
+    }
+    pair
+}
+
+/// The same by two pairs, each in a thread of its own.
+fn play_pairs<D: Seated + Sync, R: Threads + Wait + Sync>(
+    rt: &R,
+    desk: &D,
+    one: (Player, Player),
+    two: (Player, Player),
+    calls: u64,
+) -> ((Player, Player), (Player, Player))
+    requires one { D.owns desk.now one.0.seat × D.owns desk.now one.1.seat }
+    requires two { D.owns desk.now two.0.seat × D.owns desk.now two.1.seat }
+    ensures one { D.owns desk.now result.0.0.seat × D.owns desk.now result.0.1.seat }
+    ensures two { D.owns desk.now result.1.0.seat × D.owns desk.now result.1.1.seat }
+{
+    thread::join(
+        rt,
+        || play_pair(rt, desk, one, calls),
+        || play_pair(rt, desk, two, calls),
+    )
+}
+
+/// Plays all rounds, with so many calls of each seat in each. At the end the players are paired as at the beginning.
+fn play_rounds<D: Seated + Sync, R: Threads + Wait + Sync>(
+    rt: &R,
+    desk: &D,
+    mut one: (Player, Player),
+    mut two: (Player, Player),
+    calls: u64,
+) -> ((Player, Player), (Player, Player))
+    requires one { D.owns desk.now one.0.seat × D.owns desk.now one.1.seat }
+    requires two { D.owns desk.now two.0.seat × D.owns desk.now two.1.seat }
+    ensures one { D.owns desk.now result.0.0.seat × D.owns desk.now result.0.1.seat }
+    ensures two { D.owns desk.now result.1.0.seat × D.owns desk.now result.1.1.seat }
+{
+    for _ in 0..ROUNDS {
+        let ((first, second), (third, fourth)) = play_pairs(rt, desk, one, two, calls);
+        one = (first, third);
+        two = (fourth, second);
+    }
+    (one, two)
+}
+
+/// The player of a seat.
+fn player_of(desk: &SeatDesk<u64>, alloc: Global, seed: u64, seat: DeskSeat<u64>) -> Player
+    requires { IsSeatOf desk.now seat }
+    ensures { IsSeatOf desk.now result.seat }
+{
+    let notes = Notes::new(alloc, seed, seat.actor());
+    Player { seat, notes }
+}
+
+/// The players of a desk's last two seats, which are taken off.
+fn last_pair(
+    desk: &SeatDesk<u64>,
+    alloc: Global,
+    seed: u64,
+    seats: &mut Vec<DeskSeat<u64>>,
+) -> Option<(Player, Player)>
+    requires { All (IsSeatOf desk.now) seats.old.items }
+    ensures pair { IfSome result (λ r. IsSeatOf desk.now r.0.seat × IsSeatOf desk.now r.1.seat) }
+    ensures rest { All (IsSeatOf desk.now) seats.new.items }
+{
+    let second = last_seat(desk, seats)?;
+    let first = last_seat(desk, seats)?;
+    let first = player_of(desk, alloc, seed, first);
+    let second = player_of(desk, alloc, seed, second);
+    Some((first, second))
+}
+
+/// A desk's seats with those of a pair behind them, whose notes go behind the others.
+fn with_pair(
+    desk: &SeatDesk<u64>,
+    seats: Vec<DeskSeat<u64>>,
+    notes: &mut Vec<Notes>,
+    pair: (Player, Player),
+) -> Result<Vec<DeskSeat<u64>>, AllocError>
+    requires seats { All (IsSeatOf desk.now) seats.items }
+    requires pair { IsSeatOf desk.now pair.0.seat × IsSeatOf desk.now pair.1.seat }
+    ensures { IfOk result (λ all. All (IsSeatOf desk.now) all.items) }
+{
+    let (one, two) = pair;
+    let Player {
+        seat: first,
+        notes: ours,
+    } = one;
+    let Player {
+        seat: second,
+        notes: theirs,
+    } = two;
+    notes.push(ours)?;
+    notes.push(theirs)?;
+    let seats = with_seat(desk, seats, first)?;
+    with_seat(desk, seats, second)
+}
+
+/// Has the seats of a desk play, and gives them back, with the notes in their order.
+fn play_all<R: Threads + Wait + Sync>(
+    rt: &R,
+    alloc: Global,
+    desk: &SeatDesk<u64>,
+    mut seats: Vec<DeskSeat<u64>>,
+    seed: u64,
+    calls: u64,
+) -> Result<(Vec<DeskSeat<u64>>, Vec<Notes>)>
+    requires { All (IsSeatOf desk.now) seats.items }
+    ensures { IfOk result (λ r. All (IsSeatOf desk.now) r.0.items) }
+{
+    let Some(two) = last_pair(desk, alloc, seed, &mut seats) else {
+        bail!("no second pair of seats");
+    };
+    let Some(one) = last_pair(desk, alloc, seed, &mut seats) else {
+        bail!("no first pair of seats");
+    };
+    let (first, second) = one;
+    let first = prepare(rt, desk, first);
+    let each = calls / (u64::from(SEATS) * ROUNDS);
+    let (one, two) = play_rounds(rt, desk, (first, second), two, each);
+    let mut notes = Vec::new(alloc);
+    let seats = with_pair(desk, seats, &mut notes, one)?;
+    let seats = with_pair(desk, seats, &mut notes, two)?;
+    Ok((seats, notes))
+}
+
+/// Makes so many calls, chosen from a seed, and answers how many were recorded.
+pub fn play_seats<R: Threads + Wait + Sync>(
+    rt: &R,
+    alloc: Global,
+    seed: u64,
+    calls: u64,
+) -> Result<u64> {
+    let (desk, seats) = open(alloc, &SPECS, SEATS)?;
+    let (seats, notes) = play_all(rt, alloc, &desk, seats, seed, calls)?;
+    let receipts = receipts_of_seats(alloc, &seats)?;
+    let Some(run) = close(rt, alloc, desk, seats) else {
+        bail!("the desk with seats does not close");
+    };
+    if !agree(&run, &receipts) {
+        bail!("receipts of seats are not the entries");
+    }
+    if !are_places(&run, &notes) {
+        bail!("a front is not its entry's place, or fell");
+    }
+    Ok(run.len())
+}

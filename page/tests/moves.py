@@ -1,0 +1,63 @@
+"""The wheel, and the field for a stop, in the real browser."""
+import opening
+from hands import places_in_view
+from opening import check_place
+
+SHIFT, CTRL = 8, 2
+
+# Turns of the wheel one after the other: over what, how far sideways and down, with which keys; and the first and the last place in
+# view then. A turn scrolls a tenth of what is in view, and zooming keeps the first place where the place itself is out of view.
+TURNS = [
+    ("#strip-box", 0, 120, 0, [6, 70]), ("#strip-box", 0, 120, 0, [12, 76]), ("#strip-box", 0, -120, 0, [6, 70]),
+    ("#strip-box", 120, 0, 0, [12, 76]), ("#picture-box", 0, 120, 0, [12, 76]), ("#picture-box", 120, 0, 0, [18, 82]),
+    ("#picture-box", 0, 120, SHIFT, [24, 88]), ("#picture-box", 0, -120, SHIFT, [18, 82]), ("#picture-box", 0, 120, CTRL, [18, 98]),
+    ("#picture-box", 0, 120, CTRL, [18, 118]), ("#picture-box", 0, -120, CTRL, [18, 98]), ("#strip-box", 0, -120, CTRL, [18, 82]),
+    ("#picture-box", -120, 0, 0, [12, 76]), ("#strip-box", 0, -120, 0, [6, 70]), ("#strip-box", 0, -120, 0, [0, 64]),
+    ("#strip-box", 0, -120, 0, [0, 64]),
+]
+
+
+def turn(tab, box, sideways, down, modifiers):
+    """A turn of the wheel in the middle of an element; it is over when the page has drawn what comes of it."""
+    left, top, width, height = tab.box(box)
+    tab.mouse("mouseWheel", left + width / 2, top + height / 2, deltaX=sideways, deltaY=down, modifiers=modifiers)
+    tab.run("ttd.ask('').then(() => new Promise(done => requestAnimationFrame(() => setTimeout(done, 50))))")
+
+
+def wheel(tab, folder, journals):
+    """The wheel scrolls through time over the strip, and over the picture sideways or with Shift; with Ctrl it zooms. The place stays."""
+    opening.load(tab, opening.page_of(folder, "wheel.journal", journals[10_000]))
+    assert places_in_view(tab) == [0, 64]
+    for number, (box, sideways, down, modifiers, wanted) in enumerate(TURNS):
+        turn(tab, box, sideways, down, modifiers)
+        assert places_in_view(tab) == wanted, (number, places_in_view(tab))
+    check_place(tab, opening.asker(journals[10_000]), 0)
+
+
+def field(tab):
+    """What has the focus, the field's text, and how much of that is selected."""
+    return tab.run("""(() => {
+        const { id, value, selectionStart, selectionEnd } = document.activeElement;
+        return [id, value, value && selectionEnd - selectionStart];
+    })()""")
+
+
+def stop_field(tab, folder, journals):
+    """`/` goes into the field for a stop, whose text is selected. There keys are letters; Enter seeks on, with Shift back, and Escape goes out of it."""
+    opening.load(tab, opening.page_of(folder, "field.journal", journals[63]))
+    ask = opening.asker(journals[63])
+    tab.key("/")
+    assert field(tab) == ["condition", "reply lagged", 12], field(tab)
+    for letter in "reply lagged":
+        tab.key(letter)
+    assert field(tab) == ["condition", "reply lagged", 0], field(tab)
+    check_place(tab, ask, 0)
+    for shift, place in ((False, 23), (False, 33), (True, 23)):
+        tab.key("Enter", shift)
+        check_place(tab, ask, place)
+    tab.key("/")
+    assert field(tab) == ["condition", "reply lagged/", 0], field(tab)
+    tab.key("Escape")
+    assert tab.run("document.activeElement === document.body")
+    tab.key("ArrowRight")
+    check_place(tab, ask, 24)

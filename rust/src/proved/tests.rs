@@ -1,0 +1,116 @@
+//! The declarations and the heap by themselves: what the tests in `tests/` reach late or not at all. `rust/test` runs these under valgrind.
+
+use super::heap::{JOURNAL, LARGE, rattle_alloc, rattle_dealloc, rattle_realloc};
+use super::{Actor, Caller, Channel, Cut, Reply};
+
+fn caller(clock: u64) -> Caller {
+    Caller {
+        actor: Actor::FIRST,
+        clock,
+    }
+}
+
+#[test]
+fn questions_leave_no_entry() {
+    let mut channel = Channel::broadcast(4).unwrap();
+    assert_eq!(channel.queued(), 0);
+    for value in 0..6 {
+        assert_eq!(
+            channel.broadcast_send(caller(value), 0, value),
+            Reply::Sent(1)
+        );
+    }
+    assert_eq!((channel.queued(), channel.unread(1)), (4, 6));
+    let counts = (
+        channel.senders(),
+        channel.weak_senders(),
+        channel.receivers(),
+    );
+    assert_eq!((counts, channel.entries()), ((1, 0, 1), 6));
+    let mut watch = Channel::watch(7).unwrap();
+    assert!(watch.seen(1));
+    assert_eq!(watch.watch_send(caller(0), 0, 8), Reply::Stored);
+    assert_eq!((watch.seen(1), watch.entries()), (false, 1));
+}
+
+#[test]
+fn where_recording_ended_calls_go_on_without_entries() {
+    let mut channel = Channel::broadcast(2).unwrap();
+    assert_eq!(channel.broadcast_send(caller(0), 0, 5), Reply::Sent(1));
+    channel.end();
+    assert_eq!(channel.broadcast_send(caller(1), 0, 6), Reply::Sent(1));
+    assert_eq!(channel.broadcast_recv(caller(2), 1), Reply::Value(5));
+    assert_eq!(channel.broadcast_recv(caller(3), 1), Reply::Value(6));
+    assert_eq!((channel.entries(), channel.queued()), (1, 0));
+    let mut cut = Cut::new().unwrap();
+    cut.add(&mut channel, u64::MAX).unwrap();
+    let text = String::from_utf8(cut.text().unwrap()).unwrap();
+    assert!(
+        text.ends_with("steps\n1 0 0 send 0 5 = sent 1\nend\n"),
+        "{text}"
+    );
+}
+
+#[test]
+fn a_journal_and_its_text_grow_past_a_large_block() {
+    const CALLS: u64 = 60_000;
+    let mut channel = Channel::broadcast(1).unwrap();
+    for value in 0..CALLS {
+        assert_eq!(
+            channel.broadcast_send(caller(value), 0, value),
+            Reply::Sent(1)
+        );
+    }
+    assert_eq!(channel.entries(), CALLS);
+    let mut cut = Cut::new().unwrap();
+    cut.add(&mut channel, u64::MAX).unwrap();
+    let text = String::from_utf8(cut.text().unwrap()).unwrap();
+    assert!(text.len() > LARGE, "{} bytes", text.len());
+    let entries = text.lines().filter(|line| line.contains(" = "));
+    let wanted = (0..CALLS).map(|value| format!("{} 0 0 send 0 {value} = sent 1", value + 1));
+    assert!(entries.eq(wanted));
+}
+
+#[test]
+fn a_block_keeps_its_bytes_whatever_its_size_becomes() {
+    let sizes = [
+        LARGE - 1,
+        LARGE,
+        LARGE + 1,
+        JOURNAL,
+        JOURNAL + 1,
+        LARGE,
+        LARGE - 1,
+        100,
+        2 * LARGE,
+        2,
+    ];
+    let mut size = 100;
+    // SAFETY: the blocks are of these functions, each is used until it has been given back, and within its size.
+    unsafe {
+        let mut block = rattle_alloc(size, 8).p;
+        block.write(17);
+        for next in sizes {
+            let last = size.min(next) - 1;
+            block.add(last).write(18);
+            let grown = rattle_realloc(block, size, next, 8);
+            assert!(grown.ok);
+            (block, size) = (grown.p, next);
+            assert_eq!((block.read(), block.add(last).read()), (17, 18), "{next}");
+        }
+        rattle_dealloc(block);
+    }
+}
+
+#[test]
+fn a_size_that_no_memory_has_is_refused_and_the_block_stays() {
+    // SAFETY: the block is of these functions, and is used until it has been given back.
+    unsafe {
+        assert!(!rattle_alloc(usize::MAX - 8, 8).ok);
+        let block = rattle_alloc(64, 8).p;
+        block.write(17);
+        assert!(!rattle_realloc(block, 64, usize::MAX - 8, 8).ok);
+        assert_eq!(block.read(), 17);
+        rattle_dealloc(block);
+    }
+}

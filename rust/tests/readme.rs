@@ -1,0 +1,112 @@
+//! README's failing test, word for word: what it says, and the walk over what it leaves.
+
+mod support;
+
+use std::fs;
+use std::path::Path;
+use support::debugged;
+use support::parts::{Folder, is_part, play};
+
+const README: &str = include_str!("../README.md");
+const NAME: &str = "no_price_is_missing";
+
+/// How often the program is run until its auditor is as late as README has it: it sleeps, and another thread may be slower yet.
+const TRIES: usize = 20;
+
+#[rustfmt::skip]
+fn program() {
+    // The program of README.
+    use std::thread;
+    use std::time::Duration;
+    use yovanelum::{Recorder, broadcast};
+
+    let recorder = Recorder::for_test("no_price_is_missing");
+    let (bus, mut audit) = broadcast::channel(2);
+    recorder.name(&bus, "prices").show(&bus, |price| format!("{price} EUR"));
+    let ticker = thread::Builder::new().name("ticker".into()).spawn(move || {
+        for price in 101..=105 {
+            bus.send(price).unwrap();
+        }
+    });
+    let auditor = thread::Builder::new().name("auditor".into()).spawn(move || {
+        thread::sleep(Duration::from_millis(20)); // opens its file
+        let mut missing = 0;
+        loop {
+            match audit.blocking_recv() {
+                Ok(_price) => {}
+                Err(broadcast::error::RecvError::Lagged(n)) => missing += n,
+                Err(broadcast::error::RecvError::Closed) => return missing,
+            }
+        }
+    });
+    ticker.unwrap().join().unwrap();
+    assert_eq!(auditor.unwrap().join().unwrap(), 0);
+    // Its end.
+}
+
+/// The part of a text between two others.
+fn between<'a>(text: &'a str, start: &str, end: &str) -> &'a str {
+    let (_, rest) = text.split_once(start).unwrap();
+    rest.split_once(end).unwrap().0
+}
+
+/// The program's lines above, by which the functions here know it.
+fn source() -> String {
+    let lines = between(
+        include_str!("readme.rs"),
+        "    // The program of README.\n",
+        "    // Its end.\n",
+    );
+    let lines = lines
+        .lines()
+        .map(|line| line.strip_prefix("    ").unwrap_or(line));
+    lines.map(|line| format!("{line}\n")).collect()
+}
+
+/// The lines that README has of what the program says, with this folder for that of its journal.
+fn said_in_readme(folder: &Path) -> String {
+    let told = between(README, "```text\nassertion", "```");
+    let built = folder.join("built").display().to_string();
+    format!("assertion{told}").replace("/bus/target", &built)
+}
+
+/// What the program says on standard error, but for the lines that Rust adds to it.
+fn said(folder: &Path) -> String {
+    let (succeeds, said) = play("the_program_says_what_readme_has_of_it", folder, None);
+    assert!(!succeeds, "{said}");
+    let lines = said.lines().filter(|line| {
+        ["assertion ", "  left: ", " right: ", "yovanelum: "]
+            .iter()
+            .any(|start| line.starts_with(start))
+    });
+    lines.map(|line| format!("{line}\n")).collect()
+}
+
+#[test]
+fn the_program_is_that_of_readme() {
+    assert_eq!(source(), between(README, "```rust,should_panic\n", "```"));
+}
+
+#[test]
+fn the_program_says_what_readme_has_of_it() {
+    if is_part() {
+        return program();
+    }
+    let folder = Folder::new("readme");
+    let wanted = said_in_readme(&folder.0);
+    let found = (0..TRIES)
+        .map(|_| said(&folder.0))
+        .find(|said| *said == wanted);
+    assert!(found.is_some(), "never said: {wanted}");
+    let walk = between(README, "```text\n$ printf '", "```");
+    let (commands, written) = walk.split_once('\n').unwrap();
+    let commands = commands.split_once('\'').unwrap().0.replace("\\n", "\n");
+    let journal = folder.0.join(format!("built/yovanelum/{NAME}.journal"));
+    if let Some(debugged) = debugged(&journal, &commands) {
+        assert_eq!(debugged, written);
+    }
+    let names = fs::read_to_string(journal.with_extension("names")).unwrap();
+    for text in ["\"ticker\"", "\"auditor\"", "\"prices\"", "\"101 EUR\""] {
+        assert!(names.contains(text), "{names}");
+    }
+}

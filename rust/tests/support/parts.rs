@@ -1,0 +1,43 @@
+//! Tests that run their own program again for a part of theirs, as a process whose words can be read.
+
+use std::path::{Path, PathBuf};
+use std::process::Command;
+use std::{env, fs, process};
+
+/// Set where this process plays a test's part.
+const PART: &str = "YOVANELUM_TEST_PART";
+
+pub fn is_part() -> bool {
+    env::var_os(PART).is_some()
+}
+
+/// A folder that is deleted with this.
+pub struct Folder(pub PathBuf);
+
+impl Folder {
+    pub fn new(name: &str) -> Folder {
+        let folder = env::temp_dir().join(format!("yovanelum-{name}-{}", process::id()));
+        fs::create_dir_all(&folder).unwrap();
+        Folder(fs::canonicalize(folder).unwrap())
+    }
+}
+
+impl Drop for Folder {
+    fn drop(&mut self) {
+        let _ = fs::remove_dir_all(&self.0);
+    }
+}
+
+/// Whether the part of this test succeeds, and what it writes on standard error. It works in the folder, with a relative name for the
+/// build's.
+pub fn play(test: &str, folder: &Path, keep: Option<&str>) -> (bool, String) {
+    let mut part = Command::new(env::current_exe().unwrap());
+    part.args(["--exact", test, "--nocapture"])
+        .current_dir(folder)
+        .env(PART, "1")
+        .env("CARGO_TARGET_DIR", "built")
+        .env_remove("YOVANELUM_KEEP")
+        .envs(keep.map(|keep| ("YOVANELUM_KEEP", keep)));
+    let ran = part.output().unwrap();
+    (ran.status.success(), String::from_utf8(ran.stderr).unwrap())
+}

@@ -1,0 +1,2 @@
+# A file of 268,435,456 bytes whose first line is none of a journal.
+yes | head -c 268435456

@@ -1,0 +1,6 @@
+# A line of so many bytes.
+line() { printf "%$1s" '' | tr ' ' '#'; }
+
+for length in 257 1000; do
+  echo "broadcast 2/$(line "$length")/---/end/|script fault 2 too-long/"
+done

@@ -1,0 +1,9 @@
+# All the handles that a channel makes, most of them weak senders; its only sender is dropped, and none is made again.
+echo 'broadcast 1'
+echo '0 0 downgrade 0'
+yes '0 0 clone-weak 2' | head -n 65533
+echo '0 0 upgrade 2'
+echo '0 0 drop 0'
+echo '0 0 upgrade 2'
+echo ---
+printf '%s\n' step back step back step back step 'rback reply no-sender'
