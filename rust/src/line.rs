@@ -129,6 +129,18 @@ impl Tap {
     }
 }
 
+/// The reply of a call that was made. The core refuses a call with nothing changed where memory or handles are at an end.
+#[inline]
+fn made(reply: Reply) -> Reply {
+    match reply {
+        Reply::JournalFull | Reply::NoMemory => panic!("yovanelum: no memory for a call"),
+        Reply::TooManyHandles => {
+            panic!("yovanelum: a channel makes at most 65536 senders, weak senders and receivers")
+        }
+        reply => reply,
+    }
+}
+
 impl Turn<'_> {
     /// Makes a call. It takes the recorder's next number under the channel's lock, so stamps differ, and stand in the order in which the
     /// calls were made, on each channel and wherever one call returned before another began.
@@ -143,11 +155,7 @@ impl Turn<'_> {
         };
         match call(&mut self.inner.channel, caller) {
             Reply::JournalFull => self.call_unrecorded(caller, call),
-            Reply::NoMemory => panic!("yovanelum: no memory for a call"),
-            Reply::TooManyHandles => {
-                panic!("yovanelum: a channel makes at most 65536 senders and receivers")
-            }
-            reply => reply,
+            reply => made(reply),
         }
     }
 
@@ -160,13 +168,7 @@ impl Turn<'_> {
     ) -> Reply {
         self.recorder.end_at(caller.clock);
         self.inner.end();
-        match call(&mut self.inner.channel, caller) {
-            Reply::JournalFull | Reply::NoMemory => panic!("yovanelum: no memory for a call"),
-            Reply::TooManyHandles => {
-                panic!("yovanelum: a channel makes at most 65536 senders and receivers")
-            }
-            reply => reply,
-        }
+        made(call(&mut self.inner.channel, caller))
     }
 
     /// Asks what leaves no entry.
