@@ -65,13 +65,10 @@ fn passes_of_another_desk(rt: HostRuntime) -> Result<(), Fail> {
     let (desk, mut first, mut second) = pair(alloc)?;
     let (other, mut third, mut fourth) = pair(alloc)?;
     // Both desks answer the same two calls alike, and then the other's second actor makes one more.
-    for (desk, sends, asks) in [
-        (&desk, &mut first, &mut second),
-        (&other, &mut third, &mut fourth),
-    ] {
-        call(desk, &rt, sends, 0, SEND)?;
-        call(desk, &rt, asks, 0, TRY_RECV)?;
-    }
+    call(&desk, &rt, &mut first, 0, SEND)?;
+    call(&desk, &rt, &mut second, 0, TRY_RECV)?;
+    call(&other, &rt, &mut third, 0, SEND)?;
+    call(&other, &rt, &mut fourth, 0, TRY_RECV)?;
     call(&other, &rt, &mut fourth, 0, TRY_RECV)?;
     let (own, others) = (both(alloc, first, second)?, both(alloc, third, fourth)?);
     let (desk, others) = strayed(&rt, alloc, desk, others, 1, 1)?;
@@ -103,9 +100,8 @@ fn entries_out_of_order(rt: HostRuntime) -> Result<(), Fail> {
     let (desk, mut first, mut second) = pair(alloc)?;
     let (other, _, mut guest) = pair(alloc)?;
     // The guest's call has a stamp on one channel that its actor has on the other one already.
-    for (channel, pass) in [(0, &mut second), (1, &mut first)] {
-        call(&desk, &rt, pass, channel, SEND)?;
-    }
+    call(&desk, &rt, &mut second, 0, SEND)?;
+    call(&desk, &rt, &mut first, 1, SEND)?;
     call(&desk, &rt, &mut second, 0, SEND)?;
     call(&desk, &rt, &mut guest, 1, SEND)?;
     assert_eq!(rt; (second.stamp(), guest.stamp()), (2, 2));
