@@ -73,6 +73,17 @@ fn new_table(alloc: Global, met: &mut Met) -> Result<Table<u64>, NoMemory> {
     Err(NoMemory)
 }
 
+/// A table of a sender and a receiver.
+fn table_of_two(alloc: Global, met: &mut Met) -> Result<Table<u64>, NoMemory> {
+    for _ in 0..TRIES {
+        match Table::of_two(alloc, 3, 4) {
+            Ok(table) => return Ok(table),
+            Err(NoMemory) => met.refused(true),
+        }
+    }
+    Err(NoMemory)
+}
+
 /// A ring of this capacity.
 fn new_ring(alloc: Global, met: &mut Met) -> Result<Ring<u64>, NoMemory> {
     for _ in 0..TRIES {
@@ -143,6 +154,10 @@ fn play_parts(rt: &impl Print, alloc: Global, met: &mut Met) -> io::Result<()> {
         if table.room() > 0 && table.made() < 10 {
             println!(rt; "  {}", table.make(Kind::Receiver, 5))?;
         }
+    }
+    match table_of_two(alloc, met) {
+        Ok(table) => println!(rt; "a table of two: made {}", table.made())?,
+        Err(NoMemory) => println!(rt; "no table of two")?,
     }
     match new_ring(alloc, met) {
         Ok(ring) => println!(rt; "a ring of {}", ring.capacity()),

@@ -8,10 +8,12 @@
 ghost use Rattle.std.specs.Prelude.{◌≡◌};
 
 mod books;
+mod lines;
 mod machines;
 mod met;
 mod places;
 mod runs;
+mod texts;
 mod walks;
 
 use anyhow::{Result, bail};
@@ -24,6 +26,8 @@ fn main(rt: HostRuntime) -> Result<()> {
     books::play(&rt, alloc, &mut met)?;
     runs::play(&rt, alloc, &mut met)?;
     walks::play(&rt, alloc, &mut met)?;
+    lines::play(&rt, alloc, &mut met)?;
+    texts::play(&rt, alloc, &mut met)?;
     eprintln!(rt; "refusals answered: {}", met.answered())?;
     if met.lost() > 0 {
         bail!("something was lost at a refusal");

@@ -70,3 +70,11 @@ impl Shows for World<u64> {
         ]
     }
 }
+
+/// How many handles a channel made, and how many values were sent or changes told.
+pub fn counted<V: Copy>(channel: &Chan<V>) -> (u32, u64) {
+    match channel {
+        Chan::Broadcast(machine) => (machine.made(), machine.sent()),
+        Chan::Watch(machine) => (machine.made(), machine.version()),
+    }
+}

@@ -33,6 +33,31 @@ fn new_navigator<V: Copy>(
     Err(NoMemory)
 }
 
+/// A navigator over a copy of the entries that is handed to it. At a refusal world and copy are dropped.
+fn open_over<V: Copy>(alloc: Global, run: &Run<V>) -> Result<Navigator<World<V>>, NoMemory> {
+    let start = run.start(alloc)?;
+    match run.entries().to_vec(alloc) {
+        Ok(entries) => Navigator::over(start, entries),
+        Err(_) => Err(NoMemory),
+    }
+}
+
+/// The same, asked for again.
+fn new_over<V: Copy>(
+    alloc: Global,
+    met: &mut Met,
+    run: &Run<V>,
+) -> Result<Navigator<World<V>>, NoMemory> {
+    let length = run.len();
+    for _ in 0..TRIES {
+        match open_over(alloc, run) {
+            Ok(navigator) => return Ok(navigator),
+            Err(NoMemory) => met.refused(run.len() == length),
+        }
+    }
+    Err(NoMemory)
+}
+
 /// A debugger of a run at place 0.
 fn new_debugger<V: Copy>(
     alloc: Global,
@@ -101,6 +126,26 @@ fn index<R: Reversible, P: Probe<R>>(
     Err(NoMemory)
 }
 
+/// The index of a condition on entries over a debugger's run.
+fn index_run<V: Copy, P: Probe<World<V>>>(
+    alloc: Global,
+    met: &mut Met,
+    debugger: &Debugger<V>,
+    probe: &P,
+) -> Result<HitIndex<World<V>, P>, NoMemory> {
+    let (place, turns) = (debugger.place(), debugger.turns());
+    for _ in 0..TRIES {
+        if !probe.on_step() {
+            return Err(NoMemory);
+        }
+        match debugger.hit_index(alloc, probe) {
+            Ok(index) => return Ok(index),
+            Err(NoMemory) => met.refused(debugger.place() == place && debugger.turns() == turns),
+        }
+    }
+    Err(NoMemory)
+}
+
 /// What an index finds below a place, and above it.
 fn looked_up<R: Reversible, P: Probe<R>>(
     index: &HitIndex<R, P>,
@@ -128,7 +173,22 @@ fn play_navigator(rt: &impl Print, alloc: Global, met: &mut Met, run: &Run<u64>)
     }
 }
 
-/// Plays a debugger of a run.
+/// Plays a navigator over entries of its own.
+fn play_over(rt: &impl Print, alloc: Global, met: &mut Met, run: &Run<u64>) -> io::Result<()> {
+    let Ok(mut navigator) = new_over(alloc, met, run) else {
+        return println!(rt; "  no navigator");
+    };
+    match walk(alloc, met, &mut navigator) {
+        Ok(answers) => println!(rt;
+            "  {:?}, then place {}",
+            answers.as_slice(),
+            navigator.place()
+        ),
+        Err(NoMemory) => println!(rt; "  isn't walked"),
+    }
+}
+
+/// Plays a debugger of a run, and an index of its entries on channel 0.
 fn play_debugger(rt: &impl Print, alloc: Global, met: &mut Met, run: &Run<u64>) -> io::Result<()> {
     let Ok(mut debugger) = new_debugger(alloc, met, run) else {
         return println!(rt; "  no debugger");
@@ -138,8 +198,12 @@ fn play_debugger(rt: &impl Print, alloc: Global, met: &mut Met, run: &Run<u64>) 
             "  {:?}, then place {}",
             answers.as_slice(),
             debugger.place()
-        ),
-        Err(NoMemory) => println!(rt; "  isn't walked"),
+        )?,
+        Err(NoMemory) => println!(rt; "  isn't walked")?,
+    }
+    match index_run(alloc, met, &debugger, &Cond::Channel(0)) {
+        Ok(index) => println!(rt; "  around place 20: {:?}", looked_up(&index, 20)),
+        Err(NoMemory) => println!(rt; "  no index"),
     }
 }
 
@@ -150,5 +214,6 @@ pub fn play(rt: &impl Print, alloc: Global, met: &mut Met) -> io::Result<()> {
         return println!(rt; "  no run");
     };
     play_navigator(rt, alloc, met, &run)?;
+    play_over(rt, alloc, met, &run)?;
     play_debugger(rt, alloc, met, &run)
 }

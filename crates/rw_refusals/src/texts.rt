@@ -1,0 +1,132 @@
+//! Journal texts: read, written, written and read again, and salvaged.
+
+use crate::met::{Met, TRIES};
+use rw_journal::Run;
+use rw_law::{NoMemory, Payload};
+use rw_text::{TextFault, WriteFault, read, round_trip, salvage, write};
+use std::alloc::Global;
+use std::io;
+
+/// The text of a journal of both channels.
+pub const JOURNAL: &[u8] = b"ttd-journal 2
+broadcast 2
+watch 5
+steps
+1 0 0 subscribe 0 = new 2
+2 0 0 send 0 1 = sent 2
+3 1 1 send 0 6 = stored
+4 0 0 try-recv 2 = value 1
+5 1 1 clone-receiver 1 = new 2
+6 1 1 update 2 = value 6
+end
+";
+
+/// Of how many of its bytes something is salvaged: the last entry is cut off in its midst.
+const CUT: usize = 180;
+
+/// Reads a text.
+pub fn read_text<V: Payload>(
+    alloc: Global,
+    met: &mut Met,
+    bytes: &[u8],
+) -> Result<Run<V>, TextFault> {
+    for _ in 0..TRIES {
+        match read(alloc, bytes) {
+            Err(TextFault::NoMemory) => met.refused(true),
+            answer => return answer,
+        }
+    }
+    Err(TextFault::NoMemory)
+}
+
+/// Salvages a text that was cut off.
+fn salvage_text<V: Payload>(
+    alloc: Global,
+    met: &mut Met,
+    bytes: &[u8],
+) -> Result<(Run<V>, u64), TextFault> {
+    for _ in 0..TRIES {
+        match salvage(alloc, bytes) {
+            Err(TextFault::NoMemory) => met.refused(true),
+            answer => return answer,
+        }
+    }
+    Err(TextFault::NoMemory)
+}
+
+/// Writes a run, and reads it again.
+fn write_and_read<V: Payload>(
+    alloc: Global,
+    met: &mut Met,
+    run: &Run<V>,
+) -> Result<Run<V>, NoMemory> {
+    let length = run.len();
+    for _ in 0..TRIES {
+        match round_trip(alloc, run) {
+            Ok(again) => return Ok(again),
+            Err(NoMemory) => met.refused(run.len() == length),
+        }
+    }
+    Err(NoMemory)
+}
+
+/// Writes the text of a run into memory. At a refusal its first bytes were written, as many as the fault says: they are the first
+/// of what is wanted.
+fn write_text<V: Payload>(
+    alloc: Global,
+    met: &mut Met,
+    run: &Run<V>,
+    wanted: &[u8],
+) -> Result<Vec<u8>, WriteFault> {
+    for _ in 0..TRIES {
+        let mut bytes = Vec::new(alloc);
+        match write(run, &mut bytes) {
+            Ok(_) => return Ok(bytes),
+            Err(WriteFault(count)) => {
+                met.refused(count == bytes.len() as u64 && wanted.starts_with(&bytes));
+            }
+        }
+    }
+    Err(WriteFault(0))
+}
+
+/// Plays a run of a text.
+fn play_run<V: Payload>(
+    rt: &impl Print,
+    alloc: Global,
+    met: &mut Met,
+    run: &Run<V>,
+) -> io::Result<()> {
+    println!(rt; "  read: {} entries", run.len())?;
+    match write_text(alloc, met, run, JOURNAL) {
+        Ok(bytes) => println!(rt;
+            "  written: {} bytes, as before: {}",
+            bytes.len(),
+            bytes.as_slice() == JOURNAL
+        )?,
+        Err(fault) => println!(rt; "  {fault:?}")?,
+    }
+    match write_and_read(alloc, met, run) {
+        Ok(again) => println!(rt; "  read again: {} entries", again.len()),
+        Err(NoMemory) => println!(rt; "  isn't read again"),
+    }
+}
+
+/// Plays what a text that was cut off still holds.
+fn play_cut(rt: &impl Print, alloc: Global, met: &mut Met, cut: &[u8]) -> io::Result<()> {
+    match salvage_text::<u64>(alloc, met, cut) {
+        Ok((run, bytes)) => println!(rt; "  salvaged: {} entries of {bytes} bytes", run.len()),
+        Err(fault) => println!(rt; "  {fault:?}"),
+    }
+}
+
+/// Plays a journal text, whole and cut off.
+pub fn play(rt: &impl Print, alloc: Global, met: &mut Met) -> io::Result<()> {
+    println!(rt; "a journal text")?;
+    match read_text::<u64>(alloc, met, JOURNAL) {
+        Ok(run) => play_run(rt, alloc, met, &run)?,
+        Err(fault) => println!(rt; "  {fault:?}")?,
+    }
+    let (cut, _) = JOURNAL.split_at(CUT.min(JOURNAL.len()));
+    play_cut(rt, alloc, met, cut)
+}
