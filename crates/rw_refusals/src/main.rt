@@ -8,13 +8,19 @@
 ghost use Rattle.std.specs.Prelude.{◌≡◌};
 
 mod books;
+mod broadcasts;
+mod desks;
 mod lines;
 mod machines;
 mod met;
+mod passes;
 mod places;
 mod runs;
+mod scripts;
+mod sessions;
 mod texts;
 mod walks;
+mod watches;
 
 use anyhow::{Result, bail};
 use met::Met;
@@ -26,8 +32,14 @@ fn main(rt: HostRuntime) -> Result<()> {
     books::play(&rt, alloc, &mut met)?;
     runs::play(&rt, alloc, &mut met)?;
     walks::play(&rt, alloc, &mut met)?;
+    passes::play(&rt, alloc, &mut met)?;
+    desks::play(&rt, alloc, &mut met)?;
+    broadcasts::play(&rt, alloc, &mut met)?;
+    watches::play(&rt, alloc, &mut met)?;
     lines::play(&rt, alloc, &mut met)?;
+    scripts::play(&rt, alloc, &mut met)?;
     texts::play(&rt, alloc, &mut met)?;
+    sessions::play(&rt, alloc, &mut met)?;
     eprintln!(rt; "refusals answered: {}", met.answered())?;
     if met.lost() > 0 {
         bail!("something was lost at a refusal");

@@ -1,0 +1,185 @@
+//! Desks: opened, called by the numbers of channels and handles, and closed.
+
+use crate::machines::SPECS;
+use crate::met::{Met, TRIES};
+use crate::passes::held;
+use rw_broadcast::BCall;
+use rw_desk::{CloseFault, Desk, DeskFault, DeskOpenFault, Ends, Pass};
+use rw_journal::Run;
+use rw_law::Payload;
+use rw_watch::WCall;
+use rw_world::{ChanCall, ChanReply, OpenFault, Spec};
+use std::alloc::Global;
+use std::io;
+use std::sync::Wait;
+
+/// A desk, with a pass for each actor and the handles that each channel has from the beginning.
+pub type Opened<V> = (Desk<V>, Vec<Pass<V>>, Vec<Ends>);
+
+/// A desk of so many actors.
+pub fn new_desk<V: Payload>(
+    alloc: Global,
+    met: &mut Met,
+    specs: &[Spec<V>],
+    actors: u32,
+) -> Result<Opened<V>, DeskOpenFault> {
+    for _ in 0..TRIES {
+        match Desk::open(alloc, specs, actors) {
+            Err(DeskOpenFault::World(OpenFault::NoMemory)) => met.refused(true),
+            answer => return answer,
+        }
+    }
+    Err(DeskOpenFault::World(OpenFault::NoMemory))
+}
+
+/// Makes a call.
+pub fn call<V: Payload, R: Wait>(
+    rt: &R,
+    met: &mut Met,
+    desk: &Desk<V>,
+    pass: &mut Pass<V>,
+    channel: u32,
+    call: ChanCall<V>,
+) -> Result<ChanReply<V>, DeskFault> {
+    let before = held(pass);
+    for _ in 0..TRIES {
+        match desk.call(rt, pass, channel, call) {
+            Err(DeskFault::NoMemory) => met.refused(held(pass) == before),
+            answer => return answer,
+        }
+    }
+    Err(DeskFault::NoMemory)
+}
+
+/// Makes a call that waits where it has to. None here has to.
+fn wait_call<V: Payload, R: Wait>(
+    rt: &R,
+    met: &mut Met,
+    desk: &Desk<V>,
+    pass: &mut Pass<V>,
+    channel: u32,
+    call: ChanCall<V>,
+) -> Result<ChanReply<V>, DeskFault> {
+    let before = held(pass);
+    for _ in 0..TRIES {
+        match desk.wait_call(rt, pass, channel, call) {
+            Err(DeskFault::NoMemory) => met.refused(held(pass) == before),
+            answer => return answer,
+        }
+    }
+    Err(DeskFault::NoMemory)
+}
+
+/// How many receipts these passes have.
+fn receipts_in<V: Copy>(passes: &[Pass<V>]) -> usize {
+    let mut count: usize = 0;
+    for pass in passes {
+        count = count.saturating_add(pass.kept().len());
+    }
+    count
+}
+
+/// Closes a desk. At a refusal desk and passes come back, and are handed in once more.
+pub fn close<V: Payload>(
+    alloc: Global,
+    met: &mut Met,
+    desk: Desk<V>,
+    passes: Vec<Pass<V>>,
+) -> Result<Run<V>, CloseFault> {
+    let before = (passes.len(), receipts_in(&passes));
+    match desk.close(alloc, passes) {
+        Ok(run) => Ok(run),
+        Err((CloseFault::NoMemory, desk, passes)) => {
+            met.refused((passes.len(), receipts_in(&passes)) == before);
+            close_once(alloc, desk, passes)
+        }
+        Err((fault, _, _)) => Err(fault),
+    }
+}
+
+/// Closes a desk. At a fault desk and passes are dropped.
+fn close_once<V: Payload>(
+    alloc: Global,
+    desk: Desk<V>,
+    passes: Vec<Pass<V>>,
+) -> Result<Run<V>, CloseFault> {
+    match desk.close(alloc, passes) {
+        Ok(run) => Ok(run),
+        Err((fault, _, _)) => Err(fault),
+    }
+}
+
+/// Closes a desk, and prints how long its run is, in which each actor's receipts are its entries.
+pub fn say_closed<V: Payload>(
+    rt: &impl Print,
+    alloc: Global,
+    met: &mut Met,
+    desk: Desk<V>,
+    passes: Vec<Pass<V>>,
+) -> io::Result<()> {
+    match close(alloc, met, desk, passes) {
+        Ok(run) => println!(rt; "  closed with {} entries", run.len()),
+        Err(fault) => println!(rt; "  {fault:?}"),
+    }
+}
+
+/// Calls by one pass on the broadcast, those that no handle of a desk makes among them. The last would wait.
+fn call_broadcast<R: Wait + Print>(
+    rt: &R,
+    met: &mut Met,
+    desk: &Desk<u64>,
+    pass: &mut Pass<u64>,
+) -> io::Result<()> {
+    for made in [
+        BCall::Downgrade(0),
+        BCall::CloneWeak(2),
+        BCall::Upgrade(3),
+        BCall::Send(4, 5),
+        BCall::TryRecv(1),
+        BCall::DropHandle(4),
+        BCall::Recv(1),
+    ] {
+        let answer = call(rt, met, desk, pass, 0, ChanCall::B(made));
+        println!(rt; "  {answer:?}")?;
+    }
+    Ok(())
+}
+
+/// Calls by one pass on both channels, each of which may wait. They are as many that the pass and both books have to grow.
+fn call_both<R: Wait + Print>(
+    rt: &R,
+    met: &mut Met,
+    desk: &Desk<u64>,
+    pass: &mut Pass<u64>,
+) -> io::Result<()> {
+    for value in 10..16 {
+        for (channel, made) in [
+            (0, ChanCall::B(BCall::Send(0, value))),
+            (0, ChanCall::B(BCall::Recv(1))),
+            (1, ChanCall::W(WCall::Send(0, value))),
+            (1, ChanCall::W(WCall::Changed(1))),
+            (1, ChanCall::W(WCall::CloneSender(0))),
+        ] {
+            let answer = wait_call(rt, met, desk, pass, channel, made);
+            println!(rt; "  {answer:?}")?;
+        }
+    }
+    Ok(())
+}
+
+/// Plays a desk of two actors.
+pub fn play<R: Wait + Print>(rt: &R, alloc: Global, met: &mut Met) -> io::Result<()> {
+    println!(rt; "a desk")?;
+    let Ok((desk, mut passes, _ends)) = new_desk(alloc, met, &SPECS, 2) else {
+        return println!(rt; "  isn't opened");
+    };
+    if let Some(pass) = passes.get_mut(0) {
+        call_broadcast(rt, met, &desk, pass)?;
+    }
+    if let Some(pass) = passes.get_mut(1) {
+        call_both(rt, met, &desk, pass)?;
+        let astray = ChanCall::W(WCall::Borrow(1));
+        println!(rt; "  {:?}", call(rt, met, &desk, pass, 0, astray))?;
+    }
+    say_closed(rt, alloc, met, desk, passes)
+}

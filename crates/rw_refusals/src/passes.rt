@@ -1,0 +1,103 @@
+//! Passes: calls on the book of a channel, each with its receipt.
+
+ghost use Rattle.std.specs.Prelude.{◌≡◌, false};
+ghost use Rattle.rw_world.specs.Openings.{has_bad_capacity};
+
+use crate::met::{Met, TRIES};
+use crate::places::counted;
+use rw_broadcast::BCall;
+use rw_desk::{DeskFault, Pass};
+use rw_journal::Book;
+use rw_law::NoMemory;
+use rw_watch::WCall;
+use rw_world::{Chan, ChanCall, ChanReply, Spec, open_channel};
+use std::alloc::Global;
+use std::fmt::Debug;
+use std::io;
+
+/// How many receipts a pass has, and its clock.
+pub fn held<V: Copy>(pass: &Pass<V>) -> (usize, u64) {
+    (pass.kept().len(), pass.stamp())
+}
+
+/// The pass of actor 0, without receipts. It takes no memory.
+fn new_pass<V: Copy>(alloc: Global) -> Pass<V> {
+    Pass::new(alloc, 0)
+}
+
+/// A book of a channel that is opened from this spec.
+fn open_book<V: Copy>(alloc: Global, spec: &Spec<V>) -> Result<Book<Chan<V>>, NoMemory>
+    requires { has_bad_capacity spec.now ≡ false }
+{
+    Book::open(alloc, open_channel(alloc, spec)?)
+}
+
+/// The same, asked for again. The channel is dropped at a refusal.
+fn new_book<V: Copy>(
+    alloc: Global,
+    met: &mut Met,
+    spec: &Spec<V>,
+) -> Result<Book<Chan<V>>, NoMemory> {
+    for _ in 0..TRIES {
+        if spec.has_bad_capacity() {
+            return Err(NoMemory);
+        }
+        match open_book(alloc, spec) {
+            Ok(book) => return Ok(book),
+            Err(NoMemory) => met.refused(true),
+        }
+    }
+    Err(NoMemory)
+}
+
+/// Makes a call on a book, and keeps its receipt under channel 0.
+fn record<V: Copy>(
+    met: &mut Met,
+    pass: &mut Pass<V>,
+    book: &mut Book<Chan<V>>,
+    call: ChanCall<V>,
+) -> Result<ChanReply<V>, DeskFault> {
+    let (before, length, counts) = (held(pass), book.len(), counted(book.machine()));
+    for _ in 0..TRIES {
+        match pass.record(book, 0, call) {
+            Err(DeskFault::NoMemory) => {
+                let same = book.len() == length && counted(book.machine()) == counts;
+                met.refused(same && held(pass) == before);
+            }
+            answer => return answer,
+        }
+    }
+    Err(DeskFault::NoMemory)
+}
+
+/// Plays a pass on a book: the calls are as many that both have to grow, and the last one would wait.
+fn play_pass<V: Copy + Debug>(
+    rt: &impl Print,
+    alloc: Global,
+    met: &mut Met,
+    spec: &Spec<V>,
+    call: ChanCall<V>,
+    last: ChanCall<V>,
+) -> io::Result<()> {
+    let Ok(mut book) = new_book(alloc, met, spec) else {
+        return println!(rt; "  no book");
+    };
+    let mut pass = new_pass(alloc);
+    for _ in 0..20 {
+        println!(rt; "  {:?}", record(met, &mut pass, &mut book, call))?;
+    }
+    println!(rt; "  {:?}", record(met, &mut pass, &mut book, last))?;
+    println!(rt; "  {:?}, {} entries", held(&pass), book.len())
+}
+
+/// Plays a pass on a book of each kind.
+pub fn play(rt: &impl Print, alloc: Global, met: &mut Met) -> io::Result<()> {
+    println!(rt; "a pass on a broadcast")?;
+    let made = ChanCall::B(BCall::<u64>::Subscribe(0));
+    let waits = ChanCall::B(BCall::Recv(1));
+    play_pass(rt, alloc, met, &Spec::Broadcast(2), made, waits)?;
+    println!(rt; "a pass on a watch")?;
+    let made = ChanCall::W(WCall::CloneReceiver(1));
+    let waits = ChanCall::W(WCall::Changed(1));
+    play_pass(rt, alloc, met, &Spec::Watch(7u64), made, waits)
+}

@@ -1,0 +1,158 @@
+//! Scripts: read whole and line by line, played on a book, and run.
+
+use crate::met::{Met, TRIES};
+use rw_journal::Run;
+use rw_script::{
+    MOST_STEPS, Played, RunFault, Script, ScriptFault, ScriptFaultKind, ScriptReader,
+    play as play_script, run_one,
+};
+use std::alloc::Global;
+use std::io;
+
+/// A script with names, whose last call would wait.
+const SCRIPT: &[u8] = b"broadcast 2
+watch 5
+actors 2
+0 0 subscribe 0 as slow
+0 0 send 0 1
+1 1 send 0 6
+0 0 try-recv slow
+1 1 clone-receiver 1 as other
+1 1 update other
+0 0 downgrade 0 as weak
+0 0 clone-weak weak as second
+0 0 upgrade weak as strong
+0 0 drop strong
+0 0 recv slow
+";
+
+/// Its lines, without their LF.
+const LINES: [&[u8]; 14] = [
+    b"broadcast 2",
+    b"watch 5",
+    b"actors 2",
+    b"0 0 subscribe 0 as slow",
+    b"0 0 send 0 1",
+    b"1 1 send 0 6",
+    b"0 0 try-recv slow",
+    b"1 1 clone-receiver 1 as other",
+    b"1 1 update other",
+    b"0 0 downgrade 0 as weak",
+    b"0 0 clone-weak weak as second",
+    b"0 0 upgrade weak as strong",
+    b"0 0 drop strong",
+    b"0 0 recv slow",
+];
+
+/// Whether memory was refused. The line is then one that stands in the script.
+fn is_refused(fault: ScriptFault) -> bool {
+    matches!(fault.kind, ScriptFaultKind::NoMemory)
+}
+
+/// Reads a script.
+fn read_script(alloc: Global, met: &mut Met, bytes: &[u8]) -> Option<Script> {
+    for _ in 0..TRIES {
+        match Script::read(alloc, bytes) {
+            Ok(script) => return Some(script),
+            Err(fault) => met.refused(is_refused(fault)),
+        }
+    }
+    None
+}
+
+/// Takes a line. At a refusal no line was taken.
+fn take_line(met: &mut Met, reader: &mut ScriptReader, line: &[u8]) -> Result<(), ScriptFault> {
+    let lines = reader.lines();
+    for _ in 0..TRIES {
+        if reader.lines() > MOST_STEPS as u64 {
+            return Ok(());
+        }
+        match reader.take(line) {
+            Ok(()) => return Ok(()),
+            Err(fault) => met.refused(is_refused(fault) && reader.lines() == lines),
+        }
+    }
+    Ok(())
+}
+
+/// Takes all lines of the script.
+fn read_lines(alloc: Global, met: &mut Met, lines: &[&[u8]]) -> ScriptReader {
+    let mut reader = ScriptReader::new(alloc);
+    for line in lines {
+        let _ = take_line(met, &mut reader, line);
+    }
+    reader
+}
+
+/// The script of these lines. It takes no memory.
+fn finished(reader: ScriptReader) -> Result<Script, ScriptFault> {
+    if reader.lines() > MOST_STEPS as u64 {
+        let line = reader.lines();
+        let kind = ScriptFaultKind::TooManySteps;
+        return Err(ScriptFault { line, kind });
+    }
+    reader.finish()
+}
+
+/// Plays a script on a book.
+fn played(alloc: Global, met: &mut Met, script: &Script) -> Result<Played, RunFault> {
+    let steps = script.steps().len();
+    for _ in 0..TRIES {
+        match play_script(alloc, script) {
+            Err(RunFault::NoMemory) => met.refused(script.steps().len() == steps),
+            answer => return answer,
+        }
+    }
+    Err(RunFault::NoMemory)
+}
+
+/// Runs a script in one thread.
+pub fn run_script(
+    alloc: Global,
+    met: &mut Met,
+    script: &Script,
+) -> Result<(Run<u64>, Option<u64>), RunFault> {
+    let steps = script.steps().len();
+    for _ in 0..TRIES {
+        match run_one(alloc, script) {
+            Err(RunFault::NoMemory) => met.refused(script.steps().len() == steps),
+            answer => return answer,
+        }
+    }
+    Err(RunFault::NoMemory)
+}
+
+/// How many entries a script that was played has, and which line would wait.
+fn said(played: &Played) -> (u64, Option<u64>) {
+    (played.book.len(), played.waits)
+}
+
+/// Plays a script on a book, and runs it.
+fn play_runs(rt: &impl Print, alloc: Global, met: &mut Met, script: &Script) -> io::Result<()> {
+    println!(rt;
+        "  {} channels, {} steps",
+        script.specs().len(),
+        script.steps().len()
+    )?;
+    match played(alloc, met, script) {
+        Ok(played) => println!(rt; "  played: {:?}", said(&played))?,
+        Err(fault) => println!(rt; "  {fault:?}")?,
+    }
+    match run_script(alloc, met, script) {
+        Ok((run, waits)) => println!(rt; "  run: {:?}", (run.len(), waits)),
+        Err(fault) => println!(rt; "  {fault:?}"),
+    }
+}
+
+/// Plays a script that is read whole, and its lines one by one.
+pub fn play(rt: &impl Print, alloc: Global, met: &mut Met) -> io::Result<()> {
+    println!(rt; "a script")?;
+    let Some(script) = read_script(alloc, met, SCRIPT) else {
+        return println!(rt; "  isn't read");
+    };
+    play_runs(rt, alloc, met, &script)?;
+    match finished(read_lines(alloc, met, &LINES)) {
+        Ok(script) => println!(rt; "  read by lines: {} steps", script.steps().len()),
+        Err(fault) => println!(rt; "  {fault:?}"),
+    }
+}

@@ -1,0 +1,381 @@
+//! Calls on a watch of a desk by its handles. Each is made by another actor, whose pass has no room for a receipt yet.
+
+use crate::desks::{new_desk, say_closed};
+use crate::met::{Met, TRIES};
+use crate::passes::held;
+use rw_desk::{Desk, DeskFault, Ends, Made, Pass, WRx, WTx};
+use rw_law::Payload;
+use rw_watch::{WCall, WReply};
+use rw_world::Spec;
+use std::alloc::Global;
+use std::io;
+use std::sync::Wait;
+
+/// What is called by sender 0. A value is modified by a closure, which either answers nothing or that nobody is told.
+const BY_SENDER: [WCall<u64>; 9] = [
+    WCall::Send(0, 8),
+    WCall::Borrow(0),
+    WCall::SendReplace(0, 9),
+    WCall::Modify {
+        told: true,
+        handle: 0,
+        value: 10,
+    },
+    WCall::Modify {
+        told: false,
+        handle: 0,
+        value: 11,
+    },
+    WCall::Subscribe(0),
+    WCall::CloneSender(0),
+    WCall::ReceiverCount(0),
+    WCall::IsClosed(0),
+];
+
+/// What is called then by receiver 1.
+const BY_RECEIVER: [WCall<u64>; 9] = [
+    WCall::HasChanged(1),
+    WCall::Changed(1),
+    WCall::HasChanged(1),
+    WCall::Borrow(1),
+    WCall::MarkChanged(1),
+    WCall::HasChanged(1),
+    WCall::MarkUnchanged(1),
+    WCall::Update(1),
+    WCall::CloneReceiver(1),
+];
+
+/// How many actors there are: one for each of these calls, and one who waits for a value.
+const ACTORS: u32 = 19;
+
+/// A receiver that was made, by its number. The handle is forgotten, and stays alive in its channel.
+fn receiver_made<V: Copy>(made: Made<WRx, WReply<V>>) -> WReply<V> {
+    match made {
+        Made::New(receiver) => WReply::New(receiver.number()),
+        Made::Refused(reply) => reply,
+    }
+}
+
+/// A sender that was made, by its number. It is forgotten too.
+fn sender_made<V: Copy>(made: Made<WTx, WReply<V>>) -> WReply<V> {
+    match made {
+        Made::New(sender) => WReply::New(sender.number()),
+        Made::Refused(reply) => reply,
+    }
+}
+
+/// Makes a call by a sender that takes no closure. Of another handle's call it is said that there is no such channel.
+fn by_sender<V: Payload, R: Wait>(
+    rt: &R,
+    desk: &Desk<V>,
+    pass: &mut Pass<V>,
+    sender: &WTx,
+    call: WCall<V>,
+) -> Result<WReply<V>, DeskFault> {
+    match call {
+        WCall::Send(_, value) => desk.w_send(rt, pass, sender, value),
+        WCall::SendReplace(_, value) => desk.w_send_replace(rt, pass, sender, value),
+        WCall::Borrow(_) => desk.w_peek(rt, pass, sender),
+        WCall::ReceiverCount(_) => desk.w_receiver_count(rt, pass, sender),
+        WCall::IsClosed(_) => desk.w_is_closed(rt, pass, sender),
+        WCall::AwaitClosed(_) => desk.w_closed(rt, pass, sender),
+        WCall::Subscribe(_) => Ok(receiver_made(desk.w_subscribe(rt, pass, sender)?)),
+        WCall::CloneSender(_) => Ok(sender_made(desk.w_clone_sender(rt, pass, sender)?)),
+        _ => Err(DeskFault::NoChannel),
+    }
+}
+
+/// Stores a value by a closure that answers nothing, and says whether it was called.
+fn modify<V: Payload, R: Wait>(
+    rt: &R,
+    desk: &Desk<V>,
+    pass: &mut Pass<V>,
+    sender: &WTx,
+    value: V,
+) -> (Result<WReply<V>, DeskFault>, bool) {
+    let mut was_called = false;
+    let answer = desk.w_send_modify(rt, pass, sender, |held| {
+        was_called = true;
+        *held = value;
+    });
+    (answer, was_called)
+}
+
+/// Stores a value by a closure that answers whether the receivers are told, and says whether it was called.
+fn modify_if<V: Payload, R: Wait>(
+    rt: &R,
+    desk: &Desk<V>,
+    pass: &mut Pass<V>,
+    sender: &WTx,
+    value: V,
+    told: bool,
+) -> (Result<WReply<V>, DeskFault>, bool) {
+    let mut was_called = false;
+    let answer = desk.w_send_if_modified(rt, pass, sender, |held| {
+        was_called = true;
+        *held = value;
+        told
+    });
+    (answer, was_called)
+}
+
+/// Makes a call by a receiver that takes no closure.
+fn by_receiver<V: Payload, R: Wait>(
+    rt: &R,
+    desk: &Desk<V>,
+    pass: &mut Pass<V>,
+    receiver: &WRx,
+    call: WCall<V>,
+) -> Result<WReply<V>, DeskFault> {
+    match call {
+        WCall::Borrow(_) => desk.w_borrow(rt, pass, receiver),
+        WCall::Update(_) => desk.w_update(rt, pass, receiver),
+        WCall::HasChanged(_) => desk.w_has_changed(rt, pass, receiver),
+        WCall::Changed(_) => desk.w_changed(rt, pass, receiver),
+        WCall::MarkChanged(_) => desk.w_mark_changed(rt, pass, receiver),
+        WCall::MarkUnchanged(_) => desk.w_mark_unchanged(rt, pass, receiver),
+        WCall::CloneReceiver(_) => Ok(receiver_made(desk.w_clone_receiver(rt, pass, receiver)?)),
+        _ => Err(DeskFault::NoChannel),
+    }
+}
+
+/// Makes a call by a sender, and says whether a closure was called.
+fn by_any_sender<V: Payload, R: Wait>(
+    rt: &R,
+    desk: &Desk<V>,
+    pass: &mut Pass<V>,
+    sender: &WTx,
+    call: WCall<V>,
+) -> (Result<WReply<V>, DeskFault>, bool) {
+    match call {
+        WCall::Modify {
+            told: true,
+            value,
+            ..
+        } => modify(rt, desk, pass, sender, value),
+        WCall::Modify { told, value, .. } => modify_if(rt, desk, pass, sender, value, told),
+        call => (by_sender(rt, desk, pass, sender, call), false),
+    }
+}
+
+/// Asks for a sender's call again. No closure is called where memory is refused.
+fn ask_sender<V: Payload, R: Wait>(
+    rt: &R,
+    met: &mut Met,
+    desk: &Desk<V>,
+    pass: &mut Pass<V>,
+    sender: &WTx,
+    call: WCall<V>,
+) -> Result<WReply<V>, DeskFault> {
+    let before = held(pass);
+    for _ in 0..TRIES {
+        match by_any_sender(rt, desk, pass, sender, call) {
+            (Err(DeskFault::NoMemory), was_called) => {
+                met.refused(held(pass) == before && !was_called);
+            }
+            (answer, _) => return answer,
+        }
+    }
+    Err(DeskFault::NoMemory)
+}
+
+/// Asks for a receiver's call again.
+fn ask_receiver<V: Payload, R: Wait>(
+    rt: &R,
+    met: &mut Met,
+    desk: &Desk<V>,
+    pass: &mut Pass<V>,
+    receiver: &WRx,
+    call: WCall<V>,
+) -> Result<WReply<V>, DeskFault> {
+    let before = held(pass);
+    for _ in 0..TRIES {
+        match by_receiver(rt, desk, pass, receiver, call) {
+            Err(DeskFault::NoMemory) => met.refused(held(pass) == before),
+            answer => return answer,
+        }
+    }
+    Err(DeskFault::NoMemory)
+}
+
+/// Waits for a value whose word is at least this. What is read before a refusal stands, and is read again.
+fn wait_for<V: Payload, R: Wait>(
+    rt: &R,
+    met: &mut Met,
+    desk: &Desk<V>,
+    pass: &mut Pass<V>,
+    receiver: &WRx,
+    least: u64,
+) -> Result<WReply<V>, DeskFault> {
+    let (receipts, _) = held(pass);
+    for _ in 0..TRIES {
+        match desk.w_wait_for(rt, pass, receiver, |value| value.word() >= least) {
+            Err(DeskFault::NoMemory) => met.refused(held(pass).0 >= receipts),
+            answer => return answer,
+        }
+    }
+    Err(DeskFault::NoMemory)
+}
+
+/// Drops a sender. At a refusal it comes back, and is dropped the next time.
+fn drop_sender<V: Payload, R: Wait>(
+    rt: &R,
+    met: &mut Met,
+    desk: &Desk<V>,
+    pass: &mut Pass<V>,
+    sender: WTx,
+) -> Result<WReply<V>, DeskFault> {
+    let (before, number) = (held(pass), sender.number());
+    match desk.w_drop_sender(rt, pass, sender) {
+        Ok(reply) => Ok(reply),
+        Err((DeskFault::NoMemory, sender)) => {
+            met.refused(held(pass) == before && sender.number() == number);
+            match desk.w_drop_sender(rt, pass, sender) {
+                Ok(reply) => Ok(reply),
+                Err((fault, _)) => Err(fault),
+            }
+        }
+        Err((fault, _)) => Err(fault),
+    }
+}
+
+/// Drops a receiver. At a refusal it comes back too.
+fn drop_receiver<V: Payload, R: Wait>(
+    rt: &R,
+    met: &mut Met,
+    desk: &Desk<V>,
+    pass: &mut Pass<V>,
+    receiver: WRx,
+) -> Result<WReply<V>, DeskFault> {
+    let (before, number) = (held(pass), receiver.number());
+    match desk.w_drop_receiver(rt, pass, receiver) {
+        Ok(reply) => Ok(reply),
+        Err((DeskFault::NoMemory, receiver)) => {
+            met.refused(held(pass) == before && receiver.number() == number);
+            match desk.w_drop_receiver(rt, pass, receiver) {
+                Ok(reply) => Ok(reply),
+                Err((fault, _)) => Err(fault),
+            }
+        }
+        Err((fault, _)) => Err(fault),
+    }
+}
+
+/// Makes all calls of a sender, each by a pass of its own.
+fn play_sender<R: Wait + Print>(
+    rt: &R,
+    met: &mut Met,
+    desk: &Desk<u64>,
+    passes: &mut [Pass<u64>],
+    sender: &WTx,
+) -> io::Result<()> {
+    for (pass, call) in passes.iter_mut().zip(BY_SENDER) {
+        let answer = ask_sender(rt, met, desk, pass, sender, call);
+        println!(rt; "  {answer:?}")?;
+    }
+    Ok(())
+}
+
+/// Makes all calls of a receiver, each by a pass of its own.
+fn play_receiver<R: Wait + Print>(
+    rt: &R,
+    met: &mut Met,
+    desk: &Desk<u64>,
+    passes: &mut [Pass<u64>],
+    receiver: &WRx,
+) -> io::Result<()> {
+    for (pass, call) in passes.iter_mut().zip(BY_RECEIVER) {
+        let answer = ask_receiver(rt, met, desk, pass, receiver, call);
+        println!(rt; "  {answer:?}")?;
+    }
+    Ok(())
+}
+
+/// Makes all calls by the two handles, and waits for a value that is there already.
+fn play_handles<R: Wait + Print>(
+    rt: &R,
+    met: &mut Met,
+    desk: &Desk<u64>,
+    passes: &mut [Pass<u64>],
+    sender: &WTx,
+    receiver: &WRx,
+) -> io::Result<()> {
+    let (by_sender, rest) = passes.split_at_mut(BY_SENDER.len().min(passes.len()));
+    play_sender(rt, met, desk, by_sender, sender)?;
+    let (by_receiver, rest) = rest.split_at_mut(BY_RECEIVER.len().min(rest.len()));
+    play_receiver(rt, met, desk, by_receiver, receiver)?;
+    let [pass] = rest else {
+        return println!(rt; "  not one pass is left");
+    };
+    let found = wait_for(rt, met, desk, pass, receiver, 11);
+    println!(rt; "  {found:?}")
+}
+
+/// Drops the receiver of a watch, which is closed then.
+fn close_for_sender<R: Wait + Print>(
+    rt: &R,
+    met: &mut Met,
+    desk: &Desk<u64>,
+    passes: &mut [Pass<u64>],
+    sender: &WTx,
+    receiver: WRx,
+) -> io::Result<()> {
+    let [first, second, ..] = passes else {
+        return println!(rt; "  no two passes");
+    };
+    let dropped = drop_receiver(rt, met, desk, first, receiver);
+    println!(rt; "  {dropped:?}")?;
+    let closed = ask_sender(rt, met, desk, second, sender, WCall::AwaitClosed(0));
+    println!(rt; "  {closed:?}")
+}
+
+/// Drops the sender of a watch, and waits for a value that never comes then.
+fn close_for_receiver<R: Wait + Print>(
+    rt: &R,
+    met: &mut Met,
+    desk: &Desk<u64>,
+    passes: &mut [Pass<u64>],
+    sender: WTx,
+    receiver: &WRx,
+) -> io::Result<()> {
+    let [.., third, fourth] = passes else {
+        return println!(rt; "  no two passes");
+    };
+    let dropped = drop_sender(rt, met, desk, third, sender);
+    println!(rt; "  {dropped:?}")?;
+    let closed = wait_for(rt, met, desk, fourth, receiver, 9);
+    println!(rt; "  {closed:?}")
+}
+
+/// Plays a watch whose receiver goes, and one whose sender goes, of one desk.
+fn play_closed<R: Wait + Print>(rt: &R, alloc: Global, met: &mut Met) -> io::Result<()> {
+    println!(rt; "watches of a desk that close")?;
+    let specs = [Spec::Watch(7), Spec::Watch(8)];
+    let Ok((desk, mut passes, mut ends)) = new_desk(alloc, met, &specs, 4) else {
+        return println!(rt; "  no desk");
+    };
+    let Some(Ends::Watch(second_sender, second_receiver)) = ends.pop() else {
+        return println!(rt; "  no second watch");
+    };
+    let Some(Ends::Watch(sender, receiver)) = ends.pop() else {
+        return println!(rt; "  no watch");
+    };
+    close_for_sender(rt, met, &desk, &mut passes, &sender, receiver)?;
+    close_for_receiver(rt, met, &desk, &mut passes, second_sender, &second_receiver)?;
+    say_closed(rt, alloc, met, desk, passes)
+}
+
+/// Plays watches of desks.
+pub fn play<R: Wait + Print>(rt: &R, alloc: Global, met: &mut Met) -> io::Result<()> {
+    println!(rt; "a watch of a desk, by its handles")?;
+    let specs = [Spec::Watch(7)];
+    let Ok((desk, mut passes, mut ends)) = new_desk(alloc, met, &specs, ACTORS) else {
+        return println!(rt; "  no desk");
+    };
+    let Some(Ends::Watch(sender, receiver)) = ends.pop() else {
+        return println!(rt; "  no watch");
+    };
+    play_handles(rt, met, &desk, &mut passes, &sender, &receiver)?;
+    say_closed(rt, alloc, met, desk, passes)?;
+    play_closed(rt, alloc, met)
+}
