@@ -27,9 +27,11 @@ impl LastIndex {
     }
 }
 
-/// Whether both are the same condition on entries.
+/// Whether both are the same condition on entries. It is found that one is the same as itself, so a search that is asked for again
+/// builds no second index.
 pub fn asks_the_same(cond: Cond, other: Cond) -> bool
     ensures step { IsTrue result → IsTrue (asks_step cond) }
+    ensures itself { IsTrue (asks_step cond) → cond ≡ other → IsTrue result }
     ensures same { IsTrue result → (e : WorldEntry ℕ) → holds_of_step other e ≡ holds_of_step cond e }
 {
     match (cond, other) {
