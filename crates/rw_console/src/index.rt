@@ -20,7 +20,8 @@ impl LastIndex {
     /// The index of a condition on entries, or `None` where memory for it is refused.
     pub fn build(alloc: Global, debugger: &Debugger<u64>, cond: Cond) -> Option<LastIndex>
         requires { IsTrue (asks_step cond) }
-        ensures { IfSome result (λ last. last.index.entries ≡ debugger.now.run.entries) }
+        ensures cond { IfSome result (λ last. last.cond ≡ cond) }
+        ensures run { IfSome result (λ last. last.index.entries ≡ debugger.now.run.entries) }
     {
         let index = debugger.hit_index(alloc, &cond).ok()?;
         Some(LastIndex { cond, index })
