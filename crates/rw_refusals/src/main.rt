@@ -10,6 +10,7 @@ ghost use Rattle.std.specs.Prelude.{◌≡◌};
 mod books;
 mod broadcasts;
 mod desks;
+mod journals;
 mod lines;
 mod machines;
 mod met;
@@ -32,6 +33,7 @@ fn main(rt: HostRuntime) -> Result<()> {
     books::play(&rt, alloc, &mut met)?;
     runs::play(&rt, alloc, &mut met)?;
     walks::play(&rt, alloc, &mut met)?;
+    journals::play(&rt, alloc, &mut met)?;
     passes::play(&rt, alloc, &mut met)?;
     desks::play(&rt, alloc, &mut met)?;
     broadcasts::play(&rt, alloc, &mut met)?;

@@ -1,7 +1,8 @@
 //! Passes: calls on the book of a channel, each with its receipt.
 
-ghost use Rattle.std.specs.Prelude.{◌≡◌, false};
+ghost use Rattle.std.specs.Prelude.{◌≡◌, false, IfOk};
 ghost use Rattle.rw_world.specs.Openings.{has_bad_capacity};
+ghost use Rattle.rw_desk.specs.Locked.{IsOpenedFrom};
 
 use crate::met::{Met, TRIES};
 use crate::places::counted;
@@ -21,13 +22,14 @@ pub fn held<V: Copy>(pass: &Pass<V>) -> (usize, u64) {
 }
 
 /// The pass of actor 0, without receipts. It takes no memory.
-fn new_pass<V: Copy>(alloc: Global) -> Pass<V> {
+pub fn new_pass<V: Copy>(alloc: Global) -> Pass<V> {
     Pass::new(alloc, 0)
 }
 
 /// A book of a channel that is opened from this spec.
-fn open_book<V: Copy>(alloc: Global, spec: &Spec<V>) -> Result<Book<Chan<V>>, NoMemory>
+pub fn open_book<V: Copy>(alloc: Global, spec: &Spec<V>) -> Result<Book<Chan<V>>, NoMemory>
     requires { has_bad_capacity spec.now ≡ false }
+    ensures { IfOk result (λ book. IsOpenedFrom spec.now book) }
 {
     Book::open(alloc, open_channel(alloc, spec)?)
 }
@@ -68,6 +70,23 @@ fn record<V: Copy>(
         }
     }
     Err(DeskFault::NoMemory)
+}
+
+/// Makes these calls on a new book of a channel.
+pub fn record_all<V: Copy>(
+    alloc: Global,
+    met: &mut Met,
+    pass: &mut Pass<V>,
+    spec: &Spec<V>,
+    calls: &[(u32, ChanCall<V>)],
+) -> Result<(), NoMemory> {
+    let mut book = new_book(alloc, met, spec)?;
+    for (_, call) in calls {
+        if let Err(DeskFault::NoMemory) = record(met, pass, &mut book, *call) {
+            return Err(NoMemory);
+        }
+    }
+    Ok(())
 }
 
 /// Plays a pass on a book: the calls are as many that both have to grow, and the last one would wait.
