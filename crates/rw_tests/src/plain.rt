@@ -9,14 +9,10 @@ use rw_journal::{Book, PushFault, Run, RunDraft, TakeFault};
 use rw_law::{Entry, NoMemory, Payload, Reversible};
 use rw_lines::{Next, StreamFault, next_line};
 use rw_navigator::{HitIndex, Move, Navigator, OutOfRange, Probe};
-use rw_script::{Gate, Script, run_threads};
 use rw_text::{TextFault, WriteFault, read, round_trip, salvage, write};
 use rw_world::{ChanCall, ChanReply, OpenFault, RowCall, Spec, World, open};
 use std::alloc::Global;
 use std::io::{Read, Write};
-use std::sync::Wait;
-use std::test::Fail;
-use std::thread::Threads;
 
 /// A book of a world that is opened from these specs.
 pub fn book_of<V: Copy>(alloc: Global, specs: &[Spec<V>]) -> Result<Book<World<V>>, OpenFault> {
@@ -180,14 +176,4 @@ pub fn line_of<R: Read>(
     line: &mut Vec<u8>,
 ) -> Result<Next, StreamFault> {
     next_line(reader, allowed, line)
-}
-
-/// The run that the threads of a script make.
-pub fn play_on_threads<G: Gate + Sync, R: Threads + Wait + Sync>(
-    rt: &R,
-    alloc: Global,
-    script: &[u8],
-    gate: &G,
-) -> Result<Run<u64>, Fail> {
-    Ok(run_threads(rt, alloc, &Script::read(alloc, script)?, gate)?)
 }

@@ -2,14 +2,13 @@
 
 ghost use Rattle.std.specs.Prelude.{◌≡◌};
 
-use crate::channels::playing::Shows;
-use crate::channels::{broadcasts, watches};
 use crate::plain::{
     book_of, navigator_of, place_and_turns, ready, rewind, run_on, specs_of, start_of, state, step,
     take, walk,
 };
 use crate::texts::rows::{OVERRUN, SCRIPTS, run_of};
 use rw_broadcast::{BCall, BReply};
+use rw_fixtures::{Shows, broadcasts, watches};
 use rw_journal::TakeFault;
 use rw_navigator::{Move, OutOfRange};
 use rw_world::{Chan, ChanCall, ChanReply, RowCall, Spec, World};

@@ -63,62 +63,64 @@ type Case = (
     &'static [u8],
 );
 
+/// Runs of each kind.
+const CASES: [Case; 8] = [
+    (
+        &["ttd", "session"],
+        b"",
+        b"broadcast 1\n---\nback",
+        0,
+        b"out of range, place 0 of 0\n",
+        b"",
+    ),
+    (&["ttd", "record", "f"], SCRIPT, b"", 0, JOURNAL, b""),
+    (
+        &["ttd", "record", "f", "--threads"],
+        SCRIPT,
+        b"",
+        0,
+        JOURNAL,
+        b"",
+    ),
+    (
+        &["ttd", "record", "f"],
+        JOURNAL,
+        b"",
+        1,
+        b"",
+        b"script fault 1 syntax\n",
+    ),
+    (&["ttd", "check", "f"], JOURNAL, b"", 0, b"ok 3\n", b""),
+    (
+        &["ttd", "debug", "f"],
+        JOURNAL,
+        b"step",
+        0,
+        b"#3 3 0 0 drop 0 = dropped\n",
+        b"",
+    ),
+    (
+        &["ttd", "salvage", "f"],
+        JOURNAL,
+        b"",
+        0,
+        JOURNAL,
+        b"kept 110 bytes\n",
+    ),
+    (
+        &["ttd", "debug", "f"],
+        SCRIPT,
+        b"step",
+        1,
+        b"journal fault malformed 1\n",
+        b"",
+    ),
+];
+
 #[test]
 fn each_word_leads_to_its_function(rt: HostRuntime) -> Result<(), Fail> {
     let alloc = rt.alloc();
-    let cases: [Case; 8] = [
-        (
-            &["ttd", "session"],
-            b"",
-            b"broadcast 1\n---\nback",
-            0,
-            b"out of range, place 0 of 0\n",
-            b"",
-        ),
-        (&["ttd", "record", "f"], SCRIPT, b"", 0, JOURNAL, b""),
-        (
-            &["ttd", "record", "f", "--threads"],
-            SCRIPT,
-            b"",
-            0,
-            JOURNAL,
-            b"",
-        ),
-        (
-            &["ttd", "record", "f"],
-            JOURNAL,
-            b"",
-            1,
-            b"",
-            b"script fault 1 syntax\n",
-        ),
-        (&["ttd", "check", "f"], JOURNAL, b"", 0, b"ok 3\n", b""),
-        (
-            &["ttd", "debug", "f"],
-            JOURNAL,
-            b"step",
-            0,
-            b"#3 3 0 0 drop 0 = dropped\n",
-            b"",
-        ),
-        (
-            &["ttd", "salvage", "f"],
-            JOURNAL,
-            b"",
-            0,
-            JOURNAL,
-            b"kept 110 bytes\n",
-        ),
-        (
-            &["ttd", "debug", "f"],
-            SCRIPT,
-            b"step",
-            1,
-            b"journal fault malformed 1\n",
-            b"",
-        ),
-    ];
-    for (texts, bytes, typed, status, written, told) in cases {
+    for (texts, bytes, typed, status, written, told) in CASES {
         let words = words_of(alloc, texts)?;
         let file = FailingReader::new(bytes, 64, None);
         let mut input = FailingReader::new(typed, 64, None);

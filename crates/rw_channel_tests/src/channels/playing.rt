@@ -1,0 +1,165 @@
+//! How a row is played: its calls are made and undone one by one, and then recorded in a book, whose journal a navigator
+//! walks back and on again.
+ghost use Rattle.std.specs.Prelude.{◌≡◌, ◌+◌, ◌<◌, ◌≤◌, ◌^◌, IfOk, length};
+
+use rw_fixtures::Shows;
+use rw_journal::{Book, TakeFault};
+use rw_law::{NoMemory, Reversible};
+use rw_navigator::{Move, Navigator};
+use std::alloc::Global;
+use std::fmt::Debug;
+use std::process::Abort;
+use std::test::Fail;
+
+/// A call, its reply, and what is shown after it, where the row says so.
+#[derive(Clone, Copy)]
+pub struct Expected<C, R, P> {
+    pub call: C,
+    pub reply: R,
+    pub place: Option<P>,
+}
+
+impl<C, R, P> Expected<C, R, P> {
+    pub fn new(call: C, reply: R) -> Expected<C, R, P> {
+        Expected {
+            call,
+            reply,
+            place: None,
+        }
+    }
+
+    pub fn to(call: C, reply: R, place: P) -> Expected<C, R, P> {
+        Expected {
+            call,
+            reply,
+            place: Some(place),
+        }
+    }
+}
+
+/// Makes the calls in order, and then undoes them, the last one first.
+fn make_and_undo<M: Reversible + Shows>(
+    rt: &impl Abort,
+    machine: &mut M,
+    steps: &[Expected<M::Call, M::Reply, M::Place>],
+)
+where
+    M::Reply: PartialEq + Debug,
+    requires { M.weigh (M.shown machine.old) + length steps.now ≤ M.reserved machine.old }
+    ensures { M.shown machine.new ≡ M.shown machine.old }
+{
+    if let [first, rest @ ..] = steps {
+        let _known = machine.weight();
+        let (reply, patch) = machine.apply(&first.call);
+        assert_eq!(rt; reply, first.reply);
+        is_at(rt, machine, first);
+        make_and_undo(rt, machine, rest);
+        is_at(rt, machine, first);
+        machine.undo(&first.call, &patch);
+    }
+}
+
+/// Records the calls of a row by actor 0, and compares the replies. A call that would wait is no entry.
+fn record<M: Reversible + Drop + Shows>(
+    rt: &impl Abort,
+    alloc: Global,
+    start: M,
+    steps: &[Expected<M::Call, M::Reply, M::Place>],
+) -> Result<Book<M>, NoMemory>
+where
+    M::Reply: PartialEq + Debug,
+    requires { M.weigh (M.shown start) ≤ 2 ^ 32 }
+    ensures { IfOk result (λ book. book.opening ≡ start) }
+{
+    let mut book = Book::open(alloc, start)?;
+    for step in steps {
+        take(rt, &mut book, step)?;
+    }
+    Ok(book)
+}
+
+/// Takes the call of a step, and compares the replies. A call that would wait is no entry.
+fn take<M: Reversible + Shows>(
+    rt: &impl Abort,
+    book: &mut Book<M>,
+    step: &Expected<M::Call, M::Reply, M::Place>,
+) -> Result<(), NoMemory>
+where
+    M::Reply: PartialEq + Debug,
+    ensures { book.new.opening ≡ book.old.opening }
+{
+    match book.take(0, 0, step.call) {
+        Ok(receipt) => assert_eq!(rt; receipt.reply, step.reply),
+        Err(TakeFault::Waits) => assert!(rt; M::waits(&step.reply)),
+        Err(_) => return Err(NoMemory),
+    }
+    Ok(())
+}
+
+/// Plays a row on one machine and records it there, and walks it back and on again on another in the same state.
+pub fn play<M: Reversible + Drop + Shows>(
+    rt: &impl Abort,
+    alloc: Global,
+    mut recorded: M,
+    walked: M,
+    steps: &[Expected<M::Call, M::Reply, M::Place>],
+) -> Result<(), Fail>
+where
+    M::Reply: PartialEq + Debug,
+    requires weight { M.weigh (M.shown recorded) ≤ 2 ^ 32 }
+    requires same { M.shown walked ≡ M.shown recorded }
+    requires few { length steps.now < 100 }
+{
+    let opening = walked.place();
+    recorded.ready(steps.len() as u64)?;
+    make_and_undo(rt, &mut recorded, steps);
+    assert_eq!(rt; recorded.place(), opening);
+    record_and_walk(rt, alloc, recorded, walked, steps)
+}
+
+/// Records a row, of any length, on one machine, and walks it back and on again on another in the same state.
+pub fn record_and_walk<M: Reversible + Drop + Shows>(
+    rt: &impl Abort,
+    alloc: Global,
+    recorded: M,
+    walked: M,
+    steps: &[Expected<M::Call, M::Reply, M::Place>],
+) -> Result<(), Fail>
+where
+    M::Reply: PartialEq + Debug,
+    requires weight { M.weigh (M.shown recorded) ≤ 2 ^ 32 }
+    requires same { M.shown walked ≡ M.shown recorded }
+{
+    let opening = walked.place();
+    let book = record(rt, alloc, recorded, steps)?;
+    let mut navigator = Navigator::open(alloc, walked, book.entries())?;
+    assert_eq!(rt; navigator.step(Move::End), Ok(()));
+    for step in steps.iter().rev() {
+        if !M::waits(&step.reply) {
+            is_at(rt, navigator.state(), step);
+            assert_eq!(rt; navigator.step(Move::Back(1)), Ok(()));
+        }
+    }
+    assert_eq!(rt; navigator.place(), 0);
+    assert_eq!(rt; navigator.state().place(), opening);
+    for step in steps {
+        if !M::waits(&step.reply) {
+            assert_eq!(rt; navigator.step(Move::Forward(1)), Ok(()));
+            is_at(rt, navigator.state(), step);
+        }
+    }
+    assert_eq!(rt; navigator.place(), navigator.len());
+    assert_eq!(rt; navigator.turns() / 3, navigator.len());
+    Ok(())
+}
+
+/// Whether the machine shows what the row says of the place after a step.
+fn is_at<M: Reversible + Shows>(
+    rt: &impl Abort,
+    machine: &M,
+    step: &Expected<M::Call, M::Reply, M::Place>,
+) {
+    if let Some(place) = step.place {
+        assert_eq!(rt; machine.place(), place);
+    }
+}

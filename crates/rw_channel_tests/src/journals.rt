@@ -1,0 +1,3 @@
+//! Books of a small machine.
+
+mod books;

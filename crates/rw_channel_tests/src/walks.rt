@@ -1,0 +1,126 @@
+//! Walks and searches over journals of a small machine.
+
+mod adding;
+mod metering;
+mod parity;
+
+use adding::Adder;
+use metering::Metered;
+use parity::Parity;
+use rw_fixtures::record;
+use rw_navigator::{Move, Navigator, OutOfRange};
+use std::test::Fail;
+
+/// Calls by actor 0, with their stamps.
+const ONE_TO_SEVEN: [(u32, u64, u64); 7] = [
+    (0, 1, 1),
+    (0, 2, 2),
+    (0, 3, 3),
+    (0, 4, 4),
+    (0, 5, 5),
+    (0, 6, 6),
+    (0, 7, 7),
+];
+
+#[test]
+fn the_machine_had_as_many_calls_as_places_were_passed(rt: HostRuntime) -> Result<(), Fail> {
+    let mut played = Metered::new(Adder::new());
+    let entries = record(rt.alloc(), &mut played, &[(0, 1, 3), (0, 2, 1), (0, 3, 4)])?;
+    assert_eq!(rt; played.calls(), 3);
+    let start = Metered::new(Adder::new());
+    let mut navigator = Navigator::open(rt.alloc(), start, &entries)?;
+    for (to, answer, place, turns) in [
+        (Move::End, Ok(()), 3, 3),
+        (Move::Back(1), Ok(()), 2, 4),
+        (Move::Goto(0), Ok(()), 0, 6),
+        (Move::Forward(2), Ok(()), 2, 8),
+        (Move::Back(7), Err(OutOfRange), 2, 8),
+        (Move::Start, Ok(()), 0, 10),
+        (Move::Goto(3), Ok(()), 3, 13),
+    ] {
+        assert_eq!(rt; navigator.step(to), answer);
+        assert_eq!(rt; navigator.place(), place);
+        assert_eq!(rt; navigator.turns(), turns);
+        assert_eq!(rt; navigator.state().calls(), turns);
+    }
+    Ok(())
+}
+
+#[test]
+fn walks_by_moves_and_refuses_those_out_of_range(rt: HostRuntime) -> Result<(), Fail> {
+    let mut played = Adder::new();
+    let entries = record(rt.alloc(), &mut played, &ONE_TO_SEVEN)?;
+    let mut navigator = Navigator::open(rt.alloc(), Adder::new(), &entries)?;
+    let moves = [
+        Move::Back(5),
+        Move::Forward(9),
+        Move::Goto(4),
+        Move::Start,
+        Move::End,
+    ];
+    let answers = navigator.walk(rt.alloc(), &moves)?;
+    assert_eq!(rt;
+        answers.as_slice(),
+        [Err(OutOfRange), Err(OutOfRange), Ok(()), Ok(()), Ok(())].as_slice()
+    );
+    assert_eq!(rt; navigator.place(), 7);
+    assert_eq!(rt; navigator.turns(), 15);
+    assert_eq!(rt; navigator.state().sum(), 28);
+    for to in [
+        Move::Forward(u64::MAX),
+        Move::Back(u64::MAX),
+        Move::Goto(u64::MAX),
+        Move::Goto(8),
+    ] {
+        assert_eq!(rt; navigator.step(to), Err(OutOfRange));
+        assert_eq!(rt; navigator.place(), 7);
+        assert_eq!(rt; navigator.turns(), 15);
+    }
+    Ok(())
+}
+
+#[test]
+fn finds_the_nearest_hit_in_each_direction(rt: HostRuntime) -> Result<(), Fail> {
+    let even_amount = Parity {
+        of_amount: true,
+        remainder: 0,
+    };
+    let even_sum = Parity {
+        of_amount: false,
+        remainder: 0,
+    };
+    let odd_sum = Parity {
+        of_amount: false,
+        remainder: 1,
+    };
+    // The sums at the places 0 to 7 are 0, 1, 3, 6, 10, 15, 21, 28.
+    let mut played = Adder::new();
+    let entries = record(rt.alloc(), &mut played, &ONE_TO_SEVEN)?;
+    let mut navigator = Navigator::open(rt.alloc(), Adder::new(), &entries)?;
+    for (probe, from, below, above) in [
+        (even_amount, 0, None, Some(2)),
+        (even_amount, 2, None, Some(4)),
+        (even_amount, 6, Some(4), None),
+        (even_amount, 7, Some(6), None),
+        (even_sum, 0, None, Some(3)),
+        (even_sum, 3, None, Some(7)),
+        (even_sum, 4, Some(3), Some(7)),
+        (even_sum, 7, Some(3), None),
+        (odd_sum, 0, None, Some(1)),
+        (odd_sum, 1, None, Some(5)),
+        (odd_sum, 6, Some(5), None),
+        (odd_sum, 7, Some(5), None),
+    ] {
+        assert_eq!(rt; navigator.step(Move::Goto(from)), Ok(()));
+        assert_eq!(rt; navigator.back_to(&probe), below, "{probe:?} below {from}");
+        assert_eq!(rt; navigator.place(), below.unwrap_or(from));
+        assert_eq!(rt; navigator.step(Move::Goto(from)), Ok(()));
+        assert_eq!(rt;
+            navigator.forward_to(&probe),
+            above,
+            "{probe:?} above {from}"
+        );
+        assert_eq!(rt; navigator.place(), above.unwrap_or(from));
+    }
+    Ok(())
+}

@@ -1,0 +1,172 @@
+//! Scripts that a thread for each actor plays. In the tables `/` stands for a line's end.
+
+use crate::flags::is_set_in_time;
+use rw_journal::Run;
+use rw_law::{Entry, NoMemory, Payload, Reversible};
+use rw_script::{Gate, Script, run_threads};
+use rw_words::write_entry;
+use rw_world::World;
+use std::alloc::Global;
+use std::process::Abort;
+use std::sync::Wait;
+use std::sync::atomic::{AtomicBool, Ordering};
+use std::test::Fail;
+use std::thread::Threads;
+
+/// Holds actor 0's call 0 until actor 1's call 0 was made.
+#[derive(Drop)]
+struct Held {
+    made: AtomicBool,
+    limit_met: AtomicBool,
+}
+
+impl Gate for Held {
+    fn before(&self, actor: u32, i: u64) {
+        if (actor, i) == (0, 0) && !is_set_in_time(&self.made) {
+            self.limit_met.store(true, Ordering::SeqCst);
+        }
+    }
+
+    fn after(&self, actor: u32, i: u64) {
+        if (actor, i) == (1, 0) {
+            self.made.store(true, Ordering::SeqCst);
+        }
+    }
+}
+
+/// Holds the calls 0 of the actors 0 and 1 until both threads have come to them.
+#[derive(Drop)]
+struct Meeting {
+    first: AtomicBool,
+    second: AtomicBool,
+    limit_met: AtomicBool,
+}
+
+impl Gate for Meeting {
+    fn before(&self, actor: u32, i: u64) {
+        let (own, other) = match (actor, i) {
+            (0, 0) => (&self.first, &self.second),
+            (1, 0) => (&self.second, &self.first),
+            _ => return,
+        };
+        own.store(true, Ordering::SeqCst);
+        if !is_set_in_time(other) {
+            self.limit_met.store(true, Ordering::SeqCst);
+        }
+    }
+
+    fn after(&self, _actor: u32, _i: u64) {}
+}
+
+/// The bytes of a script.
+fn script_of(alloc: Global, text: &str) -> Result<Vec<u8>, Fail> {
+    let mut script = Vec::new(alloc);
+    for byte in text.bytes() {
+        script.push(if byte == b'/' { b'\n' } else { byte })?;
+    }
+    Ok(script)
+}
+
+/// An entry's line with `/` behind it.
+fn push_line<V: Payload>(text: &mut Vec<u8>, entry: &Entry<World<V>>) -> Result<(), NoMemory> {
+    if World::<V>::waits(&entry.reply) || World::<V>::strays(&entry.reply) {
+        text.extend_from_slice(b"not recorded/")?;
+        return Ok(());
+    }
+    let mut out = [0u8; 256];
+    let length = write_entry(entry, &mut out);
+    text.extend_from_slice(&out[..length])?;
+    text.push(b'/')?;
+    Ok(())
+}
+
+/// The run that the threads of a script make.
+fn play_on_threads<G: Gate + Sync, R: Threads + Wait + Sync>(
+    rt: &R,
+    alloc: Global,
+    script: &[u8],
+    gate: &G,
+) -> Result<Run<u64>, Fail> {
+    Ok(run_threads(rt, alloc, &Script::read(alloc, script)?, gate)?)
+}
+
+/// The entries of a run.
+fn entries_of<V: Copy>(run: &Run<V>) -> &[Entry<World<V>>] {
+    run.entries()
+}
+
+/// The entries of the run that a script's threads make, as their lines with `/` behind each.
+fn played<G: Gate + Sync, R: Threads + Wait + Sync>(
+    rt: &R,
+    alloc: Global,
+    script: &str,
+    gate: &G,
+) -> Result<Vec<u8>, Fail> {
+    let script = script_of(alloc, script)?;
+    let run = play_on_threads(rt, alloc, &script, gate)?;
+    let mut text = Vec::new(alloc);
+    for entry in entries_of(&run) {
+        push_line(&mut text, entry)?;
+    }
+    Ok(text)
+}
+
+/// The script's threads make these entries, whatever the gate holds.
+fn plays_to<G: Gate + Sync, R: Threads + Wait + Sync + Abort>(
+    rt: &R,
+    alloc: Global,
+    script: &str,
+    gate: &G,
+    want: &str,
+) -> Result<(), Fail> {
+    let text = played(rt, alloc, script, gate)?;
+    assert_eq!(rt; text.as_slice(), want.as_bytes());
+    Ok(())
+}
+
+/// Two actors, each on a channel of its own.
+const APART: &str = "broadcast 2/watch 5/actors 2/0 0 send 0 1/1 1 send 0 6";
+
+/// Their run in every schedule.
+const APART_RUN: &str = "1 0 0 send 0 1 = sent 1/1 1 1 send 0 6 = stored/";
+
+#[test]
+fn threads_on_two_channels(rt: HostRuntime) -> Result<(), Fail> {
+    plays_to(&rt, rt.alloc(), APART, &(), APART_RUN)?;
+    let held = Held {
+        made: AtomicBool::new(false),
+        limit_met: AtomicBool::new(false),
+    };
+    plays_to(&rt, rt.alloc(), APART, &held, APART_RUN)?;
+    assert!(rt; !held.limit_met.load(Ordering::SeqCst));
+    let meeting = Meeting {
+        first: AtomicBool::new(false),
+        second: AtomicBool::new(false),
+        limit_met: AtomicBool::new(false),
+    };
+    plays_to(&rt, rt.alloc(), APART, &meeting, APART_RUN)?;
+    assert!(rt; !meeting.limit_met.load(Ordering::SeqCst));
+    Ok(())
+}
+
+#[test]
+fn threads_wait_and_use_names(rt: HostRuntime) -> Result<(), Fail> {
+    let cases = [
+        // No call.
+        ("watch 1", ""),
+        // A call waits for one of another thread, whichever comes first.
+        (
+            "broadcast 2/actors 2/0 0 recv 1/1 0 send 0 5",
+            "1 1 0 send 0 5 = sent 1/2 0 0 recv 1 = value 5/",
+        ),
+        // Names of two actors: each stands for the handle that its own line made.
+        (
+            "broadcast 4/watch 3/actors 2/0 0 subscribe 0 as a/1 1 clone-receiver 1 as b/0 0 send 0 7/0 0 try-recv a/1 1 drop b",
+            "1 0 0 subscribe 0 = new 2/1 1 1 clone-receiver 1 = new 2/2 0 0 send 0 7 = sent 2/2 1 1 drop 2 = dropped/3 0 0 try-recv 2 = value 7/",
+        ),
+    ];
+    for (script, want) in cases {
+        plays_to(&rt, rt.alloc(), script, &(), want)?;
+    }
+    Ok(())
+}

@@ -1,2 +1,0 @@
-mod Recorded
-mod Sharing
