@@ -1,33 +1,34 @@
 //! Calls on a broadcast of a desk by its handles. Each is made by another actor, whose pass has no room for a receipt yet.
 
+use crate::callers::{self, Caller, ask_all};
 use crate::desks::{new_desk, say_closed};
-use crate::met::{Met, TRIES};
+use crate::met::Met;
 use crate::passes::held;
 use rw_broadcast::{BCall, BReply};
 use rw_desk::{BRx, BTx, Desk, DeskFault, Ends, Made, Pass};
 use rw_law::Payload;
-use rw_world::Spec;
+use rw_world::{ChanCall, ChanReply, Spec};
 use std::alloc::Global;
 use std::io;
 use std::sync::Wait;
 
 /// What is called by sender 0.
-const BY_SENDER: [BCall<u64>; 7] = [
-    BCall::Send(0, 4),
-    BCall::SenderLen(0),
-    BCall::Subscribe(0),
-    BCall::CloneSender(0),
-    BCall::ReceiverCount(0),
-    BCall::Send(0, 5),
-    BCall::SenderLen(0),
+const BY_SENDER: [ChanCall<u64>; 7] = [
+    ChanCall::B(BCall::Send(0, 4)),
+    ChanCall::B(BCall::SenderLen(0)),
+    ChanCall::B(BCall::Subscribe(0)),
+    ChanCall::B(BCall::CloneSender(0)),
+    ChanCall::B(BCall::ReceiverCount(0)),
+    ChanCall::B(BCall::Send(0, 5)),
+    ChanCall::B(BCall::SenderLen(0)),
 ];
 
 /// What is called then by receiver 1.
-const BY_RECEIVER: [BCall<u64>; 4] = [
-    BCall::ReceiverLen(1),
-    BCall::TryRecv(1),
-    BCall::Resubscribe(1),
-    BCall::Recv(1),
+const BY_RECEIVER: [ChanCall<u64>; 4] = [
+    ChanCall::B(BCall::ReceiverLen(1)),
+    ChanCall::B(BCall::TryRecv(1)),
+    ChanCall::B(BCall::Resubscribe(1)),
+    ChanCall::B(BCall::Recv(1)),
 ];
 
 /// How many actors there are: one for each of these calls, and two who drop the handles.
@@ -84,42 +85,42 @@ fn by_receiver<V: Payload, R: Wait>(
     }
 }
 
-/// Asks for a sender's call again.
-fn ask_sender<V: Payload, R: Wait>(
-    rt: &R,
-    met: &mut Met,
-    desk: &Desk<V>,
-    pass: &mut Pass<V>,
-    sender: &BTx,
-    call: BCall<V>,
-) -> Result<BReply<V>, DeskFault> {
-    let before = held(pass);
-    for _ in 0..TRIES {
-        match by_sender(rt, desk, pass, sender, call) {
-            Err(DeskFault::NoMemory) => met.refused(held(pass) == before),
-            answer => return answer,
-        }
+/// An answer to a call for which no closure is called.
+fn answered(answer: Result<BReply<u64>, DeskFault>) -> callers::Made {
+    match answer {
+        Ok(reply) => (Ok(ChanReply::B(reply)), false),
+        Err(fault) => (Err(fault), false),
     }
-    Err(DeskFault::NoMemory)
 }
 
-/// Asks for a receiver's call again.
-fn ask_receiver<V: Payload, R: Wait>(
-    rt: &R,
-    met: &mut Met,
-    desk: &Desk<V>,
-    pass: &mut Pass<V>,
-    receiver: &BRx,
-    call: BCall<V>,
-) -> Result<BReply<V>, DeskFault> {
-    let before = held(pass);
-    for _ in 0..TRIES {
-        match by_receiver(rt, desk, pass, receiver, call) {
-            Err(DeskFault::NoMemory) => met.refused(held(pass) == before),
-            answer => return answer,
+impl Caller for BTx {
+    fn make<R: Wait>(
+        &self,
+        rt: &R,
+        desk: &Desk<u64>,
+        pass: &mut Pass<u64>,
+        call: ChanCall<u64>,
+    ) -> callers::Made {
+        match call {
+            ChanCall::B(call) => answered(by_sender(rt, desk, pass, self, call)),
+            ChanCall::W(_) => (Err(DeskFault::NoChannel), false),
         }
     }
-    Err(DeskFault::NoMemory)
+}
+
+impl Caller for BRx {
+    fn make<R: Wait>(
+        &self,
+        rt: &R,
+        desk: &Desk<u64>,
+        pass: &mut Pass<u64>,
+        call: ChanCall<u64>,
+    ) -> callers::Made {
+        match call {
+            ChanCall::B(call) => answered(by_receiver(rt, desk, pass, self, call)),
+            ChanCall::W(_) => (Err(DeskFault::NoChannel), false),
+        }
+    }
 }
 
 /// Drops a sender. At a refusal it comes back, and is dropped the next time.
@@ -166,36 +167,6 @@ fn drop_receiver<V: Payload, R: Wait>(
     }
 }
 
-/// Makes all calls of a sender, each by a pass of its own.
-fn play_sender<R: Wait + Print>(
-    rt: &R,
-    met: &mut Met,
-    desk: &Desk<u64>,
-    passes: &mut [Pass<u64>],
-    sender: &BTx,
-) -> io::Result<()> {
-    for (pass, call) in passes.iter_mut().zip(BY_SENDER) {
-        let answer = ask_sender(rt, met, desk, pass, sender, call);
-        println!(rt; "  {answer:?}")?;
-    }
-    Ok(())
-}
-
-/// Makes all calls of a receiver, each by a pass of its own.
-fn play_receiver<R: Wait + Print>(
-    rt: &R,
-    met: &mut Met,
-    desk: &Desk<u64>,
-    passes: &mut [Pass<u64>],
-    receiver: &BRx,
-) -> io::Result<()> {
-    for (pass, call) in passes.iter_mut().zip(BY_RECEIVER) {
-        let answer = ask_receiver(rt, met, desk, pass, receiver, call);
-        println!(rt; "  {answer:?}")?;
-    }
-    Ok(())
-}
-
 /// Makes all calls by the two handles, and drops them.
 fn play_handles<R: Wait + Print>(
     rt: &R,
@@ -206,9 +177,9 @@ fn play_handles<R: Wait + Print>(
     receiver: BRx,
 ) -> io::Result<()> {
     let (by_sender, rest) = passes.split_at_mut(BY_SENDER.len().min(passes.len()));
-    play_sender(rt, met, desk, by_sender, &sender)?;
+    ask_all(rt, met, desk, by_sender, &sender, &BY_SENDER)?;
     let (by_receiver, rest) = rest.split_at_mut(BY_RECEIVER.len().min(rest.len()));
-    play_receiver(rt, met, desk, by_receiver, &receiver)?;
+    ask_all(rt, met, desk, by_receiver, &receiver, &BY_RECEIVER)?;
     let [first, second] = rest else {
         return println!(rt; "  not two passes are left");
     };

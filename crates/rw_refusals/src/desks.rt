@@ -1,14 +1,14 @@
 //! Desks: opened, called by the numbers of channels and handles, and closed.
 
+use crate::callers::{ByNumbers, ask};
 use crate::machines::SPECS;
 use crate::met::{Met, TRIES};
-use crate::passes::held;
 use rw_broadcast::BCall;
-use rw_desk::{CloseFault, Desk, DeskFault, DeskOpenFault, Ends, Pass};
+use rw_desk::{CloseFault, Desk, DeskOpenFault, Ends, Pass};
 use rw_journal::Run;
 use rw_law::Payload;
 use rw_watch::WCall;
-use rw_world::{ChanCall, ChanReply, OpenFault, Spec};
+use rw_world::{ChanCall, OpenFault, Spec};
 use std::alloc::Global;
 use std::io;
 use std::sync::Wait;
@@ -32,44 +32,6 @@ pub fn new_desk<V: Payload>(
     Err(DeskOpenFault::World(OpenFault::NoMemory))
 }
 
-/// Makes a call.
-pub fn call<V: Payload, R: Wait>(
-    rt: &R,
-    met: &mut Met,
-    desk: &Desk<V>,
-    pass: &mut Pass<V>,
-    channel: u32,
-    call: ChanCall<V>,
-) -> Result<ChanReply<V>, DeskFault> {
-    let before = held(pass);
-    for _ in 0..TRIES {
-        match desk.call(rt, pass, channel, call) {
-            Err(DeskFault::NoMemory) => met.refused(held(pass) == before),
-            answer => return answer,
-        }
-    }
-    Err(DeskFault::NoMemory)
-}
-
-/// Makes a call that waits where it has to. None here has to.
-fn wait_call<V: Payload, R: Wait>(
-    rt: &R,
-    met: &mut Met,
-    desk: &Desk<V>,
-    pass: &mut Pass<V>,
-    channel: u32,
-    call: ChanCall<V>,
-) -> Result<ChanReply<V>, DeskFault> {
-    let before = held(pass);
-    for _ in 0..TRIES {
-        match desk.wait_call(rt, pass, channel, call) {
-            Err(DeskFault::NoMemory) => met.refused(held(pass) == before),
-            answer => return answer,
-        }
-    }
-    Err(DeskFault::NoMemory)
-}
-
 /// How many receipts these passes have.
 fn receipts_in<V: Copy>(passes: &[Pass<V>]) -> usize {
     let mut count: usize = 0;
@@ -80,7 +42,7 @@ fn receipts_in<V: Copy>(passes: &[Pass<V>]) -> usize {
 }
 
 /// Closes a desk. At a refusal desk and passes come back, and are handed in once more.
-pub fn close<V: Payload>(
+fn close<V: Payload>(
     alloc: Global,
     met: &mut Met,
     desk: Desk<V>,
@@ -130,6 +92,10 @@ fn call_broadcast<R: Wait + Print>(
     desk: &Desk<u64>,
     pass: &mut Pass<u64>,
 ) -> io::Result<()> {
+    let caller = ByNumbers {
+        channel: 0,
+        may_wait: false,
+    };
     for made in [
         BCall::Downgrade(0),
         BCall::CloneWeak(2),
@@ -139,7 +105,7 @@ fn call_broadcast<R: Wait + Print>(
         BCall::DropHandle(4),
         BCall::Recv(1),
     ] {
-        let answer = call(rt, met, desk, pass, 0, ChanCall::B(made));
+        let answer = ask(rt, met, desk, pass, &caller, ChanCall::B(made));
         println!(rt; "  {answer:?}")?;
     }
     Ok(())
@@ -160,7 +126,11 @@ fn call_both<R: Wait + Print>(
             (1, ChanCall::W(WCall::Changed(1))),
             (1, ChanCall::W(WCall::CloneSender(0))),
         ] {
-            let answer = wait_call(rt, met, desk, pass, channel, made);
+            let caller = ByNumbers {
+                channel,
+                may_wait: true,
+            };
+            let answer = ask(rt, met, desk, pass, &caller, made);
             println!(rt; "  {answer:?}")?;
         }
     }
@@ -179,7 +149,11 @@ pub fn play<R: Wait + Print>(rt: &R, alloc: Global, met: &mut Met) -> io::Result
     if let Some(pass) = passes.get_mut(1) {
         call_both(rt, met, &desk, pass)?;
         let astray = ChanCall::W(WCall::Borrow(1));
-        println!(rt; "  {:?}", call(rt, met, &desk, pass, 0, astray))?;
+        let caller = ByNumbers {
+            channel: 0,
+            may_wait: false,
+        };
+        println!(rt; "  {:?}", ask(rt, met, &desk, pass, &caller, astray))?;
     }
     say_closed(rt, alloc, met, desk, passes)
 }

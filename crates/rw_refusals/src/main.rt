@@ -9,7 +9,9 @@ ghost use Rattle.std.specs.Prelude.{◌≡◌};
 
 mod books;
 mod broadcasts;
+mod callers;
 mod desks;
+mod hands;
 mod journals;
 mod lines;
 mod machines;
@@ -18,6 +20,7 @@ mod passes;
 mod places;
 mod runs;
 mod scripts;
+mod seats;
 mod sessions;
 mod texts;
 mod walks;
@@ -38,6 +41,8 @@ fn main(rt: HostRuntime) -> Result<()> {
     desks::play(&rt, alloc, &mut met)?;
     broadcasts::play(&rt, alloc, &mut met)?;
     watches::play(&rt, alloc, &mut met)?;
+    hands::play(&rt, alloc, &mut met)?;
+    seats::play(&rt, alloc, &mut met)?;
     lines::play(&rt, alloc, &mut met)?;
     scripts::play(&rt, alloc, &mut met)?;
     texts::play(&rt, alloc, &mut met)?;

@@ -107,7 +107,7 @@ fn played(alloc: Global, met: &mut Met, script: &Script) -> Result<Played, RunFa
 }
 
 /// Runs a script in one thread.
-pub fn run_script(
+fn run_script(
     alloc: Global,
     met: &mut Met,
     script: &Script,

@@ -1,48 +1,49 @@
 //! Calls on a watch of a desk by its handles. Each is made by another actor, whose pass has no room for a receipt yet.
 
+use crate::callers::{self, Caller, ask, ask_all};
 use crate::desks::{new_desk, say_closed};
 use crate::met::{Met, TRIES};
 use crate::passes::held;
 use rw_desk::{Desk, DeskFault, Ends, Made, Pass, WRx, WTx};
 use rw_law::Payload;
 use rw_watch::{WCall, WReply};
-use rw_world::Spec;
+use rw_world::{ChanCall, ChanReply, Spec};
 use std::alloc::Global;
 use std::io;
 use std::sync::Wait;
 
 /// What is called by sender 0. A value is modified by a closure, which either answers nothing or that nobody is told.
-const BY_SENDER: [WCall<u64>; 9] = [
-    WCall::Send(0, 8),
-    WCall::Borrow(0),
-    WCall::SendReplace(0, 9),
-    WCall::Modify {
+const BY_SENDER: [ChanCall<u64>; 9] = [
+    ChanCall::W(WCall::Send(0, 8)),
+    ChanCall::W(WCall::Borrow(0)),
+    ChanCall::W(WCall::SendReplace(0, 9)),
+    ChanCall::W(WCall::Modify {
         told: true,
         handle: 0,
         value: 10,
-    },
-    WCall::Modify {
+    }),
+    ChanCall::W(WCall::Modify {
         told: false,
         handle: 0,
         value: 11,
-    },
-    WCall::Subscribe(0),
-    WCall::CloneSender(0),
-    WCall::ReceiverCount(0),
-    WCall::IsClosed(0),
+    }),
+    ChanCall::W(WCall::Subscribe(0)),
+    ChanCall::W(WCall::CloneSender(0)),
+    ChanCall::W(WCall::ReceiverCount(0)),
+    ChanCall::W(WCall::IsClosed(0)),
 ];
 
 /// What is called then by receiver 1.
-const BY_RECEIVER: [WCall<u64>; 9] = [
-    WCall::HasChanged(1),
-    WCall::Changed(1),
-    WCall::HasChanged(1),
-    WCall::Borrow(1),
-    WCall::MarkChanged(1),
-    WCall::HasChanged(1),
-    WCall::MarkUnchanged(1),
-    WCall::Update(1),
-    WCall::CloneReceiver(1),
+const BY_RECEIVER: [ChanCall<u64>; 9] = [
+    ChanCall::W(WCall::HasChanged(1)),
+    ChanCall::W(WCall::Changed(1)),
+    ChanCall::W(WCall::HasChanged(1)),
+    ChanCall::W(WCall::Borrow(1)),
+    ChanCall::W(WCall::MarkChanged(1)),
+    ChanCall::W(WCall::HasChanged(1)),
+    ChanCall::W(WCall::MarkUnchanged(1)),
+    ChanCall::W(WCall::Update(1)),
+    ChanCall::W(WCall::CloneReceiver(1)),
 ];
 
 /// How many actors there are: one for each of these calls, and one who waits for a value.
@@ -158,44 +159,45 @@ fn by_any_sender<V: Payload, R: Wait>(
     }
 }
 
-/// Asks for a sender's call again. No closure is called where memory is refused.
-fn ask_sender<V: Payload, R: Wait>(
-    rt: &R,
-    met: &mut Met,
-    desk: &Desk<V>,
-    pass: &mut Pass<V>,
-    sender: &WTx,
-    call: WCall<V>,
-) -> Result<WReply<V>, DeskFault> {
-    let before = held(pass);
-    for _ in 0..TRIES {
-        match by_any_sender(rt, desk, pass, sender, call) {
-            (Err(DeskFault::NoMemory), was_called) => {
-                met.refused(held(pass) == before && !was_called);
-            }
-            (answer, _) => return answer,
-        }
+/// An answer to a call, and whether a closure was called for it.
+fn answered(answer: Result<WReply<u64>, DeskFault>, was_called: bool) -> callers::Made {
+    match answer {
+        Ok(reply) => (Ok(ChanReply::W(reply)), was_called),
+        Err(fault) => (Err(fault), was_called),
     }
-    Err(DeskFault::NoMemory)
 }
 
-/// Asks for a receiver's call again.
-fn ask_receiver<V: Payload, R: Wait>(
-    rt: &R,
-    met: &mut Met,
-    desk: &Desk<V>,
-    pass: &mut Pass<V>,
-    receiver: &WRx,
-    call: WCall<V>,
-) -> Result<WReply<V>, DeskFault> {
-    let before = held(pass);
-    for _ in 0..TRIES {
-        match by_receiver(rt, desk, pass, receiver, call) {
-            Err(DeskFault::NoMemory) => met.refused(held(pass) == before),
-            answer => return answer,
+impl Caller for WTx {
+    fn make<R: Wait>(
+        &self,
+        rt: &R,
+        desk: &Desk<u64>,
+        pass: &mut Pass<u64>,
+        call: ChanCall<u64>,
+    ) -> callers::Made {
+        match call {
+            ChanCall::W(call) => {
+                let (answer, was_called) = by_any_sender(rt, desk, pass, self, call);
+                answered(answer, was_called)
+            }
+            ChanCall::B(_) => (Err(DeskFault::NoChannel), false),
         }
     }
-    Err(DeskFault::NoMemory)
+}
+
+impl Caller for WRx {
+    fn make<R: Wait>(
+        &self,
+        rt: &R,
+        desk: &Desk<u64>,
+        pass: &mut Pass<u64>,
+        call: ChanCall<u64>,
+    ) -> callers::Made {
+        match call {
+            ChanCall::W(call) => answered(by_receiver(rt, desk, pass, self, call), false),
+            ChanCall::B(_) => (Err(DeskFault::NoChannel), false),
+        }
+    }
 }
 
 /// Waits for a value whose word is at least this. What is read before a refusal stands, and is read again.
@@ -261,36 +263,6 @@ fn drop_receiver<V: Payload, R: Wait>(
     }
 }
 
-/// Makes all calls of a sender, each by a pass of its own.
-fn play_sender<R: Wait + Print>(
-    rt: &R,
-    met: &mut Met,
-    desk: &Desk<u64>,
-    passes: &mut [Pass<u64>],
-    sender: &WTx,
-) -> io::Result<()> {
-    for (pass, call) in passes.iter_mut().zip(BY_SENDER) {
-        let answer = ask_sender(rt, met, desk, pass, sender, call);
-        println!(rt; "  {answer:?}")?;
-    }
-    Ok(())
-}
-
-/// Makes all calls of a receiver, each by a pass of its own.
-fn play_receiver<R: Wait + Print>(
-    rt: &R,
-    met: &mut Met,
-    desk: &Desk<u64>,
-    passes: &mut [Pass<u64>],
-    receiver: &WRx,
-) -> io::Result<()> {
-    for (pass, call) in passes.iter_mut().zip(BY_RECEIVER) {
-        let answer = ask_receiver(rt, met, desk, pass, receiver, call);
-        println!(rt; "  {answer:?}")?;
-    }
-    Ok(())
-}
-
 /// Makes all calls by the two handles, and waits for a value that is there already.
 fn play_handles<R: Wait + Print>(
     rt: &R,
@@ -301,9 +273,9 @@ fn play_handles<R: Wait + Print>(
     receiver: &WRx,
 ) -> io::Result<()> {
     let (by_sender, rest) = passes.split_at_mut(BY_SENDER.len().min(passes.len()));
-    play_sender(rt, met, desk, by_sender, sender)?;
+    ask_all(rt, met, desk, by_sender, sender, &BY_SENDER)?;
     let (by_receiver, rest) = rest.split_at_mut(BY_RECEIVER.len().min(rest.len()));
-    play_receiver(rt, met, desk, by_receiver, receiver)?;
+    ask_all(rt, met, desk, by_receiver, receiver, &BY_RECEIVER)?;
     let [pass] = rest else {
         return println!(rt; "  not one pass is left");
     };
@@ -325,7 +297,8 @@ fn close_for_sender<R: Wait + Print>(
     };
     let dropped = drop_receiver(rt, met, desk, first, receiver);
     println!(rt; "  {dropped:?}")?;
-    let closed = ask_sender(rt, met, desk, second, sender, WCall::AwaitClosed(0));
+    let awaited = ChanCall::W(WCall::AwaitClosed(0));
+    let closed = ask(rt, met, desk, second, sender, awaited);
     println!(rt; "  {closed:?}")
 }
 

@@ -1,0 +1,84 @@
+//! Calls at a desk, asked for again: by a handle, or by the numbers of a channel and a handle.
+
+use crate::met::{Met, TRIES};
+use crate::passes::held;
+use rw_desk::{Desk, DeskFault, Pass};
+use rw_world::{ChanCall, ChanReply};
+use std::io;
+use std::sync::Wait;
+
+/// What a call answers, and whether a closure was called for it.
+pub type Made = (Result<ChanReply<u64>, DeskFault>, bool);
+
+/// Who makes calls.
+pub trait Caller {
+    /// Makes a call. Of one that this caller can't make it is said that there is no such channel.
+    fn make<R: Wait>(
+        &self,
+        rt: &R,
+        desk: &Desk<u64>,
+        pass: &mut Pass<u64>,
+        call: ChanCall<u64>,
+    ) -> Made;
+}
+
+/// Makes calls on the channel of this number, which name their handles by number.
+#[derive(Drop)]
+pub struct ByNumbers {
+    pub channel: u32,
+    /// Whether a call may wait.
+    pub may_wait: bool,
+}
+
+impl Caller for ByNumbers {
+    fn make<R: Wait>(
+        &self,
+        rt: &R,
+        desk: &Desk<u64>,
+        pass: &mut Pass<u64>,
+        call: ChanCall<u64>,
+    ) -> Made {
+        if self.may_wait {
+            (desk.wait_call(rt, pass, self.channel, call), false)
+        } else {
+            (desk.call(rt, pass, self.channel, call), false)
+        }
+    }
+}
+
+/// Makes a call. At a refusal the pass is as before, and no closure was called.
+pub fn ask<C: Caller, R: Wait>(
+    rt: &R,
+    met: &mut Met,
+    desk: &Desk<u64>,
+    pass: &mut Pass<u64>,
+    caller: &C,
+    call: ChanCall<u64>,
+) -> Result<ChanReply<u64>, DeskFault> {
+    let before = held(pass);
+    for _ in 0..TRIES {
+        match caller.make(rt, desk, pass, call) {
+            (Err(DeskFault::NoMemory), was_called) => {
+                met.refused(held(pass) == before && !was_called);
+            }
+            (answer, _) => return answer,
+        }
+    }
+    Err(DeskFault::NoMemory)
+}
+
+/// Makes these calls, each by a pass of its own, and prints what they answer.
+pub fn ask_all<C: Caller, R: Wait + Print>(
+    rt: &R,
+    met: &mut Met,
+    desk: &Desk<u64>,
+    passes: &mut [Pass<u64>],
+    caller: &C,
+    calls: &[ChanCall<u64>],
+) -> io::Result<()> {
+    for (pass, call) in passes.iter_mut().zip(calls.iter()) {
+        let answer = ask(rt, met, desk, pass, caller, *call);
+        println!(rt; "  {answer:?}")?;
+    }
+    Ok(())
+}

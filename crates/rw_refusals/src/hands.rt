@@ -1,0 +1,251 @@
+//! Hand-offs: opened, the book taken, called and given back, two seats that meet, and closed.
+
+ghost use Rattle.std.specs.Prelude.{◌≡◌, ◌∷◌, [], All, IfOk, IfSome, OnErr};
+ghost use Rattle.rw_seat.specs.Fronts.{author_of};
+ghost use Rattle.rw_seat.specs.Journals.{Adds};
+
+use crate::met::{Met, TRIES};
+use crate::places::counted;
+use rw_broadcast::BCall;
+use rw_journal::{Book, TakeFault};
+use rw_law::NoMemory;
+use rw_seat::{HandOff, HandSeat};
+use rw_world::{Chan, ChanCall, ChanReply, Spec, open_channel};
+use std::alloc::{AllocError, Global};
+use std::io;
+use std::sync::Wait;
+
+/// The book of a broadcast.
+type ChannelBook = Book<Chan<u64>>;
+
+/// A hand-off, and its seats.
+type Opened = (HandOff<ChannelBook>, Vec<HandSeat<ChannelBook>>);
+
+/// The book of a broadcast, with two seats. Where memory is refused for the hand-off, the book is dropped.
+fn open(alloc: Global) -> Result<Opened, NoMemory>
+    ensures { IfOk result (λ r. All (λ s. s.home ≡ r.0.home) r.1.items) }
+{
+    let book = Book::open(alloc, open_channel(alloc, &Spec::Broadcast(2))?)?;
+    HandOff::open(alloc, book, 2)
+}
+
+/// The same, asked for again.
+fn new_hand_off(alloc: Global, met: &mut Met) -> Result<Opened, NoMemory>
+    ensures { IfOk result (λ r. All (λ s. s.home ≡ r.0.home) r.1.items) }
+{
+    for _ in 0..TRIES {
+        match open(alloc) {
+            Ok(opened) => return Ok(opened),
+            Err(NoMemory) => met.refused(true),
+        }
+    }
+    Err(NoMemory)
+}
+
+/// The last of a hand-off's seats, taken off.
+fn last_seat(
+    hand_off: &HandOff<ChannelBook>,
+    seats: &mut Vec<HandSeat<ChannelBook>>,
+) -> Option<HandSeat<ChannelBook>>
+    requires { All (λ s. s.home ≡ hand_off.now.home) seats.old.items }
+    ensures seat { IfSome result (λ s. s.home ≡ hand_off.now.home) }
+    ensures rest { All (λ s. s.home ≡ hand_off.now.home) seats.new.items }
+{
+    seats.pop()
+}
+
+/// A hand-off's seats, with one more behind them. There is room for it, since it was among them before.
+fn with_seat(
+    hand_off: &HandOff<ChannelBook>,
+    mut seats: Vec<HandSeat<ChannelBook>>,
+    seat: HandSeat<ChannelBook>,
+) -> Result<Vec<HandSeat<ChannelBook>>, AllocError>
+    requires seats { All (λ s. s.home ≡ hand_off.now.home) seats.items }
+    requires seat { seat.home ≡ hand_off.now.home }
+    ensures { IfOk result (λ all. All (λ s. s.home ≡ hand_off.now.home) all.items) }
+{
+    seats.push(seat)?;
+    Ok(seats)
+}
+
+/// Sends a value by actor 0. A fault leaves the entries as they were.
+fn sent(book: &mut ChannelBook, value: u64) -> Result<ChanReply<u64>, TakeFault>
+    ensures start { book.new.opening ≡ book.old.opening }
+    ensures adds { Adds author_of (0 ∷ []) book.old.entries book.new.entries }
+    ensures kept { OnErr result (book.new.entries ≡ book.old.entries) }
+{
+    match book.take(0, 0, ChanCall::B(BCall::Send(0, value))) {
+        Ok(receipt) => Ok(receipt.reply),
+        Err(fault) => Err(fault),
+    }
+}
+
+/// The same, asked for again. At a refusal the book is as before.
+fn recorded(met: &mut Met, book: &mut ChannelBook, value: u64) -> Result<ChanReply<u64>, TakeFault>
+    ensures start { book.new.opening ≡ book.old.opening }
+    ensures adds { Adds author_of (0 ∷ []) book.old.entries book.new.entries }
+{
+    let (length, counts) = (book.len(), counted(book.machine()));
+    match sent(book, value) {
+        Err(TakeFault::NoMemory) => {
+            met.refused(book.len() == length && counted(book.machine()) == counts);
+            sent(book, value)
+        }
+        answer => answer,
+    }
+}
+
+/// Sends a value by seat 0, between a taking and a giving back.
+fn send<R: Wait>(
+    rt: &R,
+    met: &mut Met,
+    hand_off: &HandOff<ChannelBook>,
+    seat: HandSeat<ChannelBook>,
+    value: u64,
+) -> (HandSeat<ChannelBook>, Result<ChanReply<u64>, TakeFault>)
+    requires home { seat.home ≡ hand_off.now.home }
+    requires number { seat.number ≡ 0 }
+    ensures home { result.0.home ≡ hand_off.now.home }
+    ensures number { result.0.number ≡ 0 }
+{
+    let mut lent = hand_off.take(rt, seat);
+    let sent = recorded(met, lent.book(), value);
+    (lent.give(), sent)
+}
+
+/// Sends values by seat 0, as many that the book has to grow, and answers how many receivers the last one was sent to.
+fn send_all<R: Wait>(
+    rt: &R,
+    met: &mut Met,
+    hand_off: &HandOff<ChannelBook>,
+    seat: HandSeat<ChannelBook>,
+) -> (HandSeat<ChannelBook>, Result<ChanReply<u64>, TakeFault>)
+    requires home { seat.home ≡ hand_off.now.home }
+    requires number { seat.number ≡ 0 }
+    ensures { result.0.home ≡ hand_off.now.home }
+{
+    let (mut seat, mut last) = send(rt, met, hand_off, seat, 0);
+    for value in 1..40 {
+        let (back, sent) = send(rt, met, hand_off, seat, value);
+        seat = back;
+        last = sent;
+    }
+    (seat, last)
+}
+
+/// How long the book is that a seat takes.
+fn look<R: Wait>(
+    rt: &R,
+    hand_off: &HandOff<ChannelBook>,
+    seat: HandSeat<ChannelBook>,
+) -> (HandSeat<ChannelBook>, u64)
+    requires { seat.home ≡ hand_off.now.home }
+    ensures { result.0.home ≡ hand_off.now.home }
+{
+    let mut lent = hand_off.take(rt, seat);
+    let length = lent.book().len();
+    (lent.give(), length)
+}
+
+/// Lets two seats meet.
+fn meet<R: Wait>(
+    rt: &R,
+    hand_off: &HandOff<ChannelBook>,
+    one: HandSeat<ChannelBook>,
+    two: HandSeat<ChannelBook>,
+) -> (HandSeat<ChannelBook>, HandSeat<ChannelBook>)
+    requires one { one.home ≡ hand_off.now.home }
+    requires two { two.home ≡ hand_off.now.home }
+    ensures { (result.0.home ≡ hand_off.now.home) × (result.1.home ≡ hand_off.now.home) }
+{
+    hand_off.meet(rt, one, two)
+}
+
+/// Closes a hand-off, and prints how long its book is. It takes no memory.
+fn say_closed(
+    rt: &impl Print,
+    hand_off: HandOff<ChannelBook>,
+    seats: Vec<HandSeat<ChannelBook>>,
+) -> io::Result<()>
+    requires { All (λ s. s.home ≡ hand_off.home) seats.items }
+{
+    match hand_off.close(seats) {
+        Ok(book) => println!(rt; "  closed with {} entries", book.len()),
+        Err(_) => println!(rt; "  a seat is missing"),
+    }
+}
+
+/// Closes a hand-off with these seats and one more.
+fn close_with(
+    rt: &impl Print,
+    hand_off: HandOff<ChannelBook>,
+    seats: Vec<HandSeat<ChannelBook>>,
+    seat: HandSeat<ChannelBook>,
+) -> io::Result<()>
+    requires seats { All (λ s. s.home ≡ hand_off.home) seats.items }
+    requires seat { seat.home ≡ hand_off.home }
+{
+    let Ok(seats) = with_seat(&hand_off, seats, seat) else {
+        return println!(rt; "  no room for a seat");
+    };
+    say_closed(rt, hand_off, seats)
+}
+
+/// Closes a hand-off without one of its seats, which is refused, and then with it.
+fn close_late(
+    rt: &impl Print,
+    hand_off: HandOff<ChannelBook>,
+    seats: Vec<HandSeat<ChannelBook>>,
+    seat: HandSeat<ChannelBook>,
+) -> io::Result<()>
+    requires seats { All (λ s. s.home ≡ hand_off.home) seats.items }
+    requires seat { seat.home ≡ hand_off.home }
+{
+    let Err(back) = hand_off.close(seats) else {
+        return println!(rt; "  closed without a seat");
+    };
+    let (hand_off, seats) = back;
+    println!(rt; "  not closed without a seat")?;
+    close_with(rt, hand_off, seats, seat)
+}
+
+/// Sends by the first of two seats, lets the second look and both meet, and closes the hand-off.
+fn play_seats<R: Wait + Print>(
+    rt: &R,
+    met: &mut Met,
+    hand_off: HandOff<ChannelBook>,
+    seats: Vec<HandSeat<ChannelBook>>,
+    zero: HandSeat<ChannelBook>,
+    one: HandSeat<ChannelBook>,
+) -> io::Result<()>
+    requires seats { All (λ s. s.home ≡ hand_off.home) seats.items }
+    requires zero { zero.home ≡ hand_off.home }
+    requires one { one.home ≡ hand_off.home }
+{
+    if zero.number() != 0 {
+        return println!(rt; "  the first seat isn't seat 0");
+    }
+    let (zero, last) = send_all(rt, met, &hand_off, zero);
+    let (one, length) = look(rt, &hand_off, one);
+    println!(rt; "  {last:?}, then {length} entries")?;
+    let (zero, one) = meet(rt, &hand_off, zero, one);
+    let Ok(seats) = with_seat(&hand_off, seats, zero) else {
+        return println!(rt; "  no room for a seat");
+    };
+    close_late(rt, hand_off, seats, one)
+}
+
+/// Plays a hand-off of two seats.
+pub fn play<R: Wait + Print>(rt: &R, alloc: Global, met: &mut Met) -> io::Result<()> {
+    println!(rt; "a hand-off")?;
+    let Ok((hand_off, mut seats)) = new_hand_off(alloc, met) else {
+        return println!(rt; "  isn't opened");
+    };
+    let Some(one) = last_seat(&hand_off, &mut seats) else {
+        return println!(rt; "  no seat 1");
+    };
+    let Some(zero) = last_seat(&hand_off, &mut seats) else {
+        return println!(rt; "  no seat 0");
+    };
+    play_seats(rt, met, hand_off, seats, zero, one)
+}
