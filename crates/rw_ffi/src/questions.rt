@@ -76,7 +76,7 @@ pub extern "C" fn yovanelum_queued(alloc: Global, held: &mut Held) -> u64
     answer
 }
 
-/// How many values were sent before the one that a live receiver of a broadcast gets next.
+/// The position of a live receiver of a broadcast: how many of all the values sent lie behind it.
 #[unsafe(no_mangle)]
 pub extern "C" fn yovanelum_position(alloc: Global, held: &mut Held, receiver: u32) -> Found
     requires { IsSome held.old.value }

@@ -1,7 +1,12 @@
 //! The declarations and the heap by themselves: what the tests in `tests/` reach late or not at all. `rust/test` runs these under valgrind.
 
 use super::heap::{JOURNAL, LARGE, rattle_alloc, rattle_dealloc, rattle_realloc};
-use super::{Actor, Caller, Channel, Cut, Reply};
+use super::{Actor, Caller, Channel, Cut, Found, Held, Reply};
+
+// The crate itself never asks for a receiver's position.
+unsafe extern "C" {
+    fn yovanelum_position(held: &mut Held, receiver: u32) -> Found;
+}
 
 fn caller(clock: u64) -> Caller {
     Caller {
@@ -31,6 +36,33 @@ fn questions_leave_no_entry() {
     assert!(watch.seen(1));
     assert_eq!(watch.watch_send(caller(0), 0, 8), Reply::Stored);
     assert_eq!((watch.seen(1), watch.entries()), (false, 1));
+}
+
+#[test]
+fn a_position_is_that_of_a_live_receiver() {
+    let position = |channel: &mut Channel, receiver| {
+        // SAFETY: a channel is held.
+        unsafe { yovanelum_position(&mut channel.0, receiver) }.number()
+    };
+    let mut channel = Channel::broadcast(2).unwrap();
+    for value in 7..10 {
+        assert_eq!(
+            channel.broadcast_send(caller(value), 0, value),
+            Reply::Sent(1)
+        );
+    }
+    assert_eq!(position(&mut channel, 1), Some(0));
+    for (reply, behind) in [(Reply::Lagged(1), 1), (Reply::Value(8), 2)] {
+        assert_eq!(channel.broadcast_recv(caller(0), 1), reply);
+        assert_eq!(position(&mut channel, 1), Some(behind));
+    }
+    assert_eq!(channel.broadcast_subscribe(caller(0), 0), Reply::New(2));
+    assert_eq!(position(&mut channel, 2), Some(3));
+    assert_eq!(channel.entries(), 6);
+    for nobody in [0, 3] {
+        assert_eq!(position(&mut channel, nobody), None);
+    }
+    assert_eq!(position(&mut Channel::watch(7).unwrap(), 1), None);
 }
 
 #[test]
