@@ -3,21 +3,25 @@ ghost use Rattle.std.specs.Prelude.{◌<◌};
 
 use rw_law::NoMemory;
 use rw_ring::Ring;
+use std::process::Abort;
 use std::test::Fail;
 
 #[test]
 fn ring_of_two(rt: HostRuntime) -> Result<(), Fail> {
     let mut ring: Ring<u64> = Ring::new(rt.alloc(), 2)?;
-    assert_eq!(rt; ring.put(1), None);
-    assert_eq!(rt; ring.put(2), None);
-    assert_eq!(rt; ring.put(3), Some(1));
-    assert_eq!(rt; ring.at(0), None);
-    assert_eq!(rt; ring.at(1), Some(2));
-    assert_eq!(rt; ring.oldest(), 1);
+    assert_eq!(rt;
+        [ring.put(1), ring.put(2), ring.put(3)],
+        [None, None, Some(1)]
+    );
+    assert_eq!(rt;
+        ([ring.at(0), ring.at(1)], ring.oldest()),
+        ([None, Some(2)], 1)
+    );
     ring.unput(Some(1));
-    assert_eq!(rt; ring.count(), 2);
-    assert_eq!(rt; ring.at(0), Some(1));
-    assert_eq!(rt; ring.at(2), None);
+    assert_eq!(rt;
+        ([ring.at(0), ring.at(2)], ring.count()),
+        ([Some(1), None], 2)
+    );
     Ok(())
 }
 
@@ -62,7 +66,7 @@ impl Plain {
 }
 
 fn agree(ring: &Ring<u64>, plain: &Plain) -> bool {
-    (0..14).all(|position| ring.at(position) == plain.at(position))
+    ring.count() == plain.count && (0..14).all(|position| ring.at(position) == plain.at(position))
 }
 
 // Two puts and one taken back, again and again, and then all taken back.
@@ -78,21 +82,32 @@ fn rings_keep_what_a_plain_list_keeps(rt: HostRuntime) -> Result<(), Fail> {
         let mut evictions = Vec::new(rt.alloc());
         for step in 0..24 {
             assert!(rt; agree(&ring, &plain));
-            assert_eq!(rt; ring.count(), plain.count);
-            if step % 3 < 2 && step < 18 {
-                assert!(rt; plain.count < 1000);
-                let evicted = ring.put(100 + step);
-                assert_eq!(rt; plain.put(100 + step)?, evicted);
-                evictions.push(evicted)?;
-            } else if let Some(evicted) = evictions.pop() {
-                assert!(rt; 0 < ring.count());
-                assert_eq!(rt; evicted.is_some(), ring.capacity() < ring.count());
-                ring.unput(evicted);
-                plain.unput(evicted)?;
-            }
+            take(&rt, &mut ring, &mut plain, &mut evictions, step)?;
         }
         assert!(rt; agree(&ring, &plain));
         assert_eq!(rt; ring.count(), 0);
+    }
+    Ok(())
+}
+
+/// Two of three steps put a value, and the third takes back the last that was put, as all do from the 18th on.
+fn take(
+    rt: &impl Abort,
+    ring: &mut Ring<u64>,
+    plain: &mut Plain,
+    evictions: &mut Vec<Option<u64>>,
+    step: u64,
+) -> Result<(), NoMemory> {
+    if step % 3 < 2 && step < 18 {
+        assert!(rt; ring.count() < 1000 && plain.count < 1000);
+        let evicted = ring.put(100 + step);
+        assert_eq!(rt; plain.put(100 + step)?, evicted);
+        evictions.push(evicted)?;
+    } else if let Some(evicted) = evictions.pop() {
+        assert!(rt; 0 < ring.count());
+        assert_eq!(rt; evicted.is_some(), ring.capacity() < ring.count());
+        ring.unput(evicted);
+        plain.unput(evicted)?;
     }
     Ok(())
 }

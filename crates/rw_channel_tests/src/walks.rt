@@ -38,10 +38,13 @@ fn the_machine_had_as_many_calls_as_places_were_passed(rt: HostRuntime) -> Resul
         (Move::Start, Ok(()), 0, 10),
         (Move::Goto(3), Ok(()), 3, 13),
     ] {
-        assert_eq!(rt; navigator.step(to), answer);
-        assert_eq!(rt; navigator.place(), place);
-        assert_eq!(rt; navigator.turns(), turns);
-        assert_eq!(rt; navigator.state().calls(), turns);
+        let answered = navigator.step(to);
+        let counts = [
+            navigator.place(),
+            navigator.turns(),
+            navigator.state().calls(),
+        ];
+        assert_eq!(rt; (answered, counts), (answer, [place, turns, turns]));
     }
     Ok(())
 }
@@ -63,18 +66,23 @@ fn walks_by_moves_and_refuses_those_out_of_range(rt: HostRuntime) -> Result<(), 
         answers.as_slice(),
         [Err(OutOfRange), Err(OutOfRange), Ok(()), Ok(()), Ok(())].as_slice()
     );
-    assert_eq!(rt; navigator.place(), 7);
-    assert_eq!(rt; navigator.turns(), 15);
-    assert_eq!(rt; navigator.state().sum(), 28);
+    let counts = [
+        navigator.place(),
+        navigator.turns(),
+        navigator.state().sum(),
+    ];
+    assert_eq!(rt; counts, [7, 15, 28]);
     for to in [
         Move::Forward(u64::MAX),
         Move::Back(u64::MAX),
         Move::Goto(u64::MAX),
         Move::Goto(8),
     ] {
-        assert_eq!(rt; navigator.step(to), Err(OutOfRange));
-        assert_eq!(rt; navigator.place(), 7);
-        assert_eq!(rt; navigator.turns(), 15);
+        let answer = navigator.step(to);
+        assert_eq!(rt;
+            (answer, navigator.place(), navigator.turns()),
+            (Err(OutOfRange), 7, 15)
+        );
     }
     Ok(())
 }
@@ -112,15 +120,19 @@ fn finds_the_nearest_hit_in_each_direction(rt: HostRuntime) -> Result<(), Fail> 
         (odd_sum, 7, Some(5), None),
     ] {
         assert_eq!(rt; navigator.step(Move::Goto(from)), Ok(()));
-        assert_eq!(rt; navigator.back_to(&probe), below, "{probe:?} below {from}");
-        assert_eq!(rt; navigator.place(), below.unwrap_or(from));
-        assert_eq!(rt; navigator.step(Move::Goto(from)), Ok(()));
+        let found = (navigator.back_to(&probe), navigator.place());
         assert_eq!(rt;
-            navigator.forward_to(&probe),
-            above,
+            found,
+            (below, below.unwrap_or(from)),
+            "{probe:?} below {from}"
+        );
+        assert_eq!(rt; navigator.step(Move::Goto(from)), Ok(()));
+        let found = (navigator.forward_to(&probe), navigator.place());
+        assert_eq!(rt;
+            found,
+            (above, above.unwrap_or(from)),
             "{probe:?} above {from}"
         );
-        assert_eq!(rt; navigator.place(), above.unwrap_or(from));
     }
     Ok(())
 }

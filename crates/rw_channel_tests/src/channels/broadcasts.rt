@@ -18,6 +18,13 @@ fn play_at(rt: &impl Abort, alloc: Global, capacity: u32, steps: &[Wanted]) -> R
     play(rt, alloc, recorded, walked, steps)
 }
 
+/// Records a row of any length and walks it, on channels of this capacity.
+fn record_at(rt: &impl Abort, alloc: Global, capacity: u32, steps: &[Wanted]) -> Result<(), Fail> {
+    let recorded = Broadcast::open(alloc, capacity)?;
+    let walked = Broadcast::open(alloc, capacity)?;
+    record_and_walk(rt, alloc, recorded, walked, steps)
+}
+
 type Wanted = Expected<BCall<u64>, BReply<u64>, Place>;
 
 #[test]
@@ -249,9 +256,7 @@ fn upgrade_at_the_handle_limit(rt: HostRuntime) -> Result<(), Fail> {
     }
     steps.push(Expected::new(BCall::DropHandle(0), BReply::Dropped))?;
     steps.push(Expected::new(BCall::Upgrade(2), BReply::TooManyHandles))?;
-    let recorded = Broadcast::open(rt.alloc(), 1)?;
-    let walked = Broadcast::open(rt.alloc(), 1)?;
-    record_and_walk(&rt, rt.alloc(), recorded, walked, &steps)
+    record_at(&rt, rt.alloc(), 1, &steps)
 }
 
 #[test]
@@ -280,9 +285,7 @@ fn handle_limit(rt: HostRuntime) -> Result<(), Fail> {
     steps.push(Expected::new(BCall::CloneSender(0), BReply::TooManyHandles))?;
     steps.push(Expected::to(BCall::DropHandle(2), BReply::Dropped, full))?;
     steps.push(Expected::to(BCall::CloneSender(0), BReply::TooManyHandles, full))?;
-    let recorded = Broadcast::open(rt.alloc(), 1)?;
-    let walked = Broadcast::open(rt.alloc(), 1)?;
-    record_and_walk(&rt, rt.alloc(), recorded, walked, &steps)
+    record_at(&rt, rt.alloc(), 1, &steps)
 }
 
 /// The greatest channel, filled and overrun by one value: the first is evicted, and one place back it is there again.
@@ -307,7 +310,5 @@ fn greatest_capacity_overrun_by_one(rt: HostRuntime) -> Result<(), Fail> {
     }
     steps.push(Expected::to(BCall::Send(0, 65_535), BReply::Sent(1), full))?;
     steps.push(Expected::to(BCall::Send(0, 65_536), BReply::Sent(1), overrun))?;
-    let recorded = Broadcast::open(rt.alloc(), 65_536)?;
-    let walked = Broadcast::open(rt.alloc(), 65_536)?;
-    record_and_walk(&rt, rt.alloc(), recorded, walked, &steps)
+    record_at(&rt, rt.alloc(), 65_536, &steps)
 }

@@ -36,10 +36,8 @@ fn room_grows_call_by_call(rt: HostRuntime) -> Result<(), Fail> {
 
 #[test]
 fn calls_replies_and_patches_are_small(rt: HostRuntime) {
-    assert_eq!(rt; size_of::<BCall<u64>>(), 16);
-    assert_eq!(rt; size_of::<BReply<u64>>(), 16);
-    assert_eq!(rt; size_of::<BPatch<u64>>(), 16);
-    assert_eq!(rt; size_of::<WCall<u64>>(), 16);
-    assert_eq!(rt; size_of::<WReply<u64>>(), 16);
-    assert_eq!(rt; size_of::<WPatch<u64>>(), 16);
+    let calls = [size_of::<BCall<u64>>(), size_of::<WCall<u64>>()];
+    let replies = [size_of::<BReply<u64>>(), size_of::<WReply<u64>>()];
+    let patches = [size_of::<BPatch<u64>>(), size_of::<WPatch<u64>>()];
+    assert_eq!(rt; [calls, replies, patches], [[16, 16], [16, 16], [16, 16]]);
 }

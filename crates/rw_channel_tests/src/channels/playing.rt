@@ -88,11 +88,17 @@ where
     M::Reply: PartialEq + Debug,
     ensures { book.new.opening ≡ book.old.opening }
 {
-    match book.take(0, 0, step.call) {
-        Ok(receipt) => assert_eq!(rt; receipt.reply, step.reply),
-        Err(TakeFault::Waits) => assert!(rt; M::waits(&step.reply)),
+    let taken = match book.take(0, 0, step.call) {
+        Ok(receipt) => Some(receipt.reply),
+        Err(TakeFault::Waits) => None,
         Err(_) => return Err(NoMemory),
-    }
+    };
+    let wanted = if M::waits(&step.reply) {
+        None
+    } else {
+        Some(step.reply)
+    };
+    assert_eq!(rt; taken, wanted);
     Ok(())
 }
 
