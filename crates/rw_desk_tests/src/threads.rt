@@ -95,6 +95,15 @@ fn entries_of<V: Copy>(run: &Run<V>) -> &[Entry<World<V>>] {
     run.entries()
 }
 
+/// The entries of a run, as their lines with `/` behind each.
+fn lines_of<V: Payload>(alloc: Global, run: &Run<V>) -> Result<Vec<u8>, NoMemory> {
+    let mut text = Vec::new(alloc);
+    for entry in entries_of(run) {
+        push_line(&mut text, entry)?;
+    }
+    Ok(text)
+}
+
 /// The entries of the run that a script's threads make, as their lines with `/` behind each.
 fn played<G: Gate + Sync, R: Threads + Wait + Sync>(
     rt: &R,
@@ -104,11 +113,7 @@ fn played<G: Gate + Sync, R: Threads + Wait + Sync>(
 ) -> Result<Vec<u8>, Fail> {
     let script = script_of(alloc, script)?;
     let run = play_on_threads(rt, alloc, &script, gate)?;
-    let mut text = Vec::new(alloc);
-    for entry in entries_of(&run) {
-        push_line(&mut text, entry)?;
-    }
-    Ok(text)
+    Ok(lines_of(alloc, &run)?)
 }
 
 /// The script's threads make these entries, whatever the gate holds.

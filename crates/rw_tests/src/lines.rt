@@ -22,13 +22,12 @@ fn reads_lines_of_any_bytes(rt: HostRuntime) -> Result<(), Fail> {
         for most in [1, 7] {
             let mut reader = FailingReader::new(input, most, None);
             let mut allowed = 8u64;
+            let answer = line_of(&mut reader, &mut allowed, &mut line);
             assert_eq!(rt;
-                line_of(&mut reader, &mut allowed, &mut line),
-                Ok(next),
+                (answer, line.as_slice(), reader.unread()),
+                (Ok(next), want, rest),
                 "{most}"
             );
-            assert_eq!(rt; line.as_slice(), want);
-            assert_eq!(rt; reader.unread(), rest);
         }
     }
     Ok(())
@@ -48,16 +47,14 @@ fn keeps_enough_of_long_lines(rt: HostRuntime) -> Result<(), Fail> {
         input.extend_from_slice(b"\ny")?;
         let mut reader = FailingReader::new(&input, 7, None);
         let mut allowed = 702u64;
+        let long = line_of(&mut reader, &mut allowed, &mut line);
+        let found = line.len();
+        let last = line_of(&mut reader, &mut allowed, &mut line);
         assert_eq!(rt;
-            line_of(&mut reader, &mut allowed, &mut line),
-            Ok(Next::Line)
+            (long, found, last, line.as_slice()),
+            (Ok(Next::Line), kept, Ok(Next::Last), b"y".as_slice()),
+            "of {length}"
         );
-        assert_eq!(rt; line.len(), kept, "of {length}");
-        assert_eq!(rt;
-            line_of(&mut reader, &mut allowed, &mut line),
-            Ok(Next::Last)
-        );
-        assert_eq!(rt; line.as_slice(), b"y".as_slice());
     }
     Ok(())
 }
@@ -69,10 +66,12 @@ fn stops_at_the_first_byte_too_much(rt: HostRuntime) -> Result<(), Fail> {
         let mut reader = FailingReader::new(INPUT, 1, None);
         let mut allowed = most;
         assert_eq!(rt;
-            line_of(&mut reader, &mut allowed, &mut line),
-            Ok(Next::Line)
+            [
+                line_of(&mut reader, &mut allowed, &mut line),
+                line_of(&mut reader, &mut allowed, &mut line)
+            ],
+            [Ok(Next::Line), want]
         );
-        assert_eq!(rt; line_of(&mut reader, &mut allowed, &mut line), want);
     }
     Ok(())
 }
@@ -98,8 +97,11 @@ fn stops_at_each_failed_read(rt: HostRuntime) -> Result<(), Fail> {
             assert_eq!(rt; line_of(&mut reader, &mut allowed, &mut line), Ok(*next));
         }
         let failed = line_of(&mut reader, &mut allowed, &mut line);
-        assert_eq!(rt; failed, Err(StreamFault::Read), "call {calls}");
-        assert_eq!(rt; reader.unread(), unread);
+        assert_eq!(rt;
+            (failed, reader.unread()),
+            (Err(StreamFault::Read), unread),
+            "call {calls}"
+        );
     }
     Ok(())
 }
@@ -141,9 +143,11 @@ fn whole_pieces_are_handed_on(rt: HostRuntime) -> Result<(), Fail> {
         } else {
             (Err(StreamFault::Write), b"")
         };
-        assert_eq!(rt; ended, want, "call {calls}");
-        assert_eq!(rt; writer.written(), &INPUT[..calls.min(5)]);
-        assert_eq!(rt; writer.handed_on(), handed);
+        assert_eq!(rt;
+            (ended, writer.written(), writer.handed_on()),
+            (want, &INPUT[..calls.min(5)], handed),
+            "call {calls}"
+        );
     }
     Ok(())
 }

@@ -1,7 +1,7 @@
 //! Calls of both channels, each made by the handle that it names.
 
 use rw_broadcast::{BCall, BReply};
-use rw_desk::{BRx, BTx, Desk, Ends, Made, Pass, WRx, WTx};
+use rw_desk::{BRx, BTx, Desk, DeskFault, Ends, Made, Pass, WRx, WTx};
 use rw_law::Payload;
 use rw_watch::{WCall, WReply};
 use rw_world::{ChanCall, ChanReply};
@@ -20,17 +20,13 @@ pub enum Hand {
 
 /// The handles that a channel has from the beginning, under their numbers.
 pub fn hands_of(alloc: Global, ends: Ends) -> Result<Vec<Option<Hand>>, AllocError> {
+    let (sender, receiver) = match ends {
+        Ends::Broadcast(sender, receiver) => (Hand::BTx(sender), Hand::BRx(receiver)),
+        Ends::Watch(sender, receiver) => (Hand::WTx(sender), Hand::WRx(receiver)),
+    };
     let mut hands = Vec::new(alloc);
-    match ends {
-        Ends::Broadcast(sender, receiver) => {
-            hands.push(Some(Hand::BTx(sender)))?;
-            hands.push(Some(Hand::BRx(receiver)))?;
-        }
-        Ends::Watch(sender, receiver) => {
-            hands.push(Some(Hand::WTx(sender)))?;
-            hands.push(Some(Hand::WRx(receiver)))?;
-        }
-    }
+    hands.push(Some(sender))?;
+    hands.push(Some(receiver))?;
     Ok(hands)
 }
 
@@ -103,14 +99,17 @@ fn by_b_sender<V: Payload, R: Wait>(
     sender: &BTx,
     call: BCall<V>,
 ) -> Result<BReply<V>, Fail> {
-    match call {
-        BCall::Send(_, value) => Ok(desk.b_send(rt, pass, sender, value)?),
-        BCall::SenderLen(_) => Ok(desk.b_sender_len(rt, pass, sender)?),
-        BCall::ReceiverCount(_) => Ok(desk.b_receiver_count(rt, pass, sender)?),
-        BCall::Subscribe(_) => keep_b_receiver(hands, desk.b_subscribe(rt, pass, sender)?),
-        BCall::CloneSender(_) => keep_b_sender(hands, desk.b_clone_sender(rt, pass, sender)?),
-        _ => Err(Fail::from("no call of a broadcast's sender")),
-    }
+    let answer = match call {
+        BCall::Send(_, value) => desk.b_send(rt, pass, sender, value),
+        BCall::SenderLen(_) => desk.b_sender_len(rt, pass, sender),
+        BCall::ReceiverCount(_) => desk.b_receiver_count(rt, pass, sender),
+        BCall::Subscribe(_) => return keep_b_receiver(hands, desk.b_subscribe(rt, pass, sender)?),
+        BCall::CloneSender(_) => {
+            return keep_b_sender(hands, desk.b_clone_sender(rt, pass, sender)?);
+        }
+        _ => return Err(Fail::from("no call of a broadcast's sender")),
+    };
+    Ok(answer?)
 }
 
 /// A call by a receiver of a broadcast.
@@ -122,13 +121,16 @@ fn by_b_receiver<V: Payload, R: Wait>(
     receiver: &BRx,
     call: BCall<V>,
 ) -> Result<BReply<V>, Fail> {
-    match call {
-        BCall::TryRecv(_) => Ok(desk.b_try_recv(rt, pass, receiver)?),
-        BCall::Recv(_) => Ok(desk.b_recv(rt, pass, receiver)?),
-        BCall::ReceiverLen(_) => Ok(desk.b_receiver_len(rt, pass, receiver)?),
-        BCall::Resubscribe(_) => keep_b_receiver(hands, desk.b_resubscribe(rt, pass, receiver)?),
-        _ => Err(Fail::from("no call of a broadcast's receiver")),
-    }
+    let answer = match call {
+        BCall::TryRecv(_) => desk.b_try_recv(rt, pass, receiver),
+        BCall::Recv(_) => desk.b_recv(rt, pass, receiver),
+        BCall::ReceiverLen(_) => desk.b_receiver_len(rt, pass, receiver),
+        BCall::Resubscribe(_) => {
+            return keep_b_receiver(hands, desk.b_resubscribe(rt, pass, receiver)?);
+        }
+        _ => return Err(Fail::from("no call of a broadcast's receiver")),
+    };
+    Ok(answer?)
 }
 
 /// A call by a sender of a watch.
@@ -140,18 +142,21 @@ fn by_w_sender<V: Payload, R: Wait>(
     sender: &WTx,
     call: WCall<V>,
 ) -> Result<WReply<V>, Fail> {
-    match call {
-        WCall::Send(_, value) => Ok(desk.w_send(rt, pass, sender, value)?),
-        WCall::SendReplace(_, value) => Ok(desk.w_send_replace(rt, pass, sender, value)?),
+    let answer = match call {
+        WCall::Send(_, value) => desk.w_send(rt, pass, sender, value),
+        WCall::SendReplace(_, value) => desk.w_send_replace(rt, pass, sender, value),
         WCall::Modify { told, value, .. } => modify(desk, rt, pass, sender, told, value),
-        WCall::Borrow(_) => Ok(desk.w_peek(rt, pass, sender)?),
-        WCall::ReceiverCount(_) => Ok(desk.w_receiver_count(rt, pass, sender)?),
-        WCall::IsClosed(_) => Ok(desk.w_is_closed(rt, pass, sender)?),
-        WCall::AwaitClosed(_) => Ok(desk.w_closed(rt, pass, sender)?),
-        WCall::Subscribe(_) => keep_w_receiver(hands, desk.w_subscribe(rt, pass, sender)?),
-        WCall::CloneSender(_) => keep_w_sender(hands, desk.w_clone_sender(rt, pass, sender)?),
-        _ => Err(Fail::from("no call of a watch's sender")),
-    }
+        WCall::Borrow(_) => desk.w_peek(rt, pass, sender),
+        WCall::ReceiverCount(_) => desk.w_receiver_count(rt, pass, sender),
+        WCall::IsClosed(_) => desk.w_is_closed(rt, pass, sender),
+        WCall::AwaitClosed(_) => desk.w_closed(rt, pass, sender),
+        WCall::Subscribe(_) => return keep_w_receiver(hands, desk.w_subscribe(rt, pass, sender)?),
+        WCall::CloneSender(_) => {
+            return keep_w_sender(hands, desk.w_clone_sender(rt, pass, sender)?);
+        }
+        _ => return Err(Fail::from("no call of a watch's sender")),
+    };
+    Ok(answer?)
 }
 
 /// Stores a value by a closure: by one that answers nothing where the receivers are told of it, else by one that says no.
@@ -162,14 +167,14 @@ fn modify<V: Payload, R: Wait>(
     sender: &WTx,
     told: bool,
     value: V,
-) -> Result<WReply<V>, Fail> {
+) -> Result<WReply<V>, DeskFault> {
     if told {
-        return Ok(desk.w_send_modify(rt, pass, sender, |held| *held = value)?);
+        return desk.w_send_modify(rt, pass, sender, |held| *held = value);
     }
-    Ok(desk.w_send_if_modified(rt, pass, sender, |held| {
+    desk.w_send_if_modified(rt, pass, sender, |held| {
         *held = value;
         false
-    })?)
+    })
 }
 
 /// A call by a receiver of a watch.
@@ -181,18 +186,26 @@ fn by_w_receiver<V: Payload, R: Wait>(
     receiver: &WRx,
     call: WCall<V>,
 ) -> Result<WReply<V>, Fail> {
-    match call {
-        WCall::Borrow(_) => Ok(desk.w_borrow(rt, pass, receiver)?),
-        WCall::Update(_) => Ok(desk.w_update(rt, pass, receiver)?),
-        WCall::HasChanged(_) => Ok(desk.w_has_changed(rt, pass, receiver)?),
-        WCall::Changed(_) => Ok(desk.w_changed(rt, pass, receiver)?),
-        WCall::MarkChanged(_) => Ok(desk.w_mark_changed(rt, pass, receiver)?),
-        WCall::MarkUnchanged(_) => Ok(desk.w_mark_unchanged(rt, pass, receiver)?),
-        WCall::CloneReceiver(_) => keep_w_receiver(
-            hands,
-            desk.w_clone_receiver(rt, pass, receiver)?,
-        ),
-        _ => Err(Fail::from("no call of a watch's receiver")),
+    let answer = match call {
+        WCall::Borrow(_) => desk.w_borrow(rt, pass, receiver),
+        WCall::Update(_) => desk.w_update(rt, pass, receiver),
+        WCall::HasChanged(_) => desk.w_has_changed(rt, pass, receiver),
+        WCall::Changed(_) => desk.w_changed(rt, pass, receiver),
+        WCall::MarkChanged(_) => desk.w_mark_changed(rt, pass, receiver),
+        WCall::MarkUnchanged(_) => desk.w_mark_unchanged(rt, pass, receiver),
+        WCall::CloneReceiver(_) => {
+            return keep_w_receiver(hands, desk.w_clone_receiver(rt, pass, receiver)?);
+        }
+        _ => return Err(Fail::from("no call of a watch's receiver")),
+    };
+    Ok(answer?)
+}
+
+/// The answer to a drop, which drops also a handle that comes back.
+fn answer_of<A, H: Drop>(dropped: Result<A, (DeskFault, H)>) -> Result<A, DeskFault> {
+    match dropped {
+        Ok(answer) => Ok(answer),
+        Err((fault, _)) => Err(fault),
     }
 }
 
@@ -202,25 +215,13 @@ fn drop_hand<V: Payload, R: Wait>(
     rt: &R,
     pass: &mut Pass<V>,
     hand: Hand,
-) -> Result<ChanReply<V>, Fail> {
-    match hand {
-        Hand::BTx(sender) => match desk.b_drop_sender(rt, pass, sender) {
-            Ok(reply) => Ok(ChanReply::B(reply)),
-            Err((fault, _)) => Err(fault.into()),
-        },
-        Hand::BRx(receiver) => match desk.b_drop_receiver(rt, pass, receiver) {
-            Ok(reply) => Ok(ChanReply::B(reply)),
-            Err((fault, _)) => Err(fault.into()),
-        },
-        Hand::WTx(sender) => match desk.w_drop_sender(rt, pass, sender) {
-            Ok(reply) => Ok(ChanReply::W(reply)),
-            Err((fault, _)) => Err(fault.into()),
-        },
-        Hand::WRx(receiver) => match desk.w_drop_receiver(rt, pass, receiver) {
-            Ok(reply) => Ok(ChanReply::W(reply)),
-            Err((fault, _)) => Err(fault.into()),
-        },
-    }
+) -> Result<ChanReply<V>, DeskFault> {
+    Ok(match hand {
+        Hand::BTx(sender) => ChanReply::B(answer_of(desk.b_drop_sender(rt, pass, sender))?),
+        Hand::BRx(receiver) => ChanReply::B(answer_of(desk.b_drop_receiver(rt, pass, receiver))?),
+        Hand::WTx(sender) => ChanReply::W(answer_of(desk.w_drop_sender(rt, pass, sender))?),
+        Hand::WRx(receiver) => ChanReply::W(answer_of(desk.w_drop_receiver(rt, pass, receiver))?),
+    })
 }
 
 /// Makes a call by a handle that stays.
@@ -261,7 +262,7 @@ pub fn make<V: Payload, R: Wait>(
     let slot = hands.get_mut(number).ok_or("no such handle")?;
     let hand = slot.take().ok_or("a handle that was dropped")?;
     if let ChanCall::B(BCall::DropHandle(_)) | ChanCall::W(WCall::DropHandle(_)) = call {
-        return drop_hand(desk, rt, pass, hand);
+        return Ok(drop_hand(desk, rt, pass, hand)?);
     }
     let reply = ask(desk, rt, pass, hands, &hand, call)?;
     if let Some(slot) = hands.get_mut(number) {

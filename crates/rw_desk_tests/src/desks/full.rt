@@ -1,8 +1,10 @@
 //! A desk with a channel whose journal is full.
 
-use super::plain::{b_receiver_count, b_send, call, close, open, receipts, w_send};
+use super::plain::{
+    OfBoth, b_receiver_count, b_send, call, open_both, receipts, run_of_one, w_send,
+};
 use rw_broadcast::{BCall, BReply};
-use rw_desk::{BTx, Desk, DeskFault, Ends, Pass};
+use rw_desk::{BTx, Desk, DeskFault, Pass};
 use rw_law::Entry;
 use rw_watch::{WCall, WReply};
 use rw_world::{ChanCall, ChanReply, Spec, World};
@@ -21,8 +23,11 @@ fn fill<R: Wait + Abort>(rt: &R, desk: &Desk<u64>, pass: &mut Pass<u64>, sender:
 /// A call on the full channel is refused, whatever it is, but one that strays.
 fn is_full<R: Wait + Abort>(rt: &R, desk: &Desk<u64>, pass: &mut Pass<u64>, sender: &BTx) {
     let full = Err(DeskFault::JournalFull);
-    assert_eq!(rt; b_send(desk, rt, pass, sender, 9), full);
-    assert_eq!(rt; b_receiver_count(desk, rt, pass, sender), full);
+    let answers = [
+        b_send(desk, rt, pass, sender, 9),
+        b_receiver_count(desk, rt, pass, sender),
+    ];
+    assert_eq!(rt; answers, [full, full]);
     let borrow = ChanCall::W(WCall::Borrow(1));
     let strayed = call(desk, rt, pass, 0, borrow);
     assert_eq!(rt; strayed, Err(DeskFault::NoChannel));
@@ -44,28 +49,22 @@ fn ends_on_both(rt: &impl Abort, entries: &[Entry<World<u64>>]) -> Result<(), Fa
     Ok(())
 }
 
+/// Fills the first channel, which refuses calls then, and calls the other.
+fn fills_one<R: Wait + Abort>(rt: &R, open: &mut OfBoth<u64>) {
+    let (desk, pass, sender) = (&open.desk, &mut open.pass, &open.sender);
+    fill(rt, desk, pass, sender);
+    is_full(rt, desk, pass, sender);
+    is_full(rt, desk, pass, sender);
+    let stored = w_send(desk, rt, pass, &open.writer, 2);
+    assert_eq!(rt; (stored, pass.stamp()), (Ok(WReply::Stored), 1_048_577));
+}
+
 #[test]
 fn a_full_channel_of_a_desk(rt: HostRuntime) -> Result<(), Fail> {
     let alloc = rt.alloc();
-    let specs = [Spec::Broadcast(1), Spec::Watch(1u64)];
-    let (desk, mut passes, mut ends) = open(alloc, &specs, 1)?;
-    let Some(Ends::Watch(writer, _reader)) = ends.pop() else {
-        return Err(Fail::from("no watch"));
-    };
-    let Some(Ends::Broadcast(sender, _receiver)) = ends.pop() else {
-        return Err(Fail::from("no broadcast"));
-    };
-    let mut pass = passes.pop().ok_or("no pass")?;
-    fill(&rt, &desk, &mut pass, &sender);
-    is_full(&rt, &desk, &mut pass, &sender);
-    is_full(&rt, &desk, &mut pass, &sender);
-    let stored = w_send(&desk, &rt, &mut pass, &writer, 2);
-    assert_eq!(rt; stored, Ok(WReply::Stored));
-    assert_eq!(rt; pass.stamp(), 1_048_577);
-    passes.push(pass)?;
-    let Ok(run) = close(desk, alloc, passes) else {
-        return Err(Fail::from("not closed"));
-    };
+    let mut open = open_both(alloc, &[Spec::Broadcast(1), Spec::Watch(1u64)])?;
+    fills_one(&rt, &mut open);
+    let run = run_of_one(alloc, open.desk, open.pass)?;
     assert_eq!(rt; run.len(), 1_048_577);
     ends_on_both(&rt, run.entries())
 }

@@ -10,6 +10,36 @@ use rw_watch::WReply;
 use rw_world::{ChanCall, ChanReply, Spec};
 use std::alloc::Global;
 use std::sync::Wait;
+use std::test::Fail;
+
+/// A desk of one actor with a broadcast channel.
+#[derive(Drop)]
+pub struct OfBroadcast<V: Payload> {
+    pub desk: Desk<V>,
+    pub pass: Pass<V>,
+    pub sender: BTx,
+    pub receiver: BRx,
+}
+
+/// A desk of one actor with a watch channel.
+#[derive(Drop)]
+pub struct OfWatch<V: Payload> {
+    pub desk: Desk<V>,
+    pub pass: Pass<V>,
+    pub writer: WTx,
+    pub reader: WRx,
+}
+
+/// A desk of one actor with a broadcast channel, and then a watch channel.
+#[derive(Drop)]
+pub struct OfBoth<V: Payload> {
+    pub desk: Desk<V>,
+    pub pass: Pass<V>,
+    pub sender: BTx,
+    pub receiver: BRx,
+    pub writer: WTx,
+    pub reader: WRx,
+}
 
 /// A desk with its passes and ends.
 pub fn open<V: Payload>(
@@ -27,6 +57,106 @@ pub fn close<V: Payload>(
     passes: Vec<Pass<V>>,
 ) -> Result<Run<V>, (CloseFault, Desk<V>, Vec<Pass<V>>)> {
     desk.close(alloc, passes)
+}
+
+/// Takes the ends of the last channel, a broadcast.
+pub fn broadcast_ends(ends: &mut Vec<Ends>) -> Result<(BTx, BRx), Fail> {
+    match ends.pop() {
+        Some(Ends::Broadcast(sender, receiver)) => Ok((sender, receiver)),
+        _ => Err(Fail::from("no broadcast")),
+    }
+}
+
+/// Takes the ends of the last channel, a watch.
+fn watch_ends(ends: &mut Vec<Ends>) -> Result<(WTx, WRx), Fail> {
+    match ends.pop() {
+        Some(Ends::Watch(writer, reader)) => Ok((writer, reader)),
+        _ => Err(Fail::from("no watch")),
+    }
+}
+
+/// Takes the ends of a broadcast and then a watch.
+pub fn both_ends(mut ends: Vec<Ends>) -> Result<(BTx, BRx, WTx, WRx), Fail> {
+    let (writer, reader) = watch_ends(&mut ends)?;
+    let (sender, receiver) = broadcast_ends(&mut ends)?;
+    Ok((sender, receiver, writer, reader))
+}
+
+/// The last of the passes.
+pub fn last_pass<V: Payload>(mut passes: Vec<Pass<V>>) -> Result<Pass<V>, Fail> {
+    Ok(passes.pop().ok_or("no pass")?)
+}
+
+/// A desk of one actor with the broadcast of these specs.
+pub fn open_broadcast<V: Payload>(
+    alloc: Global,
+    specs: &[Spec<V>],
+) -> Result<OfBroadcast<V>, Fail> {
+    let (desk, passes, mut ends) = open(alloc, specs, 1)?;
+    let pass = last_pass(passes)?;
+    let (sender, receiver) = broadcast_ends(&mut ends)?;
+    Ok(OfBroadcast {
+        desk,
+        pass,
+        sender,
+        receiver,
+    })
+}
+
+/// A desk of one actor with the watch of these specs.
+pub fn open_watch<V: Payload>(alloc: Global, specs: &[Spec<V>]) -> Result<OfWatch<V>, Fail> {
+    let (desk, passes, mut ends) = open(alloc, specs, 1)?;
+    let pass = last_pass(passes)?;
+    let (writer, reader) = watch_ends(&mut ends)?;
+    Ok(OfWatch {
+        desk,
+        pass,
+        writer,
+        reader,
+    })
+}
+
+/// A desk of one actor with the broadcast and the watch of these specs.
+pub fn open_both<V: Payload>(alloc: Global, specs: &[Spec<V>]) -> Result<OfBoth<V>, Fail> {
+    let (desk, passes, ends) = open(alloc, specs, 1)?;
+    let pass = last_pass(passes)?;
+    let (sender, receiver, writer, reader) = both_ends(ends)?;
+    Ok(OfBoth {
+        desk,
+        pass,
+        sender,
+        receiver,
+        writer,
+        reader,
+    })
+}
+
+/// The run of a desk that closes with these passes.
+pub fn run_of<V: Payload>(
+    alloc: Global,
+    desk: Desk<V>,
+    passes: Vec<Pass<V>>,
+) -> Result<Run<V>, Fail> {
+    match close(desk, alloc, passes) {
+        Ok(run) => Ok(run),
+        Err(_) => Err(Fail::from("not closed")),
+    }
+}
+
+/// The run of a desk that closes with these passes and one more.
+pub fn run_with<V: Payload>(
+    alloc: Global,
+    desk: Desk<V>,
+    mut passes: Vec<Pass<V>>,
+    pass: Pass<V>,
+) -> Result<Run<V>, Fail> {
+    passes.push(pass)?;
+    run_of(alloc, desk, passes)
+}
+
+/// The run of a desk that closes with this one pass.
+pub fn run_of_one<V: Payload>(alloc: Global, desk: Desk<V>, pass: Pass<V>) -> Result<Run<V>, Fail> {
+    run_with(alloc, desk, Vec::new(alloc), pass)
 }
 
 /// One call.

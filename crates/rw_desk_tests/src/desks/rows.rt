@@ -1,8 +1,9 @@
 //! Worked rows of both channels, made by handles at a desk of one actor. In a row `/` stands for a line's end.
 
 use super::by_handles::{Hand, hands_of, make};
-use super::plain::{call, close, open};
-use rw_desk::{Desk, Pass};
+use super::plain::{call, open};
+use super::shared::closed;
+use rw_desk::{Desk, Ends, Pass};
 use rw_law::Payload;
 use rw_words::{WordFault, read_call, read_reply};
 use rw_world::{ChanCall, ChanReply, Spec};
@@ -134,6 +135,21 @@ fn make_all<V: Payload + PartialEq + Debug, R: Wait + Abort>(
     Ok(())
 }
 
+/// Makes the calls of a row by the first pass, with the ends of the last channel.
+fn make_first<V: Payload + PartialEq + Debug, R: Wait + Abort>(
+    rt: &R,
+    alloc: Global,
+    desk: &Desk<V>,
+    passes: &mut Vec<Pass<V>>,
+    mut ends: Vec<Ends>,
+    broadcast: bool,
+    row: &str,
+) -> Result<(), Fail> {
+    let pass = passes.get_mut(0).ok_or("no pass")?;
+    let mut hands = hands_of(alloc, ends.pop().ok_or("no ends")?)?;
+    make_all(rt, desk, pass, &mut hands, broadcast, row)
+}
+
 /// Plays a row on a desk of one channel, a broadcast or not, which then closes.
 fn play<V: Payload + PartialEq + Debug, R: Wait + Abort>(
     rt: &R,
@@ -142,16 +158,9 @@ fn play<V: Payload + PartialEq + Debug, R: Wait + Abort>(
     broadcast: bool,
     row: &str,
 ) -> Result<(), Fail> {
-    let (desk, mut passes, mut ends) = open(alloc, specs, 1)?;
-    let mut pass = passes.pop().ok_or("no pass")?;
-    let mut hands = hands_of(alloc, ends.pop().ok_or("no ends")?)?;
-    make_all(rt, &desk, &mut pass, &mut hands, broadcast, row)?;
-    passes.push(pass)?;
-    let Ok(run) = close(desk, alloc, passes) else {
-        return Err(Fail::from("not closed"));
-    };
-    assert_eq!(rt; run.len(), row.split('/').count() as u64);
-    Ok(())
+    let (desk, mut passes, ends) = open(alloc, specs, 1)?;
+    make_first(rt, alloc, &desk, &mut passes, ends, broadcast, row)?;
+    closed(rt, alloc, desk, passes, row.split('/').count() as u64)
 }
 
 #[test]
@@ -170,13 +179,14 @@ fn rows_of_watches(rt: HostRuntime) -> Result<(), Fail> {
     Ok(())
 }
 
-/// Makes the calls of a row of a broadcast by the channel's number, and compares the replies.
+/// Makes the calls of a row of a broadcast by the first pass and the channel's number, and compares the replies.
 fn call_all<V: Payload + PartialEq + Debug, R: Wait + Abort>(
     rt: &R,
     desk: &Desk<V>,
-    pass: &mut Pass<V>,
+    passes: &mut Vec<Pass<V>>,
     row: &str,
 ) -> Result<(), Fail> {
+    let pass = passes.get_mut(0).ok_or("no pass")?;
     for line in row.split('/') {
         let (words, reply) = line.split_once('=').ok_or("no reply")?;
         let (asked, reply) = line_of(true, words, reply)?;
@@ -189,12 +199,6 @@ fn call_all<V: Payload + PartialEq + Debug, R: Wait + Abort>(
 fn weak_senders(rt: HostRuntime) -> Result<(), Fail> {
     let alloc = rt.alloc();
     let (desk, mut passes, _ends) = open::<u64>(alloc, &[Spec::Broadcast(2)], 1)?;
-    let mut pass = passes.pop().ok_or("no pass")?;
-    call_all(&rt, &desk, &mut pass, WEAK_SENDERS)?;
-    passes.push(pass)?;
-    let Ok(run) = close(desk, alloc, passes) else {
-        return Err(Fail::from("not closed"));
-    };
-    assert_eq!(rt; run.len(), 8);
-    Ok(())
+    call_all(&rt, &desk, &mut passes, WEAK_SENDERS)?;
+    closed(&rt, alloc, desk, passes, 8)
 }

@@ -10,6 +10,7 @@ use rw_journal::Book;
 use rw_law::Payload;
 use rw_world::{ChanCall, Spec, open_channel};
 use std::alloc::Global;
+use std::process::Abort;
 use std::test::Fail;
 
 /// What is called, by actor 0.
@@ -53,18 +54,22 @@ fn settle_row<V: Payload>(
     Ok(Ok((run.len(), differs(&run, 0, receipts(pass)))))
 }
 
-#[test]
-fn settles(rt: HostRuntime) -> Result<(), Fail> {
-    let alloc = rt.alloc();
-    let passes = [pass_of(alloc, &CALLS)?];
+/// The calls settle with the pass that made them, and fewer and other ones don't.
+fn settles_with(rt: &impl Abort, alloc: Global, passes: &[Pass<u64>; 1]) -> Result<(), Fail> {
     for (steps, answer) in [
         (CALLS.as_slice(), Ok((3, None))),
         (&CALLS[..0], Err(CloseFault::Strayed(0, 0))),
         (&CALLS[..2], Err(CloseFault::Strayed(0, 2))),
         (&TWICE, Err(CloseFault::Strayed(5, 1))),
     ] {
-        let settled = settle_row(alloc, &[Spec::Broadcast(2)], steps, &passes)?;
+        let settled = settle_row(alloc, &[Spec::Broadcast(2)], steps, passes)?;
         assert_eq!(rt; settled, answer);
     }
     Ok(())
+}
+
+#[test]
+fn settles(rt: HostRuntime) -> Result<(), Fail> {
+    let alloc = rt.alloc();
+    settles_with(&rt, alloc, &[pass_of(alloc, &CALLS)?])
 }

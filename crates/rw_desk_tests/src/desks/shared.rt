@@ -1,13 +1,60 @@
-//! Desks that threads share.
+//! Desks that threads share, and how tests open desks of two actors and close any.
 
 use super::plain::{
-    b_drop_sender, b_recv, b_send, w_closed, w_drop_receiver, w_send, w_send_if_modified,
-    w_wait_for,
+    b_drop_sender, b_recv, b_send, open, run_of, w_closed, w_drop_receiver, w_send,
+    w_send_if_modified, w_wait_for,
 };
 use rw_broadcast::BReply;
-use rw_desk::{BRx, BTx, Desk, DeskFault, Pass, WRx, WTx};
+use rw_desk::{BRx, BTx, Desk, DeskFault, Ends, Pass, WRx, WTx};
+use rw_law::Payload;
 use rw_watch::WReply;
+use rw_world::Spec;
+use std::alloc::{AllocError, Global};
+use std::process::Abort;
 use std::sync::Wait;
+use std::test::Fail;
+
+/// A desk of two actors, the ends of its channels, and the passes of the first and the second actor.
+pub type Opened = (Desk<u64>, Vec<Ends>, Pass<u64>, Pass<u64>);
+
+/// Opens a desk of two actors. A test that gets all at once has few early exits that drop them.
+pub fn desk_of_two(alloc: Global, specs: &[Spec<u64>]) -> Result<Opened, Fail> {
+    let (desk, mut passes, ends) = open(alloc, specs, 2)?;
+    let second = passes.pop().ok_or("no second pass")?;
+    let first = passes.pop().ok_or("no first pass")?;
+    Ok((desk, ends, first, second))
+}
+
+/// Two passes in one list, in this order.
+pub fn both(
+    alloc: Global,
+    former: Pass<u64>,
+    latter: Pass<u64>,
+) -> Result<Vec<Pass<u64>>, AllocError> {
+    let mut passes = Vec::new(alloc);
+    passes.push(former)?;
+    passes.push(latter)?;
+    Ok(passes)
+}
+
+/// How many entries the run has of a desk that closes with these passes.
+fn length_of<V: Payload>(alloc: Global, desk: Desk<V>, passes: Vec<Pass<V>>) -> Result<u64, Fail> {
+    let run = run_of(alloc, desk, passes)?;
+    Ok(run.len())
+}
+
+/// The desk closes, with a run of so many entries.
+pub fn closed<V: Payload>(
+    rt: &impl Abort,
+    alloc: Global,
+    desk: Desk<V>,
+    passes: Vec<Pass<V>>,
+    entries: u64,
+) -> Result<(), Fail> {
+    let length = length_of(alloc, desk, passes)?;
+    assert_eq!(rt; length, entries);
+    Ok(())
+}
 
 /// What threads make their calls on. They share it as a parameter, so that their proof needn't look into a desk.
 pub trait Calls {

@@ -1,17 +1,52 @@
 //! Desks that threads share.
 
-use super::plain::{close, open, order, receipts, w_peek};
-use super::shared::Calls;
+use super::plain::{receipts, run_of, w_peek};
+use super::shared::{Calls, both, closed, desk_of_two};
 use crate::flags::is_set_in_time;
 use rw_broadcast::{BCall, BReply};
-use rw_desk::{BRx, BTx, Ends, Pass, WRx, WTx};
+use rw_desk::{BRx, BTx, Desk, Ends, Pass, WRx, WTx};
+use rw_journal::Run;
+use rw_law::Payload;
 use rw_watch::{WCall, WReply};
 use rw_world::{ChanCall, ChanReply, Spec};
+use std::alloc::{AllocError, Global};
+use std::process::Abort;
 use std::sync::Wait;
 use std::sync::atomic::{AtomicBool, Ordering};
 use std::test::Fail;
 use std::thread;
 use std::thread::Threads;
+
+/// A watch has this value.
+fn peeks<R: Wait + Abort>(
+    rt: &R,
+    desk: &Desk<u64>,
+    pass: &mut Pass<u64>,
+    sender: &WTx,
+    value: u64,
+) {
+    let peeked = w_peek(desk, rt, pass, sender);
+    assert_eq!(rt; peeked, Ok(WReply::Value(value)));
+}
+
+/// An entry of a run: its stamp, its channel, its actor and its reply.
+type Told<V> = (u64, u32, u32, ChanReply<V>);
+
+/// The entries of a run.
+fn told<V: Payload>(alloc: Global, run: &Run<V>) -> Result<Vec<Told<V>>, AllocError> {
+    let mut told = Vec::new(alloc);
+    for entry in run.entries() {
+        told.push((entry.stamp, entry.call.channel, entry.actor, entry.reply))?;
+    }
+    Ok(told)
+}
+
+/// A run has these entries.
+fn tells(rt: &impl Abort, alloc: Global, run: &Run<u64>, wanted: &[Told<u64>]) -> Result<(), Fail> {
+    let told = told(alloc, run)?;
+    assert_eq!(rt; told.as_slice(), wanted);
+    Ok(())
+}
 
 /// Adds one to the value, 1,000 times.
 fn add_thousand<D: Calls, R: Wait>(
@@ -50,26 +85,15 @@ fn add_twice<D: Calls + Sync, R: Threads + Wait + Sync>(
 #[test]
 fn closures_of_two_threads(rt: HostRuntime) -> Result<(), Fail> {
     let alloc = rt.alloc();
-    let (desk, mut passes, mut ends) = open(alloc, &[Spec::Watch(0u64)], 2)?;
-    let Some(Ends::Watch(sender, _receiver)) = ends.pop() else {
+    let (desk, ends, first, second) = desk_of_two(alloc, &[Spec::Watch(0)])?;
+    let [Ends::Watch(sender, _)] = ends.as_slice() else {
         return Err(Fail::from("no watch"));
     };
-    let second = passes.pop().ok_or("no second pass")?;
-    let first = passes.pop().ok_or("no first pass")?;
-    let Some((mut first, second)) = add_twice(&rt, &desk, first, second, &sender) else {
+    let Some((mut first, second)) = add_twice(&rt, &desk, first, second, sender) else {
         return Err(Fail::from("no thread"));
     };
-    assert_eq!(rt;
-        w_peek(&desk, &rt, &mut first, &sender),
-        Ok(WReply::Value(2000))
-    );
-    passes.push(second)?;
-    passes.push(first)?;
-    let Ok(run) = close(desk, alloc, passes) else {
-        return Err(Fail::from("not closed"));
-    };
-    assert_eq!(rt; run.len(), 2001);
-    Ok(())
+    peeks(&rt, &desk, &mut first, sender, 2000);
+    closed(&rt, alloc, desk, both(alloc, second, first)?, 2001)
 }
 
 /// A receiver's wait, in another thread, and the value that it waits for, sent in this one.
@@ -98,27 +122,19 @@ fn receive_beside<D: Calls + Sync, R: Threads + Wait + Sync>(
 #[test]
 fn a_value_for_a_thread_that_waits(rt: HostRuntime) -> Result<(), Fail> {
     let alloc = rt.alloc();
-    let (desk, mut passes, mut ends) = open(alloc, &[Spec::Broadcast(2)], 2)?;
-    let Some(Ends::Broadcast(sender, receiver)) = ends.pop() else {
+    let (desk, ends, first, mut second) = desk_of_two(alloc, &[Spec::Broadcast(2)])?;
+    let [Ends::Broadcast(sender, receiver)] = ends.as_slice() else {
         return Err(Fail::from("no broadcast"));
     };
-    let mut second = passes.pop().ok_or("no second pass")?;
-    let first = passes.pop().ok_or("no first pass")?;
-    let Some(first) = receive_beside(&rt, &desk, first, &mut second, &receiver, &sender) else {
+    let Some(first) = receive_beside(&rt, &desk, first, &mut second, receiver, sender) else {
         return Err(Fail::from("no thread"));
     };
-    passes.push(second)?;
-    passes.push(first)?;
-    let Ok(run) = close(desk, alloc, passes) else {
-        return Err(Fail::from("not closed"));
-    };
-    let stamps = [(1, 0), (2, 0)];
-    assert_eq!(rt; order(alloc, &run)?.as_slice(), stamps.as_slice());
-    let replies = [(1, BReply::Sent(1)), (0, BReply::Value(5))];
-    for (entry, (actor, reply)) in run.entries().iter().zip(replies) {
-        assert_eq!(rt; (entry.actor, entry.reply), (actor, ChanReply::B(reply)));
-    }
-    Ok(())
+    let run = run_of(alloc, desk, both(alloc, second, first)?)?;
+    let wanted = [
+        (1, 0, 1, ChanReply::B(BReply::Sent(1))),
+        (2, 0, 0, ChanReply::B(BReply::Value(5))),
+    ];
+    tells(&rt, alloc, &run, &wanted)
 }
 
 /// A closure under the lock of one channel, in another thread, that waits for an answered call of another channel in this one.
@@ -157,25 +173,15 @@ fn modify_beside<D: Calls + Sync, R: Threads + Wait + Sync>(
 #[test]
 fn a_call_beside_a_closure_of_another_channel(rt: HostRuntime) -> Result<(), Fail> {
     let alloc = rt.alloc();
-    let (desk, mut passes, mut ends) = open(alloc, &[Spec::Watch(0u64); 2], 2)?;
-    let Some(Ends::Watch(there, _receiver)) = ends.pop() else {
-        return Err(Fail::from("no second watch"));
+    let (desk, ends, first, mut second) = desk_of_two(alloc, &[Spec::Watch(0); 2])?;
+    let [Ends::Watch(here, _), Ends::Watch(there, _)] = ends.as_slice() else {
+        return Err(Fail::from("no two watches"));
     };
-    let Some(Ends::Watch(here, _receiver)) = ends.pop() else {
-        return Err(Fail::from("no first watch"));
-    };
-    let mut second = passes.pop().ok_or("no second pass")?;
-    let first = passes.pop().ok_or("no first pass")?;
-    let Some(first) = modify_beside(&rt, &desk, first, &mut second, &here, &there) else {
+    let Some(first) = modify_beside(&rt, &desk, first, &mut second, here, there) else {
         return Err(Fail::from("no thread"));
     };
-    assert_eq!(rt;
-        w_peek(&desk, &rt, &mut second, &here),
-        Ok(WReply::Value(1))
-    );
-    passes.push(first)?;
-    passes.push(second)?;
-    assert!(rt; close(desk, alloc, passes).is_ok());
+    peeks(&rt, &desk, &mut second, here, 1);
+    run_of(alloc, desk, both(alloc, first, second)?)?;
     Ok(())
 }
 
@@ -210,32 +216,22 @@ fn send_held<D: Calls + Sync, R: Threads + Wait + Sync>(
 #[test]
 fn calls_of_two_threads_on_two_channels(rt: HostRuntime) -> Result<(), Fail> {
     let alloc = rt.alloc();
-    let (desk, mut passes, mut ends) = open(alloc, &[Spec::Broadcast(2), Spec::Watch(5u64)], 2)?;
-    let Some(Ends::Watch(writer, _reader)) = ends.pop() else {
-        return Err(Fail::from("no watch"));
+    let specs = [Spec::Broadcast(2), Spec::Watch(5)];
+    let (desk, ends, first, mut second) = desk_of_two(alloc, &specs)?;
+    let [Ends::Broadcast(sender, _), Ends::Watch(writer, _)] = ends.as_slice() else {
+        return Err(Fail::from("no broadcast and watch"));
     };
-    let Some(Ends::Broadcast(sender, _receiver)) = ends.pop() else {
-        return Err(Fail::from("no broadcast"));
-    };
-    let mut second = passes.pop().ok_or("no second pass")?;
-    let first = passes.pop().ok_or("no first pass")?;
-    let Some((first, in_time)) = send_held(&rt, &desk, first, &mut second, &sender, &writer) else {
+    let Some((first, in_time)) = send_held(&rt, &desk, first, &mut second, sender, writer) else {
         return Err(Fail::from("no thread"));
     };
     assert!(rt; in_time);
-    passes.push(first)?;
-    passes.push(second)?;
-    let Ok(run) = close(desk, alloc, passes) else {
-        return Err(Fail::from("not closed"));
-    };
+    let run = run_of(alloc, desk, both(alloc, first, second)?)?;
     // The send came later, and stands first: by its stamp, and then by its channel.
-    let stamps = [(1, 0), (1, 1)];
-    assert_eq!(rt; order(alloc, &run)?.as_slice(), stamps.as_slice());
-    let replies = [ChanReply::B(BReply::Sent(1)), ChanReply::W(WReply::Stored)];
-    for (entry, reply) in run.entries().iter().zip(replies) {
-        assert_eq!(rt; entry.reply, reply);
-    }
-    Ok(())
+    let wanted = [
+        (1, 0, 0, ChanReply::B(BReply::Sent(1))),
+        (1, 1, 1, ChanReply::W(WReply::Stored)),
+    ];
+    tells(&rt, alloc, &run, &wanted)
 }
 
 /// What a thread waits by: for the value 3 of a watch, for the end of a broadcast, and for that of another watch.
@@ -322,13 +318,20 @@ fn roles(mut ends: Vec<Ends>) -> Option<(Waits, Ending)> {
     Some((waits, ending))
 }
 
+/// The last receipts of a pass are of these calls and replies, the last first.
+fn kept_last(rt: &impl Abort, pass: &Pass<u64>, last_first: &[(ChanCall<u64>, ChanReply<u64>)]) {
+    let receipts = receipts(pass);
+    assert!(rt; receipts.len() >= last_first.len());
+    for (kept, wanted) in receipts.iter().rev().zip(last_first) {
+        assert_eq!(rt; (kept.call, kept.reply), *wanted);
+    }
+}
+
 #[test]
 fn waits_that_another_thread_ends(rt: HostRuntime) -> Result<(), Fail> {
-    let specs = [Spec::Watch(0u64), Spec::Broadcast(2), Spec::Watch(0)];
-    let (desk, mut passes, ends) = open(rt.alloc(), &specs, 2)?;
+    let specs = [Spec::Watch(0), Spec::Broadcast(2), Spec::Watch(0)];
+    let (desk, ends, first, mut second) = desk_of_two(rt.alloc(), &specs)?;
     let (waits, ending) = roles(ends).ok_or("other ends")?;
-    let mut second = passes.pop().ok_or("no second pass")?;
-    let first = passes.pop().ok_or("no first pass")?;
     let back = wait_beside(&rt, &desk, first, &mut second, &waits, ending);
     let first = back.ok_or("no thread")?;
     let last_first = [
@@ -342,9 +345,6 @@ fn waits_that_another_thread_ends(rt: HostRuntime) -> Result<(), Fail> {
             ChanReply::W(WReply::Value(3)),
         ),
     ];
-    assert!(rt; receipts(&first).len() >= last_first.len());
-    for (kept, wanted) in receipts(&first).iter().rev().zip(last_first) {
-        assert_eq!(rt; (kept.call, kept.reply), wanted);
-    }
+    kept_last(&rt, &first, &last_first);
     Ok(())
 }

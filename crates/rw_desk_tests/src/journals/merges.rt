@@ -25,15 +25,37 @@ type Case<'a> = (
     Result<&'a [(u64, u32)], MergeFault>,
 );
 
+/// In which order the journals of these channels are merged, or why they aren't.
+fn order_of(
+    alloc: Global,
+    first: &[StampedCall<u64>],
+    second: &[StampedCall<u64>],
+) -> Result<Result<Vec<(u64, u32)>, MergeFault>, Fail> {
+    let specs = [Spec::Broadcast(2), Spec::Broadcast(2)];
+    match merged(alloc, &specs, &[first, second])? {
+        Ok(run) => Ok(Ok(order(alloc, &run)?)),
+        Err(fault) => Ok(Err(fault)),
+    }
+}
+
+/// The channels of these entries are merged in the order that is wanted, or aren't for that reason.
+fn is_order(
+    rt: &impl Abort,
+    found: &Result<Vec<(u64, u32)>, MergeFault>,
+    wanted: Result<&[(u64, u32)], MergeFault>,
+) {
+    let found = match found {
+        Ok(order) => Ok(order.as_slice()),
+        Err(fault) => Err(*fault),
+    };
+    assert_eq!(rt; found, wanted);
+}
+
 /// Merges the journals of a case.
 fn merge_case(rt: &impl Abort, alloc: Global, case: &Case) -> Result<(), Fail> {
     let (first, second, wanted) = case;
     let (first, second) = (steps(alloc, first)?, steps(alloc, second)?);
-    let specs = [Spec::Broadcast(2), Spec::Broadcast(2)];
-    match merged(alloc, &specs, &[first.as_slice(), second.as_slice()])? {
-        Ok(run) => assert_eq!(rt; Ok(order(alloc, &run)?.as_slice()), *wanted),
-        Err(fault) => assert_eq!(rt; Err(fault), *wanted),
-    }
+    is_order(rt, &order_of(alloc, &first, &second)?, *wanted);
     Ok(())
 }
 
