@@ -8,21 +8,22 @@ use crate::met::{Met, TRIES};
 use crate::places::counted;
 use rw_broadcast::BCall;
 use rw_journal::{Book, TakeFault};
-use rw_law::NoMemory;
+use rw_law::{NoMemory, Payload};
 use rw_seat::{HandOff, HandSeat};
 use rw_world::{Chan, ChanCall, ChanReply, Spec, open_channel};
 use std::alloc::{AllocError, Global};
+use std::fmt::Debug;
 use std::io;
 use std::sync::Wait;
 
 /// The book of a broadcast.
-type ChannelBook = Book<Chan<u64>>;
+type ChannelBook<V> = Book<Chan<V>>;
 
 /// A hand-off, and its seats.
-type Opened = (HandOff<ChannelBook>, Vec<HandSeat<ChannelBook>>);
+type Opened<V> = (HandOff<ChannelBook<V>>, Vec<HandSeat<ChannelBook<V>>>);
 
 /// The book of a broadcast, with two seats. Where memory is refused for the hand-off, the book is dropped.
-fn open(alloc: Global) -> Result<Opened, NoMemory>
+fn open<V: Payload>(alloc: Global) -> Result<Opened<V>, NoMemory>
     ensures { IfOk result (λ r. All (λ s. s.home ≡ r.0.home) r.1.items) }
 {
     let book = Book::open(alloc, open_channel(alloc, &Spec::Broadcast(2))?)?;
@@ -30,7 +31,7 @@ fn open(alloc: Global) -> Result<Opened, NoMemory>
 }
 
 /// The same, asked for again.
-fn new_hand_off(alloc: Global, met: &mut Met) -> Result<Opened, NoMemory>
+fn new_hand_off<V: Payload>(alloc: Global, met: &mut Met) -> Result<Opened<V>, NoMemory>
     ensures { IfOk result (λ r. All (λ s. s.home ≡ r.0.home) r.1.items) }
 {
     for _ in 0..TRIES {
@@ -43,10 +44,10 @@ fn new_hand_off(alloc: Global, met: &mut Met) -> Result<Opened, NoMemory>
 }
 
 /// The last of a hand-off's seats, taken off.
-fn last_seat(
-    hand_off: &HandOff<ChannelBook>,
-    seats: &mut Vec<HandSeat<ChannelBook>>,
-) -> Option<HandSeat<ChannelBook>>
+fn last_seat<V: Payload>(
+    hand_off: &HandOff<ChannelBook<V>>,
+    seats: &mut Vec<HandSeat<ChannelBook<V>>>,
+) -> Option<HandSeat<ChannelBook<V>>>
     requires { All (λ s. s.home ≡ hand_off.now.home) seats.old.items }
     ensures seat { IfSome result (λ s. s.home ≡ hand_off.now.home) }
     ensures rest { All (λ s. s.home ≡ hand_off.now.home) seats.new.items }
@@ -55,11 +56,11 @@ fn last_seat(
 }
 
 /// A hand-off's seats, with one more behind them. There is room for it, since it was among them before.
-fn with_seat(
-    hand_off: &HandOff<ChannelBook>,
-    mut seats: Vec<HandSeat<ChannelBook>>,
-    seat: HandSeat<ChannelBook>,
-) -> Result<Vec<HandSeat<ChannelBook>>, AllocError>
+fn with_seat<V: Payload>(
+    hand_off: &HandOff<ChannelBook<V>>,
+    mut seats: Vec<HandSeat<ChannelBook<V>>>,
+    seat: HandSeat<ChannelBook<V>>,
+) -> Result<Vec<HandSeat<ChannelBook<V>>>, AllocError>
     requires seats { All (λ s. s.home ≡ hand_off.now.home) seats.items }
     requires seat { seat.home ≡ hand_off.now.home }
     ensures { IfOk result (λ all. All (λ s. s.home ≡ hand_off.now.home) all.items) }
@@ -69,7 +70,7 @@ fn with_seat(
 }
 
 /// Sends a value by actor 0. A fault leaves the entries as they were.
-fn sent(book: &mut ChannelBook, value: u64) -> Result<ChanReply<u64>, TakeFault>
+fn sent<V: Payload>(book: &mut ChannelBook<V>, value: V) -> Result<ChanReply<V>, TakeFault>
     ensures start { book.new.opening ≡ book.old.opening }
     ensures adds { Adds author_of (0 ∷ []) book.old.entries book.new.entries }
     ensures kept { OnErr result (book.new.entries ≡ book.old.entries) }
@@ -81,7 +82,11 @@ fn sent(book: &mut ChannelBook, value: u64) -> Result<ChanReply<u64>, TakeFault>
 }
 
 /// The same, asked for again. At a refusal the book is as before.
-fn recorded(met: &mut Met, book: &mut ChannelBook, value: u64) -> Result<ChanReply<u64>, TakeFault>
+fn recorded<V: Payload>(
+    met: &mut Met,
+    book: &mut ChannelBook<V>,
+    value: V,
+) -> Result<ChanReply<V>, TakeFault>
     ensures start { book.new.opening ≡ book.old.opening }
     ensures adds { Adds author_of (0 ∷ []) book.old.entries book.new.entries }
 {
@@ -96,13 +101,13 @@ fn recorded(met: &mut Met, book: &mut ChannelBook, value: u64) -> Result<ChanRep
 }
 
 /// Sends a value by seat 0, between a taking and a giving back.
-fn send<R: Wait>(
+fn send<V: Payload, R: Wait>(
     rt: &R,
     met: &mut Met,
-    hand_off: &HandOff<ChannelBook>,
-    seat: HandSeat<ChannelBook>,
-    value: u64,
-) -> (HandSeat<ChannelBook>, Result<ChanReply<u64>, TakeFault>)
+    hand_off: &HandOff<ChannelBook<V>>,
+    seat: HandSeat<ChannelBook<V>>,
+    value: V,
+) -> (HandSeat<ChannelBook<V>>, Result<ChanReply<V>, TakeFault>)
     requires home { seat.home ≡ hand_off.now.home }
     requires number { seat.number ≡ 0 }
     ensures home { result.0.home ≡ hand_off.now.home }
@@ -113,19 +118,20 @@ fn send<R: Wait>(
     (lent.give(), sent)
 }
 
-/// Sends values by seat 0, as many that the book has to grow, and answers how many receivers the last one was sent to.
-fn send_all<R: Wait>(
+/// Sends a value by seat 0, so often that the book has to grow, and answers how many receivers it was sent to at last.
+fn send_all<V: Payload, R: Wait>(
     rt: &R,
     met: &mut Met,
-    hand_off: &HandOff<ChannelBook>,
-    seat: HandSeat<ChannelBook>,
-) -> (HandSeat<ChannelBook>, Result<ChanReply<u64>, TakeFault>)
+    hand_off: &HandOff<ChannelBook<V>>,
+    seat: HandSeat<ChannelBook<V>>,
+    value: V,
+) -> (HandSeat<ChannelBook<V>>, Result<ChanReply<V>, TakeFault>)
     requires home { seat.home ≡ hand_off.now.home }
     requires number { seat.number ≡ 0 }
     ensures { result.0.home ≡ hand_off.now.home }
 {
-    let (mut seat, mut last) = send(rt, met, hand_off, seat, 0);
-    for value in 1..40 {
+    let (mut seat, mut last) = send(rt, met, hand_off, seat, value);
+    for _ in 1..40 {
         let (back, sent) = send(rt, met, hand_off, seat, value);
         seat = back;
         last = sent;
@@ -134,11 +140,11 @@ fn send_all<R: Wait>(
 }
 
 /// How long the book is that a seat takes.
-fn look<R: Wait>(
+fn look<V: Payload, R: Wait>(
     rt: &R,
-    hand_off: &HandOff<ChannelBook>,
-    seat: HandSeat<ChannelBook>,
-) -> (HandSeat<ChannelBook>, u64)
+    hand_off: &HandOff<ChannelBook<V>>,
+    seat: HandSeat<ChannelBook<V>>,
+) -> (HandSeat<ChannelBook<V>>, u64)
     requires { seat.home ≡ hand_off.now.home }
     ensures { result.0.home ≡ hand_off.now.home }
 {
@@ -148,12 +154,12 @@ fn look<R: Wait>(
 }
 
 /// Lets two seats meet.
-fn meet<R: Wait>(
+fn meet<V: Payload, R: Wait>(
     rt: &R,
-    hand_off: &HandOff<ChannelBook>,
-    one: HandSeat<ChannelBook>,
-    two: HandSeat<ChannelBook>,
-) -> (HandSeat<ChannelBook>, HandSeat<ChannelBook>)
+    hand_off: &HandOff<ChannelBook<V>>,
+    one: HandSeat<ChannelBook<V>>,
+    two: HandSeat<ChannelBook<V>>,
+) -> (HandSeat<ChannelBook<V>>, HandSeat<ChannelBook<V>>)
     requires one { one.home ≡ hand_off.now.home }
     requires two { two.home ≡ hand_off.now.home }
     ensures { (result.0.home ≡ hand_off.now.home) × (result.1.home ≡ hand_off.now.home) }
@@ -162,10 +168,10 @@ fn meet<R: Wait>(
 }
 
 /// Closes a hand-off, and prints how long its book is. It takes no memory.
-fn say_closed(
+fn say_closed<V: Payload>(
     rt: &impl Print,
-    hand_off: HandOff<ChannelBook>,
-    seats: Vec<HandSeat<ChannelBook>>,
+    hand_off: HandOff<ChannelBook<V>>,
+    seats: Vec<HandSeat<ChannelBook<V>>>,
 ) -> io::Result<()>
     requires { All (λ s. s.home ≡ hand_off.home) seats.items }
 {
@@ -176,11 +182,11 @@ fn say_closed(
 }
 
 /// Closes a hand-off with these seats and one more.
-fn close_with(
+fn close_with<V: Payload>(
     rt: &impl Print,
-    hand_off: HandOff<ChannelBook>,
-    seats: Vec<HandSeat<ChannelBook>>,
-    seat: HandSeat<ChannelBook>,
+    hand_off: HandOff<ChannelBook<V>>,
+    seats: Vec<HandSeat<ChannelBook<V>>>,
+    seat: HandSeat<ChannelBook<V>>,
 ) -> io::Result<()>
     requires seats { All (λ s. s.home ≡ hand_off.home) seats.items }
     requires seat { seat.home ≡ hand_off.home }
@@ -192,11 +198,11 @@ fn close_with(
 }
 
 /// Closes a hand-off without one of its seats, which is refused, and then with it.
-fn close_late(
+fn close_late<V: Payload>(
     rt: &impl Print,
-    hand_off: HandOff<ChannelBook>,
-    seats: Vec<HandSeat<ChannelBook>>,
-    seat: HandSeat<ChannelBook>,
+    hand_off: HandOff<ChannelBook<V>>,
+    seats: Vec<HandSeat<ChannelBook<V>>>,
+    seat: HandSeat<ChannelBook<V>>,
 ) -> io::Result<()>
     requires seats { All (λ s. s.home ≡ hand_off.home) seats.items }
     requires seat { seat.home ≡ hand_off.home }
@@ -210,13 +216,14 @@ fn close_late(
 }
 
 /// Sends by the first of two seats, lets the second look and both meet, and closes the hand-off.
-fn play_seats<R: Wait + Print>(
+fn play_seats<V: Payload + Debug, R: Wait + Print>(
     rt: &R,
     met: &mut Met,
-    hand_off: HandOff<ChannelBook>,
-    seats: Vec<HandSeat<ChannelBook>>,
-    zero: HandSeat<ChannelBook>,
-    one: HandSeat<ChannelBook>,
+    hand_off: HandOff<ChannelBook<V>>,
+    seats: Vec<HandSeat<ChannelBook<V>>>,
+    zero: HandSeat<ChannelBook<V>>,
+    one: HandSeat<ChannelBook<V>>,
+    value: V,
 ) -> io::Result<()>
     requires seats { All (λ s. s.home ≡ hand_off.home) seats.items }
     requires zero { zero.home ≡ hand_off.home }
@@ -225,7 +232,7 @@ fn play_seats<R: Wait + Print>(
     if zero.number() != 0 {
         return println!(rt; "  the first seat isn't seat 0");
     }
-    let (zero, last) = send_all(rt, met, &hand_off, zero);
+    let (zero, last) = send_all(rt, met, &hand_off, zero, value);
     let (one, length) = look(rt, &hand_off, one);
     println!(rt; "  {last:?}, then {length} entries")?;
     let (zero, one) = meet(rt, &hand_off, zero, one);
@@ -238,6 +245,16 @@ fn play_seats<R: Wait + Print>(
 /// Plays a hand-off of two seats.
 pub fn play<R: Wait + Print>(rt: &R, alloc: Global, met: &mut Met) -> io::Result<()> {
     println!(rt; "a hand-off")?;
+    play_hand_off(rt, alloc, met, 7u64)
+}
+
+/// Opens a hand-off, and sends a value by one of its seats.
+fn play_hand_off<V: Payload + Debug, R: Wait + Print>(
+    rt: &R,
+    alloc: Global,
+    met: &mut Met,
+    value: V,
+) -> io::Result<()> {
     let Ok((hand_off, mut seats)) = new_hand_off(alloc, met) else {
         return println!(rt; "  isn't opened");
     };
@@ -247,5 +264,5 @@ pub fn play<R: Wait + Print>(rt: &R, alloc: Global, met: &mut Met) -> io::Result
     let Some(zero) = last_seat(&hand_off, &mut seats) else {
         return println!(rt; "  no seat 0");
     };
-    play_seats(rt, met, hand_off, seats, zero, one)
+    play_seats(rt, met, hand_off, seats, zero, one, value)
 }
