@@ -1,6 +1,5 @@
 //! The life of a small table.
 use rw_handles::{Found, HandleFault, Kind, Table};
-use std::process::Abort;
 use std::test::Fail;
 
 #[test]
@@ -12,7 +11,11 @@ fn a_short_life(rt: HostRuntime) -> Result<(), Fail> {
         [table.make(Kind::Sender, 0), table.make(Kind::Receiver, 5)],
         [0, 1]
     );
-    refuses_a_wrong_kind_and_an_unknown_number(&rt, &table);
+    let looks = [table.look(0, Kind::Receiver), table.look(2, Kind::Sender)];
+    assert_eq!(rt;
+        looks,
+        [Err(HandleFault::WrongKind), Err(HandleFault::Unknown)]
+    );
     assert_eq!(rt; table.find(1, None), Found::Handle(Kind::Receiver, 5));
     assert_eq!(rt; table.drop_one(1), (Kind::Receiver, 5));
     assert_eq!(rt;
@@ -47,14 +50,6 @@ fn alive(table: &Table<u64>) -> [u64; 3] {
         table.alive(Kind::Receiver),
         table.alive(Kind::Weak),
     ]
-}
-
-fn refuses_a_wrong_kind_and_an_unknown_number(rt: &impl Abort, table: &Table<u64>) {
-    let looks = [table.look(0, Kind::Receiver), table.look(2, Kind::Sender)];
-    assert_eq!(rt;
-        looks,
-        [Err(HandleFault::WrongKind), Err(HandleFault::Unknown)]
-    );
 }
 
 #[test]

@@ -87,38 +87,43 @@ fn walks_by_moves_and_refuses_those_out_of_range(rt: HostRuntime) -> Result<(), 
     Ok(())
 }
 
+const EVEN_AMOUNT: Parity = Parity {
+    of_amount: true,
+    remainder: 0,
+};
+
+const EVEN_SUM: Parity = Parity {
+    of_amount: false,
+    remainder: 0,
+};
+
+const ODD_SUM: Parity = Parity {
+    of_amount: false,
+    remainder: 1,
+};
+
+/// A condition, a place, and the nearest hits below it and above it. The sums at the places 0 to 7 are 0, 1, 3, 6, 10, 15, 21, 28.
+const NEAREST: [(Parity, u64, Option<u64>, Option<u64>); 12] = [
+    (EVEN_AMOUNT, 0, None, Some(2)),
+    (EVEN_AMOUNT, 2, None, Some(4)),
+    (EVEN_AMOUNT, 6, Some(4), None),
+    (EVEN_AMOUNT, 7, Some(6), None),
+    (EVEN_SUM, 0, None, Some(3)),
+    (EVEN_SUM, 3, None, Some(7)),
+    (EVEN_SUM, 4, Some(3), Some(7)),
+    (EVEN_SUM, 7, Some(3), None),
+    (ODD_SUM, 0, None, Some(1)),
+    (ODD_SUM, 1, None, Some(5)),
+    (ODD_SUM, 6, Some(5), None),
+    (ODD_SUM, 7, Some(5), None),
+];
+
 #[test]
 fn finds_the_nearest_hit_in_each_direction(rt: HostRuntime) -> Result<(), Fail> {
-    let even_amount = Parity {
-        of_amount: true,
-        remainder: 0,
-    };
-    let even_sum = Parity {
-        of_amount: false,
-        remainder: 0,
-    };
-    let odd_sum = Parity {
-        of_amount: false,
-        remainder: 1,
-    };
-    // The sums at the places 0 to 7 are 0, 1, 3, 6, 10, 15, 21, 28.
     let mut played = Adder::new();
     let entries = record(rt.alloc(), &mut played, &ONE_TO_SEVEN)?;
     let mut navigator = Navigator::open(rt.alloc(), Adder::new(), &entries)?;
-    for (probe, from, below, above) in [
-        (even_amount, 0, None, Some(2)),
-        (even_amount, 2, None, Some(4)),
-        (even_amount, 6, Some(4), None),
-        (even_amount, 7, Some(6), None),
-        (even_sum, 0, None, Some(3)),
-        (even_sum, 3, None, Some(7)),
-        (even_sum, 4, Some(3), Some(7)),
-        (even_sum, 7, Some(3), None),
-        (odd_sum, 0, None, Some(1)),
-        (odd_sum, 1, None, Some(5)),
-        (odd_sum, 6, Some(5), None),
-        (odd_sum, 7, Some(5), None),
-    ] {
+    for (probe, from, below, above) in NEAREST {
         assert_eq!(rt; navigator.step(Move::Goto(from)), Ok(()));
         let found = (navigator.back_to(&probe), navigator.place());
         assert_eq!(rt;

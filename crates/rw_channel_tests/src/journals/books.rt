@@ -55,13 +55,9 @@ fn runs_up_to_a_fault(rt: HostRuntime) -> Result<(), Fail> {
     assert_eq!(rt; book.entry(1).map(|e| e.stamp), Some(2));
     let (cell, entries) = book.into_parts();
     assert_eq!(rt; (cell.value(), entries.len()), (3, 3));
-    let wanted = [(0, 1), (63, 2), (5, 3)];
-    assert!(rt;
-        entries
-            .iter()
-            .zip(wanted)
-            .all(|(entry, want)| (entry.actor, entry.stamp) == want)
-    );
+    for (entry, want) in entries.iter().zip([(0, 1), (63, 2), (5, 3)]) {
+        assert_eq!(rt; (entry.actor, entry.stamp), want);
+    }
     Ok(())
 }
 

@@ -37,12 +37,6 @@ pub fn both(
     Ok(passes)
 }
 
-/// How many entries the run has of a desk that closes with these passes.
-fn length_of<V: Payload>(alloc: Global, desk: Desk<V>, passes: Vec<Pass<V>>) -> Result<u64, Fail> {
-    let run = run_of(alloc, desk, passes)?;
-    Ok(run.len())
-}
-
 /// The desk closes, with a run of so many entries.
 pub fn closed<V: Payload>(
     rt: &impl Abort,
@@ -51,8 +45,8 @@ pub fn closed<V: Payload>(
     passes: Vec<Pass<V>>,
     entries: u64,
 ) -> Result<(), Fail> {
-    let length = length_of(alloc, desk, passes)?;
-    assert_eq!(rt; length, entries);
+    let run = run_of(alloc, desk, passes)?;
+    assert_eq!(rt; run.len(), entries);
     Ok(())
 }
 

@@ -34,11 +34,6 @@ fn call_in_order(
     Ok(())
 }
 
-/// A desk isn't closed, since this actor strays at this place.
-fn strays_at(rt: &impl Abort, fault: CloseFault, actor: u32, place: u64) {
-    assert_eq!(rt; fault, CloseFault::Strayed(actor, place));
-}
-
 /// The desk and the passes, which come back where this actor strays at this place.
 fn strayed(
     rt: &impl Abort,
@@ -51,7 +46,7 @@ fn strayed(
     let Err((fault, desk, passes)) = close(desk, alloc, passes) else {
         return Err(Fail::from("closed"));
     };
-    strays_at(rt, fault, actor, place);
+    assert_eq!(rt; fault, CloseFault::Strayed(actor, place));
     Ok((desk, passes))
 }
 
