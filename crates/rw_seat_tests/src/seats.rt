@@ -2,6 +2,5 @@
 
 mod hand_offs;
 mod one_thread;
-mod plain;
 mod shared;
 mod threads;

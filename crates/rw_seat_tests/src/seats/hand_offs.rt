@@ -1,35 +1,81 @@
 //! Hand-offs of a book by itself.
 
-ghost use Rattle.std.specs.Prelude.{◌≡◌, ◌<◌, ◌≤◌, ◌∷◌, [], All, IfOk, IfSome};
-ghost use Rattle.rw_seat.specs.Fronts.{author_of};
-ghost use Rattle.rw_seat.specs.Journals.{Adds};
+ghost use Rattle.std.specs.Prelude.{◌≡◌, ◌<◌, ◌≤◌, All, IfOk, IfSome};
 
 use rw_broadcast::{BCall, BReply};
-use rw_journal::{Book, TakeFault};
-use rw_law::NoMemory;
+use rw_journal::{Book, Keeps, TakeFault};
+use rw_law::{NoMemory, Payload};
 use rw_seat::{HandOff, HandSeat};
 use rw_world::{Chan, ChanCall, ChanReply, Spec, open_channel};
 use std::alloc::{AllocError, Global};
 use std::sync::Wait;
 use std::test::Fail;
 
-/// The book of a broadcast, with so many seats.
-fn open(
+/// A book of a broadcast. Hand-offs have it as a parameter, so that no proof but those of its one `impl` looks into a book.
+trait Recorded: Keeps {
+    ghost use Rattle.std.specs.Prelude.{◌≡◌, ◌∷◌, []};
+    ghost use Rattle.rw_seat.specs.Journals.{Adds};
+
+    /// What its calls carry.
+    type Value: Copy;
+
+    /// A book without entries.
+    fn open(alloc: Global) -> Result<Self, NoMemory>;
+
+    /// Sends a value by actor 0.
+    fn send(&mut self, value: Self::Value) -> Result<ChanReply<Self::Value>, TakeFault>
+        ensures start { Self.start self.new ≡ Self.start self.old }
+        ensures adds { Adds Self.author (0 ∷ []) (Self.journal self.old) (Self.journal self.new) };
+
+    /// Its length.
+    fn len(&self) -> u64;
+
+    /// The actor of its last entry.
+    fn last_actor(&self) -> Option<u32>;
+}
+
+impl<V: Payload> Recorded for Book<Chan<V>> {
+    type Value = V;
+
+    fn open(alloc: Global) -> Result<Book<Chan<V>>, NoMemory> {
+        Book::open(alloc, open_channel(alloc, &Spec::Broadcast(2))?)
+    }
+
+    fn send(&mut self, value: V) -> Result<ChanReply<V>, TakeFault> {
+        match self.take(0, 0, ChanCall::B(BCall::Send(0, value))) {
+            Ok(receipt) => Ok(receipt.reply),
+            Err(fault) => Err(fault),
+        }
+    }
+
+    fn len(&self) -> u64 {
+        Book::len(self)
+    }
+
+    fn last_actor(&self) -> Option<u32> {
+        match self.entries() {
+            [.., last] => Some(last.actor),
+            [] => None,
+        }
+    }
+}
+
+/// A book with so many seats.
+fn open<B: Recorded + Drop>(
     alloc: Global,
     seats: u32,
-) -> Result<(HandOff<Book<Chan<u64>>>, Vec<HandSeat<Book<Chan<u64>>>>), NoMemory>
+) -> Result<(HandOff<B>, Vec<HandSeat<B>>), NoMemory>
     requires { (0 < seats) × (seats ≤ 64) }
     ensures { IfOk result (λ r. All (λ s. s.home ≡ r.0.home) r.1.items) }
 {
-    let book = Book::open(alloc, open_channel(alloc, &Spec::Broadcast(2))?)?;
-    HandOff::open(alloc, book, seats)
+    HandOff::open(alloc, B::open(alloc)?, seats)
 }
 
 /// The last of a hand-off's seats, taken off.
-fn last_seat(
-    hand_off: &HandOff<Book<Chan<u64>>>,
-    seats: &mut Vec<HandSeat<Book<Chan<u64>>>>,
-) -> Option<HandSeat<Book<Chan<u64>>>>
+fn last_seat<B: Keeps + Drop>(
+    hand_off: &HandOff<B>,
+    seats: &mut Vec<HandSeat<B>>,
+) -> Option<HandSeat<B>>
     requires { All (λ s. s.home ≡ hand_off.now.home) seats.old.items }
     ensures seat { IfSome result (λ s. s.home ≡ hand_off.now.home) }
     ensures rest { All (λ s. s.home ≡ hand_off.now.home) seats.new.items }
@@ -38,11 +84,11 @@ fn last_seat(
 }
 
 /// A hand-off's seats, with one more behind them.
-fn with_seat(
-    hand_off: &HandOff<Book<Chan<u64>>>,
-    mut seats: Vec<HandSeat<Book<Chan<u64>>>>,
-    seat: HandSeat<Book<Chan<u64>>>,
-) -> Result<Vec<HandSeat<Book<Chan<u64>>>>, AllocError>
+fn with_seat<B: Keeps + Drop>(
+    hand_off: &HandOff<B>,
+    mut seats: Vec<HandSeat<B>>,
+    seat: HandSeat<B>,
+) -> Result<Vec<HandSeat<B>>, AllocError>
     requires seats { All (λ s. s.home ≡ hand_off.now.home) seats.items }
     requires seat { seat.home ≡ hand_off.now.home }
     ensures { IfOk result (λ all. All (λ s. s.home ≡ hand_off.now.home) all.items) }
@@ -51,75 +97,43 @@ fn with_seat(
     Ok(seats)
 }
 
-/// Sends a value by actor 0.
-fn recorded(book: &mut Book<Chan<u64>>, value: u64) -> Result<ChanReply<u64>, TakeFault>
-    ensures start { book.new.opening ≡ book.old.opening }
-    ensures adds { Adds author_of (0 ∷ []) book.old.entries book.new.entries }
-{
-    match book.take(0, 0, ChanCall::B(BCall::Send(0, value))) {
-        Ok(receipt) => Ok(receipt.reply),
-        Err(fault) => Err(fault),
-    }
-}
-
 /// Sends a value by seat 0, between a taking and a giving back.
-fn send<R: Wait>(
+fn send<B: Recorded + Drop, R: Wait>(
     rt: &R,
-    hand_off: &HandOff<Book<Chan<u64>>>,
-    seat: HandSeat<Book<Chan<u64>>>,
-    value: u64,
-) -> (HandSeat<Book<Chan<u64>>>, Result<ChanReply<u64>, TakeFault>)
+    hand_off: &HandOff<B>,
+    seat: HandSeat<B>,
+    value: B::Value,
+) -> (HandSeat<B>, Result<ChanReply<B::Value>, TakeFault>)
     requires home { seat.home ≡ hand_off.now.home }
     requires number { seat.number ≡ 0 }
     ensures { result.0.home ≡ hand_off.now.home }
 {
     let mut lent = hand_off.take(rt, seat);
-    let sent = recorded(lent.book(), value);
+    let sent = lent.book().send(value);
     (lent.give(), sent)
 }
 
-/// The length of a book, and the actor of its last entry.
-fn shown(book: &Book<Chan<u64>>) -> (u64, Option<u32>) {
-    match book.entries() {
-        [.., last] => (book.len(), Some(last.actor)),
-        [] => (0, None),
-    }
-}
-
-/// What the book shows that a seat takes.
-fn look<R: Wait>(
+/// The length of the book that a seat takes, and the actor of its last entry.
+fn look<B: Recorded + Drop, R: Wait>(
     rt: &R,
-    hand_off: &HandOff<Book<Chan<u64>>>,
-    seat: HandSeat<Book<Chan<u64>>>,
-) -> (HandSeat<Book<Chan<u64>>>, (u64, Option<u32>))
+    hand_off: &HandOff<B>,
+    seat: HandSeat<B>,
+) -> (HandSeat<B>, (u64, Option<u32>))
     requires { seat.home ≡ hand_off.now.home }
     ensures { result.0.home ≡ hand_off.now.home }
 {
     let mut lent = hand_off.take(rt, seat);
-    let shown = shown(lent.book());
+    let book = lent.book();
+    let shown = (book.len(), book.last_actor());
     (lent.give(), shown)
 }
 
-/// Lets two seats meet.
-fn meet<R: Wait>(
-    rt: &R,
-    hand_off: &HandOff<Book<Chan<u64>>>,
-    one: HandSeat<Book<Chan<u64>>>,
-    two: HandSeat<Book<Chan<u64>>>,
-) -> (HandSeat<Book<Chan<u64>>>, HandSeat<Book<Chan<u64>>>)
-    requires one { one.home ≡ hand_off.now.home }
-    requires two { two.home ≡ hand_off.now.home }
-    ensures { (result.0.home ≡ hand_off.now.home) × (result.1.home ≡ hand_off.now.home) }
-{
-    hand_off.meet(rt, one, two)
-}
-
 /// Closes a hand-off with these seats and one more.
-fn close_with(
-    hand_off: HandOff<Book<Chan<u64>>>,
-    seats: Vec<HandSeat<Book<Chan<u64>>>>,
-    seat: HandSeat<Book<Chan<u64>>>,
-) -> Result<Book<Chan<u64>>, Fail>
+fn close_with<B: Keeps + Drop>(
+    hand_off: HandOff<B>,
+    seats: Vec<HandSeat<B>>,
+    seat: HandSeat<B>,
+) -> Result<B, Fail>
     requires seats { All (λ s. s.home ≡ hand_off.home) seats.items }
     requires seat { seat.home ≡ hand_off.home }
 {
@@ -130,38 +144,58 @@ fn close_with(
     Ok(book)
 }
 
-/// Closes a hand-off without one of its seats, which is refused, and then with it.
-fn close_late(
-    hand_off: HandOff<Book<Chan<u64>>>,
-    seats: Vec<HandSeat<Book<Chan<u64>>>>,
-    seat: HandSeat<Book<Chan<u64>>>,
-) -> Result<Book<Chan<u64>>, Fail>
+/// Lets two seats meet, and closes a hand-off without the second, which is refused, and then with it.
+fn meet_and_close<B: Keeps + Drop, R: Wait>(
+    rt: &R,
+    hand_off: HandOff<B>,
+    seats: Vec<HandSeat<B>>,
+    one: HandSeat<B>,
+    two: HandSeat<B>,
+) -> Result<B, Fail>
     requires seats { All (λ s. s.home ≡ hand_off.home) seats.items }
-    requires seat { seat.home ≡ hand_off.home }
+    requires one { one.home ≡ hand_off.home }
+    requires two { two.home ≡ hand_off.home }
 {
+    let (one, two) = hand_off.meet(rt, one, two);
+    let seats = with_seat(&hand_off, seats, one)?;
     let Err(back) = hand_off.close(seats) else {
         return Err(Fail::from("closed without a seat"));
     };
     let (hand_off, seats) = back;
-    close_with(hand_off, seats, seat)
+    close_with(hand_off, seats, two)
+}
+
+/// What a hand-off's one seat is shown, and the length of the book at the end.
+fn looked<B: Recorded + Drop, R: Wait>(
+    rt: &R,
+    alloc: Global,
+) -> Result<((u64, Option<u32>), u64), Fail> {
+    let (hand_off, mut seats) = open::<B>(alloc, 1)?;
+    let Some(seat) = last_seat(&hand_off, &mut seats) else {
+        return Err(Fail::from("no seat"));
+    };
+    let (seat, shown) = look(rt, &hand_off, seat);
+    let book = close_with(hand_off, seats, seat)?;
+    Ok((shown, book.len()))
 }
 
 #[test]
 fn hand_off_of_one(rt: HostRuntime) -> Result<(), Fail> {
-    let (hand_off, mut seats) = open(rt.alloc(), 1)?;
-    let Some(seat) = last_seat(&hand_off, &mut seats) else {
-        return Err(Fail::from("no seat"));
-    };
-    let (seat, shown) = look(&rt, &hand_off, seat);
-    assert_eq!(rt; shown, (0, None));
-    let book = close_with(hand_off, seats, seat)?;
-    assert_eq!(rt; book.len(), 0);
+    let looked = looked::<Book<Chan<u64>>, _>(&rt, rt.alloc())?;
+    assert_eq!(rt; looked, ((0, None), 0));
     Ok(())
 }
 
-#[test]
-fn second_seat_finds_the_entry(rt: HostRuntime) -> Result<(), Fail> {
-    let (hand_off, mut seats) = open(rt.alloc(), 2)?;
+/// What seat 0 is answered, what seat 1 is then shown, and the length of the book at the end.
+type Sent<V> = (Result<ChanReply<V>, TakeFault>, (u64, Option<u32>), u64);
+
+/// Sends a value by the first of two seats, and shows the second what it then finds.
+fn sent<B: Recorded + Drop, R: Wait>(
+    rt: &R,
+    alloc: Global,
+    value: B::Value,
+) -> Result<Sent<B::Value>, Fail> {
+    let (hand_off, mut seats) = open::<B>(alloc, 2)?;
     let Some(one) = last_seat(&hand_off, &mut seats) else {
         return Err(Fail::from("no seat 1"));
     };
@@ -171,13 +205,15 @@ fn second_seat_finds_the_entry(rt: HostRuntime) -> Result<(), Fail> {
     if zero.number() != 0 {
         return Err(Fail::from("the first seat is not seat 0"));
     }
-    let (zero, sent) = send(&rt, &hand_off, zero, 4);
-    assert_eq!(rt; sent, Ok(ChanReply::B(BReply::Sent(1))));
-    let (one, shown) = look(&rt, &hand_off, one);
-    assert_eq!(rt; shown, (1, Some(0)));
-    let (zero, one) = meet(&rt, &hand_off, zero, one);
-    let seats = with_seat(&hand_off, seats, zero)?;
-    let book = close_late(hand_off, seats, one)?;
-    assert_eq!(rt; book.len(), 1);
+    let (zero, sent) = send(rt, &hand_off, zero, value);
+    let (one, shown) = look(rt, &hand_off, one);
+    let book = meet_and_close(rt, hand_off, seats, zero, one)?;
+    Ok((sent, shown, book.len()))
+}
+
+#[test]
+fn second_seat_finds_the_entry(rt: HostRuntime) -> Result<(), Fail> {
+    let sent = sent::<Book<Chan<u64>>, _>(&rt, rt.alloc(), 4)?;
+    assert_eq!(rt; sent, (Ok(ChanReply::B(BReply::Sent(1))), (1, Some(0)), 1));
     Ok(())
 }

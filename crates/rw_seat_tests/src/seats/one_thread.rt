@@ -1,15 +1,22 @@
-//! Desks with one seat, and what is refused.
+//! Desks whose seats call in one thread, and what is refused.
 
-use super::plain::{call, close_late, close_with, last_seat, meet, open, order, with_seat};
+ghost use Rattle.std.specs.Prelude.{IfOk};
+
+use super::shared::{Seated, close_late, meet_and_close, open_one, open_two};
 use rw_broadcast::{BCall, BReply};
 use rw_desk::{CloseFault, DeskFault, DeskOpenFault};
-use rw_seat::Answered;
+use rw_seat::{Answered, SeatDesk};
 use rw_watch::{WCall, WReply};
 use rw_world::{ChanCall, ChanReply, OpenFault, Spec};
+use std::alloc::{AllocError, Global};
+use std::sync::Wait;
 use std::test::Fail;
 
+/// What a call is answered.
+type Answer<V> = Result<Answered<V>, DeskFault>;
+
 /// What a call of a broadcast is answered.
-fn answered(reply: BReply<u64>, stamp: u64, front: u64) -> Result<Answered<u64>, DeskFault> {
+fn answered(reply: BReply<u64>, stamp: u64, front: u64) -> Answer<u64> {
     Ok(Answered {
         reply: ChanReply::B(reply),
         stamp,
@@ -17,88 +24,195 @@ fn answered(reply: BReply<u64>, stamp: u64, front: u64) -> Result<Answered<u64>,
     })
 }
 
+/// Makes these calls, each of a channel, and keeps the answers.
+fn call_all<D: Seated, R: Wait>(
+    rt: &R,
+    desk: &D,
+    mut seat: D::Seat,
+    calls: &[(u32, ChanCall<D::Value>)],
+    answers: &mut Vec<Answer<D::Value>>,
+) -> Result<D::Seat, AllocError>
+where
+    D::Seat: Drop,
+    requires { D.owns desk.now seat }
+    ensures { IfOk result (D.owns desk.now) }
+{
+    for (channel, asked) in calls {
+        let (back, answer) = desk.call(rt, seat, *channel, *asked);
+        seat = back;
+        answers.push(answer)?;
+    }
+    Ok(seat)
+}
+
+/// What the calls of a desk's one seat are answered; the seat's actor, the stamp of its last call, and how many receipts it has;
+/// why the desk doesn't close without it; and the actor, stamp and channel of each call in order.
+type Played<V> = (
+    Vec<Answer<V>>,
+    (u32, u64, usize),
+    CloseFault,
+    Vec<(u32, u64, u32)>,
+);
+
+/// Plays these calls by one seat.
+fn played<D: Seated + Drop, R: Wait>(
+    rt: &R,
+    alloc: Global,
+    specs: &[Spec<D::Value>],
+    calls: &[(u32, ChanCall<D::Value>)],
+) -> Result<Played<D::Value>, Fail>
+where
+    D::Seat: Drop,
+{
+    let (desk, seat) = open_one::<D>(alloc, specs)?;
+    let mut answers = Vec::new(alloc);
+    let seat = call_all(rt, &desk, seat, calls, &mut answers)?;
+    let known = D::known(&seat);
+    let (fault, order) = close_late(rt, alloc, desk, seat)?;
+    Ok((answers, known, fault, order))
+}
+
 #[test]
 fn seat_desk_of_one(rt: HostRuntime) -> Result<(), Fail> {
-    let alloc = rt.alloc();
-    let (desk, mut seats) = open(alloc, &[Spec::Broadcast(2)], 1)?;
-    let Some(seat) = last_seat(&desk, &mut seats) else {
-        return Err(Fail::from("no seat"));
-    };
-    let (seat, sent) = call(&desk, &rt, seat, 0, ChanCall::B(BCall::Send(0, 4)));
-    assert_eq!(rt; sent, answered(BReply::Sent(1), 1, 1));
-    let (seat, received) = call(&desk, &rt, seat, 0, ChanCall::B(BCall::TryRecv(1)));
-    assert_eq!(rt; received, answered(BReply::Value(4), 2, 2));
-    let run = close_with(&rt, alloc, desk, seats, seat)?;
-    let wanted = [(0, 1, 0), (0, 2, 0)];
-    assert_eq!(rt; order(alloc, &run)?.as_slice(), wanted.as_slice());
+    let calls = [
+        (0, ChanCall::B(BCall::Send(0, 4))),
+        (0, ChanCall::B(BCall::TryRecv(1))),
+    ];
+    let (answers, known, fault, order) = played::<SeatDesk<u64>, _>(
+        &rt,
+        rt.alloc(),
+        &[Spec::Broadcast(2)],
+        &calls,
+    )?;
+    let wanted = [
+        answered(BReply::Sent(1), 1, 1),
+        answered(BReply::Value(4), 2, 2),
+    ];
+    assert_eq!(rt;
+        (answers.as_slice(), known, fault, order.as_slice()),
+        (
+            wanted.as_slice(),
+            (0, 2, 2),
+            CloseFault::Stranger(0),
+            [(0, 1, 0), (0, 2, 0)].as_slice()
+        )
+    );
     Ok(())
 }
 
 #[test]
 fn seat_that_would_wait(rt: HostRuntime) -> Result<(), Fail> {
-    let alloc = rt.alloc();
-    let (desk, mut seats) = open(alloc, &[Spec::Broadcast(2)], 1)?;
-    let Some(seat) = last_seat(&desk, &mut seats) else {
-        return Err(Fail::from("no seat"));
-    };
-    let (seat, waits) = call(&desk, &rt, seat, 0, ChanCall::B(BCall::Recv(1)));
-    assert_eq!(rt; waits, Err(DeskFault::Waits));
-    let (seat, empty) = call(&desk, &rt, seat, 0, ChanCall::B(BCall::TryRecv(1)));
-    assert_eq!(rt; empty, answered(BReply::Empty, 1, 1));
-    let (seat, stray) = call(&desk, &rt, seat, 3, ChanCall::B(BCall::TryRecv(1)));
-    assert_eq!(rt; stray, Err(DeskFault::NoChannel));
-    let (seat, stray) = call(&desk, &rt, seat, 0, ChanCall::W(WCall::Borrow(1)));
-    assert_eq!(rt; stray, Err(DeskFault::NoChannel));
-    assert_eq!(rt; (seat.actor(), seat.stamp(), seat.kept().len()), (0, 1, 1));
-    let (fault, run) = close_late(&rt, alloc, desk, seats, seat)?;
-    assert_eq!(rt; fault, CloseFault::Stranger(0));
-    assert_eq!(rt; order(alloc, &run)?.as_slice(), [(0, 1, 0)].as_slice());
+    let calls = [
+        (0, ChanCall::B(BCall::Recv(1))),
+        (0, ChanCall::B(BCall::TryRecv(1))),
+        (3, ChanCall::B(BCall::TryRecv(1))),
+        (0, ChanCall::W(WCall::Borrow(1))),
+    ];
+    let (answers, known, fault, order) = played::<SeatDesk<u64>, _>(
+        &rt,
+        rt.alloc(),
+        &[Spec::Broadcast(2)],
+        &calls,
+    )?;
+    let wanted = [
+        Err(DeskFault::Waits),
+        answered(BReply::Empty, 1, 1),
+        Err(DeskFault::NoChannel),
+        Err(DeskFault::NoChannel),
+    ];
+    assert_eq!(rt;
+        (answers.as_slice(), known, fault, order.as_slice()),
+        (
+            wanted.as_slice(),
+            (0, 1, 1),
+            CloseFault::Stranger(0),
+            [(0, 1, 0)].as_slice()
+        )
+    );
     Ok(())
+}
+
+/// What the calls of a desk's two seats are answered, how much the first has seen at each of two meetings, and the actor, stamp
+/// and channel of each call in order.
+type PlayedByTwo<V> = (Vec<Answer<V>>, [Option<u64>; 2], Vec<(u32, u64, u32)>);
+
+/// Plays these calls by the first seat, and those by the second, which then meet on two channels.
+fn played_by_two<D: Seated + Drop, R: Wait>(
+    rt: &R,
+    alloc: Global,
+    specs: &[Spec<D::Value>],
+    ours: &[(u32, ChanCall<D::Value>)],
+    theirs: &[(u32, ChanCall<D::Value>)],
+    channels: (u32, u32),
+) -> Result<PlayedByTwo<D::Value>, Fail>
+where
+    D::Seat: Drop,
+{
+    let (desk, first, second) = open_two::<D>(alloc, specs)?;
+    let mut answers = Vec::new(alloc);
+    let first = call_all(rt, &desk, first, ours, &mut answers)?;
+    let second = call_all(rt, &desk, second, theirs, &mut answers)?;
+    let (met, order) = meet_and_close(rt, alloc, desk, first, second, channels)?;
+    Ok((answers, met, order))
 }
 
 #[test]
 fn seat_of_two_channels(rt: HostRuntime) -> Result<(), Fail> {
-    let alloc = rt.alloc();
     let specs = [Spec::Broadcast(2), Spec::Watch(5u64)];
-    let (desk, mut seats) = open(alloc, &specs, 2)?;
-    let Some(second) = last_seat(&desk, &mut seats) else {
-        return Err(Fail::from("no second seat"));
-    };
-    let Some(first) = last_seat(&desk, &mut seats) else {
-        return Err(Fail::from("no first seat"));
-    };
-    let (first, sent) = call(&desk, &rt, first, 0, ChanCall::B(BCall::Send(0, 1)));
-    assert_eq!(rt; sent, answered(BReply::Sent(1), 1, 1));
-    let (second, stored) = call(&desk, &rt, second, 1, ChanCall::W(WCall::Send(0, 6)));
-    let wanted = Answered {
+    let ours = [(0, ChanCall::B(BCall::Send(0, 1)))];
+    let theirs = [(1, ChanCall::W(WCall::Send(0, 6)))];
+    let (answers, met, order) = played_by_two::<SeatDesk<u64>, _>(
+        &rt,
+        rt.alloc(),
+        &specs,
+        &ours,
+        &theirs,
+        (0, 2),
+    )?;
+    let stored = Answered {
         reply: ChanReply::W(WReply::Stored),
         stamp: 1,
         front: 1,
     };
-    assert_eq!(rt; stored, Ok(wanted));
-    let (first, second, met) = meet(&desk, &rt, first, second, 0);
-    assert_eq!(rt; met, Some(1));
-    let (first, second, met) = meet(&desk, &rt, first, second, 2);
-    assert_eq!(rt; met, None);
-    let seats = with_seat(&desk, seats, second)?;
-    let run = close_with(&rt, alloc, desk, seats, first)?;
-    let wanted = [(0, 1, 0), (1, 1, 1)];
-    assert_eq!(rt; order(alloc, &run)?.as_slice(), wanted.as_slice());
+    let wanted = [answered(BReply::Sent(1), 1, 1), Ok(stored)];
+    assert_eq!(rt;
+        (answers.as_slice(), met, order.as_slice()),
+        (
+            wanted.as_slice(),
+            [Some(1), None],
+            [(0, 1, 0), (1, 1, 1)].as_slice()
+        )
+    );
     Ok(())
+}
+
+/// The fault of a desk that isn't opened.
+fn refusal<D: Seated + Drop>(
+    alloc: Global,
+    specs: &[Spec<D::Value>],
+    actors: u32,
+) -> Result<DeskOpenFault, Fail>
+where
+    D::Seat: Drop,
+{
+    match D::open(alloc, specs, actors) {
+        Ok(_) => Err(Fail::from("opened")),
+        Err(fault) => Ok(fault),
+    }
 }
 
 #[test]
 fn seat_desks_that_are_not_opened(rt: HostRuntime) -> Result<(), Fail> {
-    for actors in [0, 65] {
-        let Err(fault) = open(rt.alloc(), &[Spec::Broadcast(2)], actors) else {
-            return Err(Fail::from("opened"));
-        };
-        assert_eq!(rt; fault, DeskOpenFault::BadActors);
-    }
+    let alloc = rt.alloc();
+    let one = [Spec::<u64>::Broadcast(2)];
     let none: [Spec<u64>; 0] = [];
-    let Err(fault) = open(rt.alloc(), &none, 1) else {
-        return Err(Fail::from("opened"));
-    };
-    assert_eq!(rt; fault, DeskOpenFault::World(OpenFault::NoChannels));
+    let faults = [
+        refusal::<SeatDesk<u64>>(alloc, &one, 0)?,
+        refusal::<SeatDesk<u64>>(alloc, &one, 65)?,
+        refusal::<SeatDesk<u64>>(alloc, &none, 1)?,
+    ];
+    let no_channels = DeskOpenFault::World(OpenFault::NoChannels);
+    let bad_actors = DeskOpenFault::BadActors;
+    assert_eq!(rt; faults, [bad_actors, bad_actors, no_channels]);
     Ok(())
 }

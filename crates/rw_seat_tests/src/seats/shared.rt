@@ -1,42 +1,259 @@
-//! Desks with seats that threads share.
+//! Desks with seats, as tests see them.
 
-use rw_desk::DeskFault;
+ghost use Rattle.std.specs.Prelude.{All, IfOk, IfSome};
+
+use rw_desk::{CloseFault, DeskFault, DeskOpenFault};
+use rw_journal::Run;
+use rw_law::Payload;
 use rw_seat::{Answered, DeskSeat, SeatDesk};
-use rw_world::ChanCall;
+use rw_world::{ChanCall, Spec};
+use std::alloc::{AllocError, Global};
 use std::sync::Wait;
+use std::test::Fail;
 
-/// What seats make their calls on. Threads share it as a parameter, so that their proof needn't look into a desk.
+/// What seats make their calls on. Tests have it as a parameter, so that no proof but those of this file looks into a desk or a
+/// seat. Of a desk's contracts it has that a seat stays the desk's.
 pub trait Seated {
-    ghost use Rattle.std.specs.Prelude.{ℕ};
-    ghost use Rattle.rw_seat.specs.DeskSeats.{DeskSeat as Seat};
+    ghost use Rattle.std.specs.Prelude.{◌≡◌, All, IfErr, IfOk};
+
+    /// What the calls carry.
+    type Value: Payload;
+
+    /// A seat.
+    type Seat;
 
     /// Whether a seat is one of its own.
-    ghost owns: { Self → Seat ℕ → Type 0 };
+    ghost owns: { Self → Self.Seat → Type 0 };
 
-    /// One call by a seat.
+    /// A desk with its seats.
+    fn open(
+        alloc: Global,
+        specs: &[Spec<Self::Value>],
+        actors: u32,
+    ) -> Result<(Self, Vec<Self::Seat>), DeskOpenFault>
+        ensures { IfOk result (λ r. All (Self.owns r.0) r.1.items) };
+
+    /// A seat's actor, the stamp of its last call, and how many receipts it has.
+    fn known(seat: &Self::Seat) -> (u32, u64, usize);
+
+    /// One call.
     fn call<R: Wait>(
         &self,
         rt: &R,
-        seat: DeskSeat<u64>,
+        seat: Self::Seat,
         channel: u32,
-        call: ChanCall<u64>,
-    ) -> (DeskSeat<u64>, Result<Answered<u64>, DeskFault>)
+        call: ChanCall<Self::Value>,
+    ) -> (Self::Seat, Result<Answered<Self::Value>, DeskFault>)
         requires { Self.owns self.now seat }
         ensures { Self.owns self.now result.0 };
+
+    /// Lets two seats meet.
+    fn meet<R: Wait>(
+        &self,
+        rt: &R,
+        one: Self::Seat,
+        two: Self::Seat,
+        channel: u32,
+    ) -> (Self::Seat, Self::Seat, Option<u64>)
+        requires { Self.owns self.now one × Self.owns self.now two }
+        ensures { Self.owns self.now result.0 × Self.owns self.now result.1 };
+
+    /// Closes a desk.
+    fn close<R: Wait>(
+        self,
+        rt: &R,
+        alloc: Global,
+        seats: Vec<Self::Seat>,
+    ) -> Result<Run<Self::Value>, (CloseFault, Self, Vec<Self::Seat>)>
+        requires { All (Self.owns self) seats.items }
+        ensures desk { IfErr result (λ e. e.1 ≡ self) }
+        ensures of_desk { IfErr result (λ e. All (Self.owns self) e.2.items) };
 }
 
-impl Seated for SeatDesk<u64> {
+impl<V: Payload> Seated for SeatDesk<V> {
+    ghost use Rattle.std.specs.Prelude.{◌≡◌, All, IfErr};
     ghost use Rattle.rw_seat.specs.SeatDesks.{IsSeatOf};
+
+    type Value = V;
+
+    type Seat = DeskSeat<V>;
 
     ghost owns = { IsSeatOf };
 
+    fn open(
+        alloc: Global,
+        specs: &[Spec<V>],
+        actors: u32,
+    ) -> Result<(SeatDesk<V>, Vec<DeskSeat<V>>), DeskOpenFault> {
+        SeatDesk::open(alloc, specs, actors)
+    }
+
+    fn known(seat: &DeskSeat<V>) -> (u32, u64, usize) {
+        (seat.actor(), seat.stamp(), seat.kept().len())
+    }
+
     fn call<R: Wait>(
         &self,
         rt: &R,
-        seat: DeskSeat<u64>,
+        seat: DeskSeat<V>,
         channel: u32,
-        call: ChanCall<u64>,
-    ) -> (DeskSeat<u64>, Result<Answered<u64>, DeskFault>) {
+        call: ChanCall<V>,
+    ) -> (DeskSeat<V>, Result<Answered<V>, DeskFault>)
+        requires { IsSeatOf self.now seat }
+        ensures { IsSeatOf self.now result.0 }
+    {
         SeatDesk::call(self, rt, seat, channel, call)
     }
+
+    fn meet<R: Wait>(
+        &self,
+        rt: &R,
+        one: DeskSeat<V>,
+        two: DeskSeat<V>,
+        channel: u32,
+    ) -> (DeskSeat<V>, DeskSeat<V>, Option<u64>) {
+        SeatDesk::meet(self, rt, one, two, channel)
+    }
+
+    fn close<R: Wait>(
+        self,
+        rt: &R,
+        alloc: Global,
+        seats: Vec<DeskSeat<V>>,
+    ) -> Result<Run<V>, (CloseFault, SeatDesk<V>, Vec<DeskSeat<V>>)>
+        requires { All (IsSeatOf self) seats.items }
+        ensures desk { IfErr result (λ e. e.1 ≡ self) }
+        ensures of_desk { IfErr result (λ e. All (IsSeatOf self) e.2.items) }
+    {
+        SeatDesk::close(self, rt, alloc, seats)
+    }
+}
+
+/// The last of a desk's seats, taken off.
+fn last_seat<D: Seated>(desk: &D, seats: &mut Vec<D::Seat>) -> Option<D::Seat>
+    requires { All (D.owns desk.now) seats.old.items }
+    ensures seat { IfSome result (D.owns desk.now) }
+    ensures rest { All (D.owns desk.now) seats.new.items }
+{
+    seats.pop()
+}
+
+/// A desk's seats, with one more behind them.
+fn with_seat<D: Seated>(
+    desk: &D,
+    mut seats: Vec<D::Seat>,
+    seat: D::Seat,
+) -> Result<Vec<D::Seat>, AllocError>
+where
+    D::Seat: Drop,
+    requires seats { All (D.owns desk.now) seats.items }
+    requires seat { D.owns desk.now seat }
+    ensures { IfOk result (λ all. All (D.owns desk.now) all.items) }
+{
+    seats.push(seat)?;
+    Ok(seats)
+}
+
+/// A desk of one actor, with its seat.
+pub fn open_one<D: Seated + Drop>(
+    alloc: Global,
+    specs: &[Spec<D::Value>],
+) -> Result<(D, D::Seat), Fail>
+where
+    D::Seat: Drop,
+    ensures { IfOk result (λ r. D.owns r.0 r.1) }
+{
+    let (desk, mut seats) = D::open(alloc, specs, 1)?;
+    let Some(seat) = last_seat(&desk, &mut seats) else {
+        return Err(Fail::from("no seat"));
+    };
+    Ok((desk, seat))
+}
+
+/// A desk of two actors, with their seats.
+pub fn open_two<D: Seated + Drop>(
+    alloc: Global,
+    specs: &[Spec<D::Value>],
+) -> Result<(D, D::Seat, D::Seat), Fail>
+where
+    D::Seat: Drop,
+    ensures { IfOk result (λ r. D.owns r.0 r.1 × D.owns r.0 r.2) }
+{
+    let (desk, mut seats) = D::open(alloc, specs, 2)?;
+    let Some(second) = last_seat(&desk, &mut seats) else {
+        return Err(Fail::from("no second seat"));
+    };
+    let Some(first) = last_seat(&desk, &mut seats) else {
+        return Err(Fail::from("no first seat"));
+    };
+    Ok((desk, first, second))
+}
+
+/// Closes a desk with these seats and one more: the order of its calls.
+fn close_with<D: Seated + Drop, R: Wait>(
+    rt: &R,
+    alloc: Global,
+    desk: D,
+    seats: Vec<D::Seat>,
+    seat: D::Seat,
+) -> Result<Vec<(u32, u64, u32)>, Fail>
+where
+    D::Seat: Drop,
+    requires seats { All (D.owns desk) seats.items }
+    requires seat { D.owns desk seat }
+{
+    let seats = with_seat(&desk, seats, seat)?;
+    let Ok(run) = desk.close(rt, alloc, seats) else {
+        return Err(Fail::from("not closed"));
+    };
+    Ok(order(alloc, &run)?)
+}
+
+/// Closes a desk without its seat, which is refused, and then with it: why it was refused, and the order of the calls.
+pub fn close_late<D: Seated + Drop, R: Wait>(
+    rt: &R,
+    alloc: Global,
+    desk: D,
+    seat: D::Seat,
+) -> Result<(CloseFault, Vec<(u32, u64, u32)>), Fail>
+where
+    D::Seat: Drop,
+    requires { D.owns desk seat }
+{
+    let Err(back) = desk.close(rt, alloc, Vec::new(alloc)) else {
+        return Err(Fail::from("closed without a seat"));
+    };
+    let (fault, desk, seats) = back;
+    let order = close_with(rt, alloc, desk, seats, seat)?;
+    Ok((fault, order))
+}
+
+/// Lets two seats meet on two channels, and closes the desk with them: how much the first has then seen of each of the two,
+/// and the order of the calls.
+pub fn meet_and_close<D: Seated + Drop, R: Wait>(
+    rt: &R,
+    alloc: Global,
+    desk: D,
+    first: D::Seat,
+    second: D::Seat,
+    channels: (u32, u32),
+) -> Result<([Option<u64>; 2], Vec<(u32, u64, u32)>), Fail>
+where
+    D::Seat: Drop,
+    requires { D.owns desk first × D.owns desk second }
+{
+    let (first, second, met) = desk.meet(rt, first, second, channels.0);
+    let (first, second, met_again) = desk.meet(rt, first, second, channels.1);
+    let seats = with_seat(&desk, Vec::new(alloc), second)?;
+    let order = close_with(rt, alloc, desk, seats, first)?;
+    Ok(([met, met_again], order))
+}
+
+/// Each entry's actor, stamp and channel.
+fn order<V: Payload>(alloc: Global, run: &Run<V>) -> Result<Vec<(u32, u64, u32)>, AllocError> {
+    let mut order = Vec::new(alloc);
+    for entry in run.entries() {
+        order.push((entry.actor, entry.stamp, entry.call.channel))?;
+    }
+    Ok(order)
 }

@@ -1,21 +1,21 @@
 //! Seats that threads call by.
 
-use super::plain::{close_with, entries_of, last_seat, meet, open, with_seat};
-use super::shared::Seated;
+use super::shared::{Seated, meet_and_close, open_two};
 use rw_broadcast::BCall;
-use rw_seat::DeskSeat;
+use rw_seat::SeatDesk;
 use rw_world::{ChanCall, Spec};
+use std::alloc::Global;
 use std::sync::Wait;
 use std::test::Fail;
 use std::thread;
 use std::thread::Threads;
 
 /// Sends 100 values by sender 0. Where each front is longer than the one before it, the last one's length is given.
-fn send_hundred<D: Seated, R: Wait>(
+fn send_hundred<D: Seated<Value = u64>, R: Wait>(
     rt: &R,
     desk: &D,
-    mut seat: DeskSeat<u64>,
-) -> (DeskSeat<u64>, Option<u64>)
+    mut seat: D::Seat,
+) -> (D::Seat, Option<u64>)
     requires { D.owns desk.now seat }
     ensures { D.owns desk.now result.0 }
 {
@@ -36,12 +36,14 @@ fn send_hundred<D: Seated, R: Wait>(
 }
 
 /// The same by two seats, in two threads.
-fn send_both<D: Seated + Sync, R: Threads + Wait + Sync>(
+fn send_both<D: Seated<Value = u64> + Sync, R: Threads + Wait + Sync>(
     rt: &R,
     desk: &D,
-    one: DeskSeat<u64>,
-    two: DeskSeat<u64>,
-) -> ((DeskSeat<u64>, Option<u64>), (DeskSeat<u64>, Option<u64>))
+    one: D::Seat,
+    two: D::Seat,
+) -> ((D::Seat, Option<u64>), (D::Seat, Option<u64>))
+where
+    D::Seat: Send + Drop,
     requires { D.owns desk.now one × D.owns desk.now two }
     ensures { D.owns desk.now result.0.0 × D.owns desk.now result.1.0 }
 {
@@ -52,30 +54,40 @@ fn send_both<D: Seated + Sync, R: Threads + Wait + Sync>(
     )
 }
 
+/// How far each seat's fronts rose, how much the first has seen when they meet, on channel 0 and on one that isn't there, and
+/// the actor, stamp and channel of each call in order.
+type Sent = ([Option<u64>; 2], [Option<u64>; 2], Vec<(u32, u64, u32)>);
+
+/// Two seats of a desk send in two threads, and then meet.
+fn sent<D: Seated<Value = u64> + Sync + Drop, R: Threads + Wait + Sync>(
+    rt: &R,
+    alloc: Global,
+    specs: &[Spec<u64>],
+) -> Result<Sent, Fail>
+where
+    D::Seat: Send + Drop,
+{
+    let (desk, one, two) = open_two::<D>(alloc, specs)?;
+    let ((one, first), (two, second)) = send_both(rt, &desk, one, two);
+    let (met, order) = meet_and_close(rt, alloc, desk, one, two, (0, 1))?;
+    Ok(([first, second], met, order))
+}
+
+/// How many of the calls are an actor's.
+fn calls_of(order: &[(u32, u64, u32)], actor: u32) -> usize {
+    order.iter().filter(|call| call.0 == actor).count()
+}
+
 #[test]
 fn seats_of_two_threads(rt: HostRuntime) -> Result<(), Fail> {
-    let alloc = rt.alloc();
     let specs = [Spec::Broadcast(128)];
-    let (desk, mut seats) = open(alloc, &specs, 2)?;
-    let Some(two) = last_seat(&desk, &mut seats) else {
-        return Err(Fail::from("no second seat"));
-    };
-    let Some(one) = last_seat(&desk, &mut seats) else {
-        return Err(Fail::from("no first seat"));
-    };
-    let ((one, first), (two, second)) = send_both(&rt, &desk, one, two);
-    let (Some(first), Some(second)) = (first, second) else {
+    let (rose, met, order) = sent::<SeatDesk<u64>, _>(&rt, rt.alloc(), &specs)?;
+    let [Some(first), Some(second)] = rose else {
         return Err(Fail::from("a front that doesn't rise"));
     };
-    assert_eq!(rt; first.max(second), 200);
-    let (one, two, met) = meet(&desk, &rt, one, two, 0);
-    assert_eq!(rt; met, Some(200));
-    let (one, two, met) = meet(&desk, &rt, one, two, 1);
-    assert_eq!(rt; met, None);
-    let seats = with_seat(&desk, seats, two)?;
-    let run = close_with(&rt, alloc, desk, seats, one)?;
+    assert_eq!(rt; (first.max(second), met), (200, [Some(200), None]));
     assert_eq!(rt;
-        (run.len(), entries_of(&run, 0), entries_of(&run, 1)),
+        (order.len(), calls_of(&order, 0), calls_of(&order, 1)),
         (200, 100, 100)
     );
     Ok(())
