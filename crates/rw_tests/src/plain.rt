@@ -1,10 +1,13 @@
 //! Calls of books, runs, drafts, walks, texts and lines without their contracts, over any machine, type of values or stream.
 //!
 //! A test says what comes back and needs no clause of what it calls. A proof that meets the contracts of a world's calls at the
-//! values of a test takes minutes; over a type parameter, once for all tests, it takes seconds.
+//! values of a test takes minutes; over a type parameter, once for all tests, it takes seconds. What a test owns of a run, a book or
+//! a navigator it hands to `drop` by name, before it compares what it gathered: a proof walks through all that is dropped where a
+//! scope ends, and at each assert before that, and not through a call.
 
 ghost use Rattle.std.specs.Prelude.{◌<◌, All};
 
+use rw_devices::FailingWriter;
 use rw_journal::{Book, PushFault, Run, RunDraft, TakeFault};
 use rw_law::{Entry, NoMemory, Payload, Reversible};
 use rw_lines::{Next, StreamFault, next_line};
@@ -12,7 +15,7 @@ use rw_navigator::{HitIndex, Move, Navigator, OutOfRange, Probe};
 use rw_text::{TextFault, WriteFault, read, round_trip, salvage, write};
 use rw_world::{ChanCall, ChanReply, OpenFault, RowCall, Spec, World, open};
 use std::alloc::Global;
-use std::io::{Read, Write};
+use std::io::Read;
 
 /// A book of a world that is opened from these specs.
 pub fn book_of<V: Copy>(alloc: Global, specs: &[Spec<V>]) -> Result<Book<World<V>>, OpenFault> {
@@ -80,6 +83,13 @@ pub fn specs_of<V: Copy>(run: &Run<V>) -> &[Spec<V>] {
 /// The entries of a run.
 pub fn entries_of<V: Copy>(run: &Run<V>) -> &[Entry<World<V>>] {
     run.entries()
+}
+
+/// How many entries a run has, which then goes.
+pub fn length<V: Copy>(run: Run<V>) -> usize {
+    let length = run.entries().len();
+    drop(run);
+    length
 }
 
 /// The world in which a run starts.
@@ -159,9 +169,16 @@ pub fn salvage_in<V: Payload>(alloc: Global, bytes: &[u8]) -> Result<(Run<V>, u6
     salvage(alloc, bytes)
 }
 
-/// Writes the journal text of a run.
-pub fn write_run<V: Payload, W: Write>(run: &Run<V>, writer: &mut W) -> Result<u64, WriteFault> {
-    write(run, writer)
+/// What the write of a run answers to a writer that takes so many bytes at a call and fails at a call, and what it wrote.
+pub fn written<V: Payload>(
+    alloc: Global,
+    run: &Run<V>,
+    most: usize,
+    calls: Option<u64>,
+) -> Result<(Result<u64, WriteFault>, Vec<u8>), NoMemory> {
+    let mut writer = FailingWriter::new(alloc, most, calls);
+    let answer = write(run, &mut writer);
+    Ok((answer, Vec::from_slice(alloc, writer.written())?))
 }
 
 /// The run that is written and read back.

@@ -10,7 +10,7 @@ fn there_and_back<V: Payload>(value: &V) -> Option<V> {
 #[test]
 fn a_number_is_its_own_word(rt: HostRuntime) {
     for value in [0, 7, 18_446_744_073_709_551_615] {
-        assert_eq!(rt; value.word(), value);
-        assert_eq!(rt; there_and_back(&value), Some(value), "at {value}");
+        let found = (value.word(), there_and_back(&value));
+        assert_eq!(rt; found, (value, Some(value)));
     }
 }

@@ -1,11 +1,12 @@
 //! Every word of the two tables, read and written, and the faults in their order.
 
 use rw_broadcast::{BCall, BReply};
-use rw_law::{Entry, Reversible};
+use rw_law::{Entry, Payload, Reversible};
 use rw_watch::{WCall, WReply};
 use rw_words::{WordFault, read_call, read_reply, write_entry};
 use rw_world::{ChanCall, ChanPatch, ChanReply, RowCall, World};
 use std::alloc::Global;
+use std::fmt::Debug;
 use std::process::Abort;
 use std::test::Fail;
 
@@ -100,7 +101,7 @@ const WATCH_REPLIES: [(&[u8], WReply<u64>); 17] = [
 ];
 
 /// The entry of actor 2 on channel 3 with stamp 1.
-fn entry_of(call: ChanCall<u64>, reply: ChanReply<u64>) -> Entry<World<u64>> {
+fn entry_of<V: Copy>(call: ChanCall<V>, reply: ChanReply<V>) -> Entry<World<V>> {
     Entry {
         actor: 2,
         stamp: 1,
@@ -111,34 +112,34 @@ fn entry_of(call: ChanCall<u64>, reply: ChanReply<u64>) -> Entry<World<u64>> {
 }
 
 /// Writes an entry whose reply is one that is recorded.
-fn is_written(rt: &impl Abort, entry: &Entry<World<u64>>, want: &[u8]) {
+fn is_written<V: Payload>(rt: &impl Abort, entry: Entry<World<V>>, want: &[u8]) {
     let mut out = [0u8; 256];
-    let recorded = !World::<u64>::waits(&entry.reply) && !World::<u64>::strays(&entry.reply);
-    assert!(rt; recorded);
-    if recorded {
-        let length = write_entry(entry, &mut out);
-        assert_eq!(rt; &out[..length], want);
-    }
+    let recorded = !World::<V>::waits(&entry.reply) && !World::<V>::strays(&entry.reply);
+    let length = if recorded {
+        write_entry(&entry, &mut out)
+    } else {
+        0
+    };
+    drop(entry);
+    assert_eq!(rt; (recorded, &out[..length]), (true, want));
 }
 
 /// The call is written so, and what is written is read as a call that is written so.
-fn is_call(
+fn is_call<V: Payload>(
     rt: &impl Abort,
     alloc: Global,
     broadcast: bool,
     text: &[u8],
-    call: ChanCall<u64>,
+    call: ChanCall<V>,
 ) -> Result<(), Fail> {
+    let read = read_call(broadcast, text)?;
     let mut line = Vec::new(alloc);
     line.extend_from_slice(b"1 2 3 ")?;
     line.extend_from_slice(text)?;
     line.extend_from_slice(b" = done")?;
     let reply = ChanReply::W(WReply::Done);
-    is_written(rt, &entry_of(call, reply), &line);
-    match read_call::<u64>(broadcast, text) {
-        Ok(read) => is_written(rt, &entry_of(read, reply), &line),
-        Err(fault) => assert_eq!(rt; Some(fault), None),
-    }
+    is_written(rt, entry_of(call, reply), &line);
+    is_written(rt, entry_of(read, reply), &line);
     Ok(())
 }
 
@@ -154,18 +155,18 @@ fn reads_and_writes_every_call(rt: HostRuntime) -> Result<(), Fail> {
 }
 
 /// The reply is read, and is written so.
-fn is_reply(
+fn is_reply<V: Payload + PartialEq + Debug>(
     rt: &impl Abort,
     alloc: Global,
     broadcast: bool,
     text: &[u8],
-    reply: ChanReply<u64>,
+    reply: ChanReply<V>,
 ) -> Result<(), Fail> {
-    assert_eq!(rt; read_reply::<u64>(broadcast, text), Ok(reply));
+    assert_eq!(rt; read_reply(broadcast, text), Ok(reply));
     let mut line = Vec::new(alloc);
     line.extend_from_slice(b"1 2 3 recv 1 = ")?;
     line.extend_from_slice(text)?;
-    is_written(rt, &entry_of(ChanCall::B(BCall::Recv(1)), reply), &line);
+    is_written(rt, entry_of(ChanCall::B(BCall::Recv(1)), reply), &line);
     Ok(())
 }
 
@@ -195,7 +196,12 @@ fn longest_line_has_123_bytes(rt: HostRuntime) {
     let want =
         b"18446744073709551615 4294967295 4294967295 send-replace 4294967295 18446744073709551615 = no-receivers 18446744073709551615";
     assert_eq!(rt; want.len(), 123);
-    is_written(&rt, &entry, want);
+    is_written(&rt, entry, want);
+}
+
+/// The fault of the words of a call.
+fn fault_of_call<V: Payload>(broadcast: bool, text: &[u8]) -> Option<WordFault> {
+    read_call::<V>(broadcast, text).err()
 }
 
 #[test]
@@ -236,8 +242,13 @@ fn names_the_first_fault_of_a_call(rt: HostRuntime) {
         (false, b"modify 4294967296 7 no", WordFault::HandleTooLarge),
     ];
     for (broadcast, text, fault) in cases {
-        assert_eq!(rt; read_call::<u64>(broadcast, text).err(), Some(fault));
+        assert_eq!(rt; fault_of_call::<u64>(broadcast, text), Some(fault));
     }
+}
+
+/// The fault of the words of a reply.
+fn fault_of_reply<V: Payload>(broadcast: bool, text: &[u8]) -> Option<WordFault> {
+    read_reply::<V>(broadcast, text).err()
 }
 
 #[test]
@@ -257,6 +268,6 @@ fn names_the_first_fault_of_a_reply(rt: HostRuntime) {
         (true, b"new 4294967296", WordFault::HandleTooLarge),
     ];
     for (broadcast, text, fault) in cases {
-        assert_eq!(rt; read_reply::<u64>(broadcast, text), Err(fault));
+        assert_eq!(rt; fault_of_reply::<u64>(broadcast, text), Some(fault));
     }
 }

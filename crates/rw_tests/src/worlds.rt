@@ -1,22 +1,22 @@
 //! Openings of worlds, and steps of a world of both kinds.
 
-ghost use Rattle.std.specs.Prelude.{◌+◌, ◌≤◌};
-ghost use Rattle.rw_law.specs.declared.limits.TheConstants.{MOST_WEIGHT};
-
 use rw_broadcast::{BCall, BReply};
-use rw_law::{NoMemory, Reversible};
+use rw_law::Reversible;
 use rw_watch::{WCall, WReply};
-use rw_world::{Chan, ChanCall, ChanReply, OpenFault, RowCall, Spec, open};
+use rw_world::{Chan, ChanCall, ChanReply, OpenFault, RowCall, Spec, World, open};
+use std::alloc::Global;
+use std::fmt::Debug;
+use std::process::Abort;
 use std::test::Fail;
 
-/// Makes a call, undoes it and makes it again, and gives both replies.
+/// Makes a call, undoes it and makes it again, on a machine that weighs less than a hundred, and gives both replies.
 fn made_twice<M: Reversible>(
     machine: &mut M,
     call: &M::Call,
-) -> Result<(M::Reply, M::Reply), NoMemory>
-    requires { M.weigh (M.shown machine.old) + 1 ≤ MOST_WEIGHT }
-{
-    let _ = machine.weight();
+) -> Result<(M::Reply, M::Reply), Fail> {
+    if machine.weight() >= 100 {
+        return Err(Fail::from("too heavy"));
+    }
     machine.ready(1)?;
     let (first, patch) = machine.apply(call);
     machine.undo(call, &patch);
@@ -24,29 +24,71 @@ fn made_twice<M: Reversible>(
     Ok((first, second))
 }
 
+/// How many channels a world of these specs has, or why it isn't opened.
+fn opened<V: Copy>(alloc: Global, specs: &[Spec<V>]) -> Result<usize, OpenFault> {
+    let world = open(alloc, specs)?;
+    let length = world.len();
+    drop(world);
+    Ok(length)
+}
+
 #[test]
-fn refuses_specs(rt: HostRuntime) -> Result<(), Fail> {
+fn refuses_specs(rt: HostRuntime) {
     let watch = Spec::Watch(1u64);
     let many = [watch; 65];
     let bad = [watch, Spec::Broadcast(0), Spec::Broadcast(0)];
     let wide = [Spec::Broadcast(65_537)];
     let table = [
-        (&many[..0], OpenFault::NoChannels),
-        (&many[..], OpenFault::TooManyChannels),
-        (&bad[..], OpenFault::BadCapacity(1)),
-        (&wide[..], OpenFault::BadCapacity(0)),
+        (&many[..0], Err(OpenFault::NoChannels)),
+        (&many[..], Err(OpenFault::TooManyChannels)),
+        (&bad[..], Err(OpenFault::BadCapacity(1))),
+        (&wide[..], Err(OpenFault::BadCapacity(0))),
+        (&many[..64], Ok(64)),
     ];
-    for (specs, fault) in table {
-        assert_eq!(rt; open(rt.alloc(), specs).err(), Some(fault));
+    for (specs, answer) in table {
+        assert_eq!(rt; opened(rt.alloc(), specs), answer);
     }
-    let world = open(rt.alloc(), &many[..64])?;
-    assert_eq!(rt; world.len(), 64);
+}
+
+/// A world replies so to calls on its channels, twice.
+fn replies<V: Copy + PartialEq + Debug>(
+    rt: &impl Abort,
+    world: &mut World<V>,
+    table: &[(u32, ChanCall<V>, ChanReply<V>)],
+) -> Result<(), Fail> {
+    for (channel, call, reply) in table {
+        let (channel, call) = (*channel, *call);
+        let found = made_twice(world, &RowCall { channel, call })?;
+        assert_eq!(rt; found, (*reply, *reply));
+    }
     Ok(())
+}
+
+/// The value of channel 1, if it is a watch.
+fn value_of<V: Copy>(world: &World<V>) -> Option<V> {
+    match world.channel(1) {
+        Some(Chan::Watch(watch)) => Some(watch.value()),
+        _ => None,
+    }
+}
+
+/// The value of channel 1 of a world that was opened from these specs and replied to these calls.
+fn value_after<V: Copy + PartialEq + Debug>(
+    rt: &impl Abort,
+    alloc: Global,
+    specs: &[Spec<V>],
+    table: &[(u32, ChanCall<V>, ChanReply<V>)],
+) -> Result<Option<V>, Fail> {
+    let mut world = open(alloc, specs)?;
+    let replied = replies(rt, &mut world, table);
+    let value = value_of(&world);
+    drop(world);
+    replied?;
+    Ok(value)
 }
 
 #[test]
 fn calls_both_kinds(rt: HostRuntime) -> Result<(), Fail> {
-    let mut world = open(rt.alloc(), &[Spec::Broadcast(2), Spec::Watch(5u64)])?;
     let table = [
         (
             0,
@@ -71,14 +113,7 @@ fn calls_both_kinds(rt: HostRuntime) -> Result<(), Fail> {
         (0, ChanCall::W(WCall::Update(1)), ChanReply::NoChannel),
         (2, ChanCall::W(WCall::Update(1)), ChanReply::NoChannel),
     ];
-    for (channel, call, reply) in table {
-        assert!(rt; world.weight() < 100);
-        let replies = made_twice(&mut world, &RowCall { channel, call })?;
-        assert_eq!(rt; replies, (reply, reply));
-    }
-    match world.channel(1) {
-        Some(Chan::Watch(watch)) => assert_eq!(rt; watch.value(), 6),
-        _ => panic!(&rt; "channel 1 is no watch"),
-    }
+    let specs = [Spec::Broadcast(2), Spec::Watch(5u64)];
+    assert_eq!(rt; value_after(&rt, rt.alloc(), &specs, &table)?, Some(6));
     Ok(())
 }

@@ -10,12 +10,16 @@ use std::test::Fail;
 /// What a debugger of a run answers to the moves from place 0, where it then stands, and how many calls its machine had.
 fn walked<V: Copy>(
     alloc: Global,
-    run: &Run<V>,
+    run: Run<V>,
     moves: &[Move],
 ) -> Result<(Vec<Result<(), OutOfRange>>, u64, u64), NoMemory> {
-    let mut debugger = Debugger::open(alloc, run)?;
-    let answers = debugger.walk(alloc, moves)?;
-    Ok((answers, debugger.place(), debugger.turns()))
+    let opened = Debugger::open(alloc, &run);
+    drop(run);
+    let mut debugger = opened?;
+    let answers = debugger.walk(alloc, moves);
+    let (place, turns) = (debugger.place(), debugger.turns());
+    drop(debugger);
+    Ok((answers?, place, turns))
 }
 
 #[test]
@@ -28,9 +32,11 @@ fn a_run_is_walked(rt: HostRuntime) -> Result<(), Fail> {
         Move::End,
     ];
     let run = run_of(rt.alloc(), OVERRUN)?;
-    let (answers, place, turns) = walked(rt.alloc(), &run, &moves)?;
+    let (answers, place, turns) = walked(rt.alloc(), run, &moves)?;
     let told = [Err(OutOfRange), Err(OutOfRange), Ok(()), Ok(()), Ok(())];
-    assert_eq!(rt; answers.as_slice(), told.as_slice());
-    assert_eq!(rt; (place, turns), (7, 15));
+    assert_eq!(rt;
+        (answers.as_slice(), place, turns),
+        (told.as_slice(), 7, 15)
+    );
     Ok(())
 }

@@ -3,8 +3,10 @@
 use crate::plain::{index_of, looked_up, navigator_of, searched};
 use crate::texts::rows::{OVERRUN, TWO_CHANNELS, UNREAD, run_of};
 use rw_journal::Run;
-use rw_navigator::Cond;
+use rw_law::Payload;
+use rw_navigator::{Cond, HitIndex, Navigator};
 use rw_words::ReplyWord;
+use rw_world::World;
 use std::alloc::Global;
 use std::process::Abort;
 use std::test::Fail;
@@ -14,46 +16,80 @@ fn replies_with(rt: &impl Abort, word: &[u8]) -> Cond {
     Cond::ReplyKind(ReplyWord::of(word).expect(rt, "a reply has this word"))
 }
 
+/// What the index of a condition finds in a run, below and above each of four places.
+fn found_at<V: Payload>(
+    alloc: Global,
+    run: Run<V>,
+    condition: &Cond,
+    [first, second, third, last]: [u64; 4],
+) -> Result<[(Option<u64>, Option<u64>); 4], Fail> {
+    let opened = navigator_of(alloc, &run);
+    drop(run);
+    let navigator = opened?;
+    let built = index_of(alloc, &navigator, condition);
+    drop(navigator);
+    let index = built?.ok_or("a condition on states")?;
+    let found = [
+        looked_up(&index, first),
+        looked_up(&index, second),
+        looked_up(&index, third),
+        looked_up(&index, last),
+    ];
+    drop(index);
+    Ok(found)
+}
+
 #[test]
 fn an_index_has_the_hits_below_and_above_a_place(rt: HostRuntime) -> Result<(), Fail> {
+    let condition = replies_with(&rt, b"value");
     let run = run_of(rt.alloc(), OVERRUN)?;
-    let navigator = navigator_of(rt.alloc(), &run)?;
-    let index = index_of(rt.alloc(), &navigator, &replies_with(&rt, b"value"))?.expect(
-        &rt,
-        "it is a condition on entries",
-    );
-    for (place, below, above) in [
-        (0, None, Some(5)),
-        (5, None, Some(6)),
-        (6, Some(5), None),
-        (7, Some(6), None),
-    ] {
-        assert_eq!(rt; looked_up(&index, place), (below, above), "at {place}");
-    }
+    let found = found_at(rt.alloc(), run, &condition, [0, 5, 6, 7])?;
+    let told = [
+        (None, Some(5)),
+        (None, Some(6)),
+        (Some(5), None),
+        (Some(6), None),
+    ];
+    assert_eq!(rt; found, told);
     Ok(())
 }
 
-/// The condition has a hit, and its index finds what searches find, at each place.
-fn finds_as_searches(
-    rt: &impl Abort,
-    alloc: Global,
-    run: &Run<u64>,
+/// Whether the condition has a hit, and its index finds what searches find, at each place up to the end.
+fn agrees<V: Payload>(
+    navigator: &mut Navigator<World<V>>,
+    index: &HitIndex<World<V>, Cond>,
     condition: &Cond,
-) -> Result<(), Fail> {
-    let mut navigator = navigator_of(alloc, run)?;
-    let index = index_of(alloc, &navigator, condition)?.expect(rt, "it is a condition on entries");
-    let end = run.len().saturating_add(1);
-    let (greatest, _) = looked_up(&index, end);
-    assert!(rt; greatest.is_some(), "{condition:?} has no hit");
+    end: u64,
+) -> bool {
+    let (greatest, _) = looked_up(index, end);
+    let mut agrees = greatest.is_some();
     for place in 0..end {
-        let found = searched(&mut navigator, condition, place);
-        assert_eq!(rt;
-            found,
-            Ok(looked_up(&index, place)),
-            "{condition:?} at {place}"
-        );
+        let found = searched(navigator, condition, place);
+        agrees = agrees && found == Ok(looked_up(index, place));
     }
-    Ok(())
+    agrees
+}
+
+/// Whether the index of a condition finds in a run what searches find.
+fn finds_as_searches<V: Payload>(
+    alloc: Global,
+    run: Run<V>,
+    condition: &Cond,
+) -> Result<bool, Fail> {
+    let end = run.len().saturating_add(1);
+    let opened = navigator_of(alloc, &run);
+    drop(run);
+    let mut navigator = opened?;
+    let found = match index_of(alloc, &navigator, condition) {
+        Ok(Some(index)) => {
+            let found = agrees(&mut navigator, &index, condition, end);
+            drop(index);
+            found
+        }
+        Ok(None) | Err(_) => false,
+    };
+    drop(navigator);
+    Ok(found)
 }
 
 #[test]
@@ -85,9 +121,12 @@ fn an_index_finds_what_searches_find(rt: HostRuntime) -> Result<(), Fail> {
         (UNREAD, &on_unread),
         (TWO_CHANNELS, &on_two_channels),
     ] {
-        let run = run_of(rt.alloc(), script)?;
         for condition in conditions {
-            finds_as_searches(&rt, rt.alloc(), &run, condition)?;
+            let run = run_of(rt.alloc(), script)?;
+            assert!(rt;
+                finds_as_searches(rt.alloc(), run, condition)?,
+                "{condition:?}"
+            );
         }
     }
     Ok(())

@@ -22,8 +22,7 @@ fn answers_statuses(rt: HostRuntime) -> Result<(), Fail> {
         (Err(SessionFault::NoMemory), 5, "no memory\n"),
     ];
     for (ended, number, line) in cases {
-        assert_eq!(rt; status(ended), number);
-        assert_eq!(rt; said(ended), line);
+        assert_eq!(rt; (status(ended), said(ended)), (number, line));
     }
     Ok(())
 }
@@ -57,9 +56,10 @@ fn runs_on_three_streams(rt: HostRuntime) -> Result<(), Fail> {
         let mut writer = FailingWriter::new(rt.alloc(), 64, writes);
         let mut errors = FailingWriter::new(rt.alloc(), 64, None);
         let answered = session_on(rt.alloc(), &mut reader, &mut writer, &mut errors);
-        assert_eq!(rt; answered, number);
-        assert_eq!(rt; writer.handed_on(), report);
-        assert_eq!(rt; errors.written(), line);
+        assert_eq!(rt;
+            (answered, writer.handed_on(), errors.written()),
+            (number, report, line)
+        );
     }
     Ok(())
 }

@@ -131,9 +131,10 @@ fn each_word_leads_to_its_function(rt: HostRuntime) -> Result<(), Fail> {
             Ok(Asked::Threads(_)) => threads_over_opened(&rt, alloc, Ok(file), &mut out),
             Err(error) => refuse_words(alloc, &error),
         };
-        assert_eq!(rt; ended.status(), status);
-        assert_eq!(rt; ended.line().as_bytes(), told);
-        assert_eq!(rt; out.handed_on(), written);
+        assert_eq!(rt;
+            (ended.status(), ended.line().as_bytes(), out.handed_on()),
+            (status, told, written)
+        );
     }
     Ok(())
 }
@@ -145,10 +146,8 @@ fn words_that_are_not_taken(rt: HostRuntime) -> Result<(), Fail> {
         Ok(_) => Ended::silent(0),
         Err(error) => refuse_words(rt.alloc(), &error),
     };
-    assert_eq!(rt; ended.status(), 2);
-    assert_eq!(rt;
-        ended.line(),
-        "error: unrecognized subcommand 'walk'\n\nUsage: ttd <COMMAND>\n\nFor more information, try '--help'.\n"
-    );
+    let told =
+        "error: unrecognized subcommand 'walk'\n\nUsage: ttd <COMMAND>\n\nFor more information, try '--help'.\n";
+    assert_eq!(rt; (ended.status(), ended.line()), (2, told));
     Ok(())
 }

@@ -16,13 +16,11 @@ fn each_read_fails(rt: HostRuntime) {
         let mut reader = FailingReader::new(INPUT, 1, Some(k));
         let mut writer = FailingWriter::new(rt.alloc(), 4096, None);
         let ended = session(rt.alloc(), &mut reader, &mut writer);
-        if ended == Ok(Outcome::Waited(4)) {
-            done = true;
-            assert_eq!(rt; writer.handed_on(), REPORT);
-        } else {
-            assert_eq!(rt; ended, Err(SessionFault::Read), "{k}");
-            assert!(rt; !done && REPORT.starts_with(writer.written()), "{k}");
-        }
+        let is_whole = ended == Ok(Outcome::Waited(4)) && writer.handed_on() == REPORT;
+        let is_front = !done && REPORT.starts_with(writer.written());
+        let failed = ended == Err(SessionFault::Read) && is_front;
+        assert!(rt; is_whole || failed, "{k}");
+        done = is_whole;
     }
     assert!(rt; done);
 }
@@ -34,15 +32,13 @@ fn each_write_fails(rt: HostRuntime) {
         let mut reader = FailingReader::new(INPUT, 64, None);
         let mut writer = FailingWriter::new(rt.alloc(), 5, Some(k));
         let ended = session(rt.alloc(), &mut reader, &mut writer);
-        if ended == Ok(Outcome::Waited(4)) {
-            done = true;
-            assert_eq!(rt; writer.handed_on(), REPORT);
-            // Once for the line that would wait, and once for each command.
-            assert_eq!(rt; writer.flushes(), 10);
-        } else {
-            assert_eq!(rt; ended, Err(SessionFault::Write), "{k}");
-            assert!(rt; !done && REPORT.starts_with(writer.written()), "{k}");
-        }
+        // Handed on once for the line that would wait, and once for each command.
+        let is_flushed = writer.handed_on() == REPORT && writer.flushes() == 10;
+        let is_whole = ended == Ok(Outcome::Waited(4)) && is_flushed;
+        let is_front = !done && REPORT.starts_with(writer.written());
+        let failed = ended == Err(SessionFault::Write) && is_front;
+        assert!(rt; is_whole || failed, "{k}");
+        done = is_whole;
     }
     assert!(rt; done);
 }
@@ -52,6 +48,8 @@ fn a_writer_that_takes_nothing(rt: HostRuntime) {
     let mut reader = FailingReader::new(INPUT, 64, None);
     let mut writer = FailingWriter::new(rt.alloc(), 0, None);
     let ended = session(rt.alloc(), &mut reader, &mut writer);
-    assert_eq!(rt; ended, Err(SessionFault::Write));
-    assert_eq!(rt; writer.written(), b"".as_slice());
+    assert_eq!(rt;
+        (ended, writer.written()),
+        (Err(SessionFault::Write), b"".as_slice())
+    );
 }

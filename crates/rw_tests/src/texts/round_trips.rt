@@ -1,14 +1,17 @@
 //! Runs that are written into memory and read again.
 
-use crate::plain::{entries_of, run_again, run_in};
+use crate::plain::{length, run_again, run_in};
+use rw_journal::Run;
+use rw_law::Payload;
 use std::alloc::Global;
 use std::test::Fail;
 
 /// How many entries the run has that is read back.
-fn entries_read_back(alloc: Global, text: &[u8]) -> Result<usize, Fail> {
-    let run = run_in::<u64>(alloc, text)?;
-    let again = run_again(alloc, &run)?;
-    Ok(entries_of(&again).len())
+fn entries_read_back<V: Payload>(alloc: Global, text: &[u8]) -> Result<usize, Fail> {
+    let run: Run<V> = run_in(alloc, text)?;
+    let again = run_again(alloc, &run);
+    drop(run);
+    Ok(length(again?))
 }
 
 #[test]
@@ -20,7 +23,7 @@ fn a_run_is_read_back(rt: HostRuntime) -> Result<(), Fail> {
             3,
         ),
     ] {
-        assert_eq!(rt; entries_read_back(rt.alloc(), text)?, entries);
+        assert_eq!(rt; entries_read_back::<u64>(rt.alloc(), text)?, entries);
     }
     Ok(())
 }

@@ -1,12 +1,11 @@
 //! The runs of scripts, written as text, read again, and the same.
 
-use crate::plain::{entries_of, run_in, specs_of, write_run};
-use rw_devices::FailingWriter;
+use crate::plain::{entries_of, run_in, specs_of, written};
 use rw_journal::Run;
-use rw_law::Entry;
+use rw_law::Payload;
 use rw_script::{Script, run_one};
-use rw_world::World;
 use std::alloc::Global;
+use std::fmt::Debug;
 use std::process::Abort;
 use std::test::Fail;
 
@@ -127,47 +126,78 @@ pub fn run_of(alloc: Global, script: &[u8]) -> Result<Run<u64>, Fail> {
     Ok(run)
 }
 
-/// Compares two entries in all that they hold.
-fn compare(rt: &impl Abort, name: &str, entry: &Entry<World<u64>>, again: &Entry<World<u64>>) {
-    assert_eq!(rt;
-        (again.actor, again.stamp),
-        (entry.actor, entry.stamp),
-        "{name}"
-    );
-    assert_eq!(rt; again.call, entry.call, "{name}");
-    assert_eq!(rt; again.reply, entry.reply, "{name}");
-    assert_eq!(rt; again.patch, entry.patch, "{name}");
+/// Compares two runs in all that they hold, and counts their entries.
+fn compare<V: Copy + PartialEq + Debug>(
+    rt: &impl Abort,
+    name: &str,
+    run: &Run<V>,
+    again: &Run<V>,
+    entries: usize,
+) {
+    let counts = (entries_of(run).len(), entries_of(again).len());
+    assert_eq!(rt; counts, (entries, entries), "{name}");
+    assert!(rt; specs_of(run) == specs_of(again), "{name}");
+    for (entry, again) in entries_of(run).iter().zip(entries_of(again)) {
+        assert_eq!(rt;
+            (
+                again.actor,
+                again.stamp,
+                again.call,
+                again.reply,
+                again.patch
+            ),
+            (
+                entry.actor,
+                entry.stamp,
+                entry.call,
+                entry.reply,
+                entry.patch
+            ),
+            "{name}"
+        );
+    }
 }
 
-/// Writes the run of a script and reads it again.
-fn write_and_read(
+/// Writes a run, reads it again, and writes what was read.
+fn write_and_read<V: Payload + PartialEq + Debug>(
+    rt: &impl Abort,
+    alloc: Global,
+    name: &str,
+    run: &Run<V>,
+    entries: usize,
+) -> Result<(), Fail> {
+    let (first, text) = written(alloc, run, 4096, None)?;
+    let again = run_in(alloc, &text)?;
+    compare(rt, name, run, &again, entries);
+    let second = written(alloc, &again, 4096, None);
+    drop(again);
+    let (second, text_again) = second?;
+    assert!(rt;
+        first.is_ok() && second.is_ok() && text_again == text,
+        "{name}"
+    );
+    Ok(())
+}
+
+/// The run of a script has so many entries, and is the same when it is written and read again.
+fn is_kept(
     rt: &impl Abort,
     alloc: Global,
     name: &str,
     script: &[u8],
-    entries: u64,
+    entries: usize,
 ) -> Result<(), Fail> {
     let run = run_of(alloc, script)?;
-    assert_eq!(rt; entries_of(&run).len() as u64, entries, "{name}");
-    let mut first = FailingWriter::new(alloc, 4096, None);
-    assert!(rt; write_run(&run, &mut first).is_ok(), "{name}");
-    let again = run_in(alloc, first.written())?;
-    assert!(rt; specs_of(&run) == specs_of(&again), "{name}");
-    assert_eq!(rt; entries_of(&again).len() as u64, entries, "{name}");
-    for (entry, other) in entries_of(&run).iter().zip(entries_of(&again)) {
-        compare(rt, name, entry, other);
-    }
-    let mut second = FailingWriter::new(alloc, 4096, None);
-    assert!(rt; write_run(&again, &mut second).is_ok(), "{name}");
-    assert!(rt; second.written() == first.written(), "{name}");
-    Ok(())
+    let ended = write_and_read(rt, alloc, name, &run, entries);
+    drop(run);
+    ended
 }
 
 #[test]
 fn each_run_is_written_and_read_again(rt: HostRuntime) -> Result<(), Fail> {
     for (name, script, entries) in SCRIPTS {
-        write_and_read(&rt, rt.alloc(), name, script, entries)?;
+        is_kept(&rt, rt.alloc(), name, script, entries as usize)?;
     }
     let script = handle_limit(rt.alloc())?;
-    write_and_read(&rt, rt.alloc(), "handle_limit", &script, 65_537)
+    is_kept(&rt, rt.alloc(), "handle_limit", &script, 65_537)
 }

@@ -2,26 +2,29 @@
 
 use super::rows::run_of;
 use super::writing::{OLD, SMALL};
-use crate::plain::{entries_of, run_in, salvage_in, write_run};
-use rw_devices::FailingWriter;
+use crate::plain::{length, run_in, salvage_in, written};
+use rw_journal::Run;
+use rw_law::Payload;
 use rw_text::TextFault;
 use std::alloc::Global;
+use std::process::Abort;
 use std::test::Fail;
 
 /// How many entries a text holds, and how many bytes its whole lines have.
-fn held(alloc: Global, text: &[u8]) -> Result<(usize, u64), TextFault> {
-    let (run, count) = salvage_in::<u64>(alloc, text)?;
-    Ok((entries_of(&run).len(), count))
+fn held<V: Payload>(alloc: Global, text: &[u8]) -> Result<(usize, u64), TextFault> {
+    let (run, count): (Run<V>, u64) = salvage_in(alloc, text)?;
+    Ok((length(run), count))
 }
 
 /// How many entries a text has that isn't cut off.
-fn read_whole(alloc: Global, text: &[u8]) -> Result<usize, TextFault> {
-    let run = run_in::<u64>(alloc, text)?;
-    Ok(entries_of(&run).len())
+fn read_whole<V: Payload>(alloc: Global, text: &[u8]) -> Result<usize, TextFault> {
+    let run: Run<V> = run_in(alloc, text)?;
+    Ok(length(run))
 }
 
 #[test]
 fn a_text_is_cut_at_each_byte(rt: HostRuntime) -> Result<(), Fail> {
+    let alloc = rt.alloc();
     for n in 0..=110 {
         let answer = match n {
             0..=31 => Err(TextFault::Truncated),
@@ -31,8 +34,11 @@ fn a_text_is_cut_at_each_byte(rt: HostRuntime) -> Result<(), Fail> {
             106..=109 => Ok((3, 106)),
             _ => Ok((3, 110)),
         };
-        assert_eq!(rt; held(rt.alloc(), &SMALL[..n]), answer, "{n}");
-        assert_eq!(rt; held(rt.alloc(), &OLD[..n]), answer, "{n}");
+        let found = [
+            held::<u64>(alloc, &SMALL[..n]),
+            held::<u64>(alloc, &OLD[..n]),
+        ];
+        assert_eq!(rt; found, [answer, answer], "{n}");
     }
     Ok(())
 }
@@ -58,8 +64,8 @@ fn damaged(alloc: Global, n: usize, from: &str, to: &str, letters: usize) -> Res
 fn other_damage_is_answered_as_where_it_is_read(rt: HostRuntime) -> Result<(), Fail> {
     let alloc = rt.alloc();
     let long = damaged(alloc, 83, "#", "", 256)?;
-    assert_eq!(rt; held(alloc, &long), Ok((2, 83)));
-    assert_eq!(rt; read_whole(alloc, &long), Err(TextFault::Truncated));
+    let found = (held::<u64>(alloc, &long), read_whole::<u64>(alloc, &long));
+    assert_eq!(rt; found, (Ok((2, 83)), Err(TextFault::Truncated)));
     for (n, from, to, letters, fault) in [
         (83, "#", "", 257, TextFault::LimitExceeded(6)),
         (90, "value 7", "value 8", 0, TextFault::WrongReply(5)),
@@ -80,8 +86,8 @@ fn other_damage_is_answered_as_where_it_is_read(rt: HostRuntime) -> Result<(), F
         (27, "broadcast", "broadcasts", 0, TextFault::Malformed(2)),
     ] {
         let text = damaged(alloc, n, from, to, letters)?;
-        assert_eq!(rt; held(alloc, &text), Err(fault), "{to}");
-        assert_eq!(rt; read_whole(alloc, &text), Err(fault), "{to}");
+        let found = (held::<u64>(alloc, &text), read_whole::<u64>(alloc, &text));
+        assert_eq!(rt; found, (Err(fault), Err(fault)), "{to}");
     }
     Ok(())
 }
@@ -113,34 +119,49 @@ fn ended(alloc: Global, lines: &[u8]) -> Result<Vec<u8>, Fail> {
 }
 
 /// What is written of the run that a text holds, and how many bytes of the text say it.
-fn written_of(alloc: Global, text: &[u8]) -> Result<(Vec<u8>, u64), Fail> {
-    let (run, count) = salvage_in::<u64>(alloc, text)?;
-    let mut writer = FailingWriter::new(alloc, 4096, None);
-    write_run(&run, &mut writer)?;
-    Ok((Vec::from_slice(alloc, writer.written())?, count))
+fn written_of<V: Payload>(alloc: Global, text: &[u8]) -> Result<(Vec<u8>, u64), Fail> {
+    let (run, count): (Run<V>, u64) = salvage_in(alloc, text)?;
+    let text = text_of(alloc, &run);
+    drop(run);
+    Ok((text?, count))
+}
+
+/// The text of a run.
+fn text_of<V: Payload>(alloc: Global, run: &Run<V>) -> Result<Vec<u8>, Fail> {
+    let (answer, text) = written(alloc, run, 4096, None)?;
+    answer?;
+    Ok(text)
+}
+
+/// A front of a long text holds the entries of its whole lines, behind so many lines of its opening.
+fn is_read_back(rt: &impl Abort, alloc: Global, text: &[u8], opening: usize) -> Result<(), Fail> {
+    let (count, lines) = lines_of(text);
+    if count < opening {
+        assert_eq!(rt; held::<u64>(alloc, text), Err(TextFault::Truncated));
+        return Ok(());
+    }
+    let (written, kept) = written_of::<u64>(alloc, text)?;
+    let is_ended = written == ended(alloc, lines)?;
+    let entries = read_whole::<u64>(alloc, &written);
+    assert_eq!(rt;
+        (kept, is_ended, entries),
+        (lines.len() as u64, true, Ok(count - opening)),
+        "{count}"
+    );
+    Ok(())
 }
 
 #[test]
 fn each_front_of_a_long_text_is_read_back(rt: HostRuntime) -> Result<(), Fail> {
     let alloc = rt.alloc();
     let run = run_of(alloc, &long_script(alloc)?)?;
-    let mut writer = FailingWriter::new(alloc, 4096, None);
-    write_run(&run, &mut writer)?;
-    let whole = writer.written();
-    // The first line, three channels and `steps`.
-    let opening = 5;
+    let whole = text_of(alloc, &run);
+    drop(run);
+    let whole = whole?;
     for n in 0..whole.len() {
-        let text = &whole[..n];
-        let (count, lines) = lines_of(text);
-        if count < opening {
-            assert_eq!(rt; held(alloc, text), Err(TextFault::Truncated), "{n}");
-        } else {
-            let (written, kept) = written_of(alloc, text)?;
-            assert_eq!(rt; kept, lines.len() as u64, "{n}");
-            assert!(rt; written == ended(alloc, lines)?, "{n}");
-            assert_eq!(rt; read_whole(alloc, &written), Ok(count - opening), "{n}");
-        }
+        // The first line, three channels and `steps`.
+        is_read_back(&rt, alloc, &whole[..n], 5)?;
     }
-    assert_eq!(rt; held(alloc, whole), Ok((200, whole.len() as u64)));
+    assert_eq!(rt; held::<u64>(alloc, &whole), Ok((200, whole.len() as u64)));
     Ok(())
 }

@@ -1,8 +1,11 @@
 //! Runs that are written, and writers that fail.
 
-use crate::plain::{run_in, write_run};
-use rw_devices::FailingWriter;
+use crate::plain::{run_in, written};
+use rw_journal::Run;
+use rw_law::Payload;
 use rw_text::WriteFault;
+use std::alloc::Global;
+use std::process::Abort;
 use std::test::Fail;
 
 /// The text of three entries, as it is written.
@@ -17,35 +20,47 @@ pub const OLD: &[u8] =
 const LARGE: &[u8] =
     b"ttd-journal 2\nbroadcast 3\nwatch 1\nsteps\n1 0 0 send 0 1 = sent 1\n1 1 1 drop 1 = dropped\n2 0 0 send 0 2 = sent 1\n3 0 0 send 0 3 = sent 1\n4 0 0 send 0 4 = sent 1\n5 0 0 send 0 5 = sent 1\n6 0 0 try-recv 1 = lagged 1\n6 1 1 is-closed 0 = flag yes\n7 0 0 sender-len 0 = count 4\n7 1 1 closed 0 = done\n8 1 1 send 0 2 = no-receivers 2\n9 1 1 send-replace 0 3 = old 1\n10 1 1 modify 0 5 no = told no\n11 1 1 subscribe 0 = new 2\n12 1 1 borrow 2 = value 5\n13 63 0 subscribe 9 = unknown\nend\n";
 
+/// What the write of the run answers that a text holds, and what it wrote.
+fn rewritten<V: Payload>(
+    alloc: Global,
+    text: &[u8],
+    most: usize,
+    calls: Option<u64>,
+) -> Result<(Result<u64, WriteFault>, Vec<u8>), Fail> {
+    let run: Run<V> = run_in(alloc, text)?;
+    let answered = written(alloc, &run, most, calls);
+    drop(run);
+    Ok(answered?)
+}
+
+/// A run is written as this text, to a writer that takes a hundred bytes at a call.
+fn is_written(rt: &impl Abort, alloc: Global, text: &[u8], want: &[u8]) -> Result<(), Fail> {
+    let (answer, found) = rewritten::<u64>(alloc, text, 100, None)?;
+    assert_eq!(rt; (answer, found.as_slice()), (Ok(want.len() as u64), want));
+    Ok(())
+}
+
 #[test]
 fn what_is_read_is_written_again(rt: HostRuntime) -> Result<(), Fail> {
     for text in [SMALL, LARGE] {
-        let run = run_in::<u64>(rt.alloc(), text)?;
-        let mut writer = FailingWriter::new(rt.alloc(), 100, None);
-        assert_eq!(rt; write_run(&run, &mut writer), Ok(text.len() as u64));
-        assert!(rt; writer.written() == text);
+        is_written(&rt, rt.alloc(), text, text)?;
     }
     Ok(())
 }
 
 #[test]
 fn an_old_text_is_written_in_the_new_version(rt: HostRuntime) -> Result<(), Fail> {
-    let run = run_in::<u64>(rt.alloc(), OLD)?;
-    let mut writer = FailingWriter::new(rt.alloc(), 100, None);
-    assert_eq!(rt; write_run(&run, &mut writer), Ok(110));
-    assert!(rt; writer.written() == SMALL);
-    Ok(())
+    is_written(&rt, rt.alloc(), OLD, SMALL)
 }
 
 #[test]
 fn a_writer_fails_at_each_byte(rt: HostRuntime) -> Result<(), Fail> {
-    let run = run_in::<u64>(rt.alloc(), SMALL)?;
     for n in 0..110 {
-        let mut writer = FailingWriter::new(rt.alloc(), 1, Some(n));
-        assert_eq!(rt; write_run(&run, &mut writer), Err(WriteFault(n)));
-        assert!(rt; writer.written() == &SMALL[..n as usize]);
+        let (answer, found) = rewritten::<u64>(rt.alloc(), SMALL, 1, Some(n))?;
+        let front = &SMALL[..n as usize];
+        assert_eq!(rt; (answer, found.as_slice()), (Err(WriteFault(n)), front));
     }
-    let mut lazy = FailingWriter::new(rt.alloc(), 0, None);
-    assert_eq!(rt; write_run(&run, &mut lazy), Err(WriteFault(0)));
+    let (answer, _) = rewritten::<u64>(rt.alloc(), SMALL, 0, None)?;
+    assert_eq!(rt; answer, Err(WriteFault(0)));
     Ok(())
 }
