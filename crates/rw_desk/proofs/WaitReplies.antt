@@ -1,6 +1,7 @@
 -- What a wait for a value may be answered.
 use Rattle.std.proofs.Common.{◌≡◌, ◌⊎◌, ℕ, zero, suc, Bool, true, false, Option, List, [], ◌∷◌, Result, Ok, Err, OnErr, Some, None, refl, sym, ◌∙◌, ap, subst, inl, inr}
 use Rattle.std.specs.Prelude.{map, ◌↔◌, IsErrAnd, IsErrOf, IsTrue, MatchOption}
+use Rattle.std.proofs.lemmas.Bool.{true≢false}
 use Rattle.rw_handles.specs.declared.kinds.Found.{Found}
 use Rattle.rw_handles.specs.declared.kinds.Found.TheVariants.{Fault, Handle}
 use Rattle.rw_handles.specs.Slots.{lookup}
@@ -13,7 +14,7 @@ use Rattle.rw_watch.specs.declared.calls.WReply.TheVariants.{Value, Done, Closed
 use Rattle.rw_world.specs.declared.channels.ChanCall.TheVariants as call
 use Rattle.rw_world.specs.declared.channels.ChanReply.TheVariants as reply
 use Rattle.rw_world.specs.Channel.{strays_at}
-use Rattle.rw_world.specs.Kinds.{broadcast_shown, watch_shown}
+use Rattle.rw_world.specs.Kinds.{broadcast_shown, watch, watch_shown}
 use Rattle.rw_world.specs.Machines.{ChanShown, of_chan, of_watch}
 use Rattle.rw_world.specs.Openings.{spec_kind}
 use Rattle.rw_world.specs.declared.opening.Spec.{Spec}
@@ -74,6 +75,14 @@ module _ {V : Type 0} where
   strays_alike (spec.Broadcast n ∷ specs) zero c = refl
   strays_alike (spec.Watch v ∷ specs) zero c = refl
   strays_alike (s ∷ specs) (suc channel) c = strays_alike specs channel c
+
+  -- where a watch's call has found a channel, it is a watch
+  pub watch_found : (specs : List (Spec V)) (channel : ℕ) (c : WCall V) → (IsTrue (stray_of strays_at (map spec_kind specs) (row_call channel (call.W c))) → true ≡ false) → IsTrue (has_no_watch specs channel) → ⊥
+  watch_found specs channel c found none = true≢false (found (subst IsTrue (sym (strays_alike specs channel c)) none))
+
+  pub watch_there : (s : Spec V) (c : WCall V) → strays_at (spec_kind s) (call.W c) ≡ false → spec_kind s ≡ watch
+  watch_there (spec.Broadcast n) c stays = absurd (true≢false stays)
+  watch_there (spec.Watch v) c stays = refl
 
 -- what holds anyway holds beside an error
 pub beside_error : {T E : Type 0} (r : Result T E) (P : Type 0) → P → OnErr r P

@@ -4,6 +4,13 @@ use Rattle.rw_desk.specs.Closing.{IsStranger, passes_of}
 use Rattle.rw_desk.proofs.Passing.{passes_here, passes_more}
 use Rattle.rw_desk.proofs.strangers.stranger.Goals as goal
 
+pub returns-then-passes_of-ne1-clause-some : goal.returns-then-passes_of-ne1-clause-some
+returns-then-passes_of-ne1-clause-some g c = record {
+  least = λ b below less. c.loop-actor.invariant b less;
+  actor = λ below one. c.if-passes_of-ne1.true (c.passes_of.ensures ∙ one);
+  number = λ past. absurd (omega (arith, past, c.loop-actor-test.true));
+}
+
 pub loop-actor-preserved : goal.loop-actor-preserved
 loop-actor-preserved g c = below_more _ _ c.loop-actor.invariant (sym c.passes_of.ensures ∙ c.if-passes_of-ne1.false)
 

@@ -1,11 +1,23 @@
-use Rattle.std.proofs.Common.{Bool, true, false, Some, None, refl, subst, sym, inl, inr}
+use Rattle.std.proofs.Common.{Bool, true, false, Some, None, IsErrOf, IsTrue, ◌↔◌, refl, subst, sym, inl, inr}
 use Rattle.std.specs.Fn.{FnReturnsAt}
 use Rattle.rw_watch.specs.declared.calls.WCall.TheVariants.{Update, Changed}
 use Rattle.rw_watch.specs.declared.calls.WReply.TheVariants.{Value}
-use Rattle.rw_desk.specs.declared.faults.DeskFault.TheVariants.{Waits}
+use Rattle.rw_desk.specs.declared.faults.DeskFault.TheVariants.{NoChannel, Waits}
 use Rattle.rw_desk.specs.Waiting.{HasChanged, HasLooked, HasTried}
-use Rattle.rw_desk.proofs.WaitReplies.{answered_there, beside_error, broken_there, no_fault, of_change, of_look}
+use Rattle.rw_desk.proofs.Errors.{handed_on, other_error, told_on}
+use Rattle.rw_desk.proofs.WaitReplies.{answered_there, beside_error, broken_there, no_fault, of_change, of_look, strays_alike}
 use Rattle.rw_desk.proofs.desk.Desk.w_try_for.Goals as goal
+
+pub returns-in_err-refused-clause-broken : goal.returns-in_err-refused-clause-broken
+returns-in_err-refused-clause-broken g c = beside_error c.from_residual.result _ (inl c.in_err-refused.ensures.answered.refused)
+
+pub returns-in_err-refused-clause-no_channel : goal.returns-in_err-refused-clause-no_channel
+returns-in_err-refused-clause-no_channel g c =
+    subst (λ there. IsErrOf c.from_residual.result NoChannel ↔ IsTrue there) (strays_alike c.args.self.now.specs c.args.receiver.now.channel (Update c.args.receiver.now.number))
+    (told_on c.from_residual.result c.in_err-refused.field-0.0 NoChannel _ c.from_residual.ensures.1 c.in_err-refused.ensures.answered.no_channel)
+
+pub returns-in_err-refused-clause-no_wait : goal.returns-in_err-refused-clause-no_wait
+returns-in_err-refused-clause-no_wait g c = rw (handed_on c.from_residual.result c.in_err-refused.field-0.0 c.from_residual.ensures.1) (other_error c.in_err-refused.field-0.0 Waits c.in_err-refused.ensures.waited)
 
 pub returns-then-f-clause-tried : goal.returns-then-f-clause-tried
 returns-then-f-clause-tried g c =
@@ -39,6 +51,10 @@ returns-in_err-ended-clause-broken g c =
 pub returns-in_err-ended-clause-no_channel : goal.returns-in_err-ended-clause-no_channel
 returns-in_err-ended-clause-no_channel g c =
     broken_there c.args.self.now.specs c.args.receiver.now.channel (Update c.args.receiver.now.number) c.in_ok-refused.refused c.in_ok-refused.ensures.answered.no_channel (Changed c.args.receiver.now.number) c.in_err-ended.field-0.0 c.from_residual-in_err-ended.result c.from_residual-in_err-ended.ensures.1 c.in_err-ended.ensures.answered.no_channel
+
+pub returns-in_err-ended-clause-no_wait : goal.returns-in_err-ended-clause-no_wait
+returns-in_err-ended-clause-no_wait g c =
+    rw (handed_on c.from_residual-in_err-ended.result c.in_err-ended.field-0.0 c.from_residual-in_err-ended.ensures.1) (other_error c.in_err-ended.field-0.0 Waits c.in_err-ended.ensures.waited)
 
 pub returns-in-Done-clause-tried : goal.returns-in-Done-clause-tried
 returns-in-Done-clause-tried g c = record {
