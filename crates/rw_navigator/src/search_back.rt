@@ -50,7 +50,8 @@ impl<R: Reversible> Navigator<R> {
         ensures found { result ≡ last_below (step_hit (P.holds_of_step probe.now) self.now.entries) self.now.place }
         ensures below { IfSome result (λ place. (0 < place) × (place < self.now.place)) }
     {
-        for place in (1..self.place()).rev() {
+        let here = self.place();
+        for place in (1..here).rev() {
             if probe.step(self.entry_before(place)) {
                 return Some(place);
             }

@@ -1,7 +1,15 @@
-use Rattle.std.proofs.Common.{◌-◌, arith}
-use Rattle.rw_navigator.specs.Search.{step_hit}
+use Rattle.std.proofs.Common.{◌-◌, ap, arith}
+use Rattle.rw_navigator.specs.Search.{step_hit, last_below}
 use Rattle.rw_navigator.proofs.Searches.{step_hit-is, not_below}
 use Rattle.rw_navigator.proofs.places.Navigator.last_step_below.Goals as goal
+
+pub loop-place-init : goal.loop-place-init
+loop-place-init g c =
+    let holds = g.P.Probe.holds_of_step c.args.probe.now in
+    record {
+      rest = ap (last_below (step_hit holds c.args.self.now.entries)) c.place-here.ensures.place;
+      below = omega (arith, c.place-here.ensures.place);
+    }
 
 pub loop-place-preserved : goal.loop-place-preserved
 loop-place-preserved g c =

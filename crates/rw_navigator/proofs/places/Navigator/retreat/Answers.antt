@@ -2,6 +2,16 @@ use Rattle.std.proofs.Common.{◌<◌, ◌≤◌, ◌-◌, length, arith}
 use Rattle.rw_navigator.proofs.Visits.{fits_back, retreated}
 use Rattle.rw_navigator.proofs.places.Navigator.retreat.Goals as goal
 
+pub overflow_sub-self : goal.overflow_sub-self
+overflow_sub-self g c =
+    let above : 0 < c.self.inside.place = rw (← c.self.view_is) at c.requires in
+    omega (arith, above)
+
+pub index-entry-requires : goal.index-entry-requires
+index-entry-requires g c =
+    let above : 0 < c.self.inside.place = rw (← c.self.view_is) at c.requires in
+    omega (arith, above, c.self.invariant.inside, c.self.inside.entries.ok.0)
+
 pub undo-requires : goal.undo-requires
 undo-requires g c =
     let v = c.self.inside in

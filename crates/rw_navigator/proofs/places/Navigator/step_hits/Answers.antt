@@ -33,3 +33,13 @@ loop-i-preserved g c =
       | else-step w ↦ let same : hits_to hit (i + 1) ≡ hits_to hit i = hits_to-miss hit i (is ∙ w.if-step.false) in
           rw w.places-is (record { found = kept.found ∙ sym same; count = kept.count ∙ sym (ap length same); room = kept.room })
     ]
+
+pub returns-clause-hits : goal.returns-clause-hits
+returns-clause-hits g c =
+    let hit = step_hit (g.P.Probe.holds_of_step c.args.probe.now) c.args.self.now.entries in
+    c.loop-i.invariant.found ∙ ap (hits_to hit) (omega arith)
+
+pub returns-clause-exact : goal.returns-clause-exact
+returns-clause-exact g c =
+    let hit = step_hit (g.P.Probe.holds_of_step c.args.probe.now) c.args.self.now.entries in
+    c.loop-i.invariant.room ∙ ap length (sym (c.loop-i.invariant.found ∙ ap (hits_to hit) (omega arith)))
