@@ -1,8 +1,9 @@
 //! The state of a world as JSON.
 
 ghost use Rattle.std.specs.Prelude.{◌≡◌, ◌++◌, ◌∷◌, [], codes, length, map, option_map, option_to_list, IfOk, OnOk};
-ghost use Rattle.serde_json.specs.View.{view};
-ghost use Rattle.rw_console.specs.Json.{broadcast_json, broadcast_with, channel_json, json_text, receiver_json, receivers_json, handle_json, handles_json, watch_json, watcher_json, watchers_json, weak_member, world_json, natural};
+ghost use Rattle.serde_json.specs.Data.{object};
+ghost use Rattle.serde_json.specs.View.{view, members_view};
+ghost use Rattle.rw_console.specs.Json.{broadcast_json, broadcast_with, channel_json, json_text, receiver_json, receivers_json, handle_json, handles_json, watch_json, watcher_json, watchers_json, world_json, natural};
 ghost use Rattle.rw_broadcast.specs.Machine.{position_at};
 ghost use Rattle.rw_watch.specs.Machine.{mark_at};
 ghost use Rattle.std.specs.Prelude.{slice_get};
@@ -13,7 +14,7 @@ use rw_handles::Kind;
 use rw_law::Reversible;
 use rw_watch::Watch;
 use rw_world::{Chan, World};
-use serde_json::{Value, json};
+use serde_json::{Map, Value, json, put};
 use std::alloc::{AllocError, Global};
 
 /// Appends a line with the state that a world shows at a place of a run of `len` entries.
@@ -46,8 +47,7 @@ fn world_text(
 fn world_value(alloc: Global, world: &World<u64>, len: u64, place: u64) -> Result<Value, AllocError>
     ensures { IfOk result (λ value. view value ≡ world_json (⟦<World<u64> as Reversible>⟧.shown world.now) len place) }
 {
-    let channels = channel_values(alloc, world)?;
-    json!(in alloc; {"channels": channels, "len": len, "place": place})
+    json!(in alloc; {"channels": channel_values(alloc, world)?, "len": len, "place": place})
 }
 
 fn channel_values(alloc: Global, world: &World<u64>) -> Result<Vec<Value>, AllocError>
@@ -94,52 +94,37 @@ fn handle_value(wanted: Kind, h: u32, own: Option<Kind>) -> Option<Value>
 fn broadcast_value(alloc: Global, channel: &Broadcast<u64>) -> Result<Value, AllocError>
     ensures { IfOk result (λ value. view value ≡ broadcast_json channel.now.shown) }
 {
-    if channel.alive(Kind::Weak) == 0 {
-        return strong_value(alloc, channel);
+    let mut members = Map::new(alloc);
+    put_members(alloc, &mut members, channel)?;
+    if channel.alive(Kind::Weak) != 0 {
+        let weak = broadcast_handles(alloc, channel, Kind::Weak)?;
+        put(&mut members, alloc, "weak", Value::from(weak))?;
     }
-    weak_value(alloc, channel)
+    Ok(Value::Object(members))
 }
 
-/// A broadcast, with no member for weak senders.
-fn strong_value(alloc: Global, channel: &Broadcast<u64>) -> Result<Value, AllocError>
-    ensures { IfOk result (λ value. view value ≡ broadcast_with channel.now.shown []) }
+/// Puts into an object with no members those of a broadcast, except the one for weak senders.
+fn put_members(
+    alloc: Global,
+    members: &mut Map<String, Value>,
+    channel: &Broadcast<u64>,
+) -> Result<(), AllocError>
+    requires { members.old.entries ≡ [] }
+    ensures { OnOk result (object (members_view members.new.entries) ≡ broadcast_with channel.now.shown []) }
 {
+    put(members, alloc, "capacity", Value::from(channel.capacity()))?;
+    put(members, alloc, "closed", Value::from(channel.closed()))?;
+    let kind = Value::try_from_str(alloc, "broadcast")?;
+    put(members, alloc, "kind", kind)?;
+    put(members, alloc, "made", Value::from(channel.made()))?;
+    put(members, alloc, "queued", Value::from(channel.queued()))?;
     let receivers = receiver_values(alloc, channel)?;
+    put(members, alloc, "receivers", Value::from(receivers))?;
     let senders = broadcast_handles(alloc, channel, Kind::Sender)?;
+    put(members, alloc, "senders", Value::from(senders))?;
+    put(members, alloc, "sent", Value::from(channel.sent()))?;
     let window = window_values(alloc, channel)?;
-    json!(in alloc; {
-        "capacity": channel.capacity(),
-        "closed": channel.closed(),
-        "kind": "broadcast",
-        "made": channel.made(),
-        "queued": channel.queued(),
-        "receivers": receivers,
-        "senders": senders,
-        "sent": channel.sent(),
-        "window": window
-    })
-}
-
-/// A broadcast, with the member for weak senders.
-fn weak_value(alloc: Global, channel: &Broadcast<u64>) -> Result<Value, AllocError>
-    ensures { IfOk result (λ value. view value ≡ broadcast_with channel.now.shown (weak_member channel.now.shown ∷ [])) }
-{
-    let receivers = receiver_values(alloc, channel)?;
-    let senders = broadcast_handles(alloc, channel, Kind::Sender)?;
-    let weak = broadcast_handles(alloc, channel, Kind::Weak)?;
-    let window = window_values(alloc, channel)?;
-    json!(in alloc; {
-        "capacity": channel.capacity(),
-        "closed": channel.closed(),
-        "kind": "broadcast",
-        "made": channel.made(),
-        "queued": channel.queued(),
-        "receivers": receivers,
-        "senders": senders,
-        "sent": channel.sent(),
-        "weak": weak,
-        "window": window
-    })
+    put(members, alloc, "window", Value::from(window))
 }
 
 /// The retained values.
@@ -203,14 +188,12 @@ fn receiver_values(alloc: Global, channel: &Broadcast<u64>) -> Result<Vec<Value>
 fn watch_value(alloc: Global, channel: &Watch<u64>) -> Result<Value, AllocError>
     ensures { IfOk result (λ value. view value ≡ watch_json channel.now.shown) }
 {
-    let receivers = watcher_values(alloc, channel)?;
-    let senders = watch_senders(alloc, channel)?;
     json!(in alloc; {
         "closed": channel.closed(),
         "kind": "watch",
         "made": channel.made(),
-        "receivers": receivers,
-        "senders": senders,
+        "receivers": watcher_values(alloc, channel)?,
+        "senders": watch_senders(alloc, channel)?,
         "value": channel.value(),
         "version": channel.version()
     })
