@@ -6,40 +6,25 @@ use std::test::Fail;
 fn a_short_life(rt: HostRuntime) -> Result<(), Fail> {
     let mut table: Table<u64> = Table::new(rt.alloc())?;
     table.ready(4)?;
-    assert!(rt; 4 <= table.room());
-    assert_eq!(rt;
-        [table.make(Kind::Sender, 0), table.make(Kind::Receiver, 5)],
-        [0, 1]
-    );
+    let has_room = 4 <= table.room();
+    let made = [table.make(Kind::Sender, 0), table.make(Kind::Receiver, 5)];
     let looks = [table.look(0, Kind::Receiver), table.look(2, Kind::Sender)];
-    assert_eq!(rt;
-        looks,
-        [Err(HandleFault::WrongKind), Err(HandleFault::Unknown)]
-    );
-    assert_eq!(rt; table.find(1, None), Found::Handle(Kind::Receiver, 5));
-    assert_eq!(rt; table.drop_one(1), (Kind::Receiver, 5));
-    assert_eq!(rt;
-        (table.look(1, Kind::Receiver), table.get(1)),
-        (Err(HandleFault::Gone), None)
-    );
+    let found = (table.find(1, None), table.drop_one(1));
+    let gone = (table.look(1, Kind::Receiver), table.get(1));
     table.undrop(1, Kind::Receiver, 5);
-    let undropped = table.get(1);
+    let undropped = (table.get(1), table.kind(1), table.slots().len());
     table.set(1, 7);
-    assert_eq!(rt;
-        [
-            undropped,
-            table.get(1),
-            table.receiver(0),
-            table.receiver(1)
-        ],
-        [Some(5), Some(7), None, Some(7)]
-    );
-    assert_eq!(rt;
-        (table.kind(1), table.slots().len()),
-        (Some(Kind::Receiver), 2)
-    );
+    let values = [table.get(1), table.receiver(0), table.receiver(1)];
     table.unmake();
-    assert_eq!(rt; (table.made(), alive(&table)), (1, [1, 0, 0]));
+    let left = (table.made(), alive(&table));
+    drop(table);
+    assert_eq!(rt; (has_room, made, left), (true, [0, 1], (1, [1, 0, 0])));
+    let kept = (Kind::Receiver, 5);
+    assert_eq!(rt; found, (Found::Handle(kept.0, kept.1), kept));
+    assert_eq!(rt; undropped, (Some(5), Some(Kind::Receiver), 2));
+    assert_eq!(rt; values, [Some(7), None, Some(7)]);
+    let faults = [HandleFault::WrongKind, HandleFault::Unknown].map(Err);
+    assert_eq!(rt; (looks, gone), (faults, (Err(HandleFault::Gone), None)));
     Ok(())
 }
 
@@ -56,35 +41,30 @@ fn alive(table: &Table<u64>) -> [u64; 3] {
 fn a_weak_handle(rt: HostRuntime) -> Result<(), Fail> {
     let mut table: Table<u64> = Table::of_two(rt.alloc(), 0, 0)?;
     table.ready(1)?;
-    assert_eq!(rt; table.make(Kind::Weak, 0), 2);
+    let made = (table.make(Kind::Weak, 0), alive(&table));
     let looks = [
         table.look(2, Kind::Weak),
         table.look(2, Kind::Sender),
         table.look(0, Kind::Weak),
     ];
+    let dropped = table.drop_one(2);
+    let gone = (table.look(2, Kind::Weak), alive(&table));
+    drop(table);
+    assert_eq!(rt; (made, dropped), ((2, [1, 1, 1]), (Kind::Weak, 0)));
     let refused = Err(HandleFault::WrongKind);
     assert_eq!(rt; looks, [Ok(()), refused, refused]);
-    assert_eq!(rt; alive(&table), [1, 1, 1]);
-    assert_eq!(rt; table.drop_one(2), (Kind::Weak, 0));
-    assert_eq!(rt;
-        (table.look(2, Kind::Weak), alive(&table)),
-        (Err(HandleFault::Gone), [1, 1, 0])
-    );
+    assert_eq!(rt; gone, (Err(HandleFault::Gone), [1, 1, 0]));
     Ok(())
 }
 
 #[test]
 fn the_first_two(rt: HostRuntime) -> Result<(), Fail> {
     let table: Table<u64> = Table::of_two(rt.alloc(), 3, 4)?;
-    assert_eq!(rt; table.made(), 2);
-    let found = [table.find(0, None), table.find(1, None)];
-    assert_eq!(rt;
-        found,
-        [
-            Found::Handle(Kind::Sender, 3),
-            Found::Handle(Kind::Receiver, 4)
-        ]
-    );
+    let found = (table.made(), table.find(0, None), table.find(1, None));
+    drop(table);
+    let sender = Found::Handle(Kind::Sender, 3);
+    let receiver = Found::Handle(Kind::Receiver, 4);
+    assert_eq!(rt; found, (2, sender, receiver));
     Ok(())
 }
 

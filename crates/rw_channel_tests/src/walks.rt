@@ -8,7 +8,10 @@ use adding::Adder;
 use metering::Metered;
 use parity::Parity;
 use rw_fixtures::record;
+use rw_law::NoMemory;
 use rw_navigator::{Move, Navigator, OutOfRange};
+use std::alloc::Global;
+use std::process::Abort;
 use std::test::Fail;
 
 /// Calls by actor 0, with their stamps.
@@ -22,13 +25,31 @@ const ONE_TO_SEVEN: [(u32, u64, u64); 7] = [
     (0, 7, 7),
 ];
 
+/// A navigator at the opening of an adder that makes these calls.
+fn at_opening(alloc: Global) -> Result<Navigator<Adder>, NoMemory> {
+    let mut played = Adder::new();
+    let entries = record(alloc, &mut played, &ONE_TO_SEVEN)?;
+    let opened = Navigator::open(alloc, Adder::new(), &entries);
+    drop(entries);
+    opened
+}
+
 #[test]
 fn the_machine_had_as_many_calls_as_places_were_passed(rt: HostRuntime) -> Result<(), Fail> {
     let mut played = Metered::new(Adder::new());
     let entries = record(rt.alloc(), &mut played, &[(0, 1, 3), (0, 2, 1), (0, 3, 4)])?;
-    assert_eq!(rt; played.calls(), 3);
     let start = Metered::new(Adder::new());
-    let mut navigator = Navigator::open(rt.alloc(), start, &entries)?;
+    let opened = Navigator::open(rt.alloc(), start, &entries);
+    drop(entries);
+    let mut navigator = opened?;
+    counts_its_turns(&rt, &mut navigator);
+    drop(navigator);
+    assert_eq!(rt; played.calls(), 3);
+    Ok(())
+}
+
+/// Each move is answered, and the machine had as many calls as the navigator turned.
+fn counts_its_turns(rt: &impl Abort, navigator: &mut Navigator<Metered<Adder>>) {
     for (to, answer, place, turns) in [
         (Move::End, Ok(()), 3, 3),
         (Move::Back(1), Ok(()), 2, 4),
@@ -46,14 +67,11 @@ fn the_machine_had_as_many_calls_as_places_were_passed(rt: HostRuntime) -> Resul
         ];
         assert_eq!(rt; (answered, counts), (answer, [place, turns, turns]));
     }
-    Ok(())
 }
 
 #[test]
 fn walks_by_moves_and_refuses_those_out_of_range(rt: HostRuntime) -> Result<(), Fail> {
-    let mut played = Adder::new();
-    let entries = record(rt.alloc(), &mut played, &ONE_TO_SEVEN)?;
-    let mut navigator = Navigator::open(rt.alloc(), Adder::new(), &entries)?;
+    let mut navigator = at_opening(rt.alloc())?;
     let moves = [
         Move::Back(5),
         Move::Forward(9),
@@ -61,17 +79,21 @@ fn walks_by_moves_and_refuses_those_out_of_range(rt: HostRuntime) -> Result<(), 
         Move::Start,
         Move::End,
     ];
-    let answers = navigator.walk(rt.alloc(), &moves)?;
+    let walked = navigator.walk(rt.alloc(), &moves);
+    let sum = navigator.state().sum();
+    refuses(&rt, &mut navigator);
+    drop(navigator);
     assert_eq!(rt;
-        answers.as_slice(),
+        walked?.as_slice(),
         [Err(OutOfRange), Err(OutOfRange), Ok(()), Ok(()), Ok(())].as_slice()
     );
-    let counts = [
-        navigator.place(),
-        navigator.turns(),
-        navigator.state().sum(),
-    ];
-    assert_eq!(rt; counts, [7, 15, 28]);
+    assert_eq!(rt; sum, 28);
+    Ok(())
+}
+
+/// Moves out of the range of seven entries, after which it stands as before.
+fn refuses(rt: &impl Abort, navigator: &mut Navigator<Adder>) {
+    assert_eq!(rt; (navigator.place(), navigator.turns()), (7, 15));
     for to in [
         Move::Forward(u64::MAX),
         Move::Back(u64::MAX),
@@ -84,7 +106,6 @@ fn walks_by_moves_and_refuses_those_out_of_range(rt: HostRuntime) -> Result<(), 
             (Err(OutOfRange), 7, 15)
         );
     }
-    Ok(())
 }
 
 const EVEN_AMOUNT: Parity = Parity {
@@ -120,24 +141,33 @@ const NEAREST: [(Parity, u64, Option<u64>, Option<u64>); 12] = [
 
 #[test]
 fn finds_the_nearest_hit_in_each_direction(rt: HostRuntime) -> Result<(), Fail> {
-    let mut played = Adder::new();
-    let entries = record(rt.alloc(), &mut played, &ONE_TO_SEVEN)?;
-    let mut navigator = Navigator::open(rt.alloc(), Adder::new(), &entries)?;
+    let mut navigator = at_opening(rt.alloc())?;
     for (probe, from, below, above) in NEAREST {
-        assert_eq!(rt; navigator.step(Move::Goto(from)), Ok(()));
-        let found = (navigator.back_to(&probe), navigator.place());
-        assert_eq!(rt;
-            found,
-            (below, below.unwrap_or(from)),
-            "{probe:?} below {from}"
-        );
-        assert_eq!(rt; navigator.step(Move::Goto(from)), Ok(()));
-        let found = (navigator.forward_to(&probe), navigator.place());
-        assert_eq!(rt;
-            found,
-            (above, above.unwrap_or(from)),
-            "{probe:?} above {from}"
-        );
+        finds(&rt, &mut navigator, probe, from, below, above);
     }
+    drop(navigator);
     Ok(())
+}
+
+/// The nearest hits of a condition, searched from a place in each direction: it then stands there, or where it stood.
+fn finds(
+    rt: &impl Abort,
+    navigator: &mut Navigator<Adder>,
+    probe: Parity,
+    from: u64,
+    below: Option<u64>,
+    above: Option<u64>,
+) {
+    let gone = navigator.step(Move::Goto(from));
+    let back = (gone, navigator.back_to(&probe), navigator.place());
+    let gone = navigator.step(Move::Goto(from));
+    let on = (gone, navigator.forward_to(&probe), navigator.place());
+    assert_eq!(rt;
+        (back, on),
+        (
+            (Ok(()), below, below.unwrap_or(from)),
+            (Ok(()), above, above.unwrap_or(from))
+        ),
+        "{probe:?} from {from}"
+    );
 }

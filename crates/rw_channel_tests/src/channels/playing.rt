@@ -138,25 +138,58 @@ where
 {
     let opening = walked.place();
     let book = record(rt, alloc, recorded, steps)?;
-    let mut navigator = Navigator::open(alloc, walked, book.entries())?;
+    let opened = Navigator::open(alloc, walked, book.entries());
+    drop(book);
+    let mut navigator = opened?;
+    walk(rt, &mut navigator, opening, steps);
+    drop(navigator);
+    Ok(())
+}
+
+/// Walks from the opening to the end, back, and on again.
+fn walk<M: Reversible + Shows>(
+    rt: &impl Abort,
+    navigator: &mut Navigator<M>,
+    opening: M::Place,
+    steps: &[Expected<M::Call, M::Reply, M::Place>],
+) {
     assert_eq!(rt; navigator.step(Move::End), Ok(()));
+    walk_back(rt, navigator, steps);
+    assert_eq!(rt;
+        (navigator.place(), navigator.state().place()),
+        (0, opening)
+    );
+    walk_on(rt, navigator, steps);
+    let len = navigator.len();
+    assert_eq!(rt; (navigator.place(), navigator.turns() / 3), (len, len));
+}
+
+/// Walks back over each recorded step, from its place.
+fn walk_back<M: Reversible + Shows>(
+    rt: &impl Abort,
+    navigator: &mut Navigator<M>,
+    steps: &[Expected<M::Call, M::Reply, M::Place>],
+) {
     for step in steps.iter().rev() {
         if !M::waits(&step.reply) {
             is_at(rt, navigator.state(), step);
             assert_eq!(rt; navigator.step(Move::Back(1)), Ok(()));
         }
     }
-    assert_eq!(rt; navigator.place(), 0);
-    assert_eq!(rt; navigator.state().place(), opening);
+}
+
+/// Walks on over each recorded step, to its place.
+fn walk_on<M: Reversible + Shows>(
+    rt: &impl Abort,
+    navigator: &mut Navigator<M>,
+    steps: &[Expected<M::Call, M::Reply, M::Place>],
+) {
     for step in steps {
         if !M::waits(&step.reply) {
             assert_eq!(rt; navigator.step(Move::Forward(1)), Ok(()));
             is_at(rt, navigator.state(), step);
         }
     }
-    assert_eq!(rt; navigator.place(), navigator.len());
-    assert_eq!(rt; navigator.turns() / 3, navigator.len());
-    Ok(())
 }
 
 /// Whether the machine shows what the row says of the place after a step.

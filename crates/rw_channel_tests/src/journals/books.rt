@@ -2,6 +2,8 @@
 
 use crate::cell::{Call, Cell, Reply};
 use rw_journal::{Book, TakeFault};
+use rw_law::Entry;
+use std::process::Abort;
 use std::test::Fail;
 
 /// A call by actor 63: the stamp of its receipt, and the value before it. Without a contract the tests' proofs stay short.
@@ -29,41 +31,59 @@ fn takes_and_rewinds(rt: HostRuntime) -> Result<(), Fail> {
         take(&mut book, 9, Call::Stray),
         take(&mut book, 3, Call::Set(8)),
     ];
-    let (waits, strays) = (Err(TakeFault::Waits), Err(TakeFault::NoChannel));
-    assert_eq!(rt;
-        answers,
-        [Ok((1, 0)), Ok((10, 1)), waits, strays, Ok((11, 7))]
-    );
-    assert_eq!(rt; book.len(), 3);
+    let len = book.len();
     let entries = [
         rewind(&mut book),
         rewind(&mut book),
         rewind(&mut book),
         rewind(&mut book),
     ];
+    let is_empty = book.is_empty();
+    drop(book);
+    let (waits, strays) = (Err(TakeFault::Waits), Err(TakeFault::NoChannel));
+    assert_eq!(rt;
+        answers,
+        [Ok((1, 0)), Ok((10, 1)), waits, strays, Ok((11, 7))]
+    );
     assert_eq!(rt; entries, [Some((11, 7)), Some((10, 1)), Some((1, 0)), None]);
-    assert!(rt; book.is_empty());
+    assert_eq!(rt; (len, is_empty), (3, true));
     Ok(())
 }
 
 #[test]
 fn runs_up_to_a_fault(rt: HostRuntime) -> Result<(), Fail> {
     let mut book = Book::open(rt.alloc(), Cell::new(100))?;
-    let ran = book.run(&[(0, Call::Set(1)), (63, Call::Set(2)), (1, Call::Stray)]);
-    assert_eq!(rt; ran, Err((2, TakeFault::NoChannel)));
-    assert!(rt; book.run(&[(5, Call::Set(3))]).is_ok());
-    assert_eq!(rt; book.entry(1).map(|e| e.stamp), Some(2));
+    let ran = [
+        book.run(&[(0, Call::Set(1)), (63, Call::Set(2)), (1, Call::Stray)]),
+        book.run(&[(5, Call::Set(3))]),
+    ];
+    let stamp = book.entry(1).map(|e| e.stamp);
     let (cell, entries) = book.into_parts();
-    assert_eq!(rt; (cell.value(), entries.len()), (3, 3));
-    for (entry, want) in entries.iter().zip([(0, 1), (63, 2), (5, 3)]) {
-        assert_eq!(rt; (entry.actor, entry.stamp), want);
-    }
+    has_entries(&rt, &entries, &[(0, 1), (63, 2), (5, 3)]);
+    drop(entries);
+    assert_eq!(rt; ran, [Err((2, TakeFault::NoChannel)), Ok(())]);
+    assert_eq!(rt; (stamp, cell.value()), (Some(2), 3));
     Ok(())
+}
+
+/// The entries have these actors and stamps.
+fn has_entries(rt: &impl Abort, entries: &[Entry<Cell>], wanted: &[(u32, u64)]) {
+    assert_eq!(rt; entries.len(), wanted.len());
+    for (entry, wanted) in entries.iter().zip(wanted) {
+        assert_eq!(rt; (entry.actor, entry.stamp), *wanted);
+    }
 }
 
 #[test]
 fn stamps_end_at_two_to_the_62(rt: HostRuntime) -> Result<(), Fail> {
     let mut book = Book::open(rt.alloc(), Cell::new(100))?;
+    ends_its_stamps(&rt, &mut book);
+    drop(book);
+    Ok(())
+}
+
+/// The last stamp is given, and then none.
+fn ends_its_stamps(rt: &impl Abort, book: &mut Book<Cell>) {
     let last = 1 << 62;
     let full = Err(TakeFault::JournalFull);
     for (clock, answer) in [
@@ -74,23 +94,31 @@ fn stamps_end_at_two_to_the_62(rt: HostRuntime) -> Result<(), Fail> {
         (u64::MAX, full),
     ] {
         assert_eq!(rt; book.ready(clock).is_ok(), answer.is_ok());
-        assert_eq!(rt; take(&mut book, clock, Call::Set(1)), answer);
+        assert_eq!(rt; take(book, clock, Call::Set(1)), answer);
     }
-    Ok(())
 }
 
 #[test]
 fn a_machine_without_room_refuses(rt: HostRuntime) -> Result<(), Fail> {
-    assert!(rt; Book::open(rt.alloc(), Cell::new(0)).is_err());
+    let closed = Book::open(rt.alloc(), Cell::new(0));
+    let is_closed = closed.is_err();
+    drop(closed);
     let mut book = Book::open(rt.alloc(), Cell::new(20))?;
+    runs_out_of_room(&rt, &mut book);
+    drop(book);
+    assert!(rt; is_closed);
+    Ok(())
+}
+
+/// Twenty values are set, no more, and again where one is taken back.
+fn runs_out_of_room(rt: &impl Abort, book: &mut Book<Cell>) {
     for i in 0..20 {
-        assert!(rt; take(&mut book, 0, Call::Set(i)).is_ok());
+        assert!(rt; take(book, 0, Call::Set(i)).is_ok());
     }
     let refused = Err(TakeFault::NoMemory);
     assert_eq!(rt; book.ready(0), refused);
     for answer in [refused.map(|()| (0, 0)), Ok((20, 18))] {
-        assert_eq!(rt; take(&mut book, 0, Call::Set(20)), answer);
-        assert_eq!(rt; rewind(&mut book), Some((20, 18)));
+        assert_eq!(rt; take(book, 0, Call::Set(20)), answer);
+        assert_eq!(rt; rewind(book), Some((20, 18)));
     }
-    Ok(())
 }
