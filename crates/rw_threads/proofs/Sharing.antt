@@ -1,14 +1,11 @@
--- A seat of numbers may go to another thread, as its player may, and threads may share a desk with such seats.
+-- A seat of numbers may go to another thread, and threads may share a desk with such seats.
 use denote.Builtin.{u64}
-use denote.Param.Send.{IsSend, IsSync, struct_send, recorded_send, sendable}
-use denote.Struct.Declared as Declared
+use denote.Param.Send.{IsSend, IsSync, sendable}
 use Rattle.std.specs.contracts.prelude.U64Clone.TheImpl as number
 use Rattle.rw_law.specs.contracts.value.U64Payload.TheImpl as payload
 use Rattle.rw_seat.specs.contracts.desk_seat.DeskSeat as Seat
 use Rattle.rw_seat.specs.contracts.seat_desk.SeatDesk as Desk
 use Rattle.rw_seat.proofs.Sends as seats
-use Rattle.rw_threads.specs.contracts.storm.seats.Player as Player
-use Rattle.rw_threads.proofs.storm.notes.Notes.TheSendSync as notes
 
 number_sent : IsSend u64
 number_sent = search sendable depth 5
@@ -21,9 +18,3 @@ seat_sent = seats.seat_sent u64 payload.ghosts number.ghosts number_sent
 
 pub desk_shared : IsSync (Desk.the_row u64 payload.ghosts number.ghosts)
 desk_shared = seats.desk_shared u64 payload.ghosts number.ghosts number_sent number_shared
-
-pub player_field_sent : IsSend (Player.the_field).row
-player_field_sent = struct_send (Declared.shape Player.the_type) (seat_sent, (notes.the_field_send, tt))
-
-pub player_sent : IsSend Player.the_row
-player_sent = recorded_send (Player.the_field).row _ _ (Player.the_type).to_one player_field_sent

@@ -8,16 +8,17 @@ mod calls;
 mod desks;
 mod playing;
 mod resident;
-mod seats;
 
+use crate::desks::{Calls, Seated};
+use crate::passes::PassDesk;
 use anyhow::Result;
-use calls::{broadcast_pairs, watch_pairs};
+use calls::pairs;
 use desks::{cost_of_book, cost_of_desk, time_apart, time_beside, time_closing};
 use resident::Cost;
 use rw_desk::Kept;
 use rw_law::Entry;
-use rw_world::{Chan, Spec};
-use seats::{cost_of_seat, time_seats_apart};
+use rw_seat::SeatDesk;
+use rw_world::{Chan, ChanCall, Spec};
 use std::alloc::Global;
 use std::io;
 use std::num::nearest_u64_to_f64;
@@ -28,6 +29,12 @@ use std::time::{Clock, Duration};
 
 /// The most calls of one channel, whose journal has no more entries.
 const MOST_CALLS: u64 = 1_000_000;
+
+/// What a broadcast is opened from.
+const BROADCAST: Spec<u64> = Spec::Broadcast(1_024);
+
+/// What a watch is opened from.
+const WATCH: Spec<u64> = Spec::Watch(0);
 
 /// How many bytes an entry of a channel's journal takes.
 fn entry_bytes() -> usize
@@ -64,24 +71,25 @@ fn report_cost(rt: &(impl Print + Eprint), name: &str, cost: Cost, calls: u64) -
 }
 
 /// Times one thread and two, on broadcasts.
-fn broadcasts<R: Clock + Files + AllocGlobal + Threads + Wait + Sync + Print + Eprint>(
-    rt: &R,
-    alloc: Global,
-    count: u64,
-) -> Result<()> {
-    let calls = broadcast_pairs(alloc, count)?;
-    let taken = cost_of_book(rt, alloc, Spec::Broadcast(1_024), &calls)?;
+fn broadcasts<
+    D: Calls + Sync + Drop,
+    R: Clock + Files + AllocGlobal + Threads + Wait + Sync + Print + Eprint,
+>(rt: &R, alloc: Global, calls: &[ChanCall<u64>], count: u64) -> Result<()>
+where
+    D::Actor: Send + Drop,
+{
+    let taken = cost_of_book(rt, alloc, BROADCAST, calls)?;
     report_cost(rt, "broadcast pairs taken into a book", taken, count)?;
-    let made = cost_of_desk(rt, alloc, Spec::Broadcast(1_024), &calls)?;
+    let made = cost_of_desk::<D>(rt, alloc, BROADCAST, calls)?;
     report_cost(rt, "broadcast pairs on a desk", made, count)?;
-    let apart = time_apart(rt, alloc, &calls)?;
+    let apart = time_apart::<D, R>(rt, alloc, calls)?;
     report(
         rt,
         "broadcast pairs on a desk, two threads on two channels",
         apart,
         count.saturating_mul(2),
     )?;
-    let beside = time_beside(rt, alloc, count / 2)?;
+    let beside = time_beside::<D, R>(rt, alloc, count / 2)?;
     report(
         rt,
         "sends on a desk, received in another thread",
@@ -92,15 +100,16 @@ fn broadcasts<R: Clock + Files + AllocGlobal + Threads + Wait + Sync + Print + E
 }
 
 /// Times one seat and two, on broadcasts.
-fn by_seats<R: Clock + Files + AllocGlobal + Threads + Wait + Sync + Print + Eprint>(
-    rt: &R,
-    alloc: Global,
-    count: u64,
-) -> Result<()> {
-    let calls = broadcast_pairs(alloc, count)?;
-    let made = cost_of_seat(rt, alloc, Spec::Broadcast(1_024), &calls)?;
+fn by_seats<
+    D: Seated + Sync + Drop,
+    R: Clock + Files + AllocGlobal + Threads + Wait + Sync + Print + Eprint,
+>(rt: &R, alloc: Global, calls: &[ChanCall<u64>], count: u64) -> Result<()>
+where
+    D::Actor: Send + Drop,
+{
+    let made = cost_of_desk::<D>(rt, alloc, BROADCAST, calls)?;
     report_cost(rt, "broadcast pairs by a seat", made, count)?;
-    let apart = time_seats_apart(rt, alloc, count)?;
+    let apart = time_apart::<D, R>(rt, alloc, calls)?;
     report(
         rt,
         "broadcast pairs by two seats, two threads on two channels",
@@ -111,25 +120,57 @@ fn by_seats<R: Clock + Files + AllocGlobal + Threads + Wait + Sync + Print + Epr
 }
 
 /// Times one thread on a watch.
-fn watches<R: Clock + Files + AllocGlobal + Wait + Print + Eprint>(
+fn watches<D: Calls + Drop, R: Clock + Files + AllocGlobal + Wait + Print + Eprint>(
     rt: &R,
     alloc: Global,
+    calls: &[ChanCall<u64>],
     count: u64,
-) -> Result<()> {
-    let calls = watch_pairs(alloc, count)?;
-    let taken = cost_of_book(rt, alloc, Spec::Watch(0), &calls)?;
+) -> Result<()>
+where
+    D::Actor: Drop,
+{
+    let taken = cost_of_book(rt, alloc, WATCH, calls)?;
     report_cost(rt, "watch pairs taken into a book", taken, count)?;
-    let made = cost_of_desk(rt, alloc, Spec::Watch(0), &calls)?;
+    let made = cost_of_desk::<D>(rt, alloc, WATCH, calls)?;
     report_cost(rt, "watch pairs on a desk", made, count)?;
     Ok(())
 }
 
-/// Times a close.
-fn closing<R: Clock + Wait + Print + Eprint>(rt: &R, alloc: Global, count: u64) -> Result<()> {
-    let calls = broadcast_pairs(alloc, count / 8)?;
-    let (time, entries) = time_closing(rt, alloc, &calls)?;
+/// Times a close of 8 channels, after an eighth of the calls on each.
+fn closing<D: Calls + Drop, R: Clock + Wait + Print + Eprint>(
+    rt: &R,
+    alloc: Global,
+    calls: &[ChanCall<u64>],
+) -> Result<()>
+where
+    D::Actor: Drop,
+{
+    let (few, _) = calls.split_at(calls.len() / 8);
+    let (time, entries) = time_closing::<D>(rt, alloc, few)?;
     report(rt, "entries of a closed desk of 8 channels", time, entries)?;
     Ok(())
+}
+
+/// Makes these calls, of which there are so many on each kind of channel.
+fn measure_all<
+    P: Calls + Sync + Drop,
+    S: Seated + Sync + Drop,
+    R: Clock + Files + AllocGlobal + Threads + Wait + Sync + Print + Eprint,
+>(
+    rt: &R,
+    alloc: Global,
+    on_broadcast: &[ChanCall<u64>],
+    on_watch: &[ChanCall<u64>],
+    count: u64,
+) -> Result<()>
+where
+    P::Actor: Send + Drop,
+    S::Actor: Send + Drop,
+{
+    broadcasts::<P, R>(rt, alloc, on_broadcast, count)?;
+    by_seats::<S, R>(rt, alloc, on_broadcast, count)?;
+    watches::<P, R>(rt, alloc, on_watch, count)?;
+    closing::<P, R>(rt, alloc, on_broadcast)
 }
 
 /// Makes so many calls of each workload, but no more than a journal has entries.
@@ -145,9 +186,16 @@ pub fn measure<R: Clock + Files + AllocGlobal + Threads + Wait + Sync + Print + 
         receipt_bytes()
     )?;
     eprintln!(rt; "nanoseconds each:")?;
-    broadcasts(rt, alloc, count)?;
-    by_seats(rt, alloc, count)?;
-    watches(rt, alloc, count)?;
-    closing(rt, alloc, count)?;
-    Ok(())
+    let on_broadcast = pairs(alloc, &BROADCAST, count)?;
+    let on_watch = pairs(alloc, &WATCH, count)?;
+    let measured = measure_all::<PassDesk, SeatDesk<u64>, R>(
+        rt,
+        alloc,
+        &on_broadcast,
+        &on_watch,
+        count,
+    );
+    drop(on_broadcast);
+    drop(on_watch);
+    measured
 }

@@ -13,12 +13,16 @@
 ghost use Rattle.std.specs.Prelude.{◌≡◌};
 
 mod bench;
+mod desks;
+mod passes;
 mod seats;
-mod shared;
 mod storm;
 
 use anyhow::{Context, Result, bail};
 use bench::measure;
+use desks::Calls;
+use passes::PassDesk;
+use rw_seat::SeatDesk;
 use std::alloc::Global;
 use std::env::{self, Env};
 use std::rt::Files;
@@ -53,16 +57,17 @@ fn asked(rt: &(impl Env + Alloc), place: usize, default: u64) -> Result<u64> {
 
 /// Plays a seed in a thread of its own. Where that doesn't end in time, somebody waits for a wake-up that was lost: nobody waits
 /// for that thread then, and it ends with the program.
-fn play_in_time<R: Threads + Wait + Clock + Copy + Send + Sync + 'static>(
-    rt: R,
-    alloc: Global,
-    seed: u64,
-    calls: u64,
-) -> Result<u64> {
+fn play_in_time<
+    D: Calls + Sync + Drop + 'static,
+    R: Threads + Wait + Clock + Copy + Send + Sync + 'static,
+>(rt: R, alloc: Global, seed: u64, calls: u64) -> Result<u64>
+where
+    D::Actor: Send + Drop,
+{
     let is_played = Arc::new(alloc, AtomicBool::new(false))?;
     let theirs = Arc::try_clone(&is_played)?;
     let player = thread::spawn(&rt, move || {
-        let recorded = play_seed(&rt, alloc, seed, calls);
+        let recorded = play_seed::<D, R>(&rt, alloc, seed, calls);
         theirs.store(true, Ordering::SeqCst);
         recorded
     })?;
@@ -83,12 +88,12 @@ fn storms<R: Threads + Wait + Clock + Copy + Send + Sync + Print + Eprint + 'sta
     calls: u64,
 ) -> Result<()> {
     for seed in 0..seeds {
-        let recorded = play_in_time(*rt, alloc, seed, calls)?;
+        let recorded = play_in_time::<PassDesk, R>(*rt, alloc, seed, calls)?;
         eprintln!(rt; "seed {seed}: {recorded} calls recorded")?;
         println!(rt;
             "seed {seed}: {calls} calls of {PLAYERS} threads, {WAITERS} others waited and were told, closed, each actor's receipts are its entries"
         )?;
-        let recorded = play_seats(rt, alloc, seed, calls)?;
+        let recorded = play_seats::<SeatDesk<u64>, R>(rt, alloc, seed, calls)?;
         eprintln!(rt; "seed {seed}: {recorded} calls of seats recorded")?;
         println!(rt;
             "seed {seed}: {SEATS} seats in two threads, which met by twos, closed, each seat's receipts are its entries, each front is its entry's place"

@@ -14,14 +14,14 @@ mod receipts;
 mod seats;
 mod waiting;
 
-use crate::shared::Shared;
+use crate::desks::Calls;
 use anyhow::{Context, Result, bail};
 use channels::SPECS;
 pub use channels::{PLAYERS, WAITERS};
 pub use notes::SEATS;
-use playing::{Played, act_all, prepare};
-use receipts::{agree, receipts_of};
-use rw_desk::{Desk, Pass};
+use playing::{act_all, prepare};
+use receipts::{Receipts, agree, receipts_of};
+use rw_journal::Run;
 pub use seats::play_seats;
 use std::alloc::{AllocError, Global};
 use std::sync::Wait;
@@ -29,49 +29,55 @@ use std::thread::Threads;
 use waiting::were_told;
 
 /// The passes of what was played, and of how many values each actor was told.
-fn parts_of(
+fn parts_of<P: Drop>(
     alloc: Global,
-    all: Vec<Played>,
-) -> Result<(Vec<Pass<u64>>, Vec<Option<u64>>), AllocError> {
+    all: Vec<(P, Option<u64>)>,
+) -> Result<(Vec<P>, Vec<Option<u64>>), AllocError> {
     let mut passes = Vec::with_capacity(alloc, all.len())?;
     let mut told = Vec::with_capacity(alloc, all.len())?;
-    for played in all {
-        let Played { pass, told: values } = played;
+    for (pass, values) in all {
         passes.push(pass)?;
         told.push(values)?;
     }
     Ok((passes, told))
 }
 
+/// How many calls were recorded, where the run has all receipts, and each actor was told of what it had to be.
+fn judged(run: &Run<u64>, receipts: &[Receipts], told: &[Option<u64>]) -> Result<u64> {
+    if !agree(run, receipts) {
+        bail!("receipts are not the entries");
+    }
+    if !were_told(run, told) {
+        bail!("an actor's calls were not all made, or a value was missed");
+    }
+    Ok(run.len())
+}
+
 /// Makes so many calls, chosen from a seed, and answers how many were recorded, with those of the actors that wait.
-pub fn play_seed<R: Threads + Wait + Sync>(
+pub fn play_seed<D: Calls + Sync + Drop, R: Threads + Wait + Sync>(
     rt: &R,
     alloc: Global,
     seed: u64,
     calls: u64,
-) -> Result<u64> {
-    let Ok((desk, mut passes, ends)) = Desk::open(alloc, &SPECS, PLAYERS + WAITERS) else {
-        bail!("no memory for a desk");
-    };
-    let shared = Shared { desk, ends };
+) -> Result<u64>
+where
+    D::Actor: Send + Drop,
+{
+    let (desk, mut passes) = D::open(alloc, &SPECS, PLAYERS + WAITERS)?;
     let first = passes.first_mut().context("no pass")?;
-    if !prepare(rt, &shared, first) {
+    if !prepare(rt, &desk, first) {
         bail!("handles were not made");
     }
     let each = calls / u64::from(PLAYERS);
-    let played = act_all(rt, alloc, &shared, passes, seed, each)?;
+    let played = act_all(rt, alloc, &desk, passes, seed, each)?;
     let (passes, told) = parts_of(alloc, played)?;
-    let receipts = receipts_of(alloc, &passes)?;
-    let Shared { desk, ends } = shared;
-    drop(ends);
-    let Ok(run) = desk.close(alloc, passes) else {
+    let receipts = receipts_of::<D>(alloc, &passes)?;
+    let Some(run) = desk.close(alloc, passes) else {
         bail!("the desk does not close");
     };
-    if !agree(&run, &receipts) {
-        bail!("receipts are not the entries");
-    }
-    if !were_told(&run, &told) {
-        bail!("an actor's calls were not all made, or a value was missed");
-    }
-    Ok(run.len())
+    let recorded = judged(&run, &receipts, &told);
+    drop(run);
+    drop(receipts);
+    drop(told);
+    recorded
 }

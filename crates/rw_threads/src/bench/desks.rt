@@ -1,15 +1,14 @@
 //! What is timed of desks.
 
-ghost use Rattle.std.specs.Prelude.{◌≡◌, false};
+ghost use Rattle.std.specs.Prelude.{◌≡◌, false, IfOk};
 ghost use Rattle.rw_world.specs.Openings.{has_bad_capacity};
 
-use super::playing::{make_all, make_apart, send_beside, take_all};
-use super::resident::{Cost, resident_bytes};
-use crate::shared::Shared;
+use super::playing::{make_apart, send_beside};
+use super::resident::{Cost, Start};
+use crate::desks::{Calls, Shared, last_actor};
 use anyhow::{Context, Result, bail};
-use rw_desk::{Desk, Pass};
 use rw_journal::Book;
-use rw_law::NoMemory;
+use rw_law::{NoMemory, Payload};
 use rw_world::{Chan, ChanCall, Spec, open_channel};
 use std::alloc::Global;
 use std::rt::Files;
@@ -17,16 +16,39 @@ use std::sync::Wait;
 use std::thread::Threads;
 use std::time::{Clock, Duration, Instant};
 
-/// A desk of these specs, and a pass for each of so many actors.
-fn open(alloc: Global, specs: &[Spec<u64>], actors: u32) -> Result<(Shared, Vec<Pass<u64>>)> {
-    let Ok((desk, passes, ends)) = Desk::open(alloc, specs, actors) else {
-        bail!("the desk is not opened");
+/// A desk of one channel, with its only actor.
+fn open_one<D: Shared + Drop>(alloc: Global, spec: Spec<u64>) -> Result<(D, D::Actor)>
+where
+    D::Actor: Drop,
+    ensures { IfOk result (λ r. D.owns r.0 r.1) }
+{
+    let (desk, mut actors) = D::open(alloc, &[spec], 1)?;
+    let actor = last_actor(&desk, &mut actors);
+    drop(actors);
+    let Some(actor) = actor else {
+        bail!("no actor");
     };
-    Ok((Shared { desk, ends }, passes))
+    Ok((desk, actor))
+}
+
+/// A desk with its two actors.
+fn open_two<D: Shared + Drop>(alloc: Global, specs: &[Spec<u64>]) -> Result<(D, D::Actor, D::Actor)>
+where
+    D::Actor: Drop,
+    ensures { IfOk result (λ r. D.owns r.0 r.1 × D.owns r.0 r.2) }
+{
+    let (desk, mut actors) = D::open(alloc, specs, 2)?;
+    let second = last_actor(&desk, &mut actors);
+    let first = last_actor(&desk, &mut actors);
+    drop(actors);
+    let (Some(first), Some(second)) = (first, second) else {
+        bail!("no two actors");
+    };
+    Ok((desk, first, second))
 }
 
 /// A book of a channel.
-fn book_of(alloc: Global, spec: &Spec<u64>) -> Result<Book<Chan<u64>>, NoMemory>
+fn book_of<V: Payload>(alloc: Global, spec: &Spec<V>) -> Result<Book<Chan<V>>, NoMemory>
     requires { has_bad_capacity spec.now ≡ false }
 {
     let channel = open_channel(alloc, spec)?;
@@ -34,101 +56,127 @@ fn book_of(alloc: Global, spec: &Spec<u64>) -> Result<Book<Chan<u64>>, NoMemory>
 }
 
 /// What it costs that a book takes the calls.
-pub fn cost_of_book(
+pub fn cost_of_book<V: Payload>(
     rt: &(impl Clock + Files + AllocGlobal),
     alloc: Global,
-    spec: Spec<u64>,
-    calls: &[ChanCall<u64>],
+    spec: Spec<V>,
+    calls: &[ChanCall<V>],
 ) -> Result<Cost>
     requires { has_bad_capacity spec ≡ false }
 {
     let Ok(mut book) = book_of(alloc, &spec) else {
         bail!("no memory for a book");
     };
-    let before = resident_bytes(rt)?;
-    let begin = Instant::now(rt)?;
-    if !take_all(&mut book, calls) {
-        bail!("a call was not taken");
+    let cost = cost_of_taking(rt, &mut book, calls);
+    drop(book);
+    cost
+}
+
+/// What it costs that this book takes the calls.
+fn cost_of_taking<V: Payload>(
+    rt: &(impl Clock + Files + AllocGlobal),
+    book: &mut Book<Chan<V>>,
+    calls: &[ChanCall<V>],
+) -> Result<Cost> {
+    let start = Start::now(rt)?;
+    for call in calls {
+        if book.take(0, 0, *call).is_err() {
+            bail!("a call was not taken");
+        }
     }
-    let time = begin.elapsed(rt)?;
-    let bytes = resident_bytes(rt)?.saturating_sub(before);
-    Ok(Cost { time, bytes })
+    start.cost(rt)
 }
 
 /// What it costs that one thread makes the calls on a desk of one channel.
-pub fn cost_of_desk(
+pub fn cost_of_desk<D: Shared + Drop>(
     rt: &(impl Clock + Files + AllocGlobal + Wait),
     alloc: Global,
     spec: Spec<u64>,
     calls: &[ChanCall<u64>],
-) -> Result<Cost> {
-    let (desk, mut passes) = open(alloc, &[spec], 1)?;
-    let mut pass = passes.pop().context("no pass")?;
-    let before = resident_bytes(rt)?;
-    let begin = Instant::now(rt)?;
-    if !make_all(rt, &desk, &mut pass, 0, calls) {
+) -> Result<Cost>
+where
+    D::Actor: Drop,
+{
+    let (desk, actor) = open_one::<D>(alloc, spec)?;
+    let start = Start::now(rt)?;
+    let (_actor, made) = desk.make_all(rt, actor, 0, calls);
+    if !made {
         bail!("a call was not made");
     }
-    let time = begin.elapsed(rt)?;
-    let bytes = resident_bytes(rt)?.saturating_sub(before);
-    Ok(Cost { time, bytes })
+    start.cost(rt)
 }
 
 /// How long two threads make the calls, each on a broadcast of its own.
-pub fn time_apart<R: Clock + Threads + Wait + Sync>(
+pub fn time_apart<D: Shared + Sync + Drop, R: Clock + Threads + Wait + Sync>(
     rt: &R,
     alloc: Global,
     calls: &[ChanCall<u64>],
-) -> Result<Duration> {
-    let (desk, mut passes) = open(alloc, &[Spec::Broadcast(1_024); 2], 2)?;
-    let second = passes.pop().context("no second pass")?;
-    let first = passes.pop().context("no first pass")?;
+) -> Result<Duration>
+where
+    D::Actor: Send + Drop,
+{
+    let (desk, first, second) = open_two::<D>(alloc, &[Spec::Broadcast(1_024); 2])?;
     let begin = Instant::now(rt)?;
-    let Some(passes) = make_apart(rt, &desk, first, second, calls) else {
+    let Some(_actors) = make_apart(rt, &desk, first, second, calls) else {
         bail!("no thread, or a call was not made");
     };
-    let time = begin.elapsed(rt)?;
-    drop(passes);
-    Ok(time)
+    Ok(begin.elapsed(rt)?)
 }
 
 /// How long it takes to send so many values in one thread and receive them in another.
-pub fn time_beside<R: Clock + Threads + Wait + Sync>(
+pub fn time_beside<D: Calls + Sync + Drop, R: Clock + Threads + Wait + Sync>(
     rt: &R,
     alloc: Global,
     count: u64,
-) -> Result<Duration> {
-    let (desk, mut passes) = open(alloc, &[Spec::Broadcast(1_024)], 2)?;
-    let second = passes.pop().context("no second pass")?;
-    let first = passes.pop().context("no first pass")?;
+) -> Result<Duration>
+where
+    D::Actor: Send + Drop,
+{
+    let (desk, first, second) = open_two::<D>(alloc, &[Spec::Broadcast(1_024)])?;
     let begin = Instant::now(rt)?;
-    let Some(passes) = send_beside(rt, &desk, first, second, count) else {
+    let Some(_passes) = send_beside(rt, &desk, first, second, count) else {
         bail!("no thread, or the channel was not closed");
     };
-    let time = begin.elapsed(rt)?;
-    drop(passes);
-    Ok(time)
+    Ok(begin.elapsed(rt)?)
+}
+
+/// Has each actor make the calls on a channel of its own, and says whether all were made.
+fn make_each<D: Calls, R: Wait>(
+    rt: &R,
+    desk: &D,
+    passes: &mut [D::Actor],
+    calls: &[ChanCall<u64>],
+) -> bool {
+    for pass in passes {
+        let (channel, _) = D::known(pass);
+        for call in calls {
+            if desk.wait_call(rt, pass, channel, *call).is_err() {
+                return false;
+            }
+        }
+    }
+    true
 }
 
 /// How long a desk of 8 channels takes to close, and how many entries it had. Each actor makes the calls on a channel of its own.
-pub fn time_closing(
+pub fn time_closing<D: Calls + Drop>(
     rt: &(impl Clock + Wait),
     alloc: Global,
     calls: &[ChanCall<u64>],
-) -> Result<(Duration, u64)> {
-    let (desk, mut passes) = open(alloc, &[Spec::Broadcast(1_024); 8], 8)?;
-    for pass in passes.iter_mut() {
-        let channel = pass.actor();
-        if !make_all(rt, &desk, pass, channel, calls) {
-            bail!("a call was not made");
-        }
+) -> Result<(Duration, u64)>
+where
+    D::Actor: Drop,
+{
+    let (desk, mut passes) = D::open(alloc, &[Spec::Broadcast(1_024); 8], 8)?;
+    if !make_each(rt, &desk, passes.as_mut_slice(), calls) {
+        bail!("a call was not made");
     }
-    let Shared { desk, ends } = desk;
-    drop(ends);
     let begin = Instant::now(rt)?;
-    let Ok(run) = desk.close(alloc, passes) else {
+    let Some(run) = desk.close(alloc, passes) else {
         bail!("the desk does not close");
     };
-    let time = begin.elapsed(rt)?;
-    Ok((time, run.len()))
+    let time = begin.elapsed(rt);
+    let entries = run.len();
+    drop(run);
+    Ok((time?, entries))
 }

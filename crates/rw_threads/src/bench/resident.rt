@@ -1,9 +1,9 @@
-//! How much memory calls take.
+//! How long calls take, and how much memory.
 
 use anyhow::{Context, Result};
 use std::fs;
 use std::rt::Files;
-use std::time::Duration;
+use std::time::{Clock, Duration, Instant};
 
 /// The bytes of a page, in which the system counts a process's memory.
 const PAGE: u64 = 4_096;
@@ -15,8 +15,31 @@ pub struct Cost {
     pub bytes: u64,
 }
 
+/// The time before the calls, and the memory in use.
+#[derive(Clone, Copy)]
+pub struct Start {
+    time: Instant,
+    bytes: u64,
+}
+
+impl Start {
+    /// What is so now.
+    pub fn now(rt: &(impl Clock + Files + AllocGlobal)) -> Result<Start> {
+        let bytes = resident_bytes(rt)?;
+        let time = Instant::now(rt)?;
+        Ok(Start { time, bytes })
+    }
+
+    /// What it cost since.
+    pub fn cost(&self, rt: &(impl Clock + Files + AllocGlobal)) -> Result<Cost> {
+        let time = self.time.elapsed(rt)?;
+        let bytes = resident_bytes(rt)?.saturating_sub(self.bytes);
+        Ok(Cost { time, bytes })
+    }
+}
+
 /// How many bytes of the process's memory are in use: a page that was never touched isn't.
-pub fn resident_bytes(rt: &(impl Files + AllocGlobal)) -> Result<u64> {
+fn resident_bytes(rt: &(impl Files + AllocGlobal)) -> Result<u64> {
     let counts = fs::read_to_string(rt, "/proc/self/statm")?;
     let pages = counts
         .split(' ')

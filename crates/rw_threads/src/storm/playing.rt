@@ -3,27 +3,20 @@
 use super::channels::{FIRST_DROPS, OWN_HANDLES, PLAYERS, SECOND_HANDLES, own_drops};
 use super::generator::Generator;
 use super::waiting::wait_for_end;
-use crate::shared::Calls;
+use crate::desks::Calls;
 use anyhow::{Result, bail};
-use rw_desk::{DeskFault, Pass};
+use rw_desk::DeskFault;
 use rw_world::ChanCall;
 use std::alloc::Global;
 use std::sync::Wait;
 use std::thread;
 use std::thread::Threads;
 
-/// An actor's pass, beside how many values it was told of; `None` where not all its calls were made.
-#[derive(Drop)]
-pub struct Played {
-    pub pass: Pass<u64>,
-    pub told: Option<u64>,
-}
-
 /// Makes these calls, without waiting, whatever becomes of them. Says whether all were made.
 fn make_all<D: Calls, R: Wait>(
     rt: &R,
     desk: &D,
-    pass: &mut Pass<u64>,
+    pass: &mut D::Actor,
     calls: &[(u32, ChanCall<u64>)],
 ) -> bool {
     let mut all = true;
@@ -34,7 +27,7 @@ fn make_all<D: Calls, R: Wait>(
 }
 
 /// Makes the handles that waiters and players need, and drops those that would keep a channel from its end.
-pub fn prepare<D: Calls, R: Wait>(rt: &R, desk: &D, pass: &mut Pass<u64>) -> bool {
+pub fn prepare<D: Calls, R: Wait>(rt: &R, desk: &D, pass: &mut D::Actor) -> bool {
     let mut all = make_all(rt, desk, pass, &SECOND_HANDLES);
     for _ in 0..PLAYERS {
         all &= make_all(rt, desk, pass, &OWN_HANDLES);
@@ -46,7 +39,7 @@ pub fn prepare<D: Calls, R: Wait>(rt: &R, desk: &D, pass: &mut Pass<u64>) -> boo
 fn make_calls<D: Calls, R: Wait>(
     rt: &R,
     desk: &D,
-    pass: &mut Pass<u64>,
+    pass: &mut D::Actor,
     generator: &mut Generator,
     calls: u64,
 ) -> Result<(), DeskFault> {
@@ -65,13 +58,14 @@ fn make_calls<D: Calls, R: Wait>(
 fn play<D: Calls, R: Wait>(
     rt: &R,
     desk: &D,
-    pass: &mut Pass<u64>,
+    pass: &mut D::Actor,
+    player: u32,
     seed: u64,
     calls: u64,
 ) -> Option<u64> {
-    let player = pass.actor();
     let mut generator = Generator::new(seed, player);
     let made = make_calls(rt, desk, pass, &mut generator, calls);
+    drop(generator);
     if make_all(rt, desk, pass, &own_drops(player)) && made.is_ok() {
         Some(0)
     } else {
@@ -79,25 +73,36 @@ fn play<D: Calls, R: Wait>(
     }
 }
 
-/// What an actor's thread does: it plays, or it waits.
-fn act<D: Calls, R: Wait>(rt: &R, desk: &D, mut pass: Pass<u64>, seed: u64, calls: u64) -> Played {
-    let told = match pass.actor().checked_sub(PLAYERS) {
-        None => play(rt, desk, &mut pass, seed, calls),
+/// What an actor's thread does: it plays, or it waits. Its pass is given back, beside how many values it was told of; `None` where not
+/// all its calls were made.
+fn act<D: Calls, R: Wait>(
+    rt: &R,
+    desk: &D,
+    mut pass: D::Actor,
+    seed: u64,
+    calls: u64,
+) -> (D::Actor, Option<u64>) {
+    let (actor, _) = D::known(&pass);
+    let told = match actor.checked_sub(PLAYERS) {
+        None => play(rt, desk, &mut pass, actor, seed, calls),
         Some(waiter) => wait_for_end(rt, desk, &mut pass, waiter),
     };
-    Played { pass, told }
+    (pass, told)
 }
 
-/// Has each actor act in a thread of its own, and gives the passes back. The players' threads are started first, and the waiters'
-/// only where all of these were.
+/// Has each actor act in a thread of its own, and gives the passes back, with what each was told. The players' threads are started first,
+/// and the waiters' only where all of these were.
 pub fn act_all<D: Calls + Sync, R: Threads + Wait + Sync>(
     rt: &R,
     alloc: Global,
     desk: &D,
-    passes: Vec<Pass<u64>>,
+    passes: Vec<D::Actor>,
     seed: u64,
     calls: u64,
-) -> Result<Vec<Played>> {
+) -> Result<Vec<(D::Actor, Option<u64>)>>
+where
+    D::Actor: Send + Drop,
+{
     let mut back = Vec::with_capacity(alloc, passes.len())?;
     let mut threads = Vec::with_capacity(alloc, passes.len())?;
     let mut started = true;

@@ -3,9 +3,9 @@
 ghost use Rattle.std.specs.Prelude.{◌≡◌, ◌↔◌, All, IsTrue};
 ghost use Rattle.rw_desk.specs.Settling.{projection};
 
-use rw_desk::{Kept, Pass, compare};
+use crate::desks::Shared;
+use rw_desk::{Kept, compare};
 use rw_journal::Run;
-use rw_seat::DeskSeat;
 use std::alloc::{AllocError, Global};
 
 /// A copy of an actor's receipts, which outlives its pass.
@@ -15,29 +15,16 @@ pub struct Receipts {
     kept: Vec<Kept<u64>>,
 }
 
-/// Copies an actor's receipts.
-fn copied(alloc: Global, actor: u32, kept: &[Kept<u64>]) -> Result<Receipts, AllocError> {
-    let kept = kept.to_vec(alloc)?;
-    Ok(Receipts { actor, kept })
-}
-
-/// Copies the receipts of each pass.
-pub fn receipts_of(alloc: Global, passes: &[Pass<u64>]) -> Result<Vec<Receipts>, AllocError> {
-    let mut all = Vec::new(alloc);
-    for pass in passes {
-        all.push(copied(alloc, pass.actor(), pass.kept())?)?;
-    }
-    Ok(all)
-}
-
-/// Copies the receipts of each seat.
-pub fn receipts_of_seats(
+/// Copies the receipts of each actor.
+pub fn receipts_of<D: Shared>(
     alloc: Global,
-    seats: &[DeskSeat<u64>],
+    actors: &[D::Actor],
 ) -> Result<Vec<Receipts>, AllocError> {
     let mut all = Vec::new(alloc);
-    for seat in seats {
-        all.push(copied(alloc, seat.actor(), seat.kept())?)?;
+    for actor in actors {
+        let (actor, kept) = D::known(actor);
+        let kept = kept.to_vec(alloc)?;
+        all.push(Receipts { actor, kept })?;
     }
     Ok(all)
 }

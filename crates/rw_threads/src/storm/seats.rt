@@ -2,14 +2,13 @@
 //! Each two of them share a thread in one of three rounds.
 
 ghost use Rattle.std.specs.Prelude.{All, IfOk, IfSome};
-ghost use Rattle.rw_seat.specs.SeatDesks.{IsSeatOf};
 
 use super::channels::{OWN_HANDLES, SECOND_HANDLES, SPECS};
 use super::notes::{Notes, SEATS, are_places};
-use super::receipts::{agree, receipts_of_seats};
-use crate::seats::{Seated, close, last_seat, open, with_seat};
+use super::receipts::{Receipts, agree, receipts_of};
+use crate::desks::{Seated, Shared, last_actor};
 use anyhow::{Result, bail};
-use rw_seat::{DeskSeat, SeatDesk};
+use rw_journal::Run;
 use rw_world::ChanCall;
 use std::alloc::{AllocError, Global};
 use std::sync::Wait;
@@ -24,8 +23,8 @@ const BETWEEN_MEETINGS: u64 = 16;
 
 /// A seat, and what its player keeps of its answers.
 #[derive(Drop)]
-struct Player {
-    seat: DeskSeat<u64>,
+struct Player<S> {
+    seat: S,
     notes: Notes,
 }
 
@@ -33,10 +32,10 @@ struct Player {
 fn call<D: Seated, R: Wait>(
     rt: &R,
     desk: &D,
-    player: Player,
+    player: Player<D::Actor>,
     channel: u32,
     call: ChanCall<u64>,
-) -> Player
+) -> Player<D::Actor>
     requires { D.owns desk.now player.seat }
     ensures { D.owns desk.now result.seat }
 {
@@ -50,9 +49,9 @@ fn call<D: Seated, R: Wait>(
 fn call_all<D: Seated, R: Wait>(
     rt: &R,
     desk: &D,
-    mut player: Player,
+    mut player: Player<D::Actor>,
     calls: &[(u32, ChanCall<u64>)],
-) -> Player
+) -> Player<D::Actor>
     requires { D.owns desk.now player.seat }
     ensures { D.owns desk.now result.seat }
 {
@@ -63,7 +62,7 @@ fn call_all<D: Seated, R: Wait>(
 }
 
 /// Makes the handles that the players name as their own.
-fn prepare<D: Seated, R: Wait>(rt: &R, desk: &D, player: Player) -> Player
+fn prepare<D: Seated, R: Wait>(rt: &R, desk: &D, player: Player<D::Actor>) -> Player<D::Actor>
     requires { D.owns desk.now player.seat }
     ensures { D.owns desk.now result.seat }
 {
@@ -75,7 +74,7 @@ fn prepare<D: Seated, R: Wait>(rt: &R, desk: &D, player: Player) -> Player
 }
 
 /// The next call of a player.
-fn play<D: Seated, R: Wait>(rt: &R, desk: &D, player: Player) -> Player
+fn play<D: Seated, R: Wait>(rt: &R, desk: &D, player: Player<D::Actor>) -> Player<D::Actor>
     requires { D.owns desk.now player.seat }
     ensures { D.owns desk.now result.seat }
 {
@@ -94,9 +93,9 @@ fn play<D: Seated, R: Wait>(rt: &R, desk: &D, player: Player) -> Player
 fn meet<D: Seated, R: Wait>(
     rt: &R,
     desk: &D,
-    pair: (Player, Player),
+    pair: (Player<D::Actor>, Player<D::Actor>),
     channel: u32,
-) -> (Player, Player)
+) -> (Player<D::Actor>, Player<D::Actor>)
     requires { D.owns desk.now pair.0.seat × D.owns desk.now pair.1.seat }
     ensures { D.owns desk.now result.0.seat × D.owns desk.now result.1.seat }
 {
@@ -123,9 +122,9 @@ fn meet<D: Seated, R: Wait>(
 fn play_pair<D: Seated, R: Wait>(
     rt: &R,
     desk: &D,
-    mut pair: (Player, Player),
+    mut pair: (Player<D::Actor>, Player<D::Actor>),
     calls: u64,
-) -> (Player, Player)
+) -> (Player<D::Actor>, Player<D::Actor>)
     requires { D.owns desk.now pair.0.seat × D.owns desk.now pair.1.seat }
     ensures { D.owns desk.now result.0.seat × D.owns desk.now result.1.seat }
 {
@@ -144,10 +143,15 @@ fn play_pair<D: Seated, R: Wait>(
 fn play_pairs<D: Seated + Sync, R: Threads + Wait + Sync>(
     rt: &R,
     desk: &D,
-    one: (Player, Player),
-    two: (Player, Player),
+    one: (Player<D::Actor>, Player<D::Actor>),
+    two: (Player<D::Actor>, Player<D::Actor>),
     calls: u64,
-) -> ((Player, Player), (Player, Player))
+) -> (
+    (Player<D::Actor>, Player<D::Actor>),
+    (Player<D::Actor>, Player<D::Actor>),
+)
+where
+    D::Actor: Send + Drop,
     requires one { D.owns desk.now one.0.seat × D.owns desk.now one.1.seat }
     requires two { D.owns desk.now two.0.seat × D.owns desk.now two.1.seat }
     ensures one { D.owns desk.now result.0.0.seat × D.owns desk.now result.0.1.seat }
@@ -164,10 +168,15 @@ fn play_pairs<D: Seated + Sync, R: Threads + Wait + Sync>(
 fn play_rounds<D: Seated + Sync, R: Threads + Wait + Sync>(
     rt: &R,
     desk: &D,
-    mut one: (Player, Player),
-    mut two: (Player, Player),
+    mut one: (Player<D::Actor>, Player<D::Actor>),
+    mut two: (Player<D::Actor>, Player<D::Actor>),
     calls: u64,
-) -> ((Player, Player), (Player, Player))
+) -> (
+    (Player<D::Actor>, Player<D::Actor>),
+    (Player<D::Actor>, Player<D::Actor>),
+)
+where
+    D::Actor: Send + Drop,
     requires one { D.owns desk.now one.0.seat × D.owns desk.now one.1.seat }
     requires two { D.owns desk.now two.0.seat × D.owns desk.now two.1.seat }
     ensures one { D.owns desk.now result.0.0.seat × D.owns desk.now result.0.1.seat }
@@ -182,69 +191,87 @@ fn play_rounds<D: Seated + Sync, R: Threads + Wait + Sync>(
 }
 
 /// The player of a seat.
-fn player_of(desk: &SeatDesk<u64>, alloc: Global, seed: u64, seat: DeskSeat<u64>) -> Player
-    requires { IsSeatOf desk.now seat }
-    ensures { IsSeatOf desk.now result.seat }
+fn player_of<D: Shared>(desk: &D, alloc: Global, seed: u64, seat: D::Actor) -> Player<D::Actor>
+    requires { D.owns desk.now seat }
+    ensures { D.owns desk.now result.seat }
 {
-    let notes = Notes::new(alloc, seed, seat.actor());
-    Player { seat, notes }
+    let (actor, _) = D::known(&seat);
+    Player {
+        seat,
+        notes: Notes::new(alloc, seed, actor),
+    }
 }
 
 /// The players of a desk's last two seats, which are taken off.
-fn last_pair(
-    desk: &SeatDesk<u64>,
+fn last_pair<D: Shared>(
+    desk: &D,
     alloc: Global,
     seed: u64,
-    seats: &mut Vec<DeskSeat<u64>>,
-) -> Option<(Player, Player)>
-    requires { All (IsSeatOf desk.now) seats.old.items }
-    ensures pair { IfSome result (λ r. IsSeatOf desk.now r.0.seat × IsSeatOf desk.now r.1.seat) }
-    ensures rest { All (IsSeatOf desk.now) seats.new.items }
+    seats: &mut Vec<D::Actor>,
+) -> Option<(Player<D::Actor>, Player<D::Actor>)>
+where
+    D::Actor: Drop,
+    requires { All (D.owns desk.now) seats.old.items }
+    ensures pair { IfSome result (λ r. D.owns desk.now r.0.seat × D.owns desk.now r.1.seat) }
+    ensures rest { All (D.owns desk.now) seats.new.items }
 {
-    let second = last_seat(desk, seats)?;
-    let first = last_seat(desk, seats)?;
+    let second = last_actor(desk, seats)?;
+    let first = last_actor(desk, seats)?;
     let first = player_of(desk, alloc, seed, first);
     let second = player_of(desk, alloc, seed, second);
     Some((first, second))
 }
 
-/// A desk's seats with those of a pair behind them, whose notes go behind the others.
-fn with_pair(
-    desk: &SeatDesk<u64>,
-    seats: Vec<DeskSeat<u64>>,
+/// A desk's seats with that of a player behind them, whose notes go behind the others.
+fn with_player<D: Shared>(
+    desk: &D,
+    mut seats: Vec<D::Actor>,
     notes: &mut Vec<Notes>,
-    pair: (Player, Player),
-) -> Result<Vec<DeskSeat<u64>>, AllocError>
-    requires seats { All (IsSeatOf desk.now) seats.items }
-    requires pair { IsSeatOf desk.now pair.0.seat × IsSeatOf desk.now pair.1.seat }
-    ensures { IfOk result (λ all. All (IsSeatOf desk.now) all.items) }
+    player: Player<D::Actor>,
+) -> Result<Vec<D::Actor>, AllocError>
+where
+    D::Actor: Drop,
+    requires seats { All (D.owns desk.now) seats.items }
+    requires player { D.owns desk.now player.seat }
+    ensures { IfOk result (λ all. All (D.owns desk.now) all.items) }
+{
+    let Player { seat, notes: ours } = player;
+    notes.push(ours)?;
+    seats.push(seat)?;
+    Ok(seats)
+}
+
+/// A desk's seats with those of a pair behind them, whose notes go behind the others.
+fn with_pair<D: Shared>(
+    desk: &D,
+    seats: Vec<D::Actor>,
+    notes: &mut Vec<Notes>,
+    pair: (Player<D::Actor>, Player<D::Actor>),
+) -> Result<Vec<D::Actor>, AllocError>
+where
+    D::Actor: Drop,
+    requires seats { All (D.owns desk.now) seats.items }
+    requires pair { D.owns desk.now pair.0.seat × D.owns desk.now pair.1.seat }
+    ensures { IfOk result (λ all. All (D.owns desk.now) all.items) }
 {
     let (one, two) = pair;
-    let Player {
-        seat: first,
-        notes: ours,
-    } = one;
-    let Player {
-        seat: second,
-        notes: theirs,
-    } = two;
-    notes.push(ours)?;
-    notes.push(theirs)?;
-    let seats = with_seat(desk, seats, first)?;
-    with_seat(desk, seats, second)
+    let seats = with_player(desk, seats, notes, one)?;
+    with_player(desk, seats, notes, two)
 }
 
 /// Has the seats of a desk play, and gives them back, with the notes in their order.
-fn play_all<R: Threads + Wait + Sync>(
+fn play_all<D: Seated + Sync, R: Threads + Wait + Sync>(
     rt: &R,
     alloc: Global,
-    desk: &SeatDesk<u64>,
-    mut seats: Vec<DeskSeat<u64>>,
+    desk: &D,
+    mut seats: Vec<D::Actor>,
     seed: u64,
     calls: u64,
-) -> Result<(Vec<DeskSeat<u64>>, Vec<Notes>)>
-    requires { All (IsSeatOf desk.now) seats.items }
-    ensures { IfOk result (λ r. All (IsSeatOf desk.now) r.0.items) }
+) -> Result<(Vec<D::Actor>, Vec<Notes>)>
+where
+    D::Actor: Send + Drop,
+    requires { All (D.owns desk.now) seats.items }
+    ensures { IfOk result (λ r. All (D.owns desk.now) r.0.items) }
 {
     let Some(two) = last_pair(desk, alloc, seed, &mut seats) else {
         bail!("no second pair of seats");
@@ -262,24 +289,36 @@ fn play_all<R: Threads + Wait + Sync>(
     Ok((seats, notes))
 }
 
+/// How many calls were recorded, where the run has all receipts, and each front is its entry's place.
+fn judged(run: &Run<u64>, receipts: &[Receipts], notes: &[Notes]) -> Result<u64> {
+    if !agree(run, receipts) {
+        bail!("receipts of seats are not the entries");
+    }
+    if !are_places(run, notes) {
+        bail!("a front is not its entry's place, or fell");
+    }
+    Ok(run.len())
+}
+
 /// Makes so many calls, chosen from a seed, and answers how many were recorded.
-pub fn play_seats<R: Threads + Wait + Sync>(
+pub fn play_seats<D: Seated + Sync + Drop, R: Threads + Wait + Sync>(
     rt: &R,
     alloc: Global,
     seed: u64,
     calls: u64,
-) -> Result<u64> {
-    let (desk, seats) = open(alloc, &SPECS, SEATS)?;
+) -> Result<u64>
+where
+    D::Actor: Send + Drop,
+{
+    let (desk, seats) = D::open(alloc, &SPECS, SEATS)?;
     let (seats, notes) = play_all(rt, alloc, &desk, seats, seed, calls)?;
-    let receipts = receipts_of_seats(alloc, &seats)?;
-    let Some(run) = close(rt, alloc, desk, seats) else {
+    let receipts = receipts_of::<D>(alloc, &seats)?;
+    let Some(run) = desk.close(rt, alloc, seats) else {
         bail!("the desk with seats does not close");
     };
-    if !agree(&run, &receipts) {
-        bail!("receipts of seats are not the entries");
-    }
-    if !are_places(&run, &notes) {
-        bail!("a front is not its entry's place, or fell");
-    }
-    Ok(run.len())
+    let recorded = judged(&run, &receipts, &notes);
+    drop(run);
+    drop(receipts);
+    drop(notes);
+    recorded
 }

@@ -1,9 +1,8 @@
 //! The actors of a storm that wait, each until its channel is at its end.
 
 use super::channels::{AWAITED_BROADCAST, PLAYERS, awaited_by};
-use crate::shared::Calls;
+use crate::desks::Calls;
 use rw_broadcast::{BCall, BReply};
-use rw_desk::Pass;
 use rw_journal::Run;
 use rw_watch::{WCall, WReply};
 use rw_world::{ChanCall, ChanReply};
@@ -37,7 +36,7 @@ fn woken_by(call: &ChanCall<u64>, reply: &ChanReply<u64>) -> Woken {
 pub fn wait_for_end<D: Calls, R: Wait>(
     rt: &R,
     desk: &D,
-    pass: &mut Pass<u64>,
+    pass: &mut D::Actor,
     waiter: u32,
 ) -> Option<u64> {
     let (channel, call) = awaited_by(waiter);

@@ -1,4 +1,4 @@
 use Rattle.rw_threads.proofs.storm.seats.prepare.Given as goal
 
 abbrev pub invariant-loop : goal.invariant-loop
-invariant-loop g l = g.D.Seated.owns l.desk l.player.seat
+invariant-loop g l = g.D.Shared.owns l.desk l.player.seat

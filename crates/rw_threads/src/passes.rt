@@ -1,41 +1,60 @@
-//! Desks that threads share.
+//! The desk with passes.
 
+use crate::desks::{Calls, Shared};
 use rw_broadcast::BCall;
-use rw_desk::{Desk, DeskFault, Ends, Pass, WTx};
+use rw_desk::{Desk, DeskFault, DeskOpenFault, Ends, Kept, Pass, WTx};
+use rw_journal::Run;
 use rw_watch::WCall;
-use rw_world::{ChanCall, ChanReply};
+use rw_world::{ChanCall, ChanReply, Spec};
+use std::alloc::Global;
 use std::sync::Wait;
-
-/// What calls are made on. Threads share it as a parameter, so that their proof needn't look into a desk.
-pub trait Calls {
-    /// A call that waits where it has to.
-    fn wait_call<R: Wait>(
-        &self,
-        rt: &R,
-        pass: &mut Pass<u64>,
-        channel: u32,
-        call: ChanCall<u64>,
-    ) -> Result<ChanReply<u64>, DeskFault>;
-
-    /// A call that waits where it has to, or doesn't wait. Some that name a channel's first handles are made by these.
-    fn make<R: Wait>(
-        &self,
-        rt: &R,
-        pass: &mut Pass<u64>,
-        channel: u32,
-        call: ChanCall<u64>,
-        waits: bool,
-    ) -> Result<ChanReply<u64>, DeskFault>;
-}
 
 /// A desk with the handles that its channels have from the beginning.
 #[derive(Drop)]
-pub struct Shared {
-    pub desk: Desk<u64>,
-    pub ends: Vec<Ends>,
+pub struct PassDesk {
+    desk: Desk<u64>,
+    ends: Vec<Ends>,
 }
 
-impl Calls for Shared {
+impl Shared for PassDesk {
+    ghost use Rattle.std.specs.Prelude.{⊤};
+
+    type Actor = Pass<u64>;
+
+    ghost owns = { λ _ _. ⊤ };
+
+    fn open(
+        alloc: Global,
+        specs: &[Spec<u64>],
+        actors: u32,
+    ) -> Result<(PassDesk, Vec<Pass<u64>>), DeskOpenFault> {
+        match Desk::open(alloc, specs, actors) {
+            Ok((desk, passes, ends)) => Ok((PassDesk { desk, ends }, passes)),
+            Err(fault) => Err(fault),
+        }
+    }
+
+    fn known(pass: &Pass<u64>) -> (u32, &[Kept<u64>]) {
+        (pass.actor(), pass.kept())
+    }
+
+    fn make_all<R: Wait>(
+        &self,
+        rt: &R,
+        mut pass: Pass<u64>,
+        channel: u32,
+        calls: &[ChanCall<u64>],
+    ) -> (Pass<u64>, bool) {
+        for call in calls {
+            if self.desk.wait_call(rt, &mut pass, channel, *call).is_err() {
+                return (pass, false);
+            }
+        }
+        (pass, true)
+    }
+}
+
+impl Calls for PassDesk {
     fn wait_call<R: Wait>(
         &self,
         rt: &R,
@@ -85,6 +104,13 @@ impl Calls for Shared {
             (_, call) if waits => self.desk.wait_call(rt, pass, channel, call),
             (_, call) => self.desk.call(rt, pass, channel, call),
         }
+    }
+
+    fn close(self, alloc: Global, passes: Vec<Pass<u64>>) -> Option<Run<u64>> {
+        let PassDesk { desk, ends } = self;
+        drop(ends);
+        let closed = desk.close(alloc, passes);
+        closed.ok()
     }
 }
 

@@ -1,9 +1,0 @@
-use Rattle.std.proofs.lemmas.List.Elements.{All-pop}
-use Rattle.rw_seat.specs.SeatDesks.{IsSeatOf}
-use Rattle.rw_threads.proofs.seats.last_seat.Goals as goal
-
-pub returns-clause-seat : goal.returns-clause-seat
-returns-clause-seat c = (All-pop (IsSeatOf c.args.desk.now) _ _ c.pop.result c.pop.ensures.items c.requires).1
-
-pub returns-clause-rest : goal.returns-clause-rest
-returns-clause-rest c = (All-pop (IsSeatOf c.args.desk.now) _ _ c.pop.result c.pop.ensures.items c.requires).0
