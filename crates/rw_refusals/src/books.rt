@@ -3,7 +3,7 @@
 ghost use Rattle.std.specs.Prelude.{◌<◌, All};
 ghost use Rattle.rw_law.specs.declared.limits.TheConstants.{MOST_ACTORS};
 
-use crate::machines::SPECS;
+use crate::machines::{SPECS, broadcast, watch};
 use crate::met::{Met, TRIES};
 use crate::places::Shows;
 use rw_broadcast::BCall;
@@ -13,9 +13,6 @@ use rw_watch::WCall;
 use rw_world::{ChanCall, OpenFault, RowCall, World, open};
 use std::alloc::Global;
 use std::io;
-
-/// A call of a world.
-type Call = RowCall<ChanCall<u64>>;
 
 /// A book of a world of these channels. Where memory is refused for the book, its world is dropped.
 fn open_book(alloc: Global) -> Result<Book<World<u64>>, OpenFault> {
@@ -92,22 +89,6 @@ fn run<M: Shows>(
     Err((0, TakeFault::NoMemory))
 }
 
-/// A call of channel 0, the broadcast.
-fn broadcast(call: BCall<u64>) -> Call {
-    RowCall {
-        channel: 0,
-        call: ChanCall::B(call),
-    }
-}
-
-/// A call of channel 1, the watch.
-fn watch(call: WCall<u64>) -> Call {
-    RowCall {
-        channel: 1,
-        call: ChanCall::W(call),
-    }
-}
-
 /// Takes calls one by one, and prints what each answers.
 fn take_all(rt: &impl Print, met: &mut Met, book: &mut Book<World<u64>>) -> io::Result<()> {
     for call in [
@@ -127,23 +108,32 @@ fn take_all(rt: &impl Print, met: &mut Met, book: &mut Book<World<u64>>) -> io::
     Ok(())
 }
 
-/// Plays books. The lists that are run are longer than the room of a new book.
+/// Runs lists of calls, which are longer than the room of a new book, and prints how long it is after each.
+fn run_all(rt: &impl Print, met: &mut Met, book: &mut Book<World<u64>>) -> io::Result<()> {
+    for value in 0..12 {
+        let sent = (0, broadcast(BCall::Send(0, value)));
+        let stored = (1, watch(WCall::Send(0, value)));
+        let made = (2, broadcast(BCall::CloneSender(0)));
+        let answer = run(met, book, &[sent, stored, made]);
+        println!(rt; "  {answer:?}, then {} entries", book.len())?;
+    }
+    Ok(())
+}
+
+/// Takes calls, runs lists of them, and makes room for one more.
+fn play_book(rt: &impl Print, met: &mut Met, book: &mut Book<World<u64>>) -> io::Result<()> {
+    take_all(rt, met, book)?;
+    run_all(rt, met, book)?;
+    println!(rt; "  {:?}, {:?}", ready(met, book), book.machine().place())
+}
+
+/// Plays books.
 pub fn play(rt: &impl Print, alloc: Global, met: &mut Met) -> io::Result<()> {
     println!(rt; "a book")?;
     let Ok(mut book) = new_book(alloc, met) else {
         return println!(rt; "  isn't opened");
     };
-    take_all(rt, met, &mut book)?;
-    for value in 0..12 {
-        let sent = (0, broadcast(BCall::Send(0, value)));
-        let stored = (1, watch(WCall::Send(0, value)));
-        let made = (2, broadcast(BCall::CloneSender(0)));
-        let answer = run(met, &mut book, &[sent, stored, made]);
-        println!(rt; "  {answer:?}, then {} entries", book.len())?;
-    }
-    println!(rt;
-        "  {:?}, {:?}",
-        ready(met, &mut book),
-        book.machine().place()
-    )
+    let played = play_book(rt, met, &mut book);
+    drop(book);
+    played
 }

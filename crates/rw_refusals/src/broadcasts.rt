@@ -1,7 +1,7 @@
 //! Calls on a broadcast of a desk by its handles. Each is made by another actor, whose pass has no room for a receipt yet.
 
 use crate::callers::{self, Caller, ask_all};
-use crate::desks::{new_desk, say_closed};
+use crate::desks::{last_ends, new_desk, say_closed};
 use crate::met::Met;
 use crate::passes::held;
 use rw_broadcast::{BCall, BReply};
@@ -37,7 +37,11 @@ const ACTORS: u32 = 13;
 /// A receiver that was made, by its number. The handle is forgotten, and stays alive in its channel.
 fn receiver_made<V: Copy>(made: Made<BRx, BReply<V>>) -> BReply<V> {
     match made {
-        Made::New(receiver) => BReply::New(receiver.number()),
+        Made::New(receiver) => {
+            let number = receiver.number();
+            drop(receiver);
+            BReply::New(number)
+        }
         Made::Refused(reply) => reply,
     }
 }
@@ -45,7 +49,11 @@ fn receiver_made<V: Copy>(made: Made<BRx, BReply<V>>) -> BReply<V> {
 /// A sender that was made, by its number. It is forgotten too.
 fn sender_made<V: Copy>(made: Made<BTx, BReply<V>>) -> BReply<V> {
     match made {
-        Made::New(sender) => BReply::New(sender.number()),
+        Made::New(sender) => {
+            let number = sender.number();
+            drop(sender);
+            BReply::New(number)
+        }
         Made::Refused(reply) => reply,
     }
 }
@@ -132,16 +140,19 @@ fn drop_sender<V: Payload, R: Wait>(
     sender: BTx,
 ) -> Result<BReply<V>, DeskFault> {
     let (before, number) = (held(pass), sender.number());
-    match desk.b_drop_sender(rt, pass, sender) {
-        Ok(reply) => Ok(reply),
+    let dropped = match desk.b_drop_sender(rt, pass, sender) {
         Err((DeskFault::NoMemory, sender)) => {
             met.refused(held(pass) == before && sender.number() == number);
-            match desk.b_drop_sender(rt, pass, sender) {
-                Ok(reply) => Ok(reply),
-                Err((fault, _)) => Err(fault),
-            }
+            desk.b_drop_sender(rt, pass, sender)
         }
-        Err((fault, _)) => Err(fault),
+        dropped => dropped,
+    };
+    match dropped {
+        Ok(reply) => Ok(reply),
+        Err((fault, sender)) => {
+            drop(sender);
+            Err(fault)
+        }
     }
 }
 
@@ -154,17 +165,54 @@ fn drop_receiver<V: Payload, R: Wait>(
     receiver: BRx,
 ) -> Result<BReply<V>, DeskFault> {
     let (before, number) = (held(pass), receiver.number());
-    match desk.b_drop_receiver(rt, pass, receiver) {
-        Ok(reply) => Ok(reply),
+    let dropped = match desk.b_drop_receiver(rt, pass, receiver) {
         Err((DeskFault::NoMemory, receiver)) => {
             met.refused(held(pass) == before && receiver.number() == number);
-            match desk.b_drop_receiver(rt, pass, receiver) {
-                Ok(reply) => Ok(reply),
-                Err((fault, _)) => Err(fault),
-            }
+            desk.b_drop_receiver(rt, pass, receiver)
         }
-        Err((fault, _)) => Err(fault),
+        dropped => dropped,
+    };
+    match dropped {
+        Ok(reply) => Ok(reply),
+        Err((fault, receiver)) => {
+            drop(receiver);
+            Err(fault)
+        }
     }
+}
+
+/// Makes all calls by the two handles.
+fn ask_both<R: Wait + Print>(
+    rt: &R,
+    met: &mut Met,
+    desk: &Desk<u64>,
+    passes: &mut [Pass<u64>],
+    sender: &BTx,
+    receiver: &BRx,
+) -> io::Result<()> {
+    let (by_sender, by_receiver) = passes.split_at_mut(BY_SENDER.len().min(passes.len()));
+    ask_all(rt, met, desk, by_sender, sender, &BY_SENDER)?;
+    ask_all(rt, met, desk, by_receiver, receiver, &BY_RECEIVER)
+}
+
+/// Drops the two handles, each by a pass of its own.
+fn drop_both<R: Wait + Print>(
+    rt: &R,
+    met: &mut Met,
+    desk: &Desk<u64>,
+    passes: &mut [Pass<u64>],
+    sender: BTx,
+    receiver: BRx,
+) -> io::Result<()> {
+    let [first, second] = passes else {
+        drop(sender);
+        drop(receiver);
+        return println!(rt; "  not two passes are left");
+    };
+    let received = drop_receiver(rt, met, desk, first, receiver);
+    let sent = drop_sender(rt, met, desk, second, sender);
+    println!(rt; "  {received:?}")?;
+    println!(rt; "  {sent:?}")
 }
 
 /// Makes all calls by the two handles, and drops them.
@@ -173,32 +221,28 @@ fn play_handles<R: Wait + Print>(
     met: &mut Met,
     desk: &Desk<u64>,
     passes: &mut [Pass<u64>],
-    sender: BTx,
-    receiver: BRx,
+    ends: Option<Ends>,
 ) -> io::Result<()> {
-    let (by_sender, rest) = passes.split_at_mut(BY_SENDER.len().min(passes.len()));
-    ask_all(rt, met, desk, by_sender, &sender, &BY_SENDER)?;
-    let (by_receiver, rest) = rest.split_at_mut(BY_RECEIVER.len().min(rest.len()));
-    ask_all(rt, met, desk, by_receiver, &receiver, &BY_RECEIVER)?;
-    let [first, second] = rest else {
-        return println!(rt; "  not two passes are left");
+    let Some(Ends::Broadcast(sender, receiver)) = ends else {
+        return println!(rt; "  no broadcast");
     };
-    let dropped = drop_receiver(rt, met, desk, first, receiver);
-    println!(rt; "  {dropped:?}")?;
-    let dropped = drop_sender(rt, met, desk, second, sender);
-    println!(rt; "  {dropped:?}")
+    let calls = BY_SENDER.len() + BY_RECEIVER.len();
+    let (asking, dropping) = passes.split_at_mut(calls.min(passes.len()));
+    let asked = ask_both(rt, met, desk, asking, &sender, &receiver);
+    let dropped = drop_both(rt, met, desk, dropping, sender, receiver);
+    asked?;
+    dropped
 }
 
 /// Plays a broadcast of a desk.
 pub fn play<R: Wait + Print>(rt: &R, alloc: Global, met: &mut Met) -> io::Result<()> {
     println!(rt; "a broadcast of a desk, by its handles")?;
     let specs = [Spec::Broadcast(2)];
-    let Ok((desk, mut passes, mut ends)) = new_desk(alloc, met, &specs, ACTORS) else {
+    let Ok((desk, mut passes, ends)) = new_desk(alloc, met, &specs, ACTORS) else {
         return println!(rt; "  no desk");
     };
-    let Some(Ends::Broadcast(sender, receiver)) = ends.pop() else {
-        return println!(rt; "  no broadcast");
-    };
-    play_handles(rt, met, &desk, &mut passes, sender, receiver)?;
-    say_closed(rt, alloc, met, desk, passes)
+    let played = play_handles(rt, met, &desk, &mut passes, last_ends(ends));
+    let closed = say_closed(rt, alloc, met, desk, passes);
+    played?;
+    closed
 }

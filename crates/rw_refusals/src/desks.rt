@@ -41,7 +41,7 @@ fn receipts_in<V: Copy>(passes: &[Pass<V>]) -> usize {
     count
 }
 
-/// Closes a desk. At a refusal desk and passes come back, and are handed in once more.
+/// Closes a desk. At a refusal desk and passes come back, and are handed in once more. At another fault they are dropped.
 fn close<V: Payload>(
     alloc: Global,
     met: &mut Met,
@@ -49,26 +49,28 @@ fn close<V: Payload>(
     passes: Vec<Pass<V>>,
 ) -> Result<Run<V>, CloseFault> {
     let before = (passes.len(), receipts_in(&passes));
-    match desk.close(alloc, passes) {
-        Ok(run) => Ok(run),
+    let closed = match desk.close(alloc, passes) {
         Err((CloseFault::NoMemory, desk, passes)) => {
             met.refused((passes.len(), receipts_in(&passes)) == before);
-            close_once(alloc, desk, passes)
+            desk.close(alloc, passes)
         }
-        Err((fault, _, _)) => Err(fault),
+        closed => closed,
+    };
+    match closed {
+        Ok(run) => Ok(run),
+        Err((fault, desk, passes)) => {
+            drop(desk);
+            drop(passes);
+            Err(fault)
+        }
     }
 }
 
-/// Closes a desk. At a fault desk and passes are dropped.
-fn close_once<V: Payload>(
-    alloc: Global,
-    desk: Desk<V>,
-    passes: Vec<Pass<V>>,
-) -> Result<Run<V>, CloseFault> {
-    match desk.close(alloc, passes) {
-        Ok(run) => Ok(run),
-        Err((fault, _, _)) => Err(fault),
-    }
+/// The handles of the last channel. Those of the others are forgotten, and stay alive in their channels.
+pub fn last_ends(mut ends: Vec<Ends>) -> Option<Ends> {
+    let last = ends.pop();
+    drop(ends);
+    last
 }
 
 /// Closes a desk, and prints how long its run is, in which each actor's receipts are its entries.
@@ -80,7 +82,11 @@ pub fn say_closed<V: Payload>(
     passes: Vec<Pass<V>>,
 ) -> io::Result<()> {
     match close(alloc, met, desk, passes) {
-        Ok(run) => println!(rt; "  closed with {} entries", run.len()),
+        Ok(run) => {
+            let length = run.len();
+            drop(run);
+            println!(rt; "  closed with {length} entries")
+        }
         Err(fault) => println!(rt; "  {fault:?}"),
     }
 }
@@ -137,23 +143,35 @@ fn call_both<R: Wait + Print>(
     Ok(())
 }
 
+/// Calls by two passes on both channels, and astray.
+fn call_all<R: Wait + Print>(
+    rt: &R,
+    met: &mut Met,
+    desk: &Desk<u64>,
+    passes: &mut [Pass<u64>],
+) -> io::Result<()> {
+    let [first, second] = passes else {
+        return println!(rt; "  not two passes");
+    };
+    call_broadcast(rt, met, desk, first)?;
+    call_both(rt, met, desk, second)?;
+    let astray = ChanCall::W(WCall::Borrow(1));
+    let caller = ByNumbers {
+        channel: 0,
+        may_wait: false,
+    };
+    println!(rt; "  {:?}", ask(rt, met, desk, second, &caller, astray))
+}
+
 /// Plays a desk of two actors.
 pub fn play<R: Wait + Print>(rt: &R, alloc: Global, met: &mut Met) -> io::Result<()> {
     println!(rt; "a desk")?;
-    let Ok((desk, mut passes, _ends)) = new_desk(alloc, met, &SPECS, 2) else {
+    let Ok((desk, mut passes, ends)) = new_desk(alloc, met, &SPECS, 2) else {
         return println!(rt; "  isn't opened");
     };
-    if let Some(pass) = passes.get_mut(0) {
-        call_broadcast(rt, met, &desk, pass)?;
-    }
-    if let Some(pass) = passes.get_mut(1) {
-        call_both(rt, met, &desk, pass)?;
-        let astray = ChanCall::W(WCall::Borrow(1));
-        let caller = ByNumbers {
-            channel: 0,
-            may_wait: false,
-        };
-        println!(rt; "  {:?}", ask(rt, met, &desk, pass, &caller, astray))?;
-    }
-    say_closed(rt, alloc, met, desk, passes)
+    drop(ends);
+    let called = call_all(rt, met, &desk, &mut passes);
+    let closed = say_closed(rt, alloc, met, desk, passes);
+    called?;
+    closed
 }

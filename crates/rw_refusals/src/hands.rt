@@ -1,37 +1,78 @@
 //! Hand-offs: opened, the book taken, called and given back, two seats that meet, and closed.
 
-ghost use Rattle.std.specs.Prelude.{◌≡◌, ◌∷◌, [], All, IfOk, IfSome, OnErr};
-ghost use Rattle.rw_seat.specs.Fronts.{author_of};
+ghost use Rattle.std.specs.Prelude.{◌≡◌, ◌∷◌, [], All, IfOk, IfSome};
 ghost use Rattle.rw_seat.specs.Journals.{Adds};
 
 use crate::met::{Met, TRIES};
 use crate::places::counted;
 use rw_broadcast::BCall;
-use rw_journal::{Book, TakeFault};
+use rw_journal::{Book, Keeps, TakeFault};
 use rw_law::{NoMemory, Payload};
 use rw_seat::{HandOff, HandSeat};
 use rw_world::{Chan, ChanCall, ChanReply, Spec, open_channel};
 use std::alloc::{AllocError, Global};
-use std::fmt::Debug;
 use std::io;
 use std::sync::Wait;
 
-/// The book of a broadcast.
-type ChannelBook<V> = Book<Chan<V>>;
+/// A book of a broadcast. What is played has it as a parameter, so that no proof but those of its one `impl` looks into a book.
+trait Recorded: Keeps {
+    ghost use Rattle.std.specs.Prelude.{◌≡◌, ◌∷◌, [], OnErr};
+    ghost use Rattle.rw_seat.specs.Journals.{Adds};
+
+    /// What its calls carry.
+    type Value: Copy;
+
+    /// A book without entries. Where memory is refused for it, its channel is dropped.
+    fn open(alloc: Global) -> Result<Self, NoMemory>;
+
+    /// Sends a value by actor 0. A fault leaves the entries as they were.
+    fn send(&mut self, value: Self::Value) -> Result<ChanReply<Self::Value>, TakeFault>
+        ensures start { Self.start self.new ≡ Self.start self.old }
+        ensures adds { Adds Self.author (0 ∷ []) (Self.journal self.old) (Self.journal self.new) }
+        ensures kept { OnErr result (Self.journal self.new ≡ Self.journal self.old) };
+
+    /// Its length.
+    fn len(&self) -> u64;
+
+    /// How many handles its channel made, and how many values were sent.
+    fn counts(&self) -> (u32, u64);
+}
+
+impl<V: Payload> Recorded for Book<Chan<V>> {
+    type Value = V;
+
+    fn open(alloc: Global) -> Result<Book<Chan<V>>, NoMemory> {
+        Book::open(alloc, open_channel(alloc, &Spec::Broadcast(2))?)
+    }
+
+    fn send(&mut self, value: V) -> Result<ChanReply<V>, TakeFault> {
+        match self.take(0, 0, ChanCall::B(BCall::Send(0, value))) {
+            Ok(receipt) => Ok(receipt.reply),
+            Err(fault) => Err(fault),
+        }
+    }
+
+    fn len(&self) -> u64 {
+        Book::len(self)
+    }
+
+    fn counts(&self) -> (u32, u64) {
+        counted(self.machine())
+    }
+}
 
 /// A hand-off, and its seats.
-type Opened<V> = (HandOff<ChannelBook<V>>, Vec<HandSeat<ChannelBook<V>>>);
+type Opened<B> = (HandOff<B>, Vec<HandSeat<B>>);
 
-/// The book of a broadcast, with two seats. Where memory is refused for the hand-off, the book is dropped.
-fn open<V: Payload>(alloc: Global) -> Result<Opened<V>, NoMemory>
+/// A book with two seats. Where memory is refused for the hand-off, the book is dropped.
+fn open<B: Recorded + Drop>(alloc: Global) -> Result<Opened<B>, NoMemory>
     ensures { IfOk result (λ r. All (λ s. s.home ≡ r.0.home) r.1.items) }
 {
-    let book = Book::open(alloc, open_channel(alloc, &Spec::Broadcast(2))?)?;
-    HandOff::open(alloc, book, 2)
+    HandOff::open(alloc, B::open(alloc)?, 2)
 }
 
 /// The same, asked for again.
-fn new_hand_off<V: Payload>(alloc: Global, met: &mut Met) -> Result<Opened<V>, NoMemory>
+fn new_hand_off<B: Recorded + Drop>(alloc: Global, met: &mut Met) -> Result<Opened<B>, NoMemory>
     ensures { IfOk result (λ r. All (λ s. s.home ≡ r.0.home) r.1.items) }
 {
     for _ in 0..TRIES {
@@ -44,10 +85,10 @@ fn new_hand_off<V: Payload>(alloc: Global, met: &mut Met) -> Result<Opened<V>, N
 }
 
 /// The last of a hand-off's seats, taken off.
-fn last_seat<V: Payload>(
-    hand_off: &HandOff<ChannelBook<V>>,
-    seats: &mut Vec<HandSeat<ChannelBook<V>>>,
-) -> Option<HandSeat<ChannelBook<V>>>
+fn last_seat<B: Keeps + Drop>(
+    hand_off: &HandOff<B>,
+    seats: &mut Vec<HandSeat<B>>,
+) -> Option<HandSeat<B>>
     requires { All (λ s. s.home ≡ hand_off.now.home) seats.old.items }
     ensures seat { IfSome result (λ s. s.home ≡ hand_off.now.home) }
     ensures rest { All (λ s. s.home ≡ hand_off.now.home) seats.new.items }
@@ -56,11 +97,11 @@ fn last_seat<V: Payload>(
 }
 
 /// A hand-off's seats, with one more behind them. There is room for it, since it was among them before.
-fn with_seat<V: Payload>(
-    hand_off: &HandOff<ChannelBook<V>>,
-    mut seats: Vec<HandSeat<ChannelBook<V>>>,
-    seat: HandSeat<ChannelBook<V>>,
-) -> Result<Vec<HandSeat<ChannelBook<V>>>, AllocError>
+fn with_seat<B: Keeps + Drop>(
+    hand_off: &HandOff<B>,
+    mut seats: Vec<HandSeat<B>>,
+    seat: HandSeat<B>,
+) -> Result<Vec<HandSeat<B>>, AllocError>
     requires seats { All (λ s. s.home ≡ hand_off.now.home) seats.items }
     requires seat { seat.home ≡ hand_off.now.home }
     ensures { IfOk result (λ all. All (λ s. s.home ≡ hand_off.now.home) all.items) }
@@ -69,63 +110,51 @@ fn with_seat<V: Payload>(
     Ok(seats)
 }
 
-/// Sends a value by actor 0. A fault leaves the entries as they were.
-fn sent<V: Payload>(book: &mut ChannelBook<V>, value: V) -> Result<ChanReply<V>, TakeFault>
-    ensures start { book.new.opening ≡ book.old.opening }
-    ensures adds { Adds author_of (0 ∷ []) book.old.entries book.new.entries }
-    ensures kept { OnErr result (book.new.entries ≡ book.old.entries) }
-{
-    match book.take(0, 0, ChanCall::B(BCall::Send(0, value))) {
-        Ok(receipt) => Ok(receipt.reply),
-        Err(fault) => Err(fault),
-    }
-}
-
-/// The same, asked for again. At a refusal the book is as before.
-fn recorded<V: Payload>(
+/// Sends a value, and asks for it again. At a refusal the book is as before.
+fn ask<B: Recorded>(
     met: &mut Met,
-    book: &mut ChannelBook<V>,
-    value: V,
-) -> Result<ChanReply<V>, TakeFault>
-    ensures start { book.new.opening ≡ book.old.opening }
-    ensures adds { Adds author_of (0 ∷ []) book.old.entries book.new.entries }
+    book: &mut B,
+    value: B::Value,
+) -> Result<ChanReply<B::Value>, TakeFault>
+    ensures start { B.start book.new ≡ B.start book.old }
+    ensures adds { Adds B.author (0 ∷ []) (B.journal book.old) (B.journal book.new) }
 {
-    let (length, counts) = (book.len(), counted(book.machine()));
-    match sent(book, value) {
+    let (length, counts) = (book.len(), book.counts());
+    match book.send(value) {
         Err(TakeFault::NoMemory) => {
-            met.refused(book.len() == length && counted(book.machine()) == counts);
-            sent(book, value)
+            met.refused(book.len() == length && book.counts() == counts);
+            book.send(value)
         }
         answer => answer,
     }
 }
 
 /// Sends a value by seat 0, between a taking and a giving back.
-fn send<V: Payload, R: Wait>(
+fn send<B: Recorded + Drop, R: Wait>(
     rt: &R,
     met: &mut Met,
-    hand_off: &HandOff<ChannelBook<V>>,
-    seat: HandSeat<ChannelBook<V>>,
-    value: V,
-) -> (HandSeat<ChannelBook<V>>, Result<ChanReply<V>, TakeFault>)
+    hand_off: &HandOff<B>,
+    seat: HandSeat<B>,
+    value: B::Value,
+) -> (HandSeat<B>, Result<ChanReply<B::Value>, TakeFault>)
     requires home { seat.home ≡ hand_off.now.home }
     requires number { seat.number ≡ 0 }
     ensures home { result.0.home ≡ hand_off.now.home }
     ensures number { result.0.number ≡ 0 }
 {
     let mut lent = hand_off.take(rt, seat);
-    let sent = recorded(met, lent.book(), value);
+    let sent = ask(met, lent.book(), value);
     (lent.give(), sent)
 }
 
 /// Sends a value by seat 0, so often that the book has to grow, and answers how many receivers it was sent to at last.
-fn send_all<V: Payload, R: Wait>(
+fn send_all<B: Recorded + Drop, R: Wait>(
     rt: &R,
     met: &mut Met,
-    hand_off: &HandOff<ChannelBook<V>>,
-    seat: HandSeat<ChannelBook<V>>,
-    value: V,
-) -> (HandSeat<ChannelBook<V>>, Result<ChanReply<V>, TakeFault>)
+    hand_off: &HandOff<B>,
+    seat: HandSeat<B>,
+    value: B::Value,
+) -> (HandSeat<B>, Result<ChanReply<B::Value>, TakeFault>)
     requires home { seat.home ≡ hand_off.now.home }
     requires number { seat.number ≡ 0 }
     ensures { result.0.home ≡ hand_off.now.home }
@@ -140,11 +169,11 @@ fn send_all<V: Payload, R: Wait>(
 }
 
 /// How long the book is that a seat takes.
-fn look<V: Payload, R: Wait>(
+fn look<B: Recorded + Drop, R: Wait>(
     rt: &R,
-    hand_off: &HandOff<ChannelBook<V>>,
-    seat: HandSeat<ChannelBook<V>>,
-) -> (HandSeat<ChannelBook<V>>, u64)
+    hand_off: &HandOff<B>,
+    seat: HandSeat<B>,
+) -> (HandSeat<B>, u64)
     requires { seat.home ≡ hand_off.now.home }
     ensures { result.0.home ≡ hand_off.now.home }
 {
@@ -153,116 +182,84 @@ fn look<V: Payload, R: Wait>(
     (lent.give(), length)
 }
 
-/// Lets two seats meet.
-fn meet<V: Payload, R: Wait>(
-    rt: &R,
-    hand_off: &HandOff<ChannelBook<V>>,
-    one: HandSeat<ChannelBook<V>>,
-    two: HandSeat<ChannelBook<V>>,
-) -> (HandSeat<ChannelBook<V>>, HandSeat<ChannelBook<V>>)
-    requires one { one.home ≡ hand_off.now.home }
-    requires two { two.home ≡ hand_off.now.home }
-    ensures { (result.0.home ≡ hand_off.now.home) × (result.1.home ≡ hand_off.now.home) }
-{
-    hand_off.meet(rt, one, two)
-}
-
-/// Closes a hand-off, and prints how long its book is. It takes no memory.
-fn say_closed<V: Payload>(
-    rt: &impl Print,
-    hand_off: HandOff<ChannelBook<V>>,
-    seats: Vec<HandSeat<ChannelBook<V>>>,
-) -> io::Result<()>
-    requires { All (λ s. s.home ≡ hand_off.home) seats.items }
-{
-    match hand_off.close(seats) {
-        Ok(book) => println!(rt; "  closed with {} entries", book.len()),
-        Err(_) => println!(rt; "  a seat is missing"),
-    }
-}
-
-/// Closes a hand-off with these seats and one more.
-fn close_with<V: Payload>(
-    rt: &impl Print,
-    hand_off: HandOff<ChannelBook<V>>,
-    seats: Vec<HandSeat<ChannelBook<V>>>,
-    seat: HandSeat<ChannelBook<V>>,
-) -> io::Result<()>
+/// Closes a hand-off with these seats and one more. It takes no memory.
+fn close_with<B: Recorded + Drop>(
+    hand_off: HandOff<B>,
+    seats: Vec<HandSeat<B>>,
+    seat: HandSeat<B>,
+) -> Result<u64, &'static str>
     requires seats { All (λ s. s.home ≡ hand_off.home) seats.items }
     requires seat { seat.home ≡ hand_off.home }
 {
     let Ok(seats) = with_seat(&hand_off, seats, seat) else {
-        return println!(rt; "  no room for a seat");
+        return Err("no room for the last seat");
     };
-    say_closed(rt, hand_off, seats)
+    let Ok(book) = hand_off.close(seats) else {
+        return Err("a seat is missing");
+    };
+    Ok(book.len())
 }
 
-/// Closes a hand-off without one of its seats, which is refused, and then with it.
-fn close_late<V: Payload>(
-    rt: &impl Print,
-    hand_off: HandOff<ChannelBook<V>>,
-    seats: Vec<HandSeat<ChannelBook<V>>>,
-    seat: HandSeat<ChannelBook<V>>,
-) -> io::Result<()>
-    requires seats { All (λ s. s.home ≡ hand_off.home) seats.items }
-    requires seat { seat.home ≡ hand_off.home }
-{
-    let Err(back) = hand_off.close(seats) else {
-        return println!(rt; "  closed without a seat");
-    };
-    let (hand_off, seats) = back;
-    println!(rt; "  not closed without a seat")?;
-    close_with(rt, hand_off, seats, seat)
-}
-
-/// Sends by the first of two seats, lets the second look and both meet, and closes the hand-off.
-fn play_seats<V: Payload + Debug, R: Wait + Print>(
+/// Lets two seats meet, and closes a hand-off without the second, which is refused, and then with it: how long its book is.
+fn meet_and_close<B: Recorded + Drop, R: Wait>(
     rt: &R,
-    met: &mut Met,
-    hand_off: HandOff<ChannelBook<V>>,
-    seats: Vec<HandSeat<ChannelBook<V>>>,
-    zero: HandSeat<ChannelBook<V>>,
-    one: HandSeat<ChannelBook<V>>,
-    value: V,
-) -> io::Result<()>
+    hand_off: HandOff<B>,
+    seats: Vec<HandSeat<B>>,
+    zero: HandSeat<B>,
+    one: HandSeat<B>,
+) -> Result<u64, &'static str>
     requires seats { All (λ s. s.home ≡ hand_off.home) seats.items }
     requires zero { zero.home ≡ hand_off.home }
     requires one { one.home ≡ hand_off.home }
 {
+    let (zero, one) = hand_off.meet(rt, zero, one);
+    let Ok(seats) = with_seat(&hand_off, seats, zero) else {
+        return Err("no room for a seat");
+    };
+    let Err(back) = hand_off.close(seats) else {
+        return Err("closed without a seat");
+    };
+    let (hand_off, seats) = back;
+    close_with(hand_off, seats, one)
+}
+
+/// What seat 0 is answered at last, how long the book is that seat 1 takes then, and how long it is at the end.
+type Sent<V> = (Result<ChanReply<V>, TakeFault>, u64, u64);
+
+/// Sends a value by the first of two seats, lets the second look and both meet, and closes their hand-off.
+fn sent<B: Recorded + Drop, R: Wait>(
+    rt: &R,
+    alloc: Global,
+    met: &mut Met,
+    value: B::Value,
+) -> Result<Sent<B::Value>, &'static str> {
+    let Ok((hand_off, mut seats)) = new_hand_off::<B>(alloc, met) else {
+        return Err("isn't opened");
+    };
+    let Some(one) = last_seat(&hand_off, &mut seats) else {
+        return Err("no seat 1");
+    };
+    let Some(zero) = last_seat(&hand_off, &mut seats) else {
+        return Err("no seat 0");
+    };
     if zero.number() != 0 {
-        return println!(rt; "  the first seat isn't seat 0");
+        return Err("the first seat isn't seat 0");
     }
     let (zero, last) = send_all(rt, met, &hand_off, zero, value);
     let (one, length) = look(rt, &hand_off, one);
-    println!(rt; "  {last:?}, then {length} entries")?;
-    let (zero, one) = meet(rt, &hand_off, zero, one);
-    let Ok(seats) = with_seat(&hand_off, seats, zero) else {
-        return println!(rt; "  no room for a seat");
-    };
-    close_late(rt, hand_off, seats, one)
+    let at_end = meet_and_close(rt, hand_off, seats, zero, one)?;
+    Ok((last, length, at_end))
 }
 
 /// Plays a hand-off of two seats.
 pub fn play<R: Wait + Print>(rt: &R, alloc: Global, met: &mut Met) -> io::Result<()> {
     println!(rt; "a hand-off")?;
-    play_hand_off(rt, alloc, met, 7u64)
-}
-
-/// Opens a hand-off, and sends a value by one of its seats.
-fn play_hand_off<V: Payload + Debug, R: Wait + Print>(
-    rt: &R,
-    alloc: Global,
-    met: &mut Met,
-    value: V,
-) -> io::Result<()> {
-    let Ok((hand_off, mut seats)) = new_hand_off(alloc, met) else {
-        return println!(rt; "  isn't opened");
-    };
-    let Some(one) = last_seat(&hand_off, &mut seats) else {
-        return println!(rt; "  no seat 1");
-    };
-    let Some(zero) = last_seat(&hand_off, &mut seats) else {
-        return println!(rt; "  no seat 0");
-    };
-    play_seats(rt, met, hand_off, seats, zero, one, value)
+    match sent::<Book<Chan<u64>>, _>(rt, alloc, met, 7) {
+        Ok((last, length, at_end)) => {
+            println!(rt; "  {last:?}, then {length} entries")?;
+            println!(rt; "  not closed without a seat")?;
+            println!(rt; "  closed with {at_end} entries")
+        }
+        Err(fault) => println!(rt; "  {fault}"),
+    }
 }

@@ -35,19 +35,26 @@ fn append(met: &mut Met, out: &mut Vec<u8>, number: u64) -> Result<(), AllocErro
     Err(AllocError)
 }
 
+/// Appends some numerals, and prints how many bytes there are after each.
+fn append_all(rt: &impl Print, met: &mut Met, out: &mut Vec<u8>) -> io::Result<()> {
+    for number in [0, 7_000_000_000, 18_446_744_073_709_551_615] {
+        println!(rt; "  {:?}, {} bytes", append(met, out, number), out.len())?;
+    }
+    Ok(())
+}
+
 /// Plays a line and some numerals.
 pub fn play(rt: &impl Print, alloc: Global, met: &mut Met) -> io::Result<()> {
     match first_line(alloc, met, BYTES) {
-        Ok((next, line)) => println!(rt; "a line: {next:?}, {} bytes", line.len())?,
+        Ok((next, line)) => {
+            let length = line.len();
+            drop(line);
+            println!(rt; "a line: {next:?}, {length} bytes")?;
+        }
         Err(fault) => println!(rt; "no line: {fault:?}")?,
     }
     let mut out = Vec::new(alloc);
-    for number in [0, 7_000_000_000, 18_446_744_073_709_551_615] {
-        println!(rt;
-            "  {:?}, {} bytes",
-            append(met, &mut out, number),
-            out.len()
-        )?;
-    }
-    Ok(())
+    let appended = append_all(rt, met, &mut out);
+    drop(out);
+    appended
 }

@@ -21,6 +21,22 @@ const AHEAD: u64 = 3;
 /// A weight that no machine comes to here.
 const MUCH: u64 = 1_000;
 
+/// A call of a world's channel 0, the broadcast.
+pub fn broadcast(call: BCall<u64>) -> RowCall<ChanCall<u64>> {
+    RowCall {
+        channel: 0,
+        call: ChanCall::B(call),
+    }
+}
+
+/// A call of a world's channel 1, the watch.
+pub fn watch(call: WCall<u64>) -> RowCall<ChanCall<u64>> {
+    RowCall {
+        channel: 1,
+        call: ChanCall::W(call),
+    }
+}
+
 /// Makes a machine ready for a few calls.
 fn make_ready<M: Shows>(met: &mut Met, machine: &mut M) -> Result<(), NoMemory> {
     let place = machine.place();
@@ -60,6 +76,24 @@ where
         println!(rt; "  {:?}", make(met, machine, call))?;
     }
     Ok(())
+}
+
+/// Makes calls on a machine that was asked for, and drops it.
+fn play_machine<M: Shows + Drop>(
+    rt: &impl Print,
+    met: &mut Met,
+    opened: Result<M, NoMemory>,
+    calls: &[M::Call],
+) -> io::Result<()>
+where
+    M::Reply: Debug,
+{
+    let Ok(mut machine) = opened else {
+        return println!(rt; "  isn't opened");
+    };
+    let made = make_all(rt, met, &mut machine, calls);
+    drop(machine);
+    made
 }
 
 /// A table of handles.
@@ -178,10 +212,8 @@ fn play_channels(rt: &impl Print, alloc: Global, met: &mut Met) -> io::Result<()
         BCall::TryRecv(1),
         BCall::Downgrade(0),
     ];
-    match new_broadcast(alloc, met) {
-        Ok(mut machine) => make_all(rt, met, &mut machine, &calls)?,
-        Err(NoMemory) => println!(rt; "  isn't opened")?,
-    }
+    let machine = new_broadcast(alloc, met);
+    play_machine(rt, met, machine, &calls)?;
     println!(rt; "a watch")?;
     let calls = [
         WCall::Send(0, 8),
@@ -191,28 +223,23 @@ fn play_channels(rt: &impl Print, alloc: Global, met: &mut Met) -> io::Result<()
         WCall::SendReplace(0, 9),
         WCall::HasChanged(2),
     ];
-    match new_watch(alloc, met) {
-        Ok(mut machine) => make_all(rt, met, &mut machine, &calls),
-        Err(NoMemory) => println!(rt; "  isn't opened"),
-    }
+    let machine = new_watch(alloc, met);
+    play_machine(rt, met, machine, &calls)
 }
 
 /// Plays a world.
 fn play_world(rt: &impl Print, alloc: Global, met: &mut Met) -> io::Result<()> {
     println!(rt; "a world")?;
     let calls = [
-        (0, ChanCall::B(BCall::Subscribe(0))),
-        (1, ChanCall::W(WCall::Subscribe(0))),
-        (0, ChanCall::B(BCall::Send(0, 4))),
-        (1, ChanCall::W(WCall::Send(0, 5))),
-        (0, ChanCall::B(BCall::TryRecv(2))),
-        (1, ChanCall::W(WCall::Update(2))),
-    ]
-    .map(|(channel, call)| RowCall { channel, call });
-    match new_world(alloc, met) {
-        Ok(mut world) => make_all(rt, met, &mut world, &calls),
-        Err(NoMemory) => println!(rt; "  isn't opened"),
-    }
+        broadcast(BCall::Subscribe(0)),
+        watch(WCall::Subscribe(0)),
+        broadcast(BCall::Send(0, 4)),
+        watch(WCall::Send(0, 5)),
+        broadcast(BCall::TryRecv(2)),
+        watch(WCall::Update(2)),
+    ];
+    let world = new_world(alloc, met);
+    play_machine(rt, met, world, &calls)
 }
 
 /// Plays all of these.

@@ -72,6 +72,21 @@ fn record<V: Copy>(
     Err(DeskFault::NoMemory)
 }
 
+/// Makes these calls on a book.
+fn record_each<V: Copy>(
+    met: &mut Met,
+    pass: &mut Pass<V>,
+    book: &mut Book<Chan<V>>,
+    calls: &[(u32, ChanCall<V>)],
+) -> Result<(), NoMemory> {
+    for (_, call) in calls {
+        if let Err(DeskFault::NoMemory) = record(met, pass, book, *call) {
+            return Err(NoMemory);
+        }
+    }
+    Ok(())
+}
+
 /// Makes these calls on a new book of a channel.
 pub fn record_all<V: Copy>(
     alloc: Global,
@@ -81,12 +96,25 @@ pub fn record_all<V: Copy>(
     calls: &[(u32, ChanCall<V>)],
 ) -> Result<(), NoMemory> {
     let mut book = new_book(alloc, met, spec)?;
-    for (_, call) in calls {
-        if let Err(DeskFault::NoMemory) = record(met, pass, &mut book, *call) {
-            return Err(NoMemory);
-        }
+    let recorded = record_each(met, pass, &mut book, calls);
+    drop(book);
+    recorded
+}
+
+/// Makes a call on a book twenty times, and another one, and prints what is answered.
+fn say_records<V: Copy + Debug>(
+    rt: &impl Print,
+    met: &mut Met,
+    pass: &mut Pass<V>,
+    book: &mut Book<Chan<V>>,
+    call: ChanCall<V>,
+    last: ChanCall<V>,
+) -> io::Result<()> {
+    for _ in 0..20 {
+        println!(rt; "  {:?}", record(met, pass, book, call))?;
     }
-    Ok(())
+    println!(rt; "  {:?}", record(met, pass, book, last))?;
+    println!(rt; "  {:?}, {} entries", held(pass), book.len())
 }
 
 /// Plays a pass on a book: the calls are as many that both have to grow, and the last one would wait.
@@ -102,11 +130,10 @@ fn play_pass<V: Copy + Debug>(
         return println!(rt; "  no book");
     };
     let mut pass = new_pass(alloc);
-    for _ in 0..20 {
-        println!(rt; "  {:?}", record(met, &mut pass, &mut book, call))?;
-    }
-    println!(rt; "  {:?}", record(met, &mut pass, &mut book, last))?;
-    println!(rt; "  {:?}, {} entries", held(&pass), book.len())
+    let said = say_records(rt, met, &mut pass, &mut book, call, last);
+    drop(pass);
+    drop(book);
+    said
 }
 
 /// Plays a pass on a book of each kind.

@@ -29,8 +29,9 @@ fn new_draft<V: Payload>(
 ) -> Result<RunDraft<V>, OpenFault> {
     for _ in 0..TRIES {
         match RunDraft::open(alloc, specs) {
+            Ok(draft) => return Ok(draft),
             Err(OpenFault::NoMemory) => met.refused(true),
-            answer => return answer,
+            Err(fault) => return Err(fault),
         }
     }
     Err(OpenFault::NoMemory)
@@ -72,9 +73,8 @@ fn start<V: Copy>(alloc: Global, met: &mut Met, run: &Run<V>) -> Result<World<V>
     Err(NoMemory)
 }
 
-/// A run of twenty sends, and as many values stored at the same stamps.
-pub fn build(alloc: Global, met: &mut Met) -> Option<Run<u64>> {
-    let mut draft = new_draft(alloc, met, &SPECS).ok()?;
+/// Pushes twenty sends, and as many values stored at the same stamps.
+fn push_all(met: &mut Met, draft: &mut RunDraft<u64>) -> Result<(), PushFault> {
     for stamp in 1..21 {
         let sent = Step {
             actor: 0,
@@ -90,20 +90,42 @@ pub fn build(alloc: Global, met: &mut Met) -> Option<Run<u64>> {
             call: ChanCall::W(WCall::Send(0, stamp)),
             reply: ChanReply::W(WReply::Stored),
         };
-        push(met, &mut draft, &sent).ok()?;
-        push(met, &mut draft, &stored).ok()?;
+        push(met, draft, &sent)?;
+        push(met, draft, &stored)?;
+    }
+    Ok(())
+}
+
+/// A run of these.
+pub fn build(alloc: Global, met: &mut Met) -> Option<Run<u64>> {
+    let Ok(mut draft) = new_draft(alloc, met, &SPECS) else {
+        return None;
+    };
+    if push_all(met, &mut draft).is_err() {
+        drop(draft);
+        return None;
     }
     Some(finish(draft))
 }
 
-/// Plays a run, and prints how long it is and how its channels stand before its first entry.
+/// Prints how a run's channels stand before its first entry.
+fn say_start(rt: &impl Print, alloc: Global, met: &mut Met, run: &Run<u64>) -> io::Result<()> {
+    let Ok(world) = start(alloc, met, run) else {
+        return println!(rt; "  isn't started");
+    };
+    let place = world.place();
+    drop(world);
+    println!(rt; "  {place:?}")
+}
+
+/// Plays a run, and prints how long it is and how it starts.
 pub fn play(rt: &impl Print, alloc: Global, met: &mut Met) -> io::Result<()> {
     let Some(run) = build(alloc, met) else {
         return println!(rt; "a run isn't built");
     };
-    println!(rt; "a run of {} entries", run.len())?;
-    match start(alloc, met, &run) {
-        Ok(world) => println!(rt; "  {:?}", world.place()),
-        Err(NoMemory) => println!(rt; "  isn't started"),
-    }
+    let said = println!(rt; "a run of {} entries", run.len());
+    let started = say_start(rt, alloc, met, &run);
+    drop(run);
+    said?;
+    started
 }

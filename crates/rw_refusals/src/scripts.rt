@@ -86,8 +86,9 @@ fn read_lines(alloc: Global, met: &mut Met, lines: &[&[u8]]) -> ScriptReader {
 
 /// The script of these lines. It takes no memory.
 fn finished(reader: ScriptReader) -> Result<Script, ScriptFault> {
-    if reader.lines() > MOST_STEPS as u64 {
-        let line = reader.lines();
+    let line = reader.lines();
+    if line > MOST_STEPS as u64 {
+        drop(reader);
         let kind = ScriptFaultKind::TooManySteps;
         return Err(ScriptFault { line, kind });
     }
@@ -123,8 +124,11 @@ fn run_script(
 }
 
 /// How many entries a script that was played has, and which line would wait.
-fn said(played: &Played) -> (u64, Option<u64>) {
-    (played.book.len(), played.waits)
+fn said(played: Result<Played, RunFault>) -> Result<(u64, Option<u64>), RunFault> {
+    let played = played?;
+    let said = (played.book.len(), played.waits);
+    drop(played);
+    Ok(said)
 }
 
 /// Plays a script on a book, and runs it.
@@ -134,12 +138,16 @@ fn play_runs(rt: &impl Print, alloc: Global, met: &mut Met, script: &Script) -> 
         script.specs().len(),
         script.steps().len()
     )?;
-    match played(alloc, met, script) {
-        Ok(played) => println!(rt; "  played: {:?}", said(&played))?,
+    match said(played(alloc, met, script)) {
+        Ok(said) => println!(rt; "  played: {said:?}")?,
         Err(fault) => println!(rt; "  {fault:?}")?,
     }
     match run_script(alloc, met, script) {
-        Ok((run, waits)) => println!(rt; "  run: {:?}", (run.len(), waits)),
+        Ok((run, waits)) => {
+            let length = run.len();
+            drop(run);
+            println!(rt; "  run: {:?}", (length, waits))
+        }
         Err(fault) => println!(rt; "  {fault:?}"),
     }
 }
@@ -150,9 +158,15 @@ pub fn play(rt: &impl Print, alloc: Global, met: &mut Met) -> io::Result<()> {
     let Some(script) = read_script(alloc, met, SCRIPT) else {
         return println!(rt; "  isn't read");
     };
-    play_runs(rt, alloc, met, &script)?;
+    let played = play_runs(rt, alloc, met, &script);
+    drop(script);
+    played?;
     match finished(read_lines(alloc, met, &LINES)) {
-        Ok(script) => println!(rt; "  read by lines: {} steps", script.steps().len()),
+        Ok(script) => {
+            let steps = script.steps().len();
+            drop(script);
+            println!(rt; "  read by lines: {steps} steps")
+        }
         Err(fault) => println!(rt; "  {fault:?}"),
     }
 }

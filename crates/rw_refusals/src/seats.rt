@@ -1,26 +1,142 @@
 //! Desks with seats: opened, called, seats that meet, and closed.
 
-ghost use Rattle.std.specs.Prelude.{◌≡◌, All, IfErr, IfOk, IfSome};
-ghost use Rattle.rw_seat.specs.SeatDesks.{IsSeatOf};
+ghost use Rattle.std.specs.Prelude.{All, IfOk, IfSome};
 
 use crate::machines::SPECS;
 use crate::met::{Met, TRIES};
 use rw_broadcast::BCall;
 use rw_desk::{CloseFault, DeskFault, DeskOpenFault};
-use rw_journal::Run;
 use rw_law::Payload;
 use rw_seat::{Answered, DeskSeat, SeatDesk};
 use rw_watch::WCall;
 use rw_world::{ChanCall, OpenFault, Spec};
 use std::alloc::{AllocError, Global};
+use std::fmt::Debug;
 use std::io;
 use std::sync::Wait;
 
-/// A desk, and its seats.
-type Opened<V> = (SeatDesk<V>, Vec<DeskSeat<V>>);
+/// What seats make their calls on. What is played has it as a parameter, so that no proof but those of its one `impl` looks into a
+/// desk or a seat. Of a desk's contracts it has that a seat stays the desk's.
+trait Seated {
+    ghost use Rattle.std.specs.Prelude.{All, IfErr, IfOk};
 
-/// Why a desk isn't closed; desk and seats come back.
-type NotClosed<V> = (CloseFault, SeatDesk<V>, Vec<DeskSeat<V>>);
+    /// What the calls carry.
+    type Value: Payload;
+
+    /// A seat.
+    type Seat;
+
+    /// Whether a seat is one of its own.
+    ghost owns: { Self → Self.Seat → Type 0 };
+
+    /// A desk with its seats.
+    fn open(
+        alloc: Global,
+        specs: &[Spec<Self::Value>],
+        actors: u32,
+    ) -> Result<(Self, Vec<Self::Seat>), DeskOpenFault>
+        ensures { IfOk result (λ r. All (Self.owns r.0) r.1.items) };
+
+    /// How many receipts a seat has, and its clock.
+    fn held(seat: &Self::Seat) -> (usize, u64);
+
+    /// One call.
+    fn call<R: Wait>(
+        &self,
+        rt: &R,
+        seat: Self::Seat,
+        channel: u32,
+        call: ChanCall<Self::Value>,
+    ) -> (Self::Seat, Result<Answered<Self::Value>, DeskFault>)
+        requires { Self.owns self.now seat }
+        ensures { Self.owns self.now result.0 };
+
+    /// Lets two seats meet on a channel. It takes no memory.
+    fn meet<R: Wait>(
+        &self,
+        rt: &R,
+        one: Self::Seat,
+        two: Self::Seat,
+        channel: u32,
+    ) -> (Self::Seat, Self::Seat, Option<u64>)
+        requires { Self.owns self.now one × Self.owns self.now two }
+        ensures { Self.owns self.now result.0 × Self.owns self.now result.1 };
+
+    /// Closes a desk, and answers how long its run is. Otherwise desk and seats come back.
+    fn close<R: Wait>(
+        self,
+        rt: &R,
+        alloc: Global,
+        seats: Vec<Self::Seat>,
+    ) -> Result<u64, (CloseFault, Self, Vec<Self::Seat>)>
+        requires { All (Self.owns self) seats.items }
+        ensures { IfErr result (λ e. All (Self.owns e.1) e.2.items) };
+}
+
+impl<V: Payload> Seated for SeatDesk<V> {
+    ghost use Rattle.std.specs.Prelude.{All, IfErr};
+    ghost use Rattle.rw_seat.specs.SeatDesks.{IsSeatOf};
+
+    type Value = V;
+
+    type Seat = DeskSeat<V>;
+
+    ghost owns = { IsSeatOf };
+
+    fn open(
+        alloc: Global,
+        specs: &[Spec<V>],
+        actors: u32,
+    ) -> Result<(SeatDesk<V>, Vec<DeskSeat<V>>), DeskOpenFault> {
+        SeatDesk::open(alloc, specs, actors)
+    }
+
+    fn held(seat: &DeskSeat<V>) -> (usize, u64) {
+        (seat.kept().len(), seat.stamp())
+    }
+
+    fn call<R: Wait>(
+        &self,
+        rt: &R,
+        seat: DeskSeat<V>,
+        channel: u32,
+        call: ChanCall<V>,
+    ) -> (DeskSeat<V>, Result<Answered<V>, DeskFault>)
+        requires { IsSeatOf self.now seat }
+        ensures { IsSeatOf self.now result.0 }
+    {
+        SeatDesk::call(self, rt, seat, channel, call)
+    }
+
+    fn meet<R: Wait>(
+        &self,
+        rt: &R,
+        one: DeskSeat<V>,
+        two: DeskSeat<V>,
+        channel: u32,
+    ) -> (DeskSeat<V>, DeskSeat<V>, Option<u64>) {
+        SeatDesk::meet(self, rt, one, two, channel)
+    }
+
+    fn close<R: Wait>(
+        self,
+        rt: &R,
+        alloc: Global,
+        seats: Vec<DeskSeat<V>>,
+    ) -> Result<u64, (CloseFault, SeatDesk<V>, Vec<DeskSeat<V>>)>
+        requires { All (IsSeatOf self) seats.items }
+        ensures { IfErr result (λ e. All (IsSeatOf e.1) e.2.items) }
+    {
+        match SeatDesk::close(self, rt, alloc, seats) {
+            Ok(run) => {
+                let length = run.len();
+                drop(run);
+                Ok(length)
+            }
+            Err(back) => Err(back),
+        }
+    }
+}
 
 /// What is called by a seat, each time by the channel's number.
 const CALLS: [(u32, ChanCall<u64>); 6] = [
@@ -33,16 +149,18 @@ const CALLS: [(u32, ChanCall<u64>); 6] = [
 ];
 
 /// A desk with its seats.
-fn new_desk<V: Payload>(
+fn new_desk<D: Seated + Drop>(
     alloc: Global,
     met: &mut Met,
-    specs: &[Spec<V>],
+    specs: &[Spec<D::Value>],
     actors: u32,
-) -> Result<Opened<V>, DeskOpenFault>
-    ensures { IfOk result (λ r. All (IsSeatOf r.0) r.1.items) }
+) -> Result<(D, Vec<D::Seat>), DeskOpenFault>
+where
+    D::Seat: Drop,
+    ensures { IfOk result (λ r. All (D.owns r.0) r.1.items) }
 {
     for _ in 0..TRIES {
-        match SeatDesk::open(alloc, specs, actors) {
+        match D::open(alloc, specs, actors) {
             Err(DeskOpenFault::World(OpenFault::NoMemory)) => met.refused(true),
             answer => return answer,
         }
@@ -51,81 +169,68 @@ fn new_desk<V: Payload>(
 }
 
 /// The last of a desk's seats, taken off.
-fn last_seat<V: Payload>(desk: &SeatDesk<V>, seats: &mut Vec<DeskSeat<V>>) -> Option<DeskSeat<V>>
-    requires { All (IsSeatOf desk.now) seats.old.items }
-    ensures seat { IfSome result (IsSeatOf desk.now) }
-    ensures rest { All (IsSeatOf desk.now) seats.new.items }
+fn last_seat<D: Seated>(desk: &D, seats: &mut Vec<D::Seat>) -> Option<D::Seat>
+    requires { All (D.owns desk.now) seats.old.items }
+    ensures seat { IfSome result (D.owns desk.now) }
+    ensures rest { All (D.owns desk.now) seats.new.items }
 {
     seats.pop()
 }
 
 /// A desk's seats, with one more behind them. There is room for it, since it was among them before.
-fn with_seat<V: Payload>(
-    desk: &SeatDesk<V>,
-    mut seats: Vec<DeskSeat<V>>,
-    seat: DeskSeat<V>,
-) -> Result<Vec<DeskSeat<V>>, AllocError>
-    requires seats { All (IsSeatOf desk.now) seats.items }
-    requires seat { IsSeatOf desk.now seat }
-    ensures { IfOk result (λ all. All (IsSeatOf desk.now) all.items) }
+fn with_seat<D: Seated>(
+    desk: &D,
+    mut seats: Vec<D::Seat>,
+    seat: D::Seat,
+) -> Result<Vec<D::Seat>, AllocError>
+where
+    D::Seat: Drop,
+    requires seats { All (D.owns desk.now) seats.items }
+    requires seat { D.owns desk.now seat }
+    ensures { IfOk result (λ all. All (D.owns desk.now) all.items) }
 {
     seats.push(seat)?;
     Ok(seats)
 }
 
-/// How many receipts a seat has, and its clock.
-fn held<V: Payload>(seat: &DeskSeat<V>) -> (usize, u64) {
-    (seat.kept().len(), seat.stamp())
-}
-
-/// One call.
-fn call<V: Payload, R: Wait>(
-    rt: &R,
-    desk: &SeatDesk<V>,
-    seat: DeskSeat<V>,
-    channel: u32,
-    call: ChanCall<V>,
-) -> (DeskSeat<V>, Result<Answered<V>, DeskFault>)
-    requires { IsSeatOf desk.now seat }
-    ensures { IsSeatOf desk.now result.0 }
-{
-    desk.call(rt, seat, channel, call)
-}
-
-/// The same, asked for again. At a refusal the seat has the receipts and the clock that it had.
-fn ask<V: Payload, R: Wait>(
+/// One call, asked for again. At a refusal the seat has the receipts and the clock that it had.
+fn ask<D: Seated, R: Wait>(
     rt: &R,
     met: &mut Met,
-    desk: &SeatDesk<V>,
-    seat: DeskSeat<V>,
+    desk: &D,
+    seat: D::Seat,
     channel: u32,
-    made: ChanCall<V>,
-) -> (DeskSeat<V>, Result<Answered<V>, DeskFault>)
-    requires { IsSeatOf desk.now seat }
-    ensures { IsSeatOf desk.now result.0 }
+    made: ChanCall<D::Value>,
+) -> (D::Seat, Result<Answered<D::Value>, DeskFault>)
+    requires { D.owns desk.now seat }
+    ensures { D.owns desk.now result.0 }
 {
-    let before = held(&seat);
-    match call(rt, desk, seat, channel, made) {
+    let before = D::held(&seat);
+    match desk.call(rt, seat, channel, made) {
         (seat, Err(DeskFault::NoMemory)) => {
-            met.refused(held(&seat) == before);
-            call(rt, desk, seat, channel, made)
+            met.refused(D::held(&seat) == before);
+            desk.call(rt, seat, channel, made)
         }
         answered => answered,
     }
 }
 
-/// Makes the calls by a seat, and prints what each answers.
-fn call_all<R: Wait + Print>(
+/// Makes calls by a seat, and prints what each answers.
+fn call_all<D: Seated, R: Wait + Print>(
     rt: &R,
     met: &mut Met,
-    desk: &SeatDesk<u64>,
-    mut seat: DeskSeat<u64>,
-) -> io::Result<DeskSeat<u64>>
-    requires { IsSeatOf desk.now seat }
-    ensures { IfOk result (IsSeatOf desk.now) }
+    desk: &D,
+    mut seat: D::Seat,
+    calls: &[(u32, ChanCall<D::Value>)],
+) -> io::Result<D::Seat>
+where
+    D::Seat: Drop,
+    D::Value: Debug,
+    requires { D.owns desk.now seat }
+    ensures { IfOk result (D.owns desk.now) }
 {
-    for (channel, made) in CALLS {
-        let (back, answer) = ask(rt, met, desk, seat, channel, made);
+    for (channel, made) in calls {
+        let (back, answer) = ask(rt, met, desk, seat, *channel, *made);
         seat = back;
         println!(rt; "  {answer:?}")?;
     }
@@ -133,75 +238,55 @@ fn call_all<R: Wait + Print>(
 }
 
 /// Makes them so many times.
-fn call_again<R: Wait + Print>(
+fn call_again<D: Seated, R: Wait + Print>(
     rt: &R,
     met: &mut Met,
-    desk: &SeatDesk<u64>,
-    mut seat: DeskSeat<u64>,
+    desk: &D,
+    mut seat: D::Seat,
+    calls: &[(u32, ChanCall<D::Value>)],
     rounds: u32,
-) -> io::Result<DeskSeat<u64>>
-    requires { IsSeatOf desk.now seat }
-    ensures { IfOk result (IsSeatOf desk.now) }
+) -> io::Result<D::Seat>
+where
+    D::Seat: Drop,
+    D::Value: Debug,
+    requires { D.owns desk.now seat }
+    ensures { IfOk result (D.owns desk.now) }
 {
     for _round in 0..rounds {
-        seat = call_all(rt, met, desk, seat)?;
+        seat = call_all(rt, met, desk, seat, calls)?;
     }
     Ok(seat)
 }
 
-/// Lets two seats meet on a channel. It takes no memory.
-fn meet<V: Payload, R: Wait>(
-    rt: &R,
-    desk: &SeatDesk<V>,
-    one: DeskSeat<V>,
-    two: DeskSeat<V>,
-    channel: u32,
-) -> (DeskSeat<V>, DeskSeat<V>, Option<u64>)
-    requires { IsSeatOf desk.now one × IsSeatOf desk.now two }
-    ensures { IsSeatOf desk.now result.0 × IsSeatOf desk.now result.1 }
-{
-    desk.meet(rt, one, two, channel)
-}
-
 /// How many receipts these seats have.
-fn receipts_in<V: Payload>(seats: &[DeskSeat<V>]) -> usize {
+fn receipts_in<D: Seated>(seats: &[D::Seat]) -> usize {
     let mut count: usize = 0;
     for seat in seats {
-        count = count.saturating_add(seat.kept().len());
+        let (receipts, _) = D::held(seat);
+        count = count.saturating_add(receipts);
     }
     count
 }
 
-/// Closes a desk.
-fn close<V: Payload, R: Wait>(
-    rt: &R,
-    alloc: Global,
-    desk: SeatDesk<V>,
-    seats: Vec<DeskSeat<V>>,
-) -> Result<Run<V>, NotClosed<V>>
-    requires { All (IsSeatOf desk) seats.items }
-    ensures { IfErr result (λ e. All (IsSeatOf e.1) e.2.items) }
-{
-    desk.close(rt, alloc, seats)
-}
-
-/// The same, asked for again. At a refusal desk and seats come back, and are handed in once more.
-fn ask_close<V: Payload, R: Wait>(
+/// Closes a desk, and answers how long its run is. At a refusal desk and seats come back, and are handed in once more.
+fn ask_close<D: Seated + Drop, R: Wait>(
     rt: &R,
     alloc: Global,
     met: &mut Met,
-    desk: SeatDesk<V>,
-    seats: Vec<DeskSeat<V>>,
-) -> Result<Run<V>, CloseFault>
-    requires { All (IsSeatOf desk) seats.items }
+    desk: D,
+    seats: Vec<D::Seat>,
+) -> Result<u64, CloseFault>
+where
+    D::Seat: Drop,
+    requires { All (D.owns desk) seats.items }
 {
-    let before = (seats.len(), receipts_in(&seats));
-    match close(rt, alloc, desk, seats) {
-        Ok(run) => Ok(run),
+    let before = (seats.len(), receipts_in::<D>(&seats));
+    match desk.close(rt, alloc, seats) {
+        Ok(length) => Ok(length),
         Err((CloseFault::NoMemory, desk, seats)) => {
-            met.refused((seats.len(), receipts_in(&seats)) == before);
-            match close(rt, alloc, desk, seats) {
-                Ok(run) => Ok(run),
+            met.refused((seats.len(), receipts_in::<D>(&seats)) == before);
+            match desk.close(rt, alloc, seats) {
+                Ok(length) => Ok(length),
                 Err((fault, _, _)) => Err(fault),
             }
         }
@@ -210,18 +295,20 @@ fn ask_close<V: Payload, R: Wait>(
 }
 
 /// Closes a desk with these seats and two more, and prints how long its run is.
-fn close_with<R: Wait + Print>(
+fn close_with<D: Seated + Drop, R: Wait + Print>(
     rt: &R,
     alloc: Global,
     met: &mut Met,
-    desk: SeatDesk<u64>,
-    seats: Vec<DeskSeat<u64>>,
-    one: DeskSeat<u64>,
-    two: DeskSeat<u64>,
+    desk: D,
+    seats: Vec<D::Seat>,
+    one: D::Seat,
+    two: D::Seat,
 ) -> io::Result<()>
-    requires seats { All (IsSeatOf desk) seats.items }
-    requires one { IsSeatOf desk one }
-    requires two { IsSeatOf desk two }
+where
+    D::Seat: Drop,
+    requires seats { All (D.owns desk) seats.items }
+    requires one { D.owns desk one }
+    requires two { D.owns desk two }
 {
     let Ok(seats) = with_seat(&desk, seats, one) else {
         return println!(rt; "  no room for a seat");
@@ -230,36 +317,24 @@ fn close_with<R: Wait + Print>(
         return println!(rt; "  no room for a seat");
     };
     match ask_close(rt, alloc, met, desk, seats) {
-        Ok(run) => println!(rt; "  closed with {} entries", run.len()),
+        Ok(length) => println!(rt; "  closed with {length} entries"),
         Err(fault) => println!(rt; "  {fault:?}"),
     }
 }
 
-/// Calls by two seats, which meet then, and closes their desk.
-fn play_seats<R: Wait + Print>(
+/// Makes calls by the two seats of a new desk, which meet then, and closes the desk.
+fn play_desk<D: Seated + Drop, R: Wait + Print>(
     rt: &R,
     alloc: Global,
     met: &mut Met,
-    desk: SeatDesk<u64>,
-    seats: Vec<DeskSeat<u64>>,
-    one: DeskSeat<u64>,
-    two: DeskSeat<u64>,
+    specs: &[Spec<D::Value>],
+    calls: &[(u32, ChanCall<D::Value>)],
 ) -> io::Result<()>
-    requires seats { All (IsSeatOf desk) seats.items }
-    requires one { IsSeatOf desk one }
-    requires two { IsSeatOf desk two }
+where
+    D::Seat: Drop,
+    D::Value: Debug,
 {
-    let one = call_all(rt, met, &desk, one)?;
-    let two = call_again(rt, met, &desk, two, 6)?;
-    let (one, two, met_at) = meet(rt, &desk, one, two, 0);
-    println!(rt; "  {met_at:?}")?;
-    close_with(rt, alloc, met, desk, seats, one, two)
-}
-
-/// Plays a desk of two seats.
-pub fn play<R: Wait + Print>(rt: &R, alloc: Global, met: &mut Met) -> io::Result<()> {
-    println!(rt; "a desk with seats")?;
-    let Ok((desk, mut seats)) = new_desk(alloc, met, &SPECS, 2) else {
+    let Ok((desk, mut seats)) = new_desk::<D>(alloc, met, specs, 2) else {
         return println!(rt; "  isn't opened");
     };
     let Some(two) = last_seat(&desk, &mut seats) else {
@@ -268,5 +343,15 @@ pub fn play<R: Wait + Print>(rt: &R, alloc: Global, met: &mut Met) -> io::Result
     let Some(one) = last_seat(&desk, &mut seats) else {
         return println!(rt; "  no first seat");
     };
-    play_seats(rt, alloc, met, desk, seats, one, two)
+    let one = call_all(rt, met, &desk, one, calls)?;
+    let two = call_again(rt, met, &desk, two, calls, 6)?;
+    let (one, two, met_at) = desk.meet(rt, one, two, 0);
+    println!(rt; "  {met_at:?}")?;
+    close_with(rt, alloc, met, desk, seats, one, two)
+}
+
+/// Plays a desk of two seats.
+pub fn play<R: Wait + Print>(rt: &R, alloc: Global, met: &mut Met) -> io::Result<()> {
+    println!(rt; "a desk with seats")?;
+    play_desk::<SeatDesk<u64>, _>(rt, alloc, met, &SPECS, &CALLS)
 }

@@ -80,6 +80,7 @@ fn ask_session(
     };
     let (writer, ended) = session_once(alloc, input);
     met.refused(is_refused(fault) && writer.written().starts_with(front.written()));
+    drop(front);
     (writer, ended)
 }
 
@@ -110,6 +111,7 @@ fn ask_debug(
     let (writer, ended) = debug_once(alloc, run, input);
     let same = run.len() == length && writer.written().starts_with(front.written());
     met.refused(is_refused(fault) && same);
+    drop(front);
     (writer, ended)
 }
 
@@ -124,8 +126,11 @@ fn print_written(rt: &impl Print, writer: &FailingWriter) -> io::Result<()> {
 /// Plays a session, and prints how it ended and what it wrote.
 fn play_session(rt: &impl Print, alloc: Global, met: &mut Met, input: &[u8]) -> io::Result<()> {
     let (writer, ended) = ask_session(alloc, met, input);
-    println!(rt; "a session: {ended:?}")?;
-    print_written(rt, &writer)
+    let said = println!(rt; "a session: {ended:?}");
+    let printed = print_written(rt, &writer);
+    drop(writer);
+    said?;
+    printed
 }
 
 /// Plays commands over the run of a journal text.
@@ -135,8 +140,12 @@ fn play_debug(rt: &impl Print, alloc: Global, met: &mut Met) -> io::Result<()> {
         return println!(rt; "  no run");
     };
     let (writer, ended) = ask_debug(alloc, met, &run, COMMANDS);
-    println!(rt; "  {ended:?}")?;
-    print_written(rt, &writer)
+    drop(run);
+    let said = println!(rt; "  {ended:?}");
+    let printed = print_written(rt, &writer);
+    drop(writer);
+    said?;
+    printed
 }
 
 /// Plays all of these.

@@ -84,6 +84,7 @@ fn write_text<V: Payload>(
             Ok(_) => return Ok(bytes),
             Err(WriteFault(count)) => {
                 met.refused(count == bytes.len() as u64 && wanted.starts_with(&bytes));
+                drop(bytes);
             }
         }
     }
@@ -99,15 +100,19 @@ fn play_run<V: Payload>(
 ) -> io::Result<()> {
     println!(rt; "  read: {} entries", run.len())?;
     match write_text(alloc, met, run, JOURNAL) {
-        Ok(bytes) => println!(rt;
-            "  written: {} bytes, as before: {}",
-            bytes.len(),
-            bytes.as_slice() == JOURNAL
-        )?,
+        Ok(bytes) => {
+            let (length, is_same) = (bytes.len(), bytes.as_slice() == JOURNAL);
+            drop(bytes);
+            println!(rt; "  written: {length} bytes, as before: {is_same}")?;
+        }
         Err(fault) => println!(rt; "  {fault:?}")?,
     }
     match write_and_read(alloc, met, run) {
-        Ok(again) => println!(rt; "  read again: {} entries", again.len()),
+        Ok(again) => {
+            let length = again.len();
+            drop(again);
+            println!(rt; "  read again: {length} entries")
+        }
         Err(NoMemory) => println!(rt; "  isn't read again"),
     }
 }
@@ -115,7 +120,11 @@ fn play_run<V: Payload>(
 /// Plays what a text that was cut off still holds.
 fn play_cut(rt: &impl Print, alloc: Global, met: &mut Met, cut: &[u8]) -> io::Result<()> {
     match salvage_text::<u64>(alloc, met, cut) {
-        Ok((run, bytes)) => println!(rt; "  salvaged: {} entries of {bytes} bytes", run.len()),
+        Ok((run, bytes)) => {
+            let length = run.len();
+            drop(run);
+            println!(rt; "  salvaged: {length} entries of {bytes} bytes")
+        }
         Err(fault) => println!(rt; "  {fault:?}"),
     }
 }
@@ -124,7 +133,11 @@ fn play_cut(rt: &impl Print, alloc: Global, met: &mut Met, cut: &[u8]) -> io::Re
 pub fn play(rt: &impl Print, alloc: Global, met: &mut Met) -> io::Result<()> {
     println!(rt; "a journal text")?;
     match read_text::<u64>(alloc, met, JOURNAL) {
-        Ok(run) => play_run(rt, alloc, met, &run)?,
+        Ok(run) => {
+            let played = play_run(rt, alloc, met, &run);
+            drop(run);
+            played?;
+        }
         Err(fault) => println!(rt; "  {fault:?}")?,
     }
     let (cut, _) = JOURNAL.split_at(CUT.min(JOURNAL.len()));

@@ -3,7 +3,7 @@
 use crate::met::{Met, TRIES};
 use crate::runs::build;
 use rw_journal::Run;
-use rw_law::{NoMemory, Reversible};
+use rw_law::{NoMemory, Payload, Reversible};
 use rw_navigator::{Cond, Debugger, HitIndex, Move, Navigator, OutOfRange, Probe};
 use rw_world::World;
 use std::alloc::Global;
@@ -11,6 +11,78 @@ use std::io;
 
 /// A list of moves, of which the second leaves the run.
 const MOVES: [Move; 4] = [Move::Forward(9), Move::Back(10), Move::End, Move::Back(1)];
+
+/// The hits next to a place, below it and above.
+type Around = (Option<u64>, Option<u64>);
+
+/// What walks over a run. What is played has it as a parameter, so that no proof but those of its `impl`s looks into a run.
+trait Walker {
+    /// Its place, and how many calls it has made and taken back.
+    fn stands(&self) -> (u64, u64);
+
+    /// Makes the moves, and answers what each answered.
+    fn walk(
+        &mut self,
+        alloc: Global,
+        moves: &[Move],
+    ) -> Result<Vec<Result<(), OutOfRange>>, NoMemory>;
+
+    /// What an index of a condition on entries finds next to a place. Of a condition on states there is none.
+    fn around(&self, alloc: Global, cond: &Cond, place: u64) -> Result<Around, NoMemory>;
+}
+
+impl<V: Payload> Walker for Navigator<World<V>> {
+    fn stands(&self) -> (u64, u64) {
+        (self.place(), self.turns())
+    }
+
+    fn walk(
+        &mut self,
+        alloc: Global,
+        moves: &[Move],
+    ) -> Result<Vec<Result<(), OutOfRange>>, NoMemory> {
+        Navigator::walk(self, alloc, moves)
+    }
+
+    fn around(&self, alloc: Global, cond: &Cond, place: u64) -> Result<Around, NoMemory> {
+        if !<Cond as Probe<World<V>>>::on_step(cond) {
+            return Err(NoMemory);
+        }
+        looked_up(HitIndex::build(alloc, self, cond), place)
+    }
+}
+
+impl<V: Payload> Walker for Debugger<V> {
+    fn stands(&self) -> (u64, u64) {
+        (self.place(), self.turns())
+    }
+
+    fn walk(
+        &mut self,
+        alloc: Global,
+        moves: &[Move],
+    ) -> Result<Vec<Result<(), OutOfRange>>, NoMemory> {
+        Debugger::walk(self, alloc, moves)
+    }
+
+    fn around(&self, alloc: Global, cond: &Cond, place: u64) -> Result<Around, NoMemory> {
+        if !<Cond as Probe<World<V>>>::on_step(cond) {
+            return Err(NoMemory);
+        }
+        looked_up(self.hit_index(alloc, cond), place)
+    }
+}
+
+/// What an index that was asked for finds next to a place.
+fn looked_up<R: Reversible, P: Probe<R>>(
+    built: Result<HitIndex<R, P>, NoMemory>,
+    place: u64,
+) -> Result<Around, NoMemory> {
+    let index = built?;
+    let around = (index.before(place), index.after(place));
+    drop(index);
+    Ok(around)
+}
 
 /// A navigator of a run at place 0. Where memory is refused for it, the world of its start is dropped.
 fn open_navigator<V: Copy>(alloc: Global, run: &Run<V>) -> Result<Navigator<World<V>>, NoMemory> {
@@ -35,10 +107,15 @@ fn new_navigator<V: Copy>(
 
 /// A navigator over a copy of the entries that is handed to it. At a refusal world and copy are dropped.
 fn open_over<V: Copy>(alloc: Global, run: &Run<V>) -> Result<Navigator<World<V>>, NoMemory> {
-    let start = run.start(alloc)?;
-    match run.entries().to_vec(alloc) {
-        Ok(entries) => Navigator::over(start, entries),
-        Err(_) => Err(NoMemory),
+    let Ok(entries) = run.entries().to_vec(alloc) else {
+        return Err(NoMemory);
+    };
+    match run.start(alloc) {
+        Ok(start) => Navigator::over(start, entries),
+        Err(NoMemory) => {
+            drop(entries);
+            Err(NoMemory)
+        }
     }
 }
 
@@ -74,146 +151,114 @@ fn new_debugger<V: Copy>(
     Err(NoMemory)
 }
 
-/// Makes the moves, and answers what each answered.
-fn walk<R: Reversible>(
+/// Makes the moves, asked for again.
+fn walk<W: Walker>(
     alloc: Global,
     met: &mut Met,
-    navigator: &mut Navigator<R>,
+    walker: &mut W,
 ) -> Result<Vec<Result<(), OutOfRange>>, NoMemory> {
-    let (place, turns) = (navigator.place(), navigator.turns());
+    let stands = walker.stands();
     for _ in 0..TRIES {
-        match navigator.walk(alloc, &MOVES) {
+        match walker.walk(alloc, &MOVES) {
             Ok(answers) => return Ok(answers),
-            Err(NoMemory) => met.refused(navigator.place() == place && navigator.turns() == turns),
+            Err(NoMemory) => met.refused(walker.stands() == stands),
         }
     }
     Err(NoMemory)
 }
 
-/// The same of a debugger.
-fn walk_run<V: Copy>(
+/// What an index of a condition finds next to a place, asked for again.
+fn around<W: Walker>(
     alloc: Global,
     met: &mut Met,
-    debugger: &mut Debugger<V>,
-) -> Result<Vec<Result<(), OutOfRange>>, NoMemory> {
-    let (place, turns) = (debugger.place(), debugger.turns());
-    for _ in 0..TRIES {
-        match debugger.walk(alloc, &MOVES) {
-            Ok(answers) => return Ok(answers),
-            Err(NoMemory) => met.refused(debugger.place() == place && debugger.turns() == turns),
-        }
-    }
-    Err(NoMemory)
-}
-
-/// The index of a condition on entries. Of one on states there is none.
-fn index<R: Reversible, P: Probe<R>>(
-    alloc: Global,
-    met: &mut Met,
-    navigator: &Navigator<R>,
-    probe: &P,
-) -> Result<HitIndex<R, P>, NoMemory> {
-    let place = navigator.place();
-    for _ in 0..TRIES {
-        if !probe.on_step() {
-            return Err(NoMemory);
-        }
-        match HitIndex::build(alloc, navigator, probe) {
-            Ok(index) => return Ok(index),
-            Err(NoMemory) => met.refused(navigator.place() == place),
-        }
-    }
-    Err(NoMemory)
-}
-
-/// The index of a condition on entries over a debugger's run.
-fn index_run<V: Copy, P: Probe<World<V>>>(
-    alloc: Global,
-    met: &mut Met,
-    debugger: &Debugger<V>,
-    probe: &P,
-) -> Result<HitIndex<World<V>, P>, NoMemory> {
-    let (place, turns) = (debugger.place(), debugger.turns());
-    for _ in 0..TRIES {
-        if !probe.on_step() {
-            return Err(NoMemory);
-        }
-        match debugger.hit_index(alloc, probe) {
-            Ok(index) => return Ok(index),
-            Err(NoMemory) => met.refused(debugger.place() == place && debugger.turns() == turns),
-        }
-    }
-    Err(NoMemory)
-}
-
-/// What an index finds below a place, and above it.
-fn looked_up<R: Reversible, P: Probe<R>>(
-    index: &HitIndex<R, P>,
+    walker: &W,
+    cond: &Cond,
     place: u64,
-) -> (Option<u64>, Option<u64>) {
-    (index.before(place), index.after(place))
+) -> Result<Around, NoMemory> {
+    let stands = walker.stands();
+    for _ in 0..TRIES {
+        match walker.around(alloc, cond, place) {
+            Ok(around) => return Ok(around),
+            Err(NoMemory) => met.refused(walker.stands() == stands),
+        }
+    }
+    Err(NoMemory)
 }
 
-/// Plays a navigator of a run, and an index of the entries by actor 1.
-fn play_navigator(rt: &impl Print, alloc: Global, met: &mut Met, run: &Run<u64>) -> io::Result<()> {
-    let Ok(mut navigator) = new_navigator(alloc, met, run) else {
-        return println!(rt; "  no navigator");
+/// Makes the moves, and prints what each answered and the place after them.
+fn say_walk<W: Walker>(
+    rt: &impl Print,
+    alloc: Global,
+    met: &mut Met,
+    walker: &mut W,
+) -> io::Result<()> {
+    let Ok(answers) = walk(alloc, met, walker) else {
+        return println!(rt; "  isn't walked");
     };
-    match walk(alloc, met, &mut navigator) {
-        Ok(answers) => println!(rt;
-            "  {:?}, then place {}",
-            answers.as_slice(),
-            navigator.place()
-        )?,
-        Err(NoMemory) => println!(rt; "  isn't walked")?,
-    }
-    match index(alloc, met, &navigator, &Cond::Actor(1)) {
-        Ok(index) => println!(rt; "  around place 20: {:?}", looked_up(&index, 20)),
+    let (place, _) = walker.stands();
+    let said = println!(rt; "  {:?}, then place {place}", answers.as_slice());
+    drop(answers);
+    said
+}
+
+/// Prints what an index of a condition finds next to place 20.
+fn say_around<W: Walker>(
+    rt: &impl Print,
+    alloc: Global,
+    met: &mut Met,
+    walker: &W,
+    cond: &Cond,
+) -> io::Result<()> {
+    match around(alloc, met, walker, cond, 20) {
+        Ok(around) => println!(rt; "  around place 20: {around:?}"),
         Err(NoMemory) => println!(rt; "  no index"),
     }
 }
 
-/// Plays a navigator over entries of its own.
-fn play_over(rt: &impl Print, alloc: Global, met: &mut Met, run: &Run<u64>) -> io::Result<()> {
-    let Ok(mut navigator) = new_over(alloc, met, run) else {
-        return println!(rt; "  no navigator");
+/// Plays a walker that was asked for, and an index if there is a condition for it.
+fn play_walker<W: Walker + Drop>(
+    rt: &impl Print,
+    alloc: Global,
+    met: &mut Met,
+    opened: Result<W, NoMemory>,
+    cond: Option<Cond>,
+) -> io::Result<()> {
+    let Ok(mut walker) = opened else {
+        return println!(rt; "  isn't opened");
     };
-    match walk(alloc, met, &mut navigator) {
-        Ok(answers) => println!(rt;
-            "  {:?}, then place {}",
-            answers.as_slice(),
-            navigator.place()
-        ),
-        Err(NoMemory) => println!(rt; "  isn't walked"),
-    }
+    let walked = say_walk(rt, alloc, met, &mut walker);
+    let found = match cond {
+        Some(cond) => say_around(rt, alloc, met, &walker, &cond),
+        None => Ok(()),
+    };
+    drop(walker);
+    walked?;
+    found
 }
 
-/// Plays a debugger of a run, and an index of its entries on channel 0.
-fn play_debugger(rt: &impl Print, alloc: Global, met: &mut Met, run: &Run<u64>) -> io::Result<()> {
-    let Ok(mut debugger) = new_debugger(alloc, met, run) else {
-        return println!(rt; "  no debugger");
-    };
-    match walk_run(alloc, met, &mut debugger) {
-        Ok(answers) => println!(rt;
-            "  {:?}, then place {}",
-            answers.as_slice(),
-            debugger.place()
-        )?,
-        Err(NoMemory) => println!(rt; "  isn't walked")?,
-    }
-    match index_run(alloc, met, &debugger, &Cond::Channel(0)) {
-        Ok(index) => println!(rt; "  around place 20: {:?}", looked_up(&index, 20)),
-        Err(NoMemory) => println!(rt; "  no index"),
-    }
+/// Plays a navigator of a run and an index of the entries by actor 1, a navigator over entries of its own, and a debugger of the run
+/// and an index of its entries on channel 0.
+fn play_run<V: Payload>(
+    rt: &impl Print,
+    alloc: Global,
+    met: &mut Met,
+    run: &Run<V>,
+) -> io::Result<()> {
+    let navigator = new_navigator(alloc, met, run);
+    play_walker(rt, alloc, met, navigator, Some(Cond::Actor(1)))?;
+    let over = new_over(alloc, met, run);
+    play_walker(rt, alloc, met, over, None)?;
+    let debugger = new_debugger(alloc, met, run);
+    play_walker(rt, alloc, met, debugger, Some(Cond::Channel(0)))
 }
 
-/// Plays walks over a run.
+/// Plays walks over a run that is built for them.
 pub fn play(rt: &impl Print, alloc: Global, met: &mut Met) -> io::Result<()> {
     println!(rt; "walks")?;
     let Some(run) = build(alloc, met) else {
         return println!(rt; "  no run");
     };
-    play_navigator(rt, alloc, met, &run)?;
-    play_over(rt, alloc, met, &run)?;
-    play_debugger(rt, alloc, met, &run)
+    let played = play_run(rt, alloc, met, &run);
+    drop(run);
+    played
 }

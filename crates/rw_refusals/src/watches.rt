@@ -1,7 +1,7 @@
 //! Calls on a watch of a desk by its handles. Each is made by another actor, whose pass has no room for a receipt yet.
 
 use crate::callers::{self, Caller, ask, ask_all};
-use crate::desks::{new_desk, say_closed};
+use crate::desks::{last_ends, new_desk, say_closed};
 use crate::met::{Met, TRIES};
 use crate::passes::held;
 use rw_desk::{Desk, DeskFault, Ends, Made, Pass, WRx, WTx};
@@ -52,7 +52,11 @@ const ACTORS: u32 = 19;
 /// A receiver that was made, by its number. The handle is forgotten, and stays alive in its channel.
 fn receiver_made<V: Copy>(made: Made<WRx, WReply<V>>) -> WReply<V> {
     match made {
-        Made::New(receiver) => WReply::New(receiver.number()),
+        Made::New(receiver) => {
+            let number = receiver.number();
+            drop(receiver);
+            WReply::New(number)
+        }
         Made::Refused(reply) => reply,
     }
 }
@@ -60,7 +64,11 @@ fn receiver_made<V: Copy>(made: Made<WRx, WReply<V>>) -> WReply<V> {
 /// A sender that was made, by its number. It is forgotten too.
 fn sender_made<V: Copy>(made: Made<WTx, WReply<V>>) -> WReply<V> {
     match made {
-        Made::New(sender) => WReply::New(sender.number()),
+        Made::New(sender) => {
+            let number = sender.number();
+            drop(sender);
+            WReply::New(number)
+        }
         Made::Refused(reply) => reply,
     }
 }
@@ -228,16 +236,19 @@ fn drop_sender<V: Payload, R: Wait>(
     sender: WTx,
 ) -> Result<WReply<V>, DeskFault> {
     let (before, number) = (held(pass), sender.number());
-    match desk.w_drop_sender(rt, pass, sender) {
-        Ok(reply) => Ok(reply),
+    let dropped = match desk.w_drop_sender(rt, pass, sender) {
         Err((DeskFault::NoMemory, sender)) => {
             met.refused(held(pass) == before && sender.number() == number);
-            match desk.w_drop_sender(rt, pass, sender) {
-                Ok(reply) => Ok(reply),
-                Err((fault, _)) => Err(fault),
-            }
+            desk.w_drop_sender(rt, pass, sender)
         }
-        Err((fault, _)) => Err(fault),
+        dropped => dropped,
+    };
+    match dropped {
+        Ok(reply) => Ok(reply),
+        Err((fault, sender)) => {
+            drop(sender);
+            Err(fault)
+        }
     }
 }
 
@@ -250,21 +261,24 @@ fn drop_receiver<V: Payload, R: Wait>(
     receiver: WRx,
 ) -> Result<WReply<V>, DeskFault> {
     let (before, number) = (held(pass), receiver.number());
-    match desk.w_drop_receiver(rt, pass, receiver) {
-        Ok(reply) => Ok(reply),
+    let dropped = match desk.w_drop_receiver(rt, pass, receiver) {
         Err((DeskFault::NoMemory, receiver)) => {
             met.refused(held(pass) == before && receiver.number() == number);
-            match desk.w_drop_receiver(rt, pass, receiver) {
-                Ok(reply) => Ok(reply),
-                Err((fault, _)) => Err(fault),
-            }
+            desk.w_drop_receiver(rt, pass, receiver)
         }
-        Err((fault, _)) => Err(fault),
+        dropped => dropped,
+    };
+    match dropped {
+        Ok(reply) => Ok(reply),
+        Err((fault, receiver)) => {
+            drop(receiver);
+            Err(fault)
+        }
     }
 }
 
 /// Makes all calls by the two handles, and waits for a value that is there already.
-fn play_handles<R: Wait + Print>(
+fn ask_both<R: Wait + Print>(
     rt: &R,
     met: &mut Met,
     desk: &Desk<u64>,
@@ -283,22 +297,44 @@ fn play_handles<R: Wait + Print>(
     println!(rt; "  {found:?}")
 }
 
+/// The same with handles that are forgotten then.
+fn play_handles<R: Wait + Print>(
+    rt: &R,
+    met: &mut Met,
+    desk: &Desk<u64>,
+    passes: &mut [Pass<u64>],
+    ends: Option<Ends>,
+) -> io::Result<()> {
+    let Some(Ends::Watch(sender, receiver)) = ends else {
+        return println!(rt; "  no watch");
+    };
+    let asked = ask_both(rt, met, desk, passes, &sender, &receiver);
+    drop(sender);
+    drop(receiver);
+    asked
+}
+
 /// Drops the receiver of a watch, which is closed then.
 fn close_for_sender<R: Wait + Print>(
     rt: &R,
     met: &mut Met,
     desk: &Desk<u64>,
     passes: &mut [Pass<u64>],
-    sender: &WTx,
-    receiver: WRx,
+    ends: Option<Ends>,
 ) -> io::Result<()> {
+    let Some(Ends::Watch(sender, receiver)) = ends else {
+        return println!(rt; "  no watch");
+    };
     let [first, second, ..] = passes else {
+        drop(sender);
+        drop(receiver);
         return println!(rt; "  no two passes");
     };
     let dropped = drop_receiver(rt, met, desk, first, receiver);
-    println!(rt; "  {dropped:?}")?;
     let awaited = ChanCall::W(WCall::AwaitClosed(0));
-    let closed = ask(rt, met, desk, second, sender, awaited);
+    let closed = ask(rt, met, desk, second, &sender, awaited);
+    drop(sender);
+    println!(rt; "  {dropped:?}")?;
     println!(rt; "  {closed:?}")
 }
 
@@ -308,15 +344,20 @@ fn close_for_receiver<R: Wait + Print>(
     met: &mut Met,
     desk: &Desk<u64>,
     passes: &mut [Pass<u64>],
-    sender: WTx,
-    receiver: &WRx,
+    ends: Option<Ends>,
 ) -> io::Result<()> {
+    let Some(Ends::Watch(sender, receiver)) = ends else {
+        return println!(rt; "  no second watch");
+    };
     let [.., third, fourth] = passes else {
+        drop(sender);
+        drop(receiver);
         return println!(rt; "  no two passes");
     };
     let dropped = drop_sender(rt, met, desk, third, sender);
+    let closed = wait_for(rt, met, desk, fourth, &receiver, 9);
+    drop(receiver);
     println!(rt; "  {dropped:?}")?;
-    let closed = wait_for(rt, met, desk, fourth, receiver, 9);
     println!(rt; "  {closed:?}")
 }
 
@@ -327,28 +368,26 @@ fn play_closed<R: Wait + Print>(rt: &R, alloc: Global, met: &mut Met) -> io::Res
     let Ok((desk, mut passes, mut ends)) = new_desk(alloc, met, &specs, 4) else {
         return println!(rt; "  no desk");
     };
-    let Some(Ends::Watch(second_sender, second_receiver)) = ends.pop() else {
-        return println!(rt; "  no second watch");
-    };
-    let Some(Ends::Watch(sender, receiver)) = ends.pop() else {
-        return println!(rt; "  no watch");
-    };
-    close_for_sender(rt, met, &desk, &mut passes, &sender, receiver)?;
-    close_for_receiver(rt, met, &desk, &mut passes, second_sender, &second_receiver)?;
-    say_closed(rt, alloc, met, desk, passes)
+    let second = ends.pop();
+    let first = last_ends(ends);
+    let for_sender = close_for_sender(rt, met, &desk, &mut passes, first);
+    let for_receiver = close_for_receiver(rt, met, &desk, &mut passes, second);
+    let closed = say_closed(rt, alloc, met, desk, passes);
+    for_sender?;
+    for_receiver?;
+    closed
 }
 
 /// Plays watches of desks.
 pub fn play<R: Wait + Print>(rt: &R, alloc: Global, met: &mut Met) -> io::Result<()> {
     println!(rt; "a watch of a desk, by its handles")?;
     let specs = [Spec::Watch(7)];
-    let Ok((desk, mut passes, mut ends)) = new_desk(alloc, met, &specs, ACTORS) else {
+    let Ok((desk, mut passes, ends)) = new_desk(alloc, met, &specs, ACTORS) else {
         return println!(rt; "  no desk");
     };
-    let Some(Ends::Watch(sender, receiver)) = ends.pop() else {
-        return println!(rt; "  no watch");
-    };
-    play_handles(rt, met, &desk, &mut passes, &sender, &receiver)?;
-    say_closed(rt, alloc, met, desk, passes)?;
+    let played = play_handles(rt, met, &desk, &mut passes, last_ends(ends));
+    let closed = say_closed(rt, alloc, met, desk, passes);
+    played?;
+    closed?;
     play_closed(rt, alloc, met)
 }

@@ -1,9 +1,8 @@
-use Rattle.std.proofs.Common.{sym, ap, ◌∙◌, ◌∷◌, []}
-use Rattle.rw_desk.proofs.OfKind.{Books}
-use Rattle.rw_seat.proofs.Handing.{adds_none}
+use Rattle.std.proofs.Common.{◌≡◌, [], sym, ap, ◌∙◌, append-nil}
 use Rattle.rw_refusals.proofs.hands.look.Goals as goal
 
 pub give-requires-clause-adds : goal.give-requires-clause-adds
 give-requires-clause-adds g c =
-    let lent = c.take-lent in
-    adds_none (lent.result.number ∷ []) lent.result.seat.me.0.front c.book.result.now.entries (ap (λ (b : Books g.row.V.Denot). b.entries) c.book.ensures.value ∙ sym lent.ensures.noted)
+    let seen = c.take-lent.result.seat.me.0.front in
+    let same : g.B.Keeps.journal c.book.result.now ≡ seen = ap g.B.Keeps.journal c.book.ensures.value ∙ sym c.take-lent.ensures.noted in
+    ([], same ∙ sym (append-nil seen), tt)

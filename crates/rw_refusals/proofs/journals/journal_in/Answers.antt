@@ -4,4 +4,4 @@ use Rattle.rw_refusals.proofs.journals.journal_in.Goals as goal
 
 pub returns : goal.returns
 returns g c =
-    copy_of c.args.spec.now c.args.spec.now c.args.book c.into_parts.result.1.items c.into_parts.result.1.items c.requires refl c.into_parts.ensures.book refl
+    copy_of c.args.spec.now c.args.spec.now c.args.book c.into_parts-machine.result.1.items c.into_parts-machine.result.1.items c.requires refl c.into_parts-machine.ensures.book refl

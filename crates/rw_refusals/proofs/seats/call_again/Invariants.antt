@@ -1,5 +1,4 @@
-use Rattle.rw_seat.specs.SeatDesks.{IsSeatOf}
 use Rattle.rw_refusals.proofs.seats.call_again.Given as goal
 
 abbrev pub invariant-loop-round : goal.invariant-loop-round
-invariant-loop-round g l = IsSeatOf l.desk l.seat
+invariant-loop-round g l = g.D.Seated.owns l.desk l.seat
