@@ -29,5 +29,7 @@ pub fn debug<R: Read, W: Write>(
     let Ok(mut walk) = Walk::open(alloc, run) else {
         return Err(SessionFault::NoMemory);
     };
-    commands(alloc, &mut walk, reader, writer, &mut allowed)
+    let answered = commands(alloc, &mut walk, reader, writer, &mut allowed);
+    drop(walk);
+    answered
 }

@@ -74,11 +74,18 @@ fn begin<W: Write>(
     ensures ok { OnOk result (Appends (W.contents writer.old) (W.contents writer.new) (waiting_line (run_of script).waits)) }
     ensures err { IfErr result (StopsWriting (W.contents writer.old) (W.contents writer.new) (waiting_line (run_of script).waits)) }
 {
-    let Ok((walk, waits)) = Walk::of_script(alloc, &script) else {
+    let begun = Walk::of_script(alloc, &script);
+    drop(script);
+    let Ok((walk, waits)) = begun else {
         return Err(SessionFault::NoMemory);
     };
-    say_waiting(alloc, writer, waits)?;
-    Ok((walk, waits))
+    match say_waiting(alloc, writer, waits) {
+        Ok(()) => Ok((walk, waits)),
+        Err(fault) => {
+            drop(walk);
+            Err(fault)
+        }
+    }
 }
 
 /// How the session of a script ends.
@@ -109,12 +116,15 @@ pub fn session<R: Read, W: Write>(
             Ok(Outcome::Refused(fault))
         }
         SessionScript::Ended(script) => {
-            let (_, waits) = begin(alloc, script, writer)?;
+            let (walk, waits) = begin(alloc, script, writer)?;
+            drop(walk);
             Ok(outcome_at(waits))
         }
         SessionScript::Script(script) => {
             let (mut walk, waits) = begin(alloc, script, writer)?;
-            commands(alloc, &mut walk, reader, writer, &mut allowed)?;
+            let answered = commands(alloc, &mut walk, reader, writer, &mut allowed);
+            drop(walk);
+            answered?;
             Ok(outcome_at(waits))
         }
     }
