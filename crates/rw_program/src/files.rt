@@ -102,10 +102,14 @@ pub(crate) fn record<F: Read, W: Write>(alloc: Global, file: &mut F, out: &mut W
         Ok(script) => script,
         Err(why) => return refuse(alloc, out, why),
     };
-    let Ok((run, waits)) = run_one(alloc, &script) else {
+    let ran = run_one(alloc, &script);
+    drop(script);
+    let Ok((run, waits)) = ran else {
         return Ended::of(Err(SessionFault::NoMemory));
     };
-    match write_journal(&run, out) {
+    let written = write_journal(&run, out);
+    drop(run);
+    match written {
         Ok(()) => say_waiting(alloc, waits),
         Err(fault) => Ended::of(Err(fault)),
     }
@@ -119,7 +123,9 @@ fn check<F: Read, W: Write>(alloc: Global, file: &mut F, out: &mut W) -> Ended
         Ok(run) => run,
         Err(why) => return refuse(alloc, out, why),
     };
-    match format!(in alloc; "ok {}\n", run.len()) {
+    let count = run.len();
+    drop(run);
+    match format!(in alloc; "ok {count}\n") {
         Ok(line) => end_with(out, line.as_str(), 0),
         Err(_) => Ended::of(Err(SessionFault::NoMemory)),
     }
@@ -143,7 +149,9 @@ fn salvage<F: Read, W: Write>(alloc: Global, file: &mut F, out: &mut W) -> Ended
         Ok(salvaged) => salvaged,
         Err(why) => return tell(alloc, why),
     };
-    match write_journal(&run, out) {
+    let written = write_journal(&run, out);
+    drop(run);
+    match written {
         Ok(()) => say_kept(alloc, count),
         Err(fault) => Ended::of(Err(fault)),
     }
@@ -163,7 +171,9 @@ fn walk<F: Read, R: Read, W: Write>(
         Ok(run) => run,
         Err(why) => return refuse(alloc, out, why),
     };
-    match debug(alloc, &run, input, out) {
+    let answered = debug(alloc, &run, input, out);
+    drop(run);
+    match answered {
         Ok(()) => Ended::of(Ok(Outcome::Done)),
         Err(fault) => Ended::of(Err(fault)),
     }

@@ -26,11 +26,15 @@ pub(crate) fn record_threads<F: Read, W: Write, R: Threads + Wait + Sync>(
         Ok(script) => script,
         Err(why) => return refuse(alloc, out, why),
     };
-    let run = match run_threads(rt, alloc, &script, &()) {
+    let played = run_threads(rt, alloc, &script, &());
+    drop(script);
+    let run = match played {
         Ok(run) => run,
         Err(fault) => return Ended::of_threads(fault),
     };
-    match write_journal(&run, out) {
+    let written = write_journal(&run, out);
+    drop(run);
+    match written {
         Ok(()) => Ended::of(Ok(Outcome::Done)),
         Err(fault) => Ended::of(Err(fault)),
     }

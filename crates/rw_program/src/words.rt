@@ -8,7 +8,7 @@ ghost use Rattle.rw_program.specs.Statuses.{Tells};
 use crate::endings::Ended;
 use crate::statuses::REFUSED_WORDS;
 use clap::error::ErrorKind;
-use clap::{Arg, ArgAction, Command};
+use clap::{Arg, ArgAction, ArgMatches, Command};
 use rw_console::SessionFault;
 use std::alloc::Global;
 
@@ -55,48 +55,78 @@ fn record_words<'a>(alloc: Global) -> Result<Command<'a>, clap::Error> {
     Ok(record.arg(threads)?)
 }
 
-/// The words that the program takes.
-fn command_line<'a>(alloc: Global) -> Result<Command<'a>, clap::Error> {
+/// A program's words with a subcommand more that takes a path.
+fn with_verb<'a>(
+    alloc: Global,
+    program: Command<'a>,
+    name: &'a str,
+    about: &'a str,
+) -> Result<Command<'a>, clap::Error> {
+    let verb = with_file(alloc, name, about)?;
+    Ok(program.subcommand(verb)?)
+}
+
+/// The words that run a script: the program's own, `session` and `record`.
+fn script_words<'a>(alloc: Global) -> Result<Command<'a>, clap::Error> {
     let session = Command::new(alloc, "session").about(
         "Read a script and then commands over its run, from standard input",
     );
-    Ok(
-        Command::new(alloc, "ttd")
-            .bin_name("ttd")?
-            .about("Time-travel debugger of broadcast and watch channels")
-            .subcommand_required(true)
-            .subcommand(session)?
-            .subcommand(record_words(alloc)?)?
-            .subcommand(with_file(alloc, "check", "Judge the journal in FILE")?)?
-            .subcommand(with_file(
-                alloc,
-                "debug",
-                "Read commands over the journal in FILE, from standard input",
-            )?)?
-            .subcommand(with_file(
-                alloc,
-                "salvage",
-                "Write what a journal in FILE that was cut off still holds",
-            )?)?,
+    let program = Command::new(alloc, "ttd")
+        .bin_name("ttd")?
+        .about("Time-travel debugger of broadcast and watch channels")
+        .subcommand_required(true)
+        .subcommand(session)?;
+    let record = record_words(alloc)?;
+    Ok(program.subcommand(record)?)
+}
+
+/// The words that the program takes.
+fn command_line<'a>(alloc: Global) -> Result<Command<'a>, clap::Error> {
+    let program = script_words(alloc)?;
+    let program = with_verb(alloc, program, "check", "Judge the journal in FILE")?;
+    let program = with_verb(
+        alloc,
+        program,
+        "debug",
+        "Read commands over the journal in FILE, from standard input",
+    )?;
+    with_verb(
+        alloc,
+        program,
+        "salvage",
+        "Write what a journal in FILE that was cut off still holds",
     )
+}
+
+/// What a subcommand asks for, by its name and what follows it.
+fn asked_by<'a>(name: &str, inner: &ArgMatches<'a>) -> Option<Asked<'a>> {
+    match (name, inner.get_str("FILE")) {
+        ("session", _) => Some(Asked::Session),
+        ("record", Some(path)) if inner.get_flag(THREADS) => Some(Asked::Threads(path)),
+        ("record", Some(path)) => Some(Asked::Over(Verb::Record, path)),
+        ("check", Some(path)) => Some(Asked::Over(Verb::Check, path)),
+        ("debug", Some(path)) => Some(Asked::Over(Verb::Debug, path)),
+        ("salvage", Some(path)) => Some(Asked::Over(Verb::Salvage, path)),
+        _ => None,
+    }
 }
 
 /// Reads the words of the command line, the program's own name first.
 pub fn read_words<'a>(alloc: Global, words: &'a [String]) -> Result<Asked<'a>, clap::Error> {
     let matches = command_line(alloc)?.try_get_matches_from(words)?;
-    if let Some((name, inner)) = matches.subcommand() {
-        match (name, inner.get_str("FILE")) {
-            ("session", _) => return Ok(Asked::Session),
-            ("record", Some(path)) if inner.get_flag(THREADS) => return Ok(Asked::Threads(path)),
-            ("record", Some(path)) => return Ok(Asked::Over(Verb::Record, path)),
-            ("check", Some(path)) => return Ok(Asked::Over(Verb::Check, path)),
-            ("debug", Some(path)) => return Ok(Asked::Over(Verb::Debug, path)),
-            ("salvage", Some(path)) => return Ok(Asked::Over(Verb::Salvage, path)),
-            _ => {}
+    let asked = match matches.subcommand() {
+        Some((name, inner)) => asked_by(name, inner),
+        None => None,
+    };
+    drop(matches);
+    match asked {
+        Some(asked) => Ok(asked),
+        // A subcommand is required and each has its arm, so this isn't met; no contract says so.
+        None => {
+            let mut program = command_line(alloc)?;
+            Err(program.error(ErrorKind::MissingSubcommand, "a subcommand is missing")?)
         }
     }
-    // A subcommand is required and each has its arm, so this isn't met; no contract says so.
-    Err(command_line(alloc)?.error(ErrorKind::MissingSubcommand, "a subcommand is missing")?)
 }
 
 /// How the program ends where its words aren't taken: the text that tells why, or want of memory.

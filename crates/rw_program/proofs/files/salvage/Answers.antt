@@ -4,11 +4,11 @@ use Rattle.rw_program.proofs.files.salvage.Goals as goal
 pub returns-in-Err : goal.returns-in-Err
 returns-in-Err g c = unsalvaged _ c.in-Err.why c.in-Err.ensures.refused c.tell.ensures
 
-pub returns-in-Ok-write_journal : goal.returns-in-Ok-write_journal
-returns-in-Ok-write_journal g c = over _ c.in-Ok.ensures.held (λ bytes said. rw said (told_after _ _ 0 c.in-Ok-write_journal.ensures.ok c.say_kept.ensures))
+pub returns-in-Ok-written : goal.returns-in-Ok-written
+returns-in-Ok-written g c = over _ c.in-Ok.ensures.held (λ bytes said. rw said (told_after _ _ 0 c.in-Ok-written.ensures.ok c.say_kept.ensures))
 
-pub returns : goal.returns
-returns g c =
-    let e = c.in-Err-write_journal.ensures in
+pub returns-in-Err-written : goal.returns-in-Err-written
+returns-in-Err-written g c =
+    let e = c.in-Err-written.ensures in
     let told = c.of.ensures in
-    over _ c.in-Ok.ensures.held (λ bytes said. rw said (unwritten _ _ 0 c.in-Err-write_journal.fault e.fault e.prefix (told.line, told.status)))
+    over _ c.in-Ok.ensures.held (λ bytes said. rw said (unwritten _ _ 0 c.in-Err-written.fault e.fault e.prefix (told.line, told.status)))

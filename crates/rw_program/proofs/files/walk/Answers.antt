@@ -4,10 +4,10 @@ use Rattle.rw_program.proofs.FileRuns.{over}
 use Rattle.rw_program.proofs.Telling.{runs}
 use Rattle.rw_program.proofs.files.walk.Goals as goal
 
-pub returns-in-Ok-debug : goal.returns-in-Ok-debug
-returns-in-Ok-debug g c = over _ c.in-Ok.ensures.run (λ bytes said. rw said (runs _ _ _ (Ok Done) (c.in-Ok-debug.ensures.ok, refl) tt (c.of.ensures.line, c.of.ensures.status)))
+pub returns-in-Ok-answered : goal.returns-in-Ok-answered
+returns-in-Ok-answered g c = over _ c.in-Ok.ensures.run (λ bytes said. rw said (runs _ _ _ (Ok Done) (c.in-Ok-answered.ensures.ok, refl) tt (c.of.ensures.line, c.of.ensures.status)))
 
-pub returns : goal.returns
-returns g c =
-    let told = c.of-in-Err-debug.ensures in
-    over _ c.in-Ok.ensures.run (λ bytes said. rw said (runs _ _ _ (Err c.in-Err-debug.fault) tt c.in-Err-debug.ensures.err (told.line, told.status)))
+pub returns-in-Err-answered : goal.returns-in-Err-answered
+returns-in-Err-answered g c =
+    let told = c.of-in-Err-answered.ensures in
+    over _ c.in-Ok.ensures.run (λ bytes said. rw said (runs _ _ _ (Err c.in-Err-answered.fault) tt c.in-Err-answered.ensures.err (told.line, told.status)))
