@@ -10,3 +10,12 @@ loop-actor-preserved g c a below =
       | inl lt ↦ c.loop-actor.invariant a lt
       | inr le ↦ let last : c.loop-actor.actor ≡ a = omega arith in subst IsNone last (omega (arith, c.if-places-actor.false, ap length c.receipts_of.ensures))
     ]
+
+pub returns-then-places-actor-clause-some : goal.returns-then-places-actor-clause-some
+returns-then-places-actor-clause-some g c = (c.loop-actor-test.true, omega (arith, c.if-places-actor.true, ap length c.receipts_of.ensures))
+
+pub returns-then-places-actor-clause-least : goal.returns-then-places-actor-clause-least
+returns-then-places-actor-clause-least g c = c.loop-actor.invariant
+
+pub returns-clause-none : goal.returns-clause-none
+returns-clause-none g c = λ a below. c.loop-actor.invariant a (omega (arith, below))

@@ -1,7 +1,18 @@
+use Rattle.std.proofs.Common.{get_or, refl, arith}
+use Rattle.std.proofs.lemmas.Option.{slice_get_within}
+use Rattle.rw_desk.specs.Settling.{receipt_of}
 use Rattle.rw_desk.proofs.straying.follow.Goals as goal
 
 pub returns-then-not-is_next-clause-same : goal.returns-then-not-is_next-clause-same
 returns-then-not-is_next-clause-same g c = rw (← c.receipts_of.ensures) c.if-not-is_next.ensures
 
+pub overflow_add-places : goal.overflow_add-places
+overflow_add-places g c =
+    let within = slice_get_within c.receipts_of.result.now (get_or c.args.places.now c.args.entry.now.actor 0) (receipt_of c.args.entry.now) (c.if-not-is_next.ensures.0 refl) in
+    omega (arith, within)
+
 pub returns-clause-same : goal.returns-clause-same
 returns-clause-same g c = rw (← c.receipts_of.ensures) c.if-not-is_next.ensures
+
+pub returns-clause-places : goal.returns-clause-places
+returns-clause-places g c = refl
