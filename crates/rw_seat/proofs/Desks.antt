@@ -1,10 +1,10 @@
 -- Seats of a desk, after a call or a look at one of its channels.
-use Rattle.std.proofs.Common.{◌≡◌, ℕ, zero, suc, ◌<◌, true, false, true≢false, List, [], ◌∷◌, ◌++◌, map, length, get_or, Option, Some, None, Result, Ok, Err, IfOk, IfErr, IfSome, MatchOption, refl, sym, ap, ◌∙◌, subst, arith}
+use Rattle.std.proofs.Common.{◌≡◌, ℕ, zero, suc, ◌<◌, ◌≤◌, true, false, true≢false, List, [], ◌∷◌, ◌++◌, map, length, get_or, Option, Some, None, Result, Ok, Err, IfOk, IfErr, IfSome, MatchOption, refl, sym, ap, ◌∙◌, subst, arith}
 use Rattle.std.specs.List.{insert, remove}
 use Rattle.std.specs.Prelude.{slice_get, IsTrue}
 use Rattle.std.specs.Option.{option_map, option_map_or}
 use Rattle.std.proofs.lemmas.List.{get_or-map, length-append, length-map}
-use Rattle.std.proofs.lemmas.Option.{get_or_from_slice_get, slice_get_within, slice_get-map}
+use Rattle.std.proofs.lemmas.Option.{get_or_from_slice_get, slice_get-map, slice_get_past, slice_get_read, slice_get_within}
 use Rattle.rw_law.specs.Journal.{IsLegal, after_all}
 use Rattle.rw_world.specs.declared.opening.Spec.{Spec}
 use Rattle.rw_world.specs.declared.opening.Spec.TheVariants.{Broadcast, Watch}
@@ -118,9 +118,20 @@ module _ {V : Type 0} where
       why None t = refl
       why (Some spec) t = strays_after spec (front_at seat.hands at) call ∙ t
 
+  -- a call strays where there is no channel, and where there is one by its kind
+  pub strays_past : (specs : List (Spec V)) (at : ℕ) (call : ChanCall V) → length specs ≤ at → IsTrue (stray_of strays_at (map spec_kind specs) (row_call at call))
+  strays_past specs at call past = let none = slice_get_past specs at past in rw (slice_get-map, none) refl
+
+  pub strays_there : (specs : List (Spec V)) (at : ℕ) (spec : Spec V) (call : ChanCall V) → slice_get specs at ≡ Some spec → stray_of strays_at (map spec_kind specs) (row_call at call) ≡ strays_at (spec_kind spec) call
+  strays_there specs at spec call there = rw (slice_get-map, there) refl
+
+  -- the spec that was read
+  pub spec_there : (specs read : List (Spec V)) (at : ℕ) (spec : Spec V) → read ≡ specs → at < length read → spec ≡ get_or read at spec → slice_get specs at ≡ Some spec
+  spec_there specs read at spec same within is = subst (λ ss. slice_get ss at ≡ Some spec) same (slice_get_read read (length read) at spec refl within is)
+
   stays_in : (specs : List (Spec V)) (at : ℕ) (spec : Spec V) (call : ChanCall V) → slice_get specs at ≡ Some spec → strays_at (spec_kind spec) call ≡ false
       → stray_of strays_at (map spec_kind specs) (row_call at call) ≡ false
-  stays_in specs at spec call there stays = rw (slice_get-map, there) stays
+  stays_in specs at spec call there stays = strays_there specs at spec call there ∙ stays
 
   legal_begins : (x : ChanShown V) (f rest : List (ChanEntry V)) → IsLegal of_chan x (f ++ rest) → IsLegal of_chan x f
   legal_begins x [] rest legal = tt

@@ -6,6 +6,13 @@ use Rattle.rw_seat.specs.SeatDesks.{passes_in}
 use Rattle.rw_seat.proofs.Closings.{length_passes, pass_at}
 use Rattle.rw_seat.proofs.receipts.stranger.Goals as goal
 
+pub returns-then-seats_of-ne1-clause-some : goal.returns-then-seats_of-ne1-clause-some
+returns-then-seats_of-ne1-clause-some g c = record {
+  least = λ b below less. c.loop-actor.invariant b less;
+  actor = λ below one. c.if-seats_of-ne1.true (c.seats_of.ensures ∙ one);
+  number = λ past. absurd (omega (arith, past, c.loop-actor-test.true));
+}
+
 pub loop-actor-preserved : goal.loop-actor-preserved
 loop-actor-preserved g c = below_more _ _ c.loop-actor.invariant (sym c.seats_of.ensures ∙ c.if-seats_of-ne1.false)
 

@@ -1,8 +1,8 @@
-use Rattle.std.proofs.Common.{rules, arith, ◌≡◌, refl, ◌<◌, ℕ, List, [], ◌∷◌, ◌+◌, ◌-◌, map, Option, ap, ◌∙◌, subst}
+use Rattle.std.proofs.Common.{rules, arith, ◌≡◌, refl, ◌<◌, ℕ, List, [], ◌∷◌, ◌+◌, ◌-◌, map, Option, sym, ap, ◌∙◌, subst}
 use Rattle.atomic_table.specs.Table.{Me}
 use Rattle.rw_seat.specs.declared.view.View.{View}
 use Rattle.rw_seat.specs.Hands.{HandSeat}
-use Rattle.rw_seat.specs.Rule.{resting, numbers_from, other_part}
+use Rattle.rw_seat.specs.Rule.{resting, numbers_from, first_part, other_part}
 use Rattle.rw_seat.proofs.Dealing.{deal_next, dealt_more, each_dealt}
 use Rattle.rw_seat.proofs.Steps.{splits_view}
 use Rattle.rw_seat.proofs.hand_off.HandOff.deal.Goals as goal
@@ -18,6 +18,14 @@ split_seat-others-requires g c =
       splits_view g.B.Keeps.author start g.B.Keeps.journal (start key.book.value) key.seats c.loop-number.rest.id n (numbers_from (n + 1) left.0) c.args.self.now.home.start c.args.seat.me.0.front c.loop-number.rest.me.0
           (ap (λ (m : Me (Option g.row.B.Denot) (View g.row.B-Entry.Denot g.row.B-Start.Denot)). m.0) left.2),
     )
+
+pub invariant_of-push_reserved : goal.invariant_of-push_reserved
+invariant_of-push_reserved g c =
+    let M : Type 0 = Me (Option g.row.B.Denot) (View g.row.B-Entry.Denot g.row.B-Start.Denot) in
+    let left = c.loop-number.invariant.left in
+    let n : ℕ = c.loop-number.number in
+    let is : c.split_seat-others.new.seat.me ≡ (resting (n ∷ []) c.args.self.now.home.start c.args.seat.me.0.front, []) = c.split_seat-others.ensures.2 ∙ ap (λ (m : M). (first_part m.0, m.1)) left.2 in
+    is ∙ sym (ap (λ (m : M). (resting (n ∷ []) m.0.start m.0.front, [])) is)
 
 pub loop-number-preserved : goal.loop-number-preserved
 loop-number-preserved g c =

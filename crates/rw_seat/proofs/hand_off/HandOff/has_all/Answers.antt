@@ -1,9 +1,12 @@
-use Rattle.std.proofs.Common.{rules, arith, ℕ, map, sym, ap, subst}
+use Rattle.std.proofs.Common.{rules, arith, ℕ, ◌<◌, map, sym, ap, subst}
 use mathlib.Core.Logic.{dite}
 use native.Mathlib.Decide.{ℕ_discrete}
 use Rattle.rw_seat.specs.Hands.{HandSeat}
 use Rattle.rw_seat.specs.Journals.{IsIn}
 use Rattle.rw_seat.proofs.hand_off.HandOff.has_all.Goals as goal
+
+pub returns-then-not-has : goal.returns-then-not-has
+returns-then-not-has g c = (c.loop-number.number, subst (λ h. c.loop-number.number < h.seats) c.self.view_is c.loop-number-test.true, c.if-not-has.ensures)
 
 pub loop-number-preserved : goal.loop-number-preserved
 loop-number-preserved g c n low =

@@ -1,6 +1,7 @@
 use Rattle.std.proofs.Common.{rules, ◌≡◌, ℕ, List, [], ◌∷◌, Option, refl, sym, ap, ◌∙◌, subst, inl}
 use Rattle.atomic_table.specs.Table.{Me}
 use Rattle.rw_seat.specs.declared.view.View.{View}
+use Rattle.rw_seat.specs.Hands.{HandSeat}
 use Rattle.rw_seat.specs.Journals.{IsIn, IsQuiet}
 use Rattle.rw_seat.specs.Rule.{resting}
 use Rattle.rw_seat.proofs.Steps.{joins, joined_numbers, met_one, met_two, splits_view}
@@ -55,6 +56,16 @@ split_seat-other-requires g c =
       search rules,
       splits_view g.B.Keeps.author start g.B.Keeps.journal (start key.book.value) key.seats c.put_back.new.seat.id first (second ∷ []) from h u is,
     )
+
+pub returns-clause-numbers : goal.returns-clause-numbers
+returns-clause-numbers g c =
+    let S : Type 0 = HandSeat g.row.B-Entry.Denot g.row.B-Start.Denot in
+    (ap (λ (s : S). s.number) c.one.view_is, ap (λ (s : S). s.number) c.two.view_is)
+
+pub returns-clause-same : goal.returns-clause-same
+returns-clause-same g c =
+    let M : Type 0 = Me (Option g.row.B.Denot) (View g.row.B-Entry.Denot g.row.B-Start.Denot) in
+    ap (λ (m : M). m.0.front) c.split_seat-other.ensures.2 ∙ sym (ap (λ (m : M). m.0.front) c.split_seat-other.ensures.4)
 
 pub returns-clause-one : goal.returns-clause-one
 returns-clause-one g c =
