@@ -1,6 +1,6 @@
 //! What stands behind a word.
 
-ghost use Rattle.std.specs.Prelude.{◌≡◌, option_map};
+ghost use Rattle.std.specs.Prelude.{◌≡◌, ⊤, option_map};
 ghost use Rattle.rw_lines.specs.Cut.{cut};
 ghost use Rattle.rw_lines.specs.Numerals.{numeral_in};
 ghost use Rattle.rw_words.specs.Arguments.{flag_named, number_value_flag_named, number_value_named, value_named};
@@ -8,6 +8,7 @@ ghost use Rattle.rw_words.specs.Words.{when_alone, flag_in, handle_in, handle_va
 
 use rw_law::Payload;
 use rw_lines::{cut, numeral};
+use std::alloc::AllocError;
 use thiserror::Error;
 
 /// Why a text isn't a call or a reply: the first that holds, in this order.
@@ -25,7 +26,7 @@ pub enum WordFault {
 }
 
 /// The arguments of a call or a reply.
-#[derive(Clone, Copy)]
+#[derive(Copy)]
 pub(crate) enum Args<V> {
     Nothing,
     Handle(u32),
@@ -34,6 +35,16 @@ pub(crate) enum Args<V> {
     Flag(bool),
     HandleValue(u32, V),
     HandleValueFlag(u32, V, bool),
+}
+
+impl<V: Copy> Clone for Args<V> {
+    ghost is_clone = { λ args copy. copy ≡ args };
+
+    ghost is_infallible = { λ _. ⊤ };
+
+    fn clone(&self) -> Result<Self, AllocError> {
+        Ok(*self)
+    }
 }
 
 /// The word at the front, and what stands behind the space after it.
