@@ -1,6 +1,6 @@
 //! Arguments put behind a word.
 
-ghost use Rattle.std.specs.Prelude.{◌≡◌, ◌++◌, ◌+◌, ◌≤◌, length, take};
+ghost use Rattle.std.specs.Prelude.{◌≡◌, ◌++◌, ◌+◌, ◌≤◌, ◌∷◌, decimal, length, take};
 ghost use Rattle.rw_words.specs.Arguments.{HasWord, IsWritable, args_text, flag_text, longest, rest_text};
 
 use crate::arguments::Args;
@@ -22,6 +22,36 @@ fn word_of<V: Payload>(value: V) -> u64
     value.word()
 }
 
+/// Puts a number as an argument, after its space.
+fn put_number_argument(out: &mut [u8; 256], at: usize, number: u64) -> usize
+    requires { at + 21 ≤ 256 }
+    ensures within { result ≤ at + 21 }
+    ensures text { take result out.new ≡ take at out.old ++ 32 ∷ decimal number }
+{
+    let at = put_bytes(out, at, b" ");
+    put_number(out, at, number)
+}
+
+/// Puts a handle as an argument, after its space.
+fn put_handle_argument(out: &mut [u8; 256], at: usize, handle: u32) -> usize
+    requires { at + 11 ≤ 256 }
+    ensures within { result ≤ at + 11 }
+    ensures text { take result out.new ≡ take at out.old ++ 32 ∷ decimal handle }
+{
+    let at = put_bytes(out, at, b" ");
+    put_small_number(out, at, handle)
+}
+
+/// Puts a flag as an argument, after its space.
+fn put_flag_argument(out: &mut [u8; 256], at: usize, flag: bool) -> usize
+    requires { at + 4 ≤ 256 }
+    ensures within { result ≤ at + 4 }
+    ensures text { take result out.new ≡ take at out.old ++ 32 ∷ flag_text flag }
+{
+    let at = put_bytes(out, at, b" ");
+    put_bytes(out, at, flag_text(flag))
+}
+
 /// Puts the arguments at a place, each after a space, and answers where they end.
 pub(crate) fn put_args<V: Payload>(out: &mut [u8; 256], at: usize, args: &Args<V>) -> usize
     requires { at + longest args.now ≤ 256 }
@@ -31,35 +61,18 @@ pub(crate) fn put_args<V: Payload>(out: &mut [u8; 256], at: usize, args: &Args<V
 {
     match *args {
         Args::Nothing => at,
-        Args::Handle(handle) => {
-            let at = put_bytes(out, at, b" ");
-            put_small_number(out, at, handle)
-        }
-        Args::Number(number) => {
-            let at = put_bytes(out, at, b" ");
-            put_number(out, at, number)
-        }
-        Args::Value(value) => {
-            let at = put_bytes(out, at, b" ");
-            put_number(out, at, word_of(value))
-        }
-        Args::Flag(flag) => {
-            let at = put_bytes(out, at, b" ");
-            put_bytes(out, at, flag_text(flag))
-        }
+        Args::Handle(handle) => put_handle_argument(out, at, handle),
+        Args::Number(number) => put_number_argument(out, at, number),
+        Args::Value(value) => put_number_argument(out, at, word_of(value)),
+        Args::Flag(flag) => put_flag_argument(out, at, flag),
         Args::HandleValue(handle, value) => {
-            let at = put_bytes(out, at, b" ");
-            let at = put_small_number(out, at, handle);
-            let at = put_bytes(out, at, b" ");
-            put_number(out, at, word_of(value))
+            let at = put_handle_argument(out, at, handle);
+            put_number_argument(out, at, word_of(value))
         }
         Args::HandleValueFlag(handle, value, flag) => {
-            let at = put_bytes(out, at, b" ");
-            let at = put_small_number(out, at, handle);
-            let at = put_bytes(out, at, b" ");
-            let at = put_number(out, at, word_of(value));
-            let at = put_bytes(out, at, b" ");
-            put_bytes(out, at, flag_text(flag))
+            let at = put_handle_argument(out, at, handle);
+            let at = put_number_argument(out, at, word_of(value));
+            put_flag_argument(out, at, flag)
         }
     }
 }
