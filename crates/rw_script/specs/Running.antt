@@ -1,6 +1,8 @@
 -- The run of a script: its calls in the order of its lines, up to the first that would wait.
-use Rattle.std.specs.Prelude.{◌≡◌, ℕ, Bool, true, false, List, [], ◌∷◌, ◌++◌, get_or, Option, None, Some, if◌then◌else◌}
+use Rattle.std.specs.Prelude.{◌≡◌, ℕ, Bool, true, false, List, [], ◌∷◌, ◌++◌, get_or, map, fold, Option, None, Some, if◌then◌else◌}
+use Rattle.rw_law.specs.declared.journal.Entry.{Entry}
 use Rattle.rw_law.specs.declared.machine.Reversible.{Ghosts}
+use Rattle.rw_law.specs.Journal.{after_all}
 use Rattle.rw_journal.specs.Book.{Book, IsTaken, reply_to}
 use Rattle.rw_broadcast.specs.declared.calls.BReply.{BReply}
 use Rattle.rw_broadcast.specs.declared.calls.BReply.TheVariants as b
@@ -13,8 +15,12 @@ use Rattle.rw_world.specs.declared.channels.ChanReply.TheVariants as reply
 use Rattle.rw_world.specs.declared.rows.RowCall.{RowCall}
 use Rattle.rw_world.specs.declared.channels.ChanCall.{ChanCall}
 use Rattle.rw_world.specs.declared.channels.ChanReply.{ChanReply}
+use Rattle.rw_world.specs.declared.opening.Spec.{Spec}
+use Rattle.rw_world.specs.Channel.{strays_at}
 use Rattle.rw_world.specs.Machines.{of_chan}
-use Rattle.rw_world.specs.Records.{ChannelRecord, opened_records, next_records, reply_from}
+use Rattle.rw_world.specs.Openings.{spec_kind}
+use Rattle.rw_world.specs.Records.{ChannelRecord, opened_records, next_records, records_after, reply_from}
+use Rattle.rw_world.specs.Shapes.{stray_of}
 use Rattle.rw_script.specs.declared.steps.ScriptStep.{ScriptStep}
 use Rattle.rw_script.specs.Script.{Script}
 
@@ -87,3 +93,11 @@ pub record IsMade {M P : Type 0} (m : Ghosts M (RowCall (ChanCall ℕ)) (ChanRep
   pub stamp : ℕ
   pub taken : IsTaken m old new c.0 0 c.1 stamp (reply_to m old c.1)
   pub handle_is : handle ≡ made_by (reply_to m old c.1)
+
+-- ---- machines that answer as a script's channels do
+
+-- after any calls a machine that shows x replies as the records of the specs do; the same replies wait as on a channel, and calls stray by the specs
+pub record PlaysFrom {M P : Type 0} (m : Ghosts M (RowCall (ChanCall ℕ)) (ChanReply ℕ) P) (specs : List (Spec ℕ)) (x : m.View) : Type 0 where
+  pub replies : (calls : List (RowCall (ChanCall ℕ))) (c : RowCall (ChanCall ℕ)) → m.reply_of (fold m.next x calls) c ≡ reply_from (records_after (opened_records specs) calls) c
+  pub waits : (r : ChanReply ℕ) → m.is_waiting r ≡ (of_chan {V = ℕ}).is_waiting r
+  pub strays : (es : List (Entry M (RowCall (ChanCall ℕ)) (ChanReply ℕ) P)) (c : RowCall (ChanCall ℕ)) → m.is_straying (m.reply_of (after_all m x es) c) ≡ stray_of strays_at (map spec_kind specs) c

@@ -104,9 +104,12 @@ impl ScriptReader {
             specs,
             actors,
             steps,
-            names: _,
+            names,
         } = self;
+        drop(names);
         if specs.is_empty() {
+            drop(specs);
+            drop(steps);
             return Err(ScriptFault {
                 line: lines + 1,
                 kind: ScriptFaultKind::NoChannels,

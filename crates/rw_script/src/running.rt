@@ -1,20 +1,20 @@
 //! The run of a script, on one book.
 
-ghost use Rattle.std.specs.Prelude.{◌≡◌, ◌<◌, ◌^◌, ◌++◌, ◌∷◌, [], None, false, if◌then◌else◌, length, IfErr, IfOk, OnOk, IsTrue, MatchOption};
+ghost use Rattle.std.specs.Prelude.{◌≡◌, ◌<◌, ◌≤◌, ◌^◌, ◌++◌, ◌∷◌, [], None, false, if◌then◌else◌, length, IfErr, IfOk, OnOk, IsTrue, MatchOption};
 ghost use Rattle.rw_law.specs.declared.limits.TheConstants.{MOST_ACTORS, MOST_STAMP};
 ghost use Rattle.rw_journal.specs.declared.book.TheConstants.{MOST_ENTRIES};
 ghost use Rattle.rw_journal.specs.Book.{last_stamp, opening_of, reply_to};
 ghost use Rattle.rw_journal.specs.Interleaving.{CountsFrom, interleaving_of, journal_of};
 ghost use Rattle.rw_world.specs.Machines.{of_world};
 ghost use Rattle.rw_world.specs.Openings.{opening_row, refusal};
-ghost use Rattle.rw_script.specs.Running.{IsMade, call_of, with_made_handle, made_by, run_of, with_handle};
+ghost use Rattle.rw_script.specs.Running.{IsMade, PlaysFrom, call_of, with_made_handle, made_by, run_of, with_handle};
 
 use crate::script::Script;
 use crate::steps::ScriptStep;
 use rw_broadcast::BReply;
 use rw_journal::laws::journal_of_an_interleaving;
 use rw_journal::{Book, Run, TakeFault};
-use rw_law::NoMemory;
+use rw_law::{NoMemory, Reversible};
 use rw_watch::WReply;
 use rw_world::{ChanCall, ChanReply, OpenFault, RowCall, Spec, World, documented, open, specified};
 use std::alloc::Global;
@@ -84,16 +84,16 @@ pub(crate) fn made_by(reply: &ChanReply<u64>) -> u32
 }
 
 /// Makes the call of a step, and gives the handle that it made. A call that would wait isn't made, and gives none.
-fn run_step(
-    book: &mut Book<World<u64>>,
+fn run_step<M: Reversible<Call = RowCall<ChanCall<u64>>, Reply = ChanReply<u64>>>(
+    book: &mut Book<M>,
     step: &ScriptStep,
     made: &[u32],
 ) -> Result<Option<u32>, NoMemory>
     requires few { length book.old.entries < MOST_ENTRIES }
     requires stamps { last_stamp book.old.entries < MOST_STAMP }
     requires actor { step.now.actor < MOST_ACTORS }
-    requires no_stray { of_world.is_straying (reply_to of_world book.old (call_of step.now made.now).1) ≡ false }
-    ensures { let c = call_of step.now made.now in IfOk result (λ o. MatchOption o (IsTrue (of_world.is_waiting (reply_to of_world book.old c.1)) × (book.new.entries ≡ book.old.entries) × (book.new.opening ≡ book.old.opening)) (IsMade of_world book.old book.new c)) }
+    requires no_stray { M.is_straying (reply_to M.Reversible book.old (call_of step.now made.now).1) ≡ false }
+    ensures { let c = call_of step.now made.now in IfOk result (λ o. MatchOption o (IsTrue (M.is_waiting (reply_to M.Reversible book.old c.1)) × (book.new.entries ≡ book.old.entries) × (book.new.opening ≡ book.old.opening)) (IsMade M.Reversible book.old book.new c)) }
 {
     let call = RowCall {
         channel: step.channel,
@@ -118,20 +118,18 @@ pub(crate) fn keep_handle(made: &mut Vec<u32>, binds: bool, handle: u32) -> Resu
 }
 
 /// Makes the calls of a script in order, up to the first that would wait, and gives the number of that line.
-fn run_steps(
+fn run_steps<M: Reversible<Call = RowCall<ChanCall<u64>>, Reply = ChanReply<u64>>>(
     alloc: Global,
-    book: &mut Book<World<u64>>,
+    book: &mut Book<M>,
     script: &Script,
 ) -> Result<Option<u64>, NoMemory>
-    requires opened { opening_of of_world book.old ≡ opening_row script.now.specs }
+    requires plays { PlaysFrom M.Reversible script.now.specs (opening_of M.Reversible book.old) }
     requires fresh { book.old.entries ≡ [] }
-    ensures opened { OnOk result (opening_of of_world book.new ≡ opening_row script.now.specs) }
+    ensures opened { OnOk result (opening_of M.Reversible book.new ≡ opening_of M.Reversible book.old) }
     ensures calls { OnOk result (interleaving_of book.new.entries ≡ (run_of script.now).calls) }
     ensures stamps { OnOk result (CountsFrom 0 book.new.entries) }
     ensures waits { IfOk result (λ waits. waits ≡ (run_of script.now).waits) }
 {
-    specified::<u64>();
-    documented::<u64>();
     let mut made = Vec::new(alloc);
     'each_step: for step in script.steps() {
         let Some(handle) = run_step(book, step, &made)? else {
@@ -142,24 +140,52 @@ fn run_steps(
     Ok(None)
 }
 
+/// A book with the calls of a script before the first that would wait, and the number of that line.
+fn run_book<M: Reversible<Call = RowCall<ChanCall<u64>>, Reply = ChanReply<u64>> + Drop>(
+    alloc: Global,
+    start: M,
+    script: &Script,
+) -> Result<(Book<M>, Option<u64>), NoMemory>
+    requires plays { PlaysFrom M.Reversible script.now.specs (M.shown start) }
+    requires light { M.weigh (M.shown start) ≤ 2 ^ 32 }
+    ensures opened { IfOk result (λ ran. opening_of M.Reversible ran.0 ≡ M.shown start) }
+    ensures entries { IfOk result (λ ran. ran.0.entries ≡ journal_of M.Reversible (M.shown start) 0 (run_of script.now).calls) }
+    ensures waits { IfOk result (λ ran. ran.1 ≡ (run_of script.now).waits) }
+{
+    let mut book = Book::open(alloc, start)?;
+    let waits = match run_steps(alloc, &mut book, script) {
+        Ok(waits) => waits,
+        Err(NoMemory) => {
+            drop(book);
+            return Err(NoMemory);
+        }
+    };
+    book.kept();
+    journal_of_an_interleaving::<M>();
+    Ok((book, waits))
+}
+
+/// The same on the world that the script opens.
+fn run_world(alloc: Global, script: &Script) -> Result<(Book<World<u64>>, Option<u64>), NoMemory>
+    ensures opened { IfOk result (λ ran. opening_of of_world ran.0 ≡ opening_row script.now.specs) }
+    ensures entries { IfOk result (λ ran. ran.0.entries ≡ journal_of of_world (opening_row script.now.specs) 0 (run_of script.now).calls) }
+    ensures waits { IfOk result (λ ran. ran.1 ≡ (run_of script.now).waits) }
+{
+    specified::<u64>();
+    documented::<u64>();
+    match open(alloc, script.specs()) {
+        Ok(world) => run_book(alloc, world, script),
+        Err(OpenFault::NoMemory) => Err(NoMemory),
+        Err(_) => unreachable!(),
+    }
+}
+
 /// A script that was run: the specs of its channels, the book that has its calls, and the line that would wait, if one would.
 #[derive(Drop)]
 pub struct Played {
     pub specs: Vec<Spec<u64>>,
     pub book: Book<World<u64>>,
     pub waits: Option<u64>,
-}
-
-/// A book without entries, on the world that a script opens.
-fn book_of(alloc: Global, script: &Script) -> Result<Book<World<u64>>, NoMemory>
-    ensures opened { IfOk result (λ book. opening_of of_world book ≡ opening_row script.now.specs) }
-    ensures fresh { IfOk result (λ book. book.entries ≡ []) }
-{
-    match open(alloc, script.specs()) {
-        Ok(world) => Book::open(alloc, world),
-        Err(OpenFault::NoMemory) => Err(NoMemory),
-        Err(_) => unreachable!(),
-    }
 }
 
 /// Runs a script on a book: its calls in the order of its lines, with the stamps 1, 2, 3, .. . It stops at the first call that
@@ -175,17 +201,13 @@ pub fn play(alloc: Global, script: &Script) -> Result<Played, RunFault>
     let Ok(specs) = script.specs().to_vec(alloc) else {
         return Err(RunFault::NoMemory);
     };
-    let mut book = book_of(alloc, script)?;
-    let waits = match run_steps(alloc, &mut book, script) {
-        Ok(waits) => waits,
+    match run_world(alloc, script) {
+        Ok((book, waits)) => Ok(Played { specs, book, waits }),
         Err(NoMemory) => {
-            drop(book);
-            return Err(RunFault::NoMemory);
+            drop(specs);
+            Err(RunFault::NoMemory)
         }
-    };
-    book.kept();
-    journal_of_an_interleaving::<World<u64>>();
-    Ok(Played { specs, book, waits })
+    }
 }
 
 /// The same as a run.

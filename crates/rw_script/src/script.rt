@@ -51,7 +51,10 @@ impl Script {
             if is_mark(line) {
                 return reader.finish();
             }
-            reader.take(line)?;
+            if let Err(fault) = reader.take(line) {
+                drop(reader);
+                return Err(fault);
+            }
             rest = more;
         }
         reader.finish()

@@ -126,15 +126,17 @@ fn play_all<D: Calls + Sync, G: Gate + Sync, R: Threads + Wait + Sync>(
     steps: &[ScriptStep],
     passes: Vec<Pass<u64>>,
 ) -> Result<Vec<Pass<u64>>, RunFault> {
-    let start = Start::new();
-    let signal = &start;
     let Ok(mut back) = Vec::with_capacity(alloc, passes.len()) else {
+        drop(passes);
         return Err(RunFault::NoMemory);
     };
     let Ok(mut threads) = Vec::with_capacity(alloc, passes.len()) else {
+        drop(passes);
+        drop(back);
         return Err(RunFault::NoMemory);
     };
-    let mut started = true;
+    let start = Start::new();
+    let signal = &start;
     let mut played = Ok(());
     thread::scope(thread::scope_env(), rt, |scope| {
         for pass in passes {
@@ -144,21 +146,31 @@ fn play_all<D: Calls + Sync, G: Gate + Sync, R: Threads + Wait + Sync>(
                 Ok(thread) => {
                     let _ = threads.push(thread);
                 }
-                Err(_) => started = false,
+                Err(_) => played = Err(RunFault::NoThread),
             }
         }
-        signal.tell(rt, started);
+        signal.tell(rt, played.is_ok());
         for thread in threads {
             let (pass, fault) = thread.join(rt);
             played = first_fault(played, fault);
             let _ = back.push(pass);
         }
     });
-    if !started {
-        return Err(RunFault::NoThread);
+    match played {
+        Ok(()) => Ok(back),
+        Err(fault) => {
+            drop(back);
+            Err(fault)
+        }
     }
-    played?;
-    Ok(back)
+}
+
+/// What a fault of the desk's end says of the script.
+fn fault_of(fault: CloseFault) -> RunFault {
+    match fault {
+        CloseFault::NoMemory => RunFault::NoMemory,
+        _ => RunFault::Strayed,
+    }
 }
 
 /// Ends the desk.
@@ -169,8 +181,11 @@ fn close(alloc: Global, desk: Desk<u64>, passes: Vec<Pass<u64>>) -> Result<Run<u
 {
     match desk.close(alloc, passes) {
         Ok(run) => Ok(run),
-        Err((CloseFault::NoMemory, ..)) => Err(RunFault::NoMemory),
-        Err(_) => Err(RunFault::Strayed),
+        Err((fault, desk, passes)) => {
+            drop(desk);
+            drop(passes);
+            Err(fault_of(fault))
+        }
     }
 }
 
@@ -197,7 +212,11 @@ fn played(
     requires actors { desk.actors ≡ script.now.actors }
     ensures { IfOk result (IsRunOf script.now) }
 {
-    follow_all(alloc, script.steps(), &passes)?;
+    if let Err(fault) = follow_all(alloc, script.steps(), &passes) {
+        drop(desk);
+        drop(passes);
+        return Err(fault);
+    }
     let run = close(alloc, desk, passes)?;
     if !are_of(run.entries(), script.actors()) {
         drop(run);
@@ -225,7 +244,13 @@ pub fn run_threads<G: Gate + Sync, R: Threads + Wait + Sync>(
     };
     drop(ends);
     let shared = Shared { desk };
-    let passes = play_all(rt, alloc, &shared, gate, script.steps(), passes)?;
+    let back = play_all(rt, alloc, &shared, gate, script.steps(), passes);
     let Shared { desk } = shared;
-    played(alloc, script, desk, passes)
+    match back {
+        Ok(passes) => played(alloc, script, desk, passes),
+        Err(fault) => {
+            drop(desk);
+            Err(fault)
+        }
+    }
 }
