@@ -1,13 +1,18 @@
 -- What a reader keeps is what its script keeps.
-use Rattle.std.proofs.Common.{◌≡◌, ◌<◌, ◌≤◌, ℕ, zero, suc, false, cond, ◌∙◌, List, [], ◌∷◌, length, All, Option, Some, None, refl, ap, arith, ltb, eqb}
-use Rattle.std.specs.Prelude.{position, ◌==◌}
-use Rattle.std.specs.Option.{option_map}
+use Rattle.std.proofs.Common.{◌≡◌, ◌<◌, ◌≤◌, ℕ, Bool, zero, suc, false, true, cond, ◌∙◌, List, [], ◌∷◌, length, map, All, Option, Some, None, refl, ap, arith, ltb, eqb}
+use Rattle.std.specs.Prelude.{position, slice_get, ◌==◌}
+use Rattle.std.specs.Option.{option_map, option_map_or}
 use Rattle.std.proofs.lemmas.Bool.{cond-false, le-ltb, ne_eqb}
+use Rattle.std.proofs.lemmas.List.{length-map}
+use Rattle.std.proofs.lemmas.Option.{slice_get_within}
+use Rattle.rw_world.specs.declared.channels.ChanCall.{ChanCall}
 use Rattle.rw_world.specs.declared.opening.Spec.{Spec}
 use Rattle.rw_world.specs.declared.opening.OpenFault.TheVariants.{NoChannels, TooManyChannels, BadCapacity}
-use Rattle.rw_world.specs.Openings.{has_bad_capacity, refusal}
+use Rattle.rw_world.specs.Channel.{strays_at}
+use Rattle.rw_world.specs.Kinds.{ChannelKind}
+use Rattle.rw_world.specs.Openings.{has_bad_capacity, refusal, spec_kind}
 use Rattle.rw_script.specs.Script.{ScriptReader, actors_of}
-use Rattle.rw_script.specs.Kept.{IsReading, IsScript}
+use Rattle.rw_script.specs.Kept.{IsReading, IsScript, IsScriptStep}
 use Rattle.rw_script.proofs.NameLaws.{no_place}
 
 all_good : (specs : List (Spec ℕ)) → All (λ s. has_bad_capacity s ≡ false) specs → position has_bad_capacity specs ≡ None
@@ -35,3 +40,12 @@ script_kept r kept some = record {
 pub some_of : (n : ℕ) → (n == 0) ≡ false → 0 < n
 some_of zero e = absurd cc
 some_of (suc n) e = omega arith
+
+-- a step whose actor and channel are there, where the channel's kind is that of its call
+pub step_kept : (specs : List (Spec ℕ)) (actors line actor channel : ℕ) (c : ChanCall ℕ) (target : Option ℕ) (binds : Bool) (k : ChannelKind) → actor < actors → slice_get (map spec_kind specs) channel ≡ Some k → strays_at k c ≡ false
+    → IsScriptStep specs actors (record { line = line; actor = actor; channel = channel; call = c; target = target; binds = binds })
+step_kept specs actors line actor channel c target binds k known there fits = record {
+  actor = known;
+  channel = omega (arith, slice_get_within (map spec_kind specs) channel k there, length-map specs spec_kind);
+  kind = ap (λ (o : Option ChannelKind). option_map_or (λ j. strays_at j c) o true) there ∙ fits;
+}

@@ -2,37 +2,29 @@
 
 use std::sync::{Condvar, Mutex, Wait};
 
-/// What the threads are told.
-#[derive(Clone, Copy)]
-enum Signal {
-    Pending,
-    Go,
-    Stop,
-}
-
 /// A signal that threads wait for.
 #[derive(Drop)]
 pub(crate) struct Start {
-    signal: Mutex<Signal>,
+    /// Whether to go, or `None` before that was told.
+    go: Mutex<Option<bool>>,
     told: Condvar,
 }
 
 impl Start {
     pub(crate) fn new() -> Start {
         Start {
-            signal: Mutex::new(Signal::Pending),
+            go: Mutex::new(None),
             told: Condvar::new(),
         }
     }
 
     /// Waits for the signal, and says whether it was to go.
     pub(crate) fn wait(&self, rt: &impl Wait) -> bool {
-        let mut guard = self.signal.lock(rt);
+        let mut guard = self.go.lock(rt);
         for _ in rt.forever() {
-            match *guard {
-                Signal::Go => return true,
-                Signal::Stop => return false,
-                Signal::Pending => {}
+            if let Some(go) = *guard {
+                drop(guard);
+                return go;
             }
             guard = self.told.wait(rt, guard);
         }
@@ -41,7 +33,7 @@ impl Start {
 
     /// Tells all threads to go, or else to stop.
     pub(crate) fn tell(&self, rt: &impl Wait, go: bool) {
-        *self.signal.lock(rt) = if go { Signal::Go } else { Signal::Stop };
+        *self.go.lock(rt) = Some(go);
         self.told.notify_all();
     }
 }

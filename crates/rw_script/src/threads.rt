@@ -17,7 +17,7 @@ use rw_world::{ChanCall, ChanReply, World};
 use std::alloc::Global;
 use std::sync::Wait;
 use std::thread;
-use std::thread::Threads;
+use std::thread::{JoinHandle, Threads};
 
 /// What an actor's calls are made on. Threads share it as a parameter, so that their proof needn't look into a desk.
 trait Calls {
@@ -117,6 +117,29 @@ fn first_fault(one: Result<(), RunFault>, other: Result<(), RunFault>) -> Result
     }
 }
 
+/// Keeps a thread for which there is room, and says whether it was started.
+fn keep_started<T: Drop, E: Drop>(threads: &mut Vec<T>, thread: Result<T, E>) -> bool {
+    match thread {
+        Ok(thread) => threads.push(thread).is_ok(),
+        Err(_) => false,
+    }
+}
+
+/// Waits for the ends of threads. `back` gets the passes, for which there is room.
+fn join_all<P: Drop, R: Threads>(
+    rt: &R,
+    threads: Vec<JoinHandle<(P, Result<(), RunFault>)>>,
+    back: &mut Vec<P>,
+) -> Result<(), RunFault> {
+    let mut played = Ok(());
+    for thread in threads {
+        let (pass, fault) = thread.join(rt);
+        played = first_fault(played, fault);
+        let _ = back.push(pass);
+    }
+    played
+}
+
 /// Plays each actor's lines in a thread of its own, and gives the passes back. No call is made unless all threads were started.
 fn play_all<D: Calls + Sync, G: Gate + Sync, R: Threads + Wait + Sync>(
     rt: &R,
@@ -137,23 +160,19 @@ fn play_all<D: Calls + Sync, G: Gate + Sync, R: Threads + Wait + Sync>(
     };
     let start = Start::new();
     let signal = &start;
-    let mut played = Ok(());
+    // It stays so unless all threads are started.
+    let mut played = Err(RunFault::NoThread);
     thread::scope(thread::scope_env(), rt, |scope| {
+        let mut started = true;
         for pass in passes {
             let made = Vec::new(alloc);
-            // There is room for each, here and below.
-            match scope.spawn(move || play_actor(rt, signal, desk, gate, steps, pass, made)) {
-                Ok(thread) => {
-                    let _ = threads.push(thread);
-                }
-                Err(_) => played = Err(RunFault::NoThread),
-            }
+            let thread = scope.spawn(move || play_actor(rt, signal, desk, gate, steps, pass, made));
+            started &= keep_started(&mut threads, thread);
         }
-        signal.tell(rt, played.is_ok());
-        for thread in threads {
-            let (pass, fault) = thread.join(rt);
-            played = first_fault(played, fault);
-            let _ = back.push(pass);
+        signal.tell(rt, started);
+        let joined = join_all(rt, threads, &mut back);
+        if started {
+            played = joined;
         }
     });
     match played {
