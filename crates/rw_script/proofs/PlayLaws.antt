@@ -3,7 +3,7 @@ use Rattle.std.proofs.Common.{◌≡◌, ◌+◌, ◌<◌, ◌≤◌, ℕ, Bool,
 use Rattle.std.specs.Prelude.{fold, slice_get}
 use Rattle.std.specs.Option.{option_map_or}
 use Rattle.std.proofs.lemmas.Bool.{cond-true, cond-false}
-use Rattle.std.proofs.lemmas.List.{map-append, length-append, append-nil}
+use Rattle.std.proofs.lemmas.List.{map-append, length-append, append-nil, drop_all}
 use Rattle.std.proofs.lemmas.List.Sums.{fold_push}
 use Rattle.rw_law.specs.declared.journal.Entry.{Entry}
 use Rattle.rw_law.specs.declared.machine.Reversible.{Ghosts}
@@ -125,10 +125,10 @@ module _ {M P : Type 0} (m : Ghosts M (RowCall (ChanCall ℕ)) (ChanReply ℕ) P
         ∙ ap (λ cs. record { calls = cs; waits = Some step.line }) (append-nil (interleaving_of book.entries))
 
     -- behind the last step too
-    pub ends : (book : Book M (RowCall (ChanCall ℕ)) (ChanReply ℕ) P) (made : List ℕ) (index : ℕ) → Played script x book made index → drop index script.steps ≡ [] → run_of script ≡ record { calls = interleaving_of book.entries; waits = None }
-    ends book made index p at =
+    pub ends : (book : Book M (RowCall (ChanCall ℕ)) (ChanReply ℕ) P) (made : List ℕ) (index : ℕ) → Played script x book made index → length script.steps ≤ index → run_of script ≡ record { calls = interleaving_of book.entries; waits = None }
+    ends book made index p all =
         let world : List (ChannelRecord ℕ) = records_after (opened_records script.specs) (calls_of book.entries) in
-        p.rest ∙ ap (λ steps. put_before (interleaving_of book.entries) (run_from world made steps)) at ∙ ap (λ cs. record { calls = cs; waits = None }) (append-nil (interleaving_of book.entries))
+        p.rest ∙ ap (λ steps. put_before (interleaving_of book.entries) (run_from world made steps)) (drop_all index script.steps all) ∙ ap (λ cs. record { calls = cs; waits = None }) (append-nil (interleaving_of book.entries))
 
     -- one step more
     pub goes_on : (old new : Book M (RowCall (ChanCall ℕ)) (ChanReply ℕ) P) (made made' : List ℕ) (index : ℕ) (step : ScriptStep) (handle : ℕ) → Played script x old made index
