@@ -184,9 +184,9 @@ impl ScriptReader {
         if self.specs.len() >= MOST_CHANNELS {
             return Err(ScriptFaultKind::TooManyChannels);
         }
-        if self.specs.push(spec).is_err() {
+        let Ok(()) = self.specs.push(spec) else {
             return Err(ScriptFaultKind::NoMemory);
-        }
+        };
         Ok(())
     }
 
@@ -261,13 +261,13 @@ impl ScriptReader {
         if self.steps.len() >= MOST_STEPS {
             return Err(ScriptFaultKind::TooManySteps);
         }
-        if self.steps.reserve(1).is_err() {
+        let Ok(()) = self.steps.reserve(1) else {
             return Err(ScriptFaultKind::NoMemory);
-        }
+        };
         let alloc = self.alloc;
-        if self.names.bind(alloc, said.bound, actor, channel).is_err() {
+        let Ok(()) = self.names.bind(alloc, said.bound, actor, channel) else {
             return Err(ScriptFaultKind::NoMemory);
-        }
+        };
         self.steps.push_reserved(ScriptStep {
             line: self.lines,
             actor,
