@@ -4,7 +4,7 @@ use Rattle.std.specs.Prelude.{position, slice_get, ◌==◌}
 use Rattle.std.specs.Option.{option_map, option_map_or}
 use Rattle.std.proofs.lemmas.Bool.{cond-false, le-ltb, ne_eqb}
 use Rattle.std.proofs.lemmas.List.{length-map}
-use Rattle.std.proofs.lemmas.Option.{slice_get_within}
+use Rattle.std.proofs.lemmas.Option.{slice_get-map, slice_get_within}
 use Rattle.rw_world.specs.declared.channels.ChanCall.{ChanCall}
 use Rattle.rw_world.specs.declared.opening.Spec.{Spec}
 use Rattle.rw_world.specs.declared.opening.OpenFault.TheVariants.{NoChannels, TooManyChannels, BadCapacity}
@@ -49,3 +49,7 @@ step_kept specs actors line actor channel c target binds k known there fits = re
   channel = omega (arith, slice_get_within (map spec_kind specs) channel k there, length-map specs spec_kind);
   kind = ap (λ (o : Option ChannelKind). option_map_or (λ j. strays_at j c) o true) there ∙ fits;
 }
+
+-- the kind of the channel of a number
+pub kind_there : (specs : List (Spec ℕ)) (i : ℕ) (s : Spec ℕ) → slice_get specs i ≡ Some s → slice_get (map spec_kind specs) i ≡ Some (spec_kind s)
+kind_there specs i s there = slice_get-map spec_kind specs i ∙ ap (option_map spec_kind) there
