@@ -1,4 +1,4 @@
-use Rattle.std.proofs.Common.{◌≡◌, ◌<◌, ◌∙◌, ℕ, All, refl, subst}
+use Rattle.std.proofs.Common.{◌<◌, ◌∙◌, ℕ, All, refl, subst}
 use Rattle.rw_desk.specs.Closing.{AreAllHere}
 use Rattle.rw_journal.specs.Run.{IsRun}
 use Rattle.rw_world.specs.Lists.{Each}
