@@ -1,5 +1,5 @@
 -- Hands that are given to seats one after another, and a desk that grows by a channel at a time.
-use Rattle.std.proofs.Common.{◌≡◌, ◌≢◌, ℕ, zero, suc, ◌+◌, ◌<◌, ◌≤◌, List, [], ◌∷◌, ◌++◌, map, length, get_or, set, take, drop, All, Some, IfSome, refl, sym, ap, ◌∙◌, subst, inl, inr, arith, append_assoc, append-nil}
+use Rattle.std.proofs.Common.{◌≡◌, ◌≢◌, ℕ, zero, suc, ◌+◌, ◌<◌, ◌≤◌, List, [], ◌∷◌, ◌++◌, map, length, get_or, set, take, drop, All, Some, Result, Ok, Err, IfSome, OnOk, refl, sym, ap, ◌∙◌, subst, inl, inr, arith, append_assoc, append-nil}
 use Rattle.std.specs.Prelude.{slice_get}
 use Rattle.std.proofs.lemmas.Bool.{cases_lt}
 use Rattle.std.proofs.lemmas.Bool.Decides.{eqb_tells}
@@ -76,6 +76,11 @@ module _ {V : Type 0} (first : List (DeskSeat V)) (all : List (Hand V)) where
         beyond : (a : ℕ) → length ys ≤ a → a ≢ at → length xs ≤ a
         beyond a past other = let k = longer in let differs : a ≢ length ys = (λ same. other (same ∙ sym last)) in omega arith
 
+-- P where r is no error, and so Q
+pub on_ok : {A E P Q : Type 0} (r : Result A E) → (P → Q) → OnOk r P → OnOk r Q
+on_ok (Ok a) f p = f p
+on_ok (Err e) f p = tt
+
 -- a slice that was written back whole
 pub written : {X : Type 0} (new xs : List X) (n : ℕ) → length new ≡ length xs → n ≡ length xs → take n (new ++ drop (length new) xs) ≡ new
 written new xs n same all =
@@ -113,12 +118,18 @@ module _ {V : Type 0} where
     | inr le ↦ subst (λ o. IfSome o (λ h. (h.number ≡ a) × (h.front ≡ []))) (sym (slice_get_past (map (λ k. fresh_hand k home) (numbers_from 0 n)) a (omega (arith, numbers_length (λ k. fresh_hand k home) 0 n)))) tt
   ])
 
-  -- each seat with a hand more
-  pub fresh_more : (homes : List (Home (Chan V))) (home : Home (Chan V)) (n : ℕ) (seats new : List (DeskSeat V)) (hands : List (Hand V)) → AreFresh homes n seats → hands ≡ map (λ k. fresh_hand k home) (numbers_from 0 n) → length new ≡ length seats
-      → ((a : ℕ) (s : DeskSeat V) (h : Hand V) → slice_get seats a ≡ Some s → slice_get hands a ≡ Some h → slice_get new a ≡ Some (with_hand s h)) → AreFresh (homes ++ home ∷ []) n new
-  fresh_more homes home n seats new hands fresh is same each = (
+  -- each seat was given the hand of its number
+  pub given_each : (home : Home (Chan V)) (n : ℕ) (seats new : List (DeskSeat V)) (hands : List (Hand V)) → hands ≡ map (λ k. fresh_hand k home) (numbers_from 0 n)
+      → ((a : ℕ) (s : DeskSeat V) (h : Hand V) → slice_get seats a ≡ Some s → slice_get hands a ≡ Some h → slice_get new a ≡ Some (with_hand s h))
+      → (a : ℕ) (s : DeskSeat V) → a < n → slice_get seats a ≡ Some s → slice_get new a ≡ Some (with_hand s (fresh_hand a home))
+  given_each home n seats new hands is each a s low at = each a s (fresh_hand a home) at (ap (λ hs. slice_get hs a) is ∙ dealt_at (λ k. fresh_hand k home) n a low)
+
+  -- so each is a seat with a hand more
+  pub fresh_more : (homes : List (Home (Chan V))) (home : Home (Chan V)) (n : ℕ) (seats new : List (DeskSeat V)) → AreFresh homes n seats → length new ≡ length seats
+      → ((a : ℕ) (s : DeskSeat V) → a < n → slice_get seats a ≡ Some s → slice_get new a ≡ Some (with_hand s (fresh_hand a home))) → AreFresh (homes ++ home ∷ []) n new
+  fresh_more homes home n seats new fresh same each = (
     same ∙ fresh.0,
-    λ a low. each a (fresh_seat homes a) (fresh_hand a home) (fresh.1 a low) (ap (λ hs. slice_get hs a) is ∙ dealt_at (λ k. fresh_hand k home) n a low)
+    λ a low. each a (fresh_seat homes a) low (fresh.1 a low)
         ∙ ap (λ hs. Some (record { pass = fresh_pass a; hands = hs })) (sym (map-append (fresh_hand a) homes (home ∷ []))),
   )
 

@@ -114,9 +114,7 @@ impl<V: Payload> DeskSeat<V> {
         requires seat { IsDeskSeat pass (insert hands.items at hand) }
         ensures { result ≡ record { pass = pass; hands = insert hands.items at hand } }
     {
-        let Ok(()) = hands.insert(at, hand) else {
-            unreachable!()
-        };
+        hands.insert(at, hand).unwrap();
         DeskSeat { pass, hands }
     }
 }

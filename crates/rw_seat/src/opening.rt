@@ -1,11 +1,13 @@
 //! Opening desks with seats.
 
-ghost use Rattle.std.specs.Prelude.{◌≡◌, ◌<◌, ◌≤◌, ℕ, false, [], None, Some, All, length, map, slice_get, IfNone, IfOk, IfSome, MatchResult, OnOk};
+ghost use Rattle.std.specs.Prelude.{◌≡◌, ◌<◌, ◌≤◌, ◌+◌, ◌∷◌, ◌++◌, ℕ, false, [], None, Some, All, length, map, slice_get, vec_len, vec_capacity, IfNone, IfOk, IfSome, MatchResult, OnOk};
 ghost use Rattle.rw_law.specs.declared.limits.TheConstants.{MOST_ACTORS};
+ghost use Rattle.rw_world.specs.declared.channels.Chan.{Chan as Chans};
 ghost use Rattle.rw_world.specs.Openings.{has_bad_capacity, opened_channel, refusal};
 ghost use Rattle.rw_desk.specs.Desks.{refusal_to_open};
 ghost use Rattle.rw_desk.specs.Passes.{fresh_pass};
-ghost use Rattle.rw_seat.specs.DeskSeats.{Hand, fresh_hand, with_hand, DeskSeat as Seated};
+ghost use Rattle.rw_seat.specs.DeskSeats.{Hand, fresh_hand, fresh_seat, with_hand, DeskSeat as Seated};
+ghost use Rattle.rw_seat.specs.Hands.{HandOff as Handed};
 ghost use Rattle.rw_seat.specs.Rule.{numbers_from};
 ghost use Rattle.rw_seat.specs.SeatDesks.{HasOpened, opening_at};
 
@@ -52,13 +54,13 @@ fn open_all<V: Payload>(
     ensures { IfOk result (λ r. HasOpened specs.now actors r.0 r.1.items) }
 {
     let mut seats = seats_without_hands(alloc, actors)?;
-    let mut hand_offs = Vec::new(alloc);
-    for spec in specs {
-        let (hand_off, hands) = open_hand_off(alloc, spec, actors)?;
-        hand_out(&mut seats, hands)?;
-        hand_offs.push(hand_off)?;
-    }
+    let Ok(hand_offs) = open_hand_offs(alloc, specs, actors, &mut seats) else {
+        drop(seats);
+        return Err(NoMemory);
+    };
     let Ok(specs) = Vec::from_slice(alloc, specs) else {
+        drop(seats);
+        drop(hand_offs);
         return Err(NoMemory);
     };
     let desk = SeatDesk {
@@ -67,6 +69,56 @@ fn open_all<V: Payload>(
         hand_offs,
     };
     Ok((desk, seats))
+}
+
+/// Opens a channel for each spec, and gives each seat a hand of it. Where memory is refused some seats may have got hands.
+fn open_hand_offs<V: Payload>(
+    alloc: Global,
+    specs: &[Spec<V>],
+    actors: u32,
+    seats: &mut [DeskSeat<V>],
+) -> Result<Vec<HandOff<Book<Chan<V>>>>, NoMemory>
+    requires good { All (λ spec. has_bad_capacity spec ≡ false) specs.now }
+    requires some { 0 < actors }
+    requires few { actors ≤ MOST_ACTORS }
+    requires all { length seats.old ≡ actors }
+    requires fresh { (a : ℕ) → a < actors → slice_get seats.old a ≡ Some (fresh_seat [] a) }
+    ensures length { length seats.new ≡ length seats.old }
+    ensures opened { IfOk result (λ r. map (λ h. opening_at h.home) r.items ≡ map (λ spec. Some (opened_channel spec)) specs.now) }
+    ensures seats { IfOk result (λ r. (a : ℕ) → a < actors → slice_get seats.new a ≡ Some (fresh_seat (map (λ h. h.home) r.items) a)) }
+{
+    let mut hand_offs = Vec::with_capacity(alloc, specs.len())?;
+    for spec in specs {
+        if let Err(fault) = open_to_seats(alloc, spec, seats, &mut hand_offs, actors) {
+            drop(hand_offs);
+            return Err(fault);
+        }
+    }
+    Ok(hand_offs)
+}
+
+/// Opens a channel, and gives each seat a hand of it. Its hand-off comes last, also where memory is refused for a hand.
+fn open_to_seats<V: Payload>(
+    alloc: Global,
+    spec: &Spec<V>,
+    seats: &mut [DeskSeat<V>],
+    hand_offs: &mut Vec<HandOff<Book<Chan<V>>>>,
+    actors: u32,
+) -> Result<(), NoMemory>
+    requires good { has_bad_capacity spec.now ≡ false }
+    requires some { 0 < actors }
+    requires few { actors ≤ MOST_ACTORS }
+    requires all { length seats.old ≡ actors }
+    requires fresh { (a : ℕ) → IfSome (slice_get seats.old a) (λ s. s.pass ≡ fresh_pass a) }
+    requires room { vec_len hand_offs.old < vec_capacity hand_offs.old }
+    ensures length { length seats.new ≡ length seats.old }
+    ensures len { OnOk result (vec_len hand_offs.new ≡ vec_len hand_offs.old + 1) }
+    ensures capacity { vec_capacity hand_offs.new ≡ vec_capacity hand_offs.old }
+    ensures opened { OnOk result ((h : Handed (Chans V)) × (hand_offs.new.items ≡ hand_offs.old.items ++ h ∷ []) × (opening_at h.home ≡ Some (opened_channel spec.now)) × ((a : ℕ) (s : Seated V) → a < actors → slice_get seats.old a ≡ Some s → slice_get seats.new a ≡ Some (with_hand s (fresh_hand a h.home)))) }
+{
+    let (hand_off, hands) = open_hand_off(alloc, spec, actors)?;
+    hand_offs.push_reserved(hand_off);
+    hand_out(seats, hands)
 }
 
 /// A seat for each actor, without hands.
@@ -98,7 +150,7 @@ fn open_hand_off<V: Payload>(
     HandOff::open(alloc, book, seats)
 }
 
-/// Gives each hand to the seat of its number.
+/// Gives each hand to the seat of its number. Where memory is refused for a hand, it is dropped.
 fn hand_out<V: Payload>(
     seats: &mut [DeskSeat<V>],
     mut hands: Vec<HandSeat<Book<Chan<V>>>>,
@@ -109,8 +161,12 @@ fn hand_out<V: Payload>(
     ensures length { length seats.new ≡ length seats.old }
     ensures each { OnOk result ((a : ℕ) (s : Seated V) (h : Hand V) → slice_get seats.old a ≡ Some s → slice_get hands.items a ≡ Some h → slice_get seats.new a ≡ Some (with_hand s h)) }
 {
+    let mut handed = Ok(());
     while let Some(hand) = hands.pop() {
-        seats[hands.len()].add(hand)?;
+        if let Err(fault) = seats[hands.len()].add(hand) {
+            handed = Err(fault);
+        }
     }
-    Ok(())
+    hands.destroy_empty();
+    handed
 }

@@ -2,7 +2,7 @@ use Rattle.std.proofs.Common.{◌≡◌, ◌<◌, ◌∷◌, [], length, refl, s
 use Rattle.std.proofs.lemmas.List.{length-append, length-set}
 use Rattle.std.proofs.lemmas.Option.{slice_get_within}
 use Rattle.rw_seat.specs.DeskSeats.{DeskSeat, with_hand}
-use Rattle.rw_seat.proofs.Giving.{fresh_there, one_given, one_left, rest_left}
+use Rattle.rw_seat.proofs.Giving.{fresh_there, on_ok, one_given, one_left, rest_left}
 use Rattle.rw_seat.proofs.opening.hand_out.Goals as goal
 
 pub loop-hand-init : goal.loop-hand-init
@@ -38,6 +38,26 @@ add-requires-clause-front g c =
     let within : c.len.result < length seats = omega (arith, last, inv.as_many, c.requires.all, ap length inv.left.1, length-append xs inv.left.0, ap length c.in-Some.ensures.items, length-append ys (x ∷ [])) in
     (fresh_there c.args.seats.now c.args.hands.items seats xs ys x c.len.result s inv.left c.in-Some.ensures.items last inv.rest within c.index-seats-len.is c.requires.fresh c.requires.hands).1
 
+pub loop-hand-preserved-in-Err : goal.loop-hand-preserved-in-Err
+loop-hand-preserved-in-Err g c =
+    let inv = c.loop-hand.invariant in
+    let first = c.args.seats.now in
+    let all = c.args.hands.items in
+    let xs = c.loop-hand.hands.items in
+    let ys = c.pop.new.self.items in
+    let x = c.in-Some.hand in
+    let s = c.index-seats-len.result in
+    let seats = c.loop-hand.seats in
+    let at = c.len.result in
+    let new = c.add.new.self in
+    let last : at ≡ length ys = omega (arith, c.len.ensures) in
+    let within : at < length seats = omega (arith, last, inv.as_many, c.requires.all, ap length inv.left.1, length-append xs inv.left.0, ap length c.in-Some.ensures.items, length-append ys (x ∷ [])) in record {
+      as_many = length-set seats at new ∙ inv.as_many;
+      left = one_left first all seats xs ys x at s inv.left c.in-Some.ensures.items last inv.rest within c.index-seats-len.is;
+      rest = rest_left first all seats xs ys x at s inv.left c.in-Some.ensures.items last inv.rest within c.index-seats-len.is new;
+      done = tt;
+    }
+
 pub loop-hand-preserved : goal.loop-hand-preserved
 loop-hand-preserved g c =
     let inv = c.loop-hand.invariant in
@@ -52,9 +72,9 @@ loop-hand-preserved g c =
     let new = c.add.new.self in
     let last : at ≡ length ys = omega (arith, c.len.ensures) in
     let within : at < length seats = omega (arith, last, inv.as_many, c.requires.all, ap length inv.left.1, length-append xs inv.left.0, ap length c.in-Some.ensures.items, length-append ys (x ∷ [])) in
-    let made : new ≡ with_hand s x = c.in_ok-add.ensures ∙ ap (λ (t : DeskSeat g.row.V.Denot). with_hand t x) (sym c.index-seats-len.is) in record {
+    let made : new ≡ with_hand s x = c.in_default-add.ensures ∙ ap (λ (t : DeskSeat g.row.V.Denot). with_hand t x) (sym c.index-seats-len.is) in record {
       as_many = length-set seats at new ∙ inv.as_many;
       left = one_left first all seats xs ys x at s inv.left c.in-Some.ensures.items last inv.rest within c.index-seats-len.is;
       rest = rest_left first all seats xs ys x at s inv.left c.in-Some.ensures.items last inv.rest within c.index-seats-len.is new;
-      done = one_given first all seats xs ys x at s inv.left c.in-Some.ensures.items last inv.rest within c.index-seats-len.is new made inv.done;
+      done = on_ok c.loop-hand.handed (one_given first all seats xs ys x at s inv.left c.in-Some.ensures.items last inv.rest within c.index-seats-len.is new made) inv.done;
     }
