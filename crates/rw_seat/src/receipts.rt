@@ -14,7 +14,13 @@ use rw_law::{MOST_ACTORS, Payload};
 fn seats_of<V: Payload>(seats: &[DeskSeat<V>], actor: u32) -> usize
     ensures { result ≡ passes_of actor (passes_in seats.now) }
 {
-    seats.iter().filter(|seat| seat.actor() == actor).count()
+    let mut count = 0;
+    for seat in seats {
+        if seat.actor() == actor {
+            count += 1;
+        }
+    }
+    count
 }
 
 /// The least of so many actors of whom there isn't exactly one seat, or else the number of a seat that is none of theirs.
