@@ -1,4 +1,4 @@
-use Rattle.std.proofs.Common.{◌≡◌, Some, ◌++◌, ◌∷◌, [], List, length, map, take, sym, ap, ◌∙◌, subst, arith}
+use Rattle.std.proofs.Common.{◌≡◌, Some, ◌++◌, ◌∷◌, [], List, map, take, sym, ap, ◌∙◌, subst, arith}
 use Rattle.std.proofs.lemmas.List.{map-append, take_all}
 use Rattle.rw_world.specs.declared.opening.Spec.{Spec}
 use Rattle.rw_world.specs.declared.channels.Chan.{Chan}

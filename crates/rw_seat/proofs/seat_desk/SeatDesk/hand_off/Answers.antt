@@ -12,6 +12,13 @@ returns-in_err-get-clause-none g c =
     let past = subst (λ ss. length ss ≤ c.args.channel) specs c.in_err-get.ensures.lookup.3 in
     rw c.from_residual.ensures (λ _. strays_past c.args.self.now.specs c.args.channel c.args.call.now past, λ _. refl)
 
+pub returns-then-strays-clause-none : goal.returns-then-strays-clause-none
+returns-then-strays-clause-none g c =
+    let specs = c.deref.ensures.value ∙ ap (λ d. d.specs) c.self.view_is in
+    let there = spec_there c.args.self.now.specs c.deref.result.now c.args.channel c.in_ok-get.field-0.now specs c.in_ok-get.ensures.lookup.3.0 c.in_ok-get.ensures.lookup.1 in
+    let strays = strays_there c.args.self.now.specs c.args.channel c.in_ok-get.field-0.now c.args.call.now there ∙ sym c.if-strays.ensures in
+    (λ _. strays, λ _. refl)
+
 pub returns-clause-none : goal.returns-clause-none
 returns-clause-none g c =
     let specs = c.deref.ensures.value ∙ ap (λ d. d.specs) c.self.view_is in
