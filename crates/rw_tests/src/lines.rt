@@ -1,153 +1,234 @@
 //! Lines and pieces over readers and writers that work in small pieces and fail at a call.
 
-use crate::plain::line_of;
+use crate::plain::{line_of, same};
 use rw_devices::{FailingReader, FailingWriter};
 use rw_lines::{Next, ShortWrite, StreamFault, flush, put, put_whole};
+use std::alloc::{AllocError, Global};
+use std::io::{Read, Write};
+use std::process::Abort;
 use std::test::Fail;
 
 const INPUT: &[u8] = b"ab\ncd";
 
+/// Input, what a request for its first line is answered, that line, and what is left.
+type FirstLine = (&'static [u8], Next, &'static [u8], &'static [u8]);
+
+static FIRST_LINES: [FirstLine; 6] = [
+    (b"", Next::End, b"", b""),
+    (b"\n\n", Next::Line, b"", b"\n"),
+    (b"a\r\nb", Next::Line, b"a\r", b"b"),
+    (b"a\r", Next::Last, b"a\r", b""),
+    (b"\xff\xfe\nb\n", Next::Line, b"\xff\xfe", b"b\n"),
+    (b"# a\0", Next::Last, b"# a\0", b""),
+];
+
+/// A reader that gives so many bytes at a call gives this line.
+fn gives_first_line(
+    rt: &impl Abort,
+    reader: &mut FailingReader,
+    line: &mut Vec<u8>,
+    most: usize,
+    (_, next, want, rest): &FirstLine,
+) {
+    let answer = line_of(reader, &mut 8, line);
+    let found = (answer, line.as_slice(), reader.unread());
+    same(rt, &most, &found, &(Ok(*next), *want, *rest));
+}
+
 #[test]
-fn reads_lines_of_any_bytes(rt: HostRuntime) -> Result<(), Fail> {
-    let cases: [(&[u8], Next, &[u8], &[u8]); 6] = [
-        (b"", Next::End, b"", b""),
-        (b"\n\n", Next::Line, b"", b"\n"),
-        (b"a\r\nb", Next::Line, b"a\r", b"b"),
-        (b"a\r", Next::Last, b"a\r", b""),
-        (b"\xff\xfe\nb\n", Next::Line, b"\xff\xfe", b"b\n"),
-        (b"# a\0", Next::Last, b"# a\0", b""),
-    ];
+fn reads_lines_of_any_bytes(rt: HostRuntime) {
     let mut line = Vec::new(rt.alloc());
-    for (input, next, want, rest) in cases {
-        for most in [1, 7] {
-            let mut reader = FailingReader::new(input, most, None);
-            let mut allowed = 8u64;
-            let answer = line_of(&mut reader, &mut allowed, &mut line);
-            assert_eq!(rt;
-                (answer, line.as_slice(), reader.unread()),
-                (Ok(next), want, rest),
-                "{most}"
-            );
-        }
+    for case in &FIRST_LINES {
+        let mut by_one = FailingReader::new(case.0, 1, None);
+        gives_first_line(&rt, &mut by_one, &mut line, 1, case);
+        let mut by_seven = FailingReader::new(case.0, 7, None);
+        gives_first_line(&rt, &mut by_seven, &mut line, 7, case);
     }
-    Ok(())
+}
+
+/// So many letters, LF and one more letter.
+fn long_line(alloc: Global, length: usize) -> Result<Vec<u8>, AllocError> {
+    let mut input = vec![in alloc; b'x'; length]?;
+    input.extend_from_slice(b"\ny")?;
+    Ok(input)
+}
+
+/// What a reader answers to two requests for lines, and how long the first line is.
+fn two_lines<R: Read>(
+    reader: &mut R,
+    mut allowed: u64,
+    line: &mut Vec<u8>,
+) -> ([Result<Next, StreamFault>; 2], usize) {
+    let first = line_of(reader, &mut allowed, line);
+    let length = line.len();
+    ([first, line_of(reader, &mut allowed, line)], length)
+}
+
+/// How long a line is, and how many bytes of it are kept.
+static LENGTHS: [(usize, usize); 5] = [(255, 255), (256, 256), (257, 257), (258, 257), (700, 257)];
+
+/// A line of so many bytes is answered, with what is kept of it, and then the next.
+fn keeps(rt: &impl Abort, input: &[u8], line: &mut Vec<u8>, length: usize, kept: usize) {
+    let (answers, found) = two_lines(&mut FailingReader::new(input, 7, None), 702, line);
+    let told = [Ok(Next::Line), Ok(Next::Last)];
+    same(
+        rt,
+        &length,
+        &(answers, found, line.as_slice()),
+        &(told, kept, b"y".as_slice()),
+    );
 }
 
 #[test]
 fn keeps_enough_of_long_lines(rt: HostRuntime) -> Result<(), Fail> {
     let mut line = Vec::new(rt.alloc());
-    for (length, kept) in [
-        (255usize, 255usize),
-        (256, 256),
-        (257, 257),
-        (258, 257),
-        (700, 257),
-    ] {
-        let mut input = vec![in rt.alloc(); b'x'; length]?;
-        input.extend_from_slice(b"\ny")?;
-        let mut reader = FailingReader::new(&input, 7, None);
-        let mut allowed = 702u64;
-        let long = line_of(&mut reader, &mut allowed, &mut line);
-        let found = line.len();
-        let last = line_of(&mut reader, &mut allowed, &mut line);
-        assert_eq!(rt;
-            (long, found, last, line.as_slice()),
-            (Ok(Next::Line), kept, Ok(Next::Last), b"y".as_slice()),
-            "of {length}"
-        );
+    for (length, kept) in &LENGTHS {
+        let input = long_line(rt.alloc(), *length)?;
+        keeps(&rt, &input, &mut line, *length, *kept);
+        drop(input);
     }
     Ok(())
 }
 
 #[test]
-fn stops_at_the_first_byte_too_much(rt: HostRuntime) -> Result<(), Fail> {
+fn stops_at_the_first_byte_too_much(rt: HostRuntime) {
     let mut line = Vec::new(rt.alloc());
-    for (most, want) in [(3, Err(StreamFault::TooMuch)), (5, Ok(Next::Last))] {
-        let mut reader = FailingReader::new(INPUT, 1, None);
-        let mut allowed = most;
-        assert_eq!(rt;
-            [
-                line_of(&mut reader, &mut allowed, &mut line),
-                line_of(&mut reader, &mut allowed, &mut line)
-            ],
-            [Ok(Next::Line), want]
-        );
-    }
-    Ok(())
+    let (few, _) = two_lines(&mut FailingReader::new(INPUT, 1, None), 3, &mut line);
+    let (enough, _) = two_lines(&mut FailingReader::new(INPUT, 1, None), 5, &mut line);
+    drop(line);
+    let too_much = [Ok(Next::Line), Err(StreamFault::TooMuch)];
+    same(&rt, &3, &few, &too_much);
+    same(&rt, &5, &enough, &[Ok(Next::Line), Ok(Next::Last)]);
 }
 
-// Six reads give the five bytes one by one and then the end; the seventh gives the end again.
+/// Whether a reader answers so to requests for lines.
+fn answers<R: Read>(reader: &mut R, allowed: &mut u64, line: &mut Vec<u8>, wants: &[Next]) -> bool {
+    let mut answers = true;
+    for want in wants {
+        answers = answers && line_of(reader, allowed, line) == Ok(*want);
+    }
+    answers
+}
+
+/// How many reads go well, what requests for lines are answered before one that fails, and what is left. Six reads give the five
+/// bytes one by one and then the end; the seventh gives the end again.
+static FAILED_READS: [(u64, &[Next], &[u8]); 7] = [
+    (0, &[], b"ab\ncd"),
+    (1, &[], b"b\ncd"),
+    (2, &[], b"\ncd"),
+    (3, &[Next::Line], b"cd"),
+    (4, &[Next::Line], b"d"),
+    (5, &[Next::Line], b""),
+    (6, &[Next::Line, Next::Last], b""),
+];
+
+/// A reader that fails behind so many calls answers so, and leaves this.
+fn fails_behind(rt: &impl Abort, line: &mut Vec<u8>, calls: u64, wants: &[Next], unread: &[u8]) {
+    let mut reader = FailingReader::new(INPUT, 1, Some(calls));
+    let mut allowed = 5;
+    let answered = answers(&mut reader, &mut allowed, line, wants);
+    let failed = line_of(&mut reader, &mut allowed, line);
+    let found = (answered, failed, reader.unread());
+    same(rt, &calls, &found, &(true, Err(StreamFault::Read), unread));
+}
+
 #[test]
-fn stops_at_each_failed_read(rt: HostRuntime) -> Result<(), Fail> {
-    let cases: [(u64, usize, &[u8]); 7] = [
-        (0, 0, b"ab\ncd"),
-        (1, 0, b"b\ncd"),
-        (2, 0, b"\ncd"),
-        (3, 1, b"cd"),
-        (4, 1, b"d"),
-        (5, 1, b""),
-        (6, 2, b""),
-    ];
-    let lines = [Next::Line, Next::Last];
+fn stops_at_each_failed_read(rt: HostRuntime) {
     let mut line = Vec::new(rt.alloc());
-    for (calls, whole, unread) in cases {
-        let mut reader = FailingReader::new(INPUT, 1, Some(calls));
-        let mut allowed = 5u64;
-        for next in lines.iter().take(whole) {
-            assert_eq!(rt; line_of(&mut reader, &mut allowed, &mut line), Ok(*next));
-        }
-        let failed = line_of(&mut reader, &mut allowed, &mut line);
-        assert_eq!(rt;
-            (failed, reader.unread()),
-            (Err(StreamFault::Read), unread),
-            "call {calls}"
-        );
+    for (calls, wants, unread) in &FAILED_READS {
+        fails_behind(&rt, &mut line, *calls, wants, unread);
     }
-    Ok(())
 }
 
-// Five writes take the five bytes one by one; the sixth call is the flush.
-#[test]
-fn stops_at_each_failed_write(rt: HostRuntime) -> Result<(), Fail> {
-    for calls in 0..7u64 {
-        let mut writer = FailingWriter::new(rt.alloc(), 1, Some(calls));
-        let ended = put(&mut writer, INPUT);
-        if calls < 5 {
-            let written = calls as usize;
-            assert_eq!(rt; ended, Err(ShortWrite { written }));
-            assert_eq!(rt; writer.written(), &INPUT[..written]);
-        } else {
-            assert_eq!(rt; ended, Ok(()));
-            assert_eq!(rt; writer.written(), INPUT);
-            let flushed = flush(&mut writer);
-            assert_eq!(rt; flushed.is_ok(), calls == 6);
-            assert_eq!(rt; writer.flushes(), if calls == 6 { 1 } else { 0 });
-        }
+/// What a writer answers to the bytes, and, where it takes them all, whether it then takes a flush.
+fn put_and_flush<W: Write>(writer: &mut W, bytes: &[u8]) -> (Result<(), ShortWrite>, Option<bool>) {
+    match put(writer, bytes) {
+        Ok(()) => (Ok(()), Some(flush(writer).is_ok())),
+        Err(short) => (Err(short), None),
     }
-    let mut takes_nothing = FailingWriter::new(rt.alloc(), 0, None);
-    assert_eq!(rt;
-        put(&mut takes_nothing, INPUT),
-        Err(ShortWrite { written: 0 })
+}
+
+/// How many bytes a writer takes at a call, how many calls go well, what it answers to the five bytes, which of them it then has,
+/// whether it takes a flush, and how many it took.
+type Writing = (
+    usize,
+    Option<u64>,
+    Result<(), ShortWrite>,
+    &'static [u8],
+    Option<bool>,
+    u64,
+);
+
+/// Five writes take the five bytes one by one; the sixth call is the flush.
+static WRITINGS: [Writing; 8] = [
+    (1, Some(0), Err(ShortWrite { written: 0 }), b"", None, 0),
+    (1, Some(1), Err(ShortWrite { written: 1 }), b"a", None, 0),
+    (1, Some(2), Err(ShortWrite { written: 2 }), b"ab", None, 0),
+    (1, Some(3), Err(ShortWrite { written: 3 }), b"ab\n", None, 0),
+    (
+        1,
+        Some(4),
+        Err(ShortWrite { written: 4 }),
+        b"ab\nc",
+        None,
+        0,
+    ),
+    (1, Some(5), Ok(()), INPUT, Some(false), 0),
+    (1, Some(6), Ok(()), INPUT, Some(true), 1),
+    (0, None, Err(ShortWrite { written: 0 }), b"", None, 0),
+];
+
+/// A writer answers so.
+fn takes(
+    rt: &impl Abort,
+    writer: &mut FailingWriter,
+    (_, _, ended, written, flushed, flushes): &Writing,
+) {
+    let (answer, flush) = put_and_flush(writer, INPUT);
+    let found = (answer, writer.written(), flush, writer.flushes());
+    same(
+        rt,
+        &"a write",
+        &found,
+        &(*ended, *written, *flushed, *flushes),
     );
-    Ok(())
 }
 
-// Five writes take the five bytes one by one, and what was written is handed on by the sixth call alone.
 #[test]
-fn whole_pieces_are_handed_on(rt: HostRuntime) -> Result<(), Fail> {
-    for calls in 0..7usize {
-        let mut writer = FailingWriter::new(rt.alloc(), 1, Some(calls as u64));
-        let ended = put_whole(&mut writer, INPUT);
-        let (want, handed): (_, &[u8]) = if calls == 6 {
-            (Ok(()), INPUT)
-        } else {
-            (Err(StreamFault::Write), b"")
-        };
-        assert_eq!(rt;
-            (ended, writer.written(), writer.handed_on()),
-            (want, &INPUT[..calls.min(5)], handed),
-            "call {calls}"
-        );
+fn stops_at_each_failed_write(rt: HostRuntime) {
+    for writing in &WRITINGS {
+        let mut writer = FailingWriter::new(rt.alloc(), writing.0, writing.1);
+        takes(&rt, &mut writer, writing);
+        drop(writer);
     }
-    Ok(())
+}
+
+/// How many calls go well, what a writer then answers to the five bytes, which of them it has, and which it has handed on.
+type Piece = (u64, Result<(), StreamFault>, &'static [u8], &'static [u8]);
+
+/// Five writes take the five bytes one by one, and what was written is handed on by the sixth call alone.
+static PIECES: [Piece; 7] = [
+    (0, Err(StreamFault::Write), b"", b""),
+    (1, Err(StreamFault::Write), b"a", b""),
+    (2, Err(StreamFault::Write), b"ab", b""),
+    (3, Err(StreamFault::Write), b"ab\n", b""),
+    (4, Err(StreamFault::Write), b"ab\nc", b""),
+    (5, Err(StreamFault::Write), INPUT, b""),
+    (6, Ok(()), INPUT, INPUT),
+];
+
+/// A writer answers so to the five bytes.
+fn hands_on(rt: &impl Abort, writer: &mut FailingWriter, (calls, ended, written, handed): &Piece) {
+    let answer = put_whole(writer, INPUT);
+    let found = (answer, writer.written(), writer.handed_on());
+    same(rt, calls, &found, &(*ended, *written, *handed));
+}
+
+#[test]
+fn whole_pieces_are_handed_on(rt: HostRuntime) {
+    for piece in &PIECES {
+        let mut writer = FailingWriter::new(rt.alloc(), 1, Some(piece.0));
+        hands_on(&rt, &mut writer, piece);
+        drop(writer);
+    }
 }

@@ -15,7 +15,14 @@ use rw_navigator::{HitIndex, Move, Navigator, OutOfRange, Probe};
 use rw_text::{TextFault, WriteFault, read, round_trip, salvage, write};
 use rw_world::{ChanCall, ChanReply, OpenFault, RowCall, Spec, World, open};
 use std::alloc::Global;
+use std::fmt::{Debug, Display};
 use std::io::Read;
+use std::process::Abort;
+
+/// What is found in a case is what is told of it.
+pub fn same<T: PartialEq + Debug>(rt: &impl Abort, case: &impl Display, found: &T, told: &T) {
+    assert_eq!(rt; found, told, "{case}");
+}
 
 /// A book of a world that is opened from these specs.
 pub fn book_of<V: Copy>(alloc: Global, specs: &[Spec<V>]) -> Result<Book<World<V>>, OpenFault> {
@@ -106,6 +113,16 @@ pub fn navigator_of<V: Copy>(alloc: Global, run: &Run<V>) -> Result<Navigator<Wo
 pub fn step<R: Reversible>(navigator: &mut Navigator<R>, to: Move) -> Result<u64, OutOfRange> {
     navigator.step(to)?;
     Ok(navigator.place())
+}
+
+/// Where a navigator stands after a move to the end and after one to the start. It then goes.
+pub fn ends<R: Reversible + Drop>(mut navigator: Navigator<R>) -> [Result<u64, OutOfRange>; 2] {
+    let places = [
+        step(&mut navigator, Move::End),
+        step(&mut navigator, Move::Start),
+    ];
+    drop(navigator);
+    places
 }
 
 /// Makes moves.

@@ -1,50 +1,59 @@
 //! Scripts as long as they may be.
 
-use rw_script::{Script, ScriptFault, ScriptFaultKind, ScriptReader};
+use crate::plain::same;
+use rw_script::{Script, ScriptFault, ScriptFaultKind, ScriptReader, ScriptStep};
 use rw_world::Spec;
-use std::alloc::Global;
+use std::alloc::{AllocError, Global};
 use std::process::Abort;
 use std::test::Fail;
 
-/// The text so many times, one after another.
-fn repeated(alloc: Global, text: &[u8], times: usize) -> Result<Vec<u8>, Fail> {
-    let mut script = Vec::new(alloc);
-    for _ in 0..times {
-        script.extend_from_slice(text)?;
-    }
+/// Lines of 64 channels, 64 actors and two steps, behind the first 63 channels.
+const LAST_LINES: &[u8] =
+    b"broadcast 65536\nactors 64\n63 63 subscribe 0 as abcdefghijklmnop\n63 63 drop abcdefghijklmnop\n---\n";
+
+/// A script of 64 channels and 64 actors. What stands behind the mark isn't judged.
+fn limits(alloc: Global) -> Result<Vec<u8>, AllocError> {
+    let mut script = b"watch 18446744073709551615\n".repeat(alloc, 63)?;
+    script.extend_from_slice(LAST_LINES)?;
+    script.extend_from_slice(&[b'x'; 300])?;
     Ok(script)
+}
+
+/// A step's line, actor, channel and target, and whether it binds a name.
+type Shown = (u64, u32, u32, Option<u32>, bool);
+
+/// What a step shows.
+fn shown(step: &ScriptStep) -> Shown {
+    (step.line, step.actor, step.channel, step.target, step.binds)
 }
 
 /// A script of 64 channels and 64 actors has its specs and its two steps.
 fn has_limits(rt: &impl Abort, script: &Script) -> Result<(), Fail> {
-    let specs = script.specs();
-    assert_eq!(rt; (script.actors(), specs.len()), (64, 64));
-    assert_eq!(rt;
-        (specs[62], specs[63]),
-        (Spec::Watch(u64::MAX), Spec::Broadcast(65_536))
+    let (specs, steps) = (script.specs(), script.steps());
+    same(
+        rt,
+        &"actors and channels",
+        &(script.actors(), specs.len()),
+        &(64, 64),
     );
-    let [bind, use_it] = script.steps() else {
+    let last = (specs.get(62), specs.get(63));
+    let told = (Some(&Spec::Watch(u64::MAX)), Some(&Spec::Broadcast(65_536)));
+    same(rt, &"channels", &last, &told);
+    let [bind, use_it] = steps else {
         return Err(Fail::from("not two steps"));
     };
-    let found = [bind, use_it].map(|step| {
-        (step.line, step.actor, step.channel, step.target, step.binds)
-    });
-    assert_eq!(rt;
-        found,
-        [(66, 63, 63, None, true), (67, 63, 63, Some(0), false)]
-    );
+    let found = [shown(bind), shown(use_it)];
+    let told = [(66, 63, 63, None, true), (67, 63, 63, Some(0), false)];
+    same(rt, &"steps", &found, &told);
     Ok(())
 }
 
 #[test]
 fn takes_limits(rt: HostRuntime) -> Result<(), Fail> {
-    // 64 channels, 64 actors, and what stands behind the mark isn't judged.
-    let mut script = repeated(rt.alloc(), b"watch 18446744073709551615\n", 63)?;
-    script.extend_from_slice(
-        b"broadcast 65536\nactors 64\n63 63 subscribe 0 as abcdefghijklmnop\n63 63 drop abcdefghijklmnop\n---\n",
-    )?;
-    script.extend_from_slice(&repeated(rt.alloc(), b"x", 300)?)?;
-    let read = Script::read(rt.alloc(), &script)?;
+    let script = limits(rt.alloc())?;
+    let read = Script::read(rt.alloc(), &script);
+    drop(script);
+    let read = read?;
     let found = has_limits(&rt, &read);
     drop(read);
     found
@@ -66,21 +75,23 @@ fn fill(reader: &mut ScriptReader) -> Result<(), ScriptFault> {
     Ok(())
 }
 
+/// Lines that a reader with all the steps that there may be doesn't take, and why.
+static REFUSED: [(&[u8], ScriptFaultKind); 3] = [
+    (b"0 0 drop 9", ScriptFaultKind::TooManySteps),
+    (b"0 0 subscribe 9 as r", ScriptFaultKind::NameTaken),
+    (b"0 0 drop s", ScriptFaultKind::UnknownName),
+];
+
 /// A reader with all the steps that there may be takes no further one.
 fn is_full(rt: &impl Abort, reader: &mut ScriptReader) {
-    assert_eq!(rt; reader.lines(), 1_048_577);
-    let cases: [(&[u8], ScriptFaultKind); 3] = [
-        (b"0 0 drop 9", ScriptFaultKind::TooManySteps),
-        (b"0 0 subscribe 9 as r", ScriptFaultKind::NameTaken),
-        (b"0 0 drop s", ScriptFaultKind::UnknownName),
-    ];
-    for (line, kind) in cases {
+    same(rt, &"lines", &reader.lines(), &1_048_577);
+    for (line, kind) in &REFUSED {
         if reader.lines() < 2_000_000 {
             let fault = ScriptFault {
                 line: 1_048_578,
-                kind,
+                kind: *kind,
             };
-            assert_eq!(rt; reader.take(line), Err(fault));
+            same(rt, &"a step", &reader.take(line), &Err(fault));
         }
     }
 }
@@ -98,6 +109,7 @@ fn takes_1048576_steps(rt: HostRuntime) -> Result<(), Fail> {
     let mut reader = ScriptReader::new(rt.alloc());
     let filled = fill(&mut reader);
     is_full(&rt, &mut reader);
-    assert_eq!(rt; (filled, steps_of(reader)?), (Ok(()), 1_048_576));
+    let steps = steps_of(reader)?;
+    same(&rt, &"steps", &(filled, steps), &(Ok(()), 1_048_576));
     Ok(())
 }

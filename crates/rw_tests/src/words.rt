@@ -1,5 +1,6 @@
 //! Every word of the two tables, read and written, and the faults in their order.
 
+use crate::plain::same;
 use rw_broadcast::{BCall, BReply};
 use rw_law::{Entry, Payload, Reversible};
 use rw_watch::{WCall, WReply};
@@ -10,7 +11,7 @@ use std::fmt::Debug;
 use std::process::Abort;
 use std::test::Fail;
 
-const BROADCAST_CALLS: [(&[u8], BCall<u64>); 13] = [
+static BROADCAST_CALLS: [(&[u8], BCall<u64>); 13] = [
     (b"send 0 7", BCall::Send(0, 7)),
     (b"subscribe 0", BCall::Subscribe(0)),
     (b"clone-sender 0", BCall::CloneSender(0)),
@@ -26,7 +27,7 @@ const BROADCAST_CALLS: [(&[u8], BCall<u64>); 13] = [
     (b"clone-weak 2", BCall::CloneWeak(2)),
 ];
 
-const WATCH_CALLS: [(&[u8], WCall<u64>); 17] = [
+static WATCH_CALLS: [(&[u8], WCall<u64>); 17] = [
     (b"send 0 7", WCall::Send(0, 7)),
     (
         b"send-replace 0 18446744073709551615",
@@ -63,7 +64,7 @@ const WATCH_CALLS: [(&[u8], WCall<u64>); 17] = [
     (b"closed 0", WCall::AwaitClosed(0)),
 ];
 
-const BROADCAST_REPLIES: [(&[u8], BReply<u64>); 14] = [
+static BROADCAST_REPLIES: [(&[u8], BReply<u64>); 14] = [
     (b"sent 2", BReply::Sent(2)),
     (b"no-receivers 9", BReply::NoReceivers(9)),
     (b"value 7", BReply::Value(7)),
@@ -80,7 +81,7 @@ const BROADCAST_REPLIES: [(&[u8], BReply<u64>); 14] = [
     (b"no-sender", BReply::NoSender),
 ];
 
-const WATCH_REPLIES: [(&[u8], WReply<u64>); 17] = [
+static WATCH_REPLIES: [(&[u8], WReply<u64>); 17] = [
     (b"stored", WReply::Stored),
     (b"no-receivers 2", WReply::NoReceivers(2)),
     (b"old 1", WReply::Old(1)),
@@ -111,17 +112,21 @@ fn entry_of<V: Copy>(call: ChanCall<V>, reply: ChanReply<V>) -> Entry<World<V>> 
     }
 }
 
-/// Writes an entry whose reply is one that is recorded.
+/// The line of an entry whose reply is one that is recorded.
+fn line_of<'o, V: Payload>(entry: &Entry<World<V>>, out: &'o mut [u8; 256]) -> Option<&'o [u8]> {
+    if World::<V>::waits(&entry.reply) || World::<V>::strays(&entry.reply) {
+        return None;
+    }
+    let length = write_entry(entry, out);
+    out.get(..length)
+}
+
+/// An entry whose reply is one that is recorded is written so.
 fn is_written<V: Payload>(rt: &impl Abort, entry: Entry<World<V>>, want: &[u8]) {
     let mut out = [0u8; 256];
-    let recorded = !World::<V>::waits(&entry.reply) && !World::<V>::strays(&entry.reply);
-    let length = if recorded {
-        write_entry(&entry, &mut out)
-    } else {
-        0
-    };
+    let line = line_of(&entry, &mut out);
     drop(entry);
-    assert_eq!(rt; (recorded, &out[..length]), (true, want));
+    same(rt, &"a line", &line, &Some(want));
 }
 
 /// The call is written so, and what is written is read as a call that is written so.
@@ -133,10 +138,7 @@ fn is_call<V: Payload>(
     call: ChanCall<V>,
 ) -> Result<(), Fail> {
     let read = read_call(broadcast, text)?;
-    let mut line = Vec::new(alloc);
-    line.extend_from_slice(b"1 2 3 ")?;
-    line.extend_from_slice(text)?;
-    line.extend_from_slice(b" = done")?;
+    let line = [b"1 2 3 ".as_slice(), text, b" = done"].concat(alloc)?;
     let reply = ChanReply::W(WReply::Done);
     is_written(rt, entry_of(call, reply), &line);
     is_written(rt, entry_of(read, reply), &line);
@@ -145,11 +147,11 @@ fn is_call<V: Payload>(
 
 #[test]
 fn reads_and_writes_every_call(rt: HostRuntime) -> Result<(), Fail> {
-    for (text, call) in BROADCAST_CALLS {
-        is_call(&rt, rt.alloc(), true, text, ChanCall::B(call))?;
+    for (text, call) in &BROADCAST_CALLS {
+        is_call(&rt, rt.alloc(), true, text, ChanCall::B(*call))?;
     }
-    for (text, call) in WATCH_CALLS {
-        is_call(&rt, rt.alloc(), false, text, ChanCall::W(call))?;
+    for (text, call) in &WATCH_CALLS {
+        is_call(&rt, rt.alloc(), false, text, ChanCall::W(*call))?;
     }
     Ok(())
 }
@@ -162,21 +164,19 @@ fn is_reply<V: Payload + PartialEq + Debug>(
     text: &[u8],
     reply: ChanReply<V>,
 ) -> Result<(), Fail> {
-    assert_eq!(rt; read_reply(broadcast, text), Ok(reply));
-    let mut line = Vec::new(alloc);
-    line.extend_from_slice(b"1 2 3 recv 1 = ")?;
-    line.extend_from_slice(text)?;
+    same(rt, &"a reply", &read_reply(broadcast, text), &Ok(reply));
+    let line = [b"1 2 3 recv 1 = ".as_slice(), text].concat(alloc)?;
     is_written(rt, entry_of(ChanCall::B(BCall::Recv(1)), reply), &line);
     Ok(())
 }
 
 #[test]
 fn reads_and_writes_every_reply(rt: HostRuntime) -> Result<(), Fail> {
-    for (text, reply) in BROADCAST_REPLIES {
-        is_reply(&rt, rt.alloc(), true, text, ChanReply::B(reply))?;
+    for (text, reply) in &BROADCAST_REPLIES {
+        is_reply(&rt, rt.alloc(), true, text, ChanReply::B(*reply))?;
     }
-    for (text, reply) in WATCH_REPLIES {
-        is_reply(&rt, rt.alloc(), false, text, ChanReply::W(reply))?;
+    for (text, reply) in &WATCH_REPLIES {
+        is_reply(&rt, rt.alloc(), false, text, ChanReply::W(*reply))?;
     }
     Ok(())
 }
@@ -204,45 +204,52 @@ fn fault_of_call<V: Payload>(broadcast: bool, text: &[u8]) -> Option<WordFault> 
     read_call::<V>(broadcast, text).err()
 }
 
+/// Whether the channel is a broadcast, the words of a call, and their fault.
+static CALL_FAULTS: [(bool, &[u8], WordFault); 25] = [
+    (true, b"", WordFault::WrongWord),
+    (true, b" send 0 1", WordFault::WrongWord),
+    (true, b"sends 0 07", WordFault::WrongWord),
+    (true, b"changed 1", WordFault::WrongWord),
+    (false, b"downgrade 0", WordFault::WrongWord),
+    (true, b"downgraded 0", WordFault::WrongWord),
+    (true, b"upgrade", WordFault::BadArguments),
+    (true, b"clone-weak 0 1", WordFault::BadArguments),
+    (false, b"recv 1", WordFault::WrongWord),
+    (false, b"recv 4294967296 x", WordFault::WrongWord),
+    (true, b"send", WordFault::BadArguments),
+    (true, b"send ", WordFault::BadArguments),
+    (true, b"send 0", WordFault::BadArguments),
+    (true, b"send 0 07", WordFault::BadArguments),
+    (true, b"send 00 7", WordFault::BadArguments),
+    (true, b"send 0  7", WordFault::BadArguments),
+    (true, b"send 0 7 ", WordFault::BadArguments),
+    (true, b"recv 1 1", WordFault::BadArguments),
+    (true, b"recv r", WordFault::BadArguments),
+    (
+        true,
+        b"send 4294967296 18446744073709551616",
+        WordFault::BadArguments,
+    ),
+    (false, b"modify 4294967296 7 maybe", WordFault::BadArguments),
+    (false, b"modify 0 7", WordFault::BadArguments),
+    (true, b"recv 4294967296", WordFault::HandleTooLarge),
+    (
+        true,
+        b"send 18446744073709551615 7",
+        WordFault::HandleTooLarge,
+    ),
+    (false, b"modify 4294967296 7 no", WordFault::HandleTooLarge),
+];
+
 #[test]
 fn names_the_first_fault_of_a_call(rt: HostRuntime) {
-    let cases: [(bool, &[u8], WordFault); 25] = [
-        (true, b"", WordFault::WrongWord),
-        (true, b" send 0 1", WordFault::WrongWord),
-        (true, b"sends 0 07", WordFault::WrongWord),
-        (true, b"changed 1", WordFault::WrongWord),
-        (false, b"downgrade 0", WordFault::WrongWord),
-        (true, b"downgraded 0", WordFault::WrongWord),
-        (true, b"upgrade", WordFault::BadArguments),
-        (true, b"clone-weak 0 1", WordFault::BadArguments),
-        (false, b"recv 1", WordFault::WrongWord),
-        (false, b"recv 4294967296 x", WordFault::WrongWord),
-        (true, b"send", WordFault::BadArguments),
-        (true, b"send ", WordFault::BadArguments),
-        (true, b"send 0", WordFault::BadArguments),
-        (true, b"send 0 07", WordFault::BadArguments),
-        (true, b"send 00 7", WordFault::BadArguments),
-        (true, b"send 0  7", WordFault::BadArguments),
-        (true, b"send 0 7 ", WordFault::BadArguments),
-        (true, b"recv 1 1", WordFault::BadArguments),
-        (true, b"recv r", WordFault::BadArguments),
-        (
-            true,
-            b"send 4294967296 18446744073709551616",
-            WordFault::BadArguments,
-        ),
-        (false, b"modify 4294967296 7 maybe", WordFault::BadArguments),
-        (false, b"modify 0 7", WordFault::BadArguments),
-        (true, b"recv 4294967296", WordFault::HandleTooLarge),
-        (
-            true,
-            b"send 18446744073709551615 7",
-            WordFault::HandleTooLarge,
-        ),
-        (false, b"modify 4294967296 7 no", WordFault::HandleTooLarge),
-    ];
-    for (broadcast, text, fault) in cases {
-        assert_eq!(rt; fault_of_call::<u64>(broadcast, text), Some(fault));
+    for (broadcast, text, fault) in &CALL_FAULTS {
+        same(
+            &rt,
+            &"a call",
+            &fault_of_call::<u64>(*broadcast, text),
+            &Some(*fault),
+        );
     }
 }
 
@@ -251,23 +258,30 @@ fn fault_of_reply<V: Payload>(broadcast: bool, text: &[u8]) -> Option<WordFault>
     read_reply::<V>(broadcast, text).err()
 }
 
+/// Whether the channel is a broadcast, the words of a reply, and their fault.
+static REPLY_FAULTS: [(bool, &[u8], WordFault); 12] = [
+    (true, b"", WordFault::WrongWord),
+    (true, b"waits", WordFault::WrongWord),
+    (false, b"waits", WordFault::WrongWord),
+    (true, b"stored", WordFault::WrongWord),
+    (false, b"sent 1", WordFault::WrongWord),
+    (false, b"no-sender", WordFault::WrongWord),
+    (true, b"dropped ", WordFault::BadArguments),
+    (true, b"sent", WordFault::BadArguments),
+    (true, b"value 07", WordFault::BadArguments),
+    (false, b"flag maybe", WordFault::BadArguments),
+    (true, b"new 4294967296 ", WordFault::BadArguments),
+    (true, b"new 4294967296", WordFault::HandleTooLarge),
+];
+
 #[test]
 fn names_the_first_fault_of_a_reply(rt: HostRuntime) {
-    let cases: [(bool, &[u8], WordFault); 12] = [
-        (true, b"", WordFault::WrongWord),
-        (true, b"waits", WordFault::WrongWord),
-        (false, b"waits", WordFault::WrongWord),
-        (true, b"stored", WordFault::WrongWord),
-        (false, b"sent 1", WordFault::WrongWord),
-        (false, b"no-sender", WordFault::WrongWord),
-        (true, b"dropped ", WordFault::BadArguments),
-        (true, b"sent", WordFault::BadArguments),
-        (true, b"value 07", WordFault::BadArguments),
-        (false, b"flag maybe", WordFault::BadArguments),
-        (true, b"new 4294967296 ", WordFault::BadArguments),
-        (true, b"new 4294967296", WordFault::HandleTooLarge),
-    ];
-    for (broadcast, text, fault) in cases {
-        assert_eq!(rt; fault_of_reply::<u64>(broadcast, text), Some(fault));
+    for (broadcast, text, fault) in &REPLY_FAULTS {
+        same(
+            &rt,
+            &"a reply",
+            &fault_of_reply::<u64>(*broadcast, text),
+            &Some(*fault),
+        );
     }
 }

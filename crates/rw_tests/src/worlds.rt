@@ -1,5 +1,6 @@
 //! Openings of worlds, and steps of a world of both kinds.
 
+use crate::plain::same;
 use rw_broadcast::{BCall, BReply};
 use rw_law::Reversible;
 use rw_watch::{WCall, WReply};
@@ -32,21 +33,23 @@ fn opened<V: Copy>(alloc: Global, specs: &[Spec<V>]) -> Result<usize, OpenFault>
     Ok(length)
 }
 
+static MANY: [Spec<u64>; 65] = [Spec::Watch(1); 65];
+
+static BAD: [Spec<u64>; 3] = [Spec::Watch(1), Spec::Broadcast(0), Spec::Broadcast(0)];
+
+static WIDE: [Spec<u64>; 1] = [Spec::Broadcast(65_537)];
+
 #[test]
 fn refuses_specs(rt: HostRuntime) {
-    let watch = Spec::Watch(1u64);
-    let many = [watch; 65];
-    let bad = [watch, Spec::Broadcast(0), Spec::Broadcast(0)];
-    let wide = [Spec::Broadcast(65_537)];
     let table = [
-        (&many[..0], Err(OpenFault::NoChannels)),
-        (&many[..], Err(OpenFault::TooManyChannels)),
-        (&bad[..], Err(OpenFault::BadCapacity(1))),
-        (&wide[..], Err(OpenFault::BadCapacity(0))),
-        (&many[..64], Ok(64)),
+        (&MANY[..0], Err(OpenFault::NoChannels)),
+        (&MANY[..], Err(OpenFault::TooManyChannels)),
+        (&BAD[..], Err(OpenFault::BadCapacity(1))),
+        (&WIDE[..], Err(OpenFault::BadCapacity(0))),
+        (&MANY[..64], Ok(64)),
     ];
-    for (specs, answer) in table {
-        assert_eq!(rt; opened(rt.alloc(), specs), answer);
+    for (specs, answer) in &table {
+        same(&rt, &specs.len(), &opened(rt.alloc(), specs), answer);
     }
 }
 
@@ -59,7 +62,7 @@ fn replies<V: Copy + PartialEq + Debug>(
     for (channel, call, reply) in table {
         let (channel, call) = (*channel, *call);
         let found = made_twice(world, &RowCall { channel, call })?;
-        assert_eq!(rt; found, (*reply, *reply));
+        same(rt, &channel, &found, &(*reply, *reply));
     }
     Ok(())
 }
@@ -87,33 +90,36 @@ fn value_after<V: Copy + PartialEq + Debug>(
     Ok(value)
 }
 
+/// Channels, calls on them, and what they reply.
+static CALLS: [(u32, ChanCall<u64>, ChanReply<u64>); 6] = [
+    (
+        0,
+        ChanCall::B(BCall::Send(0, 1)),
+        ChanReply::B(BReply::Sent(1)),
+    ),
+    (
+        1,
+        ChanCall::W(WCall::Send(0, 6)),
+        ChanReply::W(WReply::Stored),
+    ),
+    (
+        0,
+        ChanCall::B(BCall::TryRecv(1)),
+        ChanReply::B(BReply::Value(1)),
+    ),
+    (
+        1,
+        ChanCall::W(WCall::Update(1)),
+        ChanReply::W(WReply::Value(6)),
+    ),
+    (0, ChanCall::W(WCall::Update(1)), ChanReply::NoChannel),
+    (2, ChanCall::W(WCall::Update(1)), ChanReply::NoChannel),
+];
+
 #[test]
 fn calls_both_kinds(rt: HostRuntime) -> Result<(), Fail> {
-    let table = [
-        (
-            0,
-            ChanCall::B(BCall::Send(0, 1)),
-            ChanReply::B(BReply::Sent(1)),
-        ),
-        (
-            1,
-            ChanCall::W(WCall::Send(0, 6)),
-            ChanReply::W(WReply::Stored),
-        ),
-        (
-            0,
-            ChanCall::B(BCall::TryRecv(1)),
-            ChanReply::B(BReply::Value(1)),
-        ),
-        (
-            1,
-            ChanCall::W(WCall::Update(1)),
-            ChanReply::W(WReply::Value(6)),
-        ),
-        (0, ChanCall::W(WCall::Update(1)), ChanReply::NoChannel),
-        (2, ChanCall::W(WCall::Update(1)), ChanReply::NoChannel),
-    ];
-    let specs = [Spec::Broadcast(2), Spec::Watch(5u64)];
-    assert_eq!(rt; value_after(&rt, rt.alloc(), &specs, &table)?, Some(6));
+    let specs = [Spec::Broadcast(2), Spec::Watch(5)];
+    let value = value_after(&rt, rt.alloc(), &specs, &CALLS)?;
+    same(&rt, &"the value", &value, &Some(6));
     Ok(())
 }

@@ -1,5 +1,7 @@
 //! Debuggers of runs.
 
+use crate::journals::worlds::{ANSWERS, MOVES};
+use crate::plain::same;
 use crate::texts::rows::{OVERRUN, run_of};
 use rw_journal::Run;
 use rw_law::NoMemory;
@@ -24,19 +26,10 @@ fn walked<V: Copy>(
 
 #[test]
 fn a_run_is_walked(rt: HostRuntime) -> Result<(), Fail> {
-    let moves = [
-        Move::Back(5),
-        Move::Forward(9),
-        Move::Goto(4),
-        Move::Start,
-        Move::End,
-    ];
     let run = run_of(rt.alloc(), OVERRUN)?;
-    let (answers, place, turns) = walked(rt.alloc(), run, &moves)?;
-    let told = [Err(OutOfRange), Err(OutOfRange), Ok(()), Ok(()), Ok(())];
-    assert_eq!(rt;
-        (answers.as_slice(), place, turns),
-        (told.as_slice(), 7, 15)
-    );
+    let (answers, place, turns) = walked(rt.alloc(), run, &MOVES)?;
+    same(&rt, &"answers", &answers.as_slice(), &ANSWERS.as_slice());
+    drop(answers);
+    same(&rt, &"place and turns", &(place, turns), &(7, 15));
     Ok(())
 }

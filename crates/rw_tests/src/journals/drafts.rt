@@ -1,10 +1,10 @@
 //! Drafts of runs.
 
-use crate::plain::{draft_of, entries_of, finish, navigator_of, push, specs_of, step};
+use crate::plain::{draft_of, ends, entries_of, finish, navigator_of, push, same, specs_of};
 use rw_broadcast::{BCall, BReply};
 use rw_journal::{PushFault, Run, RunDraft};
 use rw_law::{NoMemory, Payload};
-use rw_navigator::{Move, OutOfRange};
+use rw_navigator::OutOfRange;
 use rw_watch::{WCall, WReply};
 use rw_world::{ChanCall, ChanReply, OpenFault, Spec};
 use std::alloc::Global;
@@ -28,61 +28,78 @@ type Push<V> = (
 fn answers<V: Payload>(rt: &impl Abort, draft: &mut RunDraft<V>, pushes: &[Push<V>]) {
     for (actor, stamp, channel, call, reply, answer) in pushes {
         let found = push(draft, *actor, *stamp, *channel, *call, *reply);
-        assert_eq!(rt; found, *answer, "at {stamp} on {channel}");
+        same(rt, stamp, &found, answer);
     }
 }
 
 /// A run of so many channels has entries of these actors, at these stamps.
 fn has_steps<V: Copy>(rt: &impl Abort, run: &Run<V>, channels: usize, steps: &[(u32, u64)]) {
     let entries = entries_of(run);
-    assert_eq!(rt;
-        (specs_of(run).len(), entries.len()),
-        (channels, steps.len())
-    );
+    let counts = (specs_of(run).len(), entries.len());
+    same(rt, &"counts", &counts, &(channels, steps.len()));
     for (entry, step) in entries.iter().zip(steps) {
-        assert_eq!(rt; (entry.actor, entry.stamp), *step);
+        same(rt, &"a step", &(entry.actor, entry.stamp), step);
     }
 }
 
+const SEND: ChanCall<u64> = ChanCall::B(BCall::Send(0, 1));
+
+const SENT: ChanReply<u64> = ChanReply::B(BReply::Sent(1));
+
+const STORE: ChanCall<u64> = ChanCall::W(WCall::Send(0, 6));
+
+const STORED: ChanReply<u64> = ChanReply::W(WReply::Stored);
+
+const RECEIVE: ChanCall<u64> = ChanCall::B(BCall::TryRecv(1));
+
+const WAIT: ChanCall<u64> = ChanCall::B(BCall::Recv(1));
+
+const WAITS: ChanReply<u64> = ChanReply::B(BReply::Waits);
+
+/// A received value, or another.
+const ONE: ChanReply<u64> = ChanReply::B(BReply::Value(1));
+
+const TWO: ChanReply<u64> = ChanReply::B(BReply::Value(2));
+
+const LIMIT: Result<(), PushFault> = Err(PushFault::Limit);
+
+const ORDER: Result<(), PushFault> = Err(PushFault::Order);
+
+const REPLY: Result<(), PushFault> = Err(PushFault::Reply);
+
+static PUSHES: [Push<u64>; 17] = [
+    (0, 0, 0, SEND, SENT, ORDER),
+    (64, 1, 0, SEND, SENT, LIMIT),
+    (0, TOO_LATE, 0, SEND, SENT, LIMIT),
+    (0, 1, 0, SEND, SENT, Ok(())),
+    // The same stamp on a later channel, but by the same actor, and then by another.
+    (0, 1, 1, STORE, STORED, ORDER),
+    (1, 1, 1, STORE, STORED, Ok(())),
+    // An earlier channel, and the same one.
+    (2, 1, 0, SEND, SENT, ORDER),
+    (2, 1, 1, STORE, STORED, ORDER),
+    // Another number, another value, another kind, a call of the other kind, no such channel.
+    (0, 2, 0, SEND, ChanReply::B(BReply::Sent(2)), REPLY),
+    (0, 2, 0, RECEIVE, TWO, REPLY),
+    (0, 2, 0, RECEIVE, ChanReply::W(WReply::Value(1)), REPLY),
+    (0, 2, 0, STORE, ChanReply::NoChannel, REPLY),
+    (0, 2, 2, SEND, ChanReply::NoChannel, REPLY),
+    // The send that was refused is undone.
+    (0, 2, 0, RECEIVE, ONE, Ok(())),
+    (0, 3, 0, RECEIVE, ChanReply::B(BReply::Empty), Ok(())),
+    (0, 4, 0, WAIT, WAITS, REPLY),
+    (63, 1 << 62, 0, SEND, SENT, Ok(())),
+];
+
+/// The actors and stamps of those that are pushed.
+static PUSHED: [(u32, u64); 5] = [(0, 1), (1, 1), (0, 2), (0, 3), (63, 1 << 62)];
+
 #[test]
 fn pushes_what_comes_next(rt: HostRuntime) -> Result<(), Fail> {
-    let (send, sent) = (
-        ChanCall::B(BCall::Send(0, 1)),
-        ChanReply::B(BReply::Sent(1)),
-    );
-    let (store, stored) = (ChanCall::W(WCall::Send(0, 6)), ChanReply::W(WReply::Stored));
-    let receive = ChanCall::B(BCall::TryRecv(1));
-    let wait = ChanCall::B(BCall::Recv(1));
-    let (limit, order) = (Err(PushFault::Limit), Err(PushFault::Order));
-    let reply = Err(PushFault::Reply);
-    let pushes = [
-        (0, 0, 0, send, sent, order),
-        (64, 1, 0, send, sent, limit),
-        (0, TOO_LATE, 0, send, sent, limit),
-        (0, 1, 0, send, sent, Ok(())),
-        // The same stamp on a later channel, but by the same actor, and then by another.
-        (0, 1, 1, store, stored, order),
-        (1, 1, 1, store, stored, Ok(())),
-        // An earlier channel, and the same one.
-        (2, 1, 0, send, sent, order),
-        (2, 1, 1, store, stored, order),
-        // Another number, another value, another kind, a call of the other kind, no such channel.
-        (0, 2, 0, send, ChanReply::B(BReply::Sent(2)), reply),
-        (0, 2, 0, receive, ChanReply::B(BReply::Value(2)), reply),
-        (0, 2, 0, receive, ChanReply::W(WReply::Value(1)), reply),
-        (0, 2, 0, store, ChanReply::NoChannel, reply),
-        (0, 2, 2, send, ChanReply::NoChannel, reply),
-        // The send that was refused is undone.
-        (0, 2, 0, receive, ChanReply::B(BReply::Value(1)), Ok(())),
-        (0, 3, 0, receive, ChanReply::B(BReply::Empty), Ok(())),
-        (0, 4, 0, wait, ChanReply::B(BReply::Waits), reply),
-        (63, 1 << 62, 0, send, sent, Ok(())),
-    ];
     let mut draft = draft_of(rt.alloc(), &[Spec::Broadcast(2), Spec::Watch(5u64)])?;
-    answers(&rt, &mut draft, &pushes);
-    let pushed = [(0, 1), (1, 1), (0, 2), (0, 3), (63, 1 << 62)];
+    answers(&rt, &mut draft, &PUSHES);
     let run = finish(draft);
-    has_steps(&rt, &run, 2, &pushed);
+    has_steps(&rt, &run, 2, &PUSHED);
     drop(run);
     Ok(())
 }
@@ -111,12 +128,7 @@ fn ends_of<V: Copy>(
     alloc: Global,
     run: &Run<V>,
 ) -> Result<(usize, [Result<u64, OutOfRange>; 2]), NoMemory> {
-    let mut navigator = navigator_of(alloc, run)?;
-    let places = [
-        step(&mut navigator, Move::End),
-        step(&mut navigator, Move::Start),
-    ];
-    drop(navigator);
+    let places = ends(navigator_of(alloc, run)?);
     Ok((entries_of(run).len(), places))
 }
 
@@ -129,8 +141,13 @@ fn a_channel_is_full(rt: HostRuntime) -> Result<(), Fail> {
     let run = finish(draft);
     let ends = ends_of(rt.alloc(), &run);
     drop(run);
-    assert_eq!(rt; answers, (true, [Err(PushFault::Limit), Ok(())]));
-    assert_eq!(rt; ends, Ok((1_048_577, [Ok(1_048_577), Ok(0)])));
+    same(&rt, &"pushes", &answers, &(true, [LIMIT, Ok(())]));
+    same(
+        &rt,
+        &"ends",
+        &ends,
+        &Ok((1_048_577, [Ok(1_048_577), Ok(0)])),
+    );
     Ok(())
 }
 
@@ -144,8 +161,6 @@ fn opens_as_a_world_does(rt: HostRuntime) {
     let none: [Spec<u64>; 0] = [];
     let bad = [Spec::Watch(1), Spec::Broadcast(0), Spec::Broadcast(0)];
     let faults = [fault_of(rt.alloc(), &none), fault_of(rt.alloc(), &bad)];
-    assert_eq!(rt;
-        faults,
-        [Some(OpenFault::NoChannels), Some(OpenFault::BadCapacity(1))]
-    );
+    let told = [Some(OpenFault::NoChannels), Some(OpenFault::BadCapacity(1))];
+    same(&rt, &"faults", &faults, &told);
 }

@@ -1,12 +1,11 @@
 //! Indexes of conditions on entries, over the runs of rows.
 
-use crate::plain::{index_of, looked_up, navigator_of, searched};
+use crate::plain::{index_of, looked_up, navigator_of, same, searched};
 use crate::texts::rows::{OVERRUN, TWO_CHANNELS, UNREAD, run_of};
 use rw_journal::Run;
-use rw_law::Payload;
-use rw_navigator::{Cond, HitIndex, Navigator};
+use rw_law::{NoMemory, Payload, Reversible};
+use rw_navigator::{Cond, HitIndex, Navigator, Probe};
 use rw_words::ReplyWord;
-use rw_world::World;
 use std::alloc::Global;
 use std::process::Abort;
 use std::test::Fail;
@@ -16,16 +15,13 @@ fn replies_with(rt: &impl Abort, word: &[u8]) -> Cond {
     Cond::ReplyKind(ReplyWord::of(word).expect(rt, "a reply has this word"))
 }
 
-/// What the index of a condition finds in a run, below and above each of four places.
-fn found_at<V: Payload>(
+/// What the index of a condition finds below and above each of four places of a navigator, which then goes.
+fn found_in<R: Reversible + Drop, P: Probe<R>>(
     alloc: Global,
-    run: Run<V>,
-    condition: &Cond,
+    navigator: Navigator<R>,
+    condition: &P,
     [first, second, third, last]: [u64; 4],
 ) -> Result<[(Option<u64>, Option<u64>); 4], Fail> {
-    let opened = navigator_of(alloc, &run);
-    drop(run);
-    let navigator = opened?;
     let built = index_of(alloc, &navigator, condition);
     drop(navigator);
     let index = built?.ok_or("a condition on states")?;
@@ -39,6 +35,18 @@ fn found_at<V: Payload>(
     Ok(found)
 }
 
+/// What the index of a condition finds in a run, below and above each of four places.
+fn found_at<V: Payload>(
+    alloc: Global,
+    run: Run<V>,
+    condition: &Cond,
+    places: [u64; 4],
+) -> Result<[(Option<u64>, Option<u64>); 4], Fail> {
+    let opened = navigator_of(alloc, &run);
+    drop(run);
+    found_in(alloc, opened?, condition, places)
+}
+
 #[test]
 fn an_index_has_the_hits_below_and_above_a_place(rt: HostRuntime) -> Result<(), Fail> {
     let condition = replies_with(&rt, b"value");
@@ -50,15 +58,15 @@ fn an_index_has_the_hits_below_and_above_a_place(rt: HostRuntime) -> Result<(), 
         (Some(5), None),
         (Some(6), None),
     ];
-    assert_eq!(rt; found, told);
+    same(&rt, &"hits", &found, &told);
     Ok(())
 }
 
 /// Whether the condition has a hit, and its index finds what searches find, at each place up to the end.
-fn agrees<V: Payload>(
-    navigator: &mut Navigator<World<V>>,
-    index: &HitIndex<World<V>, Cond>,
-    condition: &Cond,
+fn agrees<R: Reversible, P: Probe<R>>(
+    navigator: &mut Navigator<R>,
+    index: &HitIndex<R, P>,
+    condition: &P,
     end: u64,
 ) -> bool {
     let (greatest, _) = looked_up(index, end);
@@ -70,16 +78,13 @@ fn agrees<V: Payload>(
     agrees
 }
 
-/// Whether the index of a condition finds in a run what searches find.
-fn finds_as_searches<V: Payload>(
+/// Whether the index of a condition finds what the searches of a navigator find, which then goes.
+fn finds_all<R: Reversible + Drop, P: Probe<R>>(
     alloc: Global,
-    run: Run<V>,
-    condition: &Cond,
-) -> Result<bool, Fail> {
-    let end = run.len().saturating_add(1);
-    let opened = navigator_of(alloc, &run);
-    drop(run);
-    let mut navigator = opened?;
+    mut navigator: Navigator<R>,
+    condition: &P,
+    end: u64,
+) -> bool {
     let found = match index_of(alloc, &navigator, condition) {
         Ok(Some(index)) => {
             let found = agrees(&mut navigator, &index, condition, end);
@@ -89,44 +94,61 @@ fn finds_as_searches<V: Payload>(
         Ok(None) | Err(_) => false,
     };
     drop(navigator);
-    Ok(found)
+    found
+}
+
+/// Whether the index of a condition finds in a run what searches find.
+fn finds_as_searches<V: Payload>(
+    alloc: Global,
+    run: Run<V>,
+    condition: &Cond,
+) -> Result<bool, NoMemory> {
+    let end = run.len().saturating_add(1);
+    let opened = navigator_of(alloc, &run);
+    drop(run);
+    Ok(finds_all(alloc, opened?, condition, end))
+}
+
+/// Scripts, conditions on actors and channels, and words that a reply begins with.
+static SEARCHES: [(&[u8], &[Cond], &[&[u8]]); 3] = [
+    (
+        OVERRUN,
+        &[Cond::Actor(0), Cond::Channel(0)],
+        &[b"sent", b"lagged", b"value", b"empty"],
+    ),
+    (
+        UNREAD,
+        &[Cond::Actor(0), Cond::Channel(0)],
+        &[b"sent", b"value"],
+    ),
+    (
+        TWO_CHANNELS,
+        &[
+            Cond::Actor(0),
+            Cond::Actor(1),
+            Cond::Channel(0),
+            Cond::Channel(1),
+        ],
+        &[b"sent", b"stored"],
+    ),
+];
+
+/// The index of a condition finds in the run of a script what searches find.
+fn is_found(rt: &impl Abort, alloc: Global, script: &[u8], condition: &Cond) -> Result<(), Fail> {
+    let run = run_of(alloc, script)?;
+    let found = finds_as_searches(alloc, run, condition)?;
+    assert!(rt; found, "{condition:?}");
+    Ok(())
 }
 
 #[test]
 fn an_index_finds_what_searches_find(rt: HostRuntime) -> Result<(), Fail> {
-    let on_overrun = [
-        Cond::Actor(0),
-        Cond::Channel(0),
-        replies_with(&rt, b"sent"),
-        replies_with(&rt, b"lagged"),
-        replies_with(&rt, b"value"),
-        replies_with(&rt, b"empty"),
-    ];
-    let on_unread = [
-        Cond::Actor(0),
-        Cond::Channel(0),
-        replies_with(&rt, b"sent"),
-        replies_with(&rt, b"value"),
-    ];
-    let on_two_channels = [
-        Cond::Actor(0),
-        Cond::Actor(1),
-        Cond::Channel(0),
-        Cond::Channel(1),
-        replies_with(&rt, b"sent"),
-        replies_with(&rt, b"stored"),
-    ];
-    for (script, conditions) in [
-        (OVERRUN, on_overrun.as_slice()),
-        (UNREAD, &on_unread),
-        (TWO_CHANNELS, &on_two_channels),
-    ] {
-        for condition in conditions {
-            let run = run_of(rt.alloc(), script)?;
-            assert!(rt;
-                finds_as_searches(rt.alloc(), run, condition)?,
-                "{condition:?}"
-            );
+    for (script, conditions, words) in &SEARCHES {
+        for condition in *conditions {
+            is_found(&rt, rt.alloc(), script, condition)?;
+        }
+        for word in *words {
+            is_found(&rt, rt.alloc(), script, &replies_with(&rt, word))?;
         }
     }
     Ok(())

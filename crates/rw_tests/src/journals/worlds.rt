@@ -1,10 +1,10 @@
 //! Books and runs of worlds.
 
-ghost use Rattle.std.specs.Prelude.{◌≡◌};
+ghost use Rattle.std.specs.Prelude.{◌≡◌, ◌<◌, All};
 
 use crate::plain::{
-    book_of, navigator_of, place_and_turns, ready, rewind, run_on, specs_of, start_of, state, step,
-    take, walk,
+    book_of, navigator_of, place_and_turns, ready, rewind, run_on, same, specs_of, start_of, state,
+    step, take, walk,
 };
 use crate::texts::rows::{OVERRUN, SCRIPTS, run_of};
 use rw_broadcast::{BCall, BReply};
@@ -36,12 +36,11 @@ fn send(channel: u32, value: u64) -> (u32, RowCall<ChanCall<u64>>)
 /// The stamp of a call's receipt, and its reply.
 type Taken<M> = Result<(u64, <M as Reversible>::Reply), TakeFault>;
 
+/// What a book answers.
+type Answers<M> = (bool, [Taken<M>; 2], Option<(u64, u64)>, Taken<M>);
+
 /// What a book answers to a request for room at a clock, to a call there, twice, to a rewind, and to that call again at no clock.
-fn answers<M: Reversible>(
-    book: &mut Book<M>,
-    clock: u64,
-    call: M::Call,
-) -> (bool, [Taken<M>; 2], Option<(u64, u64)>, Taken<M>) {
+fn answers<M: Reversible>(book: &mut Book<M>, clock: u64, call: M::Call) -> Answers<M> {
     (
         ready(book, clock).is_ok(),
         [take(book, clock, call), take(book, clock, call)],
@@ -50,99 +49,120 @@ fn answers<M: Reversible>(
     )
 }
 
+/// What a book answers to a run of calls, and then to those. It then goes.
+fn played<M: Reversible + Drop>(
+    mut book: Book<M>,
+    calls: &[(u32, M::Call)],
+    clock: u64,
+    call: M::Call,
+) -> (Result<(), (u64, TakeFault)>, Answers<M>)
+    requires { All (λ call. call.0 < 64) calls.now }
+{
+    let ran = run_on(&mut book, calls);
+    let found = answers(&mut book, clock, call);
+    drop(book);
+    (ran, found)
+}
+
 #[test]
 fn takes_and_rewinds(rt: HostRuntime) -> Result<(), Fail> {
     let calls = [send(0, 1), send(1, 2)];
     let one = ChanReply::B(BReply::Value(1));
-    let mut book = book_of(rt.alloc(), &TWO)?;
-    let ran = run_on(&mut book, &calls);
-    let found = answers(&mut book, 9, on(0, BCall::Recv(1)));
-    drop(book);
-    assert_eq!(rt; ran, Err((1, TakeFault::NoChannel)));
+    let book = book_of(rt.alloc(), &TWO)?;
+    let (ran, found) = played(book, &calls, 9, on(0, BCall::Recv(1)));
+    same(&rt, &"run", &ran, &Err((1, TakeFault::NoChannel)));
     let taken = [Ok((10, one)), Err(TakeFault::Waits)];
-    assert_eq!(rt; found, (true, taken, Some((10, 1)), Ok((2, one))));
+    let told = (true, taken, Some((10, 1)), Ok((2, one)));
+    same(&rt, &"answers", &found, &told);
     Ok(())
 }
 
 /// Whether a book takes a call so often, each time with this reply and the next stamp, and what it then answers to the call and to a
-/// rewind, twice.
-fn filled<V: Copy + PartialEq>(
-    book: &mut Book<World<V>>,
-    call: RowCall<ChanCall<V>>,
-    reply: ChanReply<V>,
+/// rewind, twice. It then goes.
+fn filled<M: Reversible + Drop>(
+    mut book: Book<M>,
+    call: M::Call,
+    reply: M::Reply,
     most: u64,
-) -> (bool, [(Taken<World<V>>, Option<(u64, u64)>); 2]) {
+) -> (bool, [(Taken<M>, Option<(u64, u64)>); 2])
+where
+    M::Reply: PartialEq,
+{
     let mut all = true;
     for stamp in 1..=most {
-        all = take(book, 0, call) == Ok((stamp, reply)) && all;
+        all = take(&mut book, 0, call) == Ok((stamp, reply)) && all;
     }
     let last = [
-        (take(book, 0, call), rewind(book)),
-        (take(book, 0, call), rewind(book)),
+        (take(&mut book, 0, call), rewind(&mut book)),
+        (take(&mut book, 0, call), rewind(&mut book)),
     ];
+    drop(book);
     (all, last)
 }
 
 #[test]
 fn a_full_book_takes_no_entry(rt: HostRuntime) -> Result<(), Fail> {
-    let mut book = book_of(rt.alloc(), &TWO)?;
+    let book = book_of(rt.alloc(), &TWO)?;
     let one = ChanReply::B(BReply::Count(1));
-    let found = filled(&mut book, on(0, BCall::ReceiverCount(0)), one, 1_048_576);
-    drop(book);
+    let found = filled(book, on(0, BCall::ReceiverCount(0)), one, 1_048_576);
     let rewound = Some((1_048_576, 1_048_575));
     let last = [
         (Err(TakeFault::JournalFull), rewound),
         (Ok((1_048_576, one)), rewound),
     ];
-    assert_eq!(rt; found, (true, last));
+    same(&rt, &"a full book", &found, &(true, last));
     Ok(())
 }
 
-/// What the broadcast on channel 0 has sent and retains, and where its receiver 1 stands.
-type Shown<V> = Option<(u64, Option<V>, Option<V>, Option<u64>)>;
-
-/// What is shown of a world.
-fn shown<V: Copy>(world: &World<V>) -> Shown<V> {
-    match world.channel(0) {
-        Some(Chan::Broadcast(machine)) => Some((
-            machine.sent(),
-            machine.window(0),
-            machine.window(1),
-            machine.position(1),
-        )),
-        _ => None,
-    }
-}
-
-/// Whether each reader of each channel answers what the documentation says of its opening.
-fn shows_openings(rt: &impl Abort, world: &World<u64>, specs: &[Spec<u64>], name: &str) {
-    assert_eq!(rt; world.len(), specs.len(), "{name}");
-    for (i, spec) in specs.iter().enumerate() {
-        match (spec, world.channel(i)) {
-            (Spec::Broadcast(_), Some(Chan::Broadcast(machine))) => {
-                let opening = broadcasts::opening(machine.capacity());
-                assert_eq!(rt; machine.place(), opening, "{name}");
-            }
-            (Spec::Watch(init), Some(Chan::Watch(machine))) => {
-                assert_eq!(rt; machine.place(), watches::opening(*init), "{name}");
-            }
-            _ => assert!(rt; false, "{name}"),
+/// Whether each reader of a channel answers what the documentation says of its opening.
+fn is_opening(spec: &Spec<u64>, channel: Option<&Chan<u64>>) -> bool {
+    match (spec, channel) {
+        (Spec::Broadcast(_), Some(Chan::Broadcast(machine))) => {
+            machine.place() == broadcasts::opening(machine.capacity())
         }
+        (Spec::Watch(init), Some(Chan::Watch(machine))) => {
+            machine.place() == watches::opening(*init)
+        }
+        _ => false,
     }
 }
 
-/// A navigator shows the openings at place 0, before and after it goes to the end, which stands at this place.
-fn comes_back(
-    rt: &impl Abort,
-    navigator: &mut Navigator<World<u64>>,
+/// What shows the openings of channels. Tests have it as a parameter, so that no proof but that of its `impl` looks into a world.
+trait Opened {
+    /// Whether each channel shows its opening.
+    fn is_opened(&self, specs: &[Spec<u64>]) -> bool;
+}
+
+impl Opened for World<u64> {
+    fn is_opened(&self, specs: &[Spec<u64>]) -> bool {
+        let mut is_opened = self.len() == specs.len();
+        for (i, spec) in specs.iter().enumerate() {
+            is_opened = is_opened && is_opening(spec, self.channel(i));
+        }
+        is_opened
+    }
+}
+
+/// Whether a world shows the openings. It then goes.
+fn is_opened<W: Opened + Drop>(world: W, specs: &[Spec<u64>]) -> bool {
+    let is_opened = world.is_opened(specs);
+    drop(world);
+    is_opened
+}
+
+/// Whether a navigator shows the openings at place 0, before and after it goes to the end, and where it then stands. It then goes.
+fn comes_back<R: Reversible + Opened + Drop>(
+    mut navigator: Navigator<R>,
     specs: &[Spec<u64>],
-    name: &str,
-    end: u64,
-) {
-    shows_openings(rt, state(navigator), specs, name);
-    let places = [step(navigator, Move::End), step(navigator, Move::Start)];
-    assert_eq!(rt; places, [Ok(end), Ok(0)], "{name}");
-    shows_openings(rt, state(navigator), specs, name);
+) -> ([bool; 2], [Result<u64, OutOfRange>; 2]) {
+    let before = state(&navigator).is_opened(specs);
+    let places = [
+        step(&mut navigator, Move::End),
+        step(&mut navigator, Move::Start),
+    ];
+    let after = state(&navigator).is_opened(specs);
+    drop(navigator);
+    ([before, after], places)
 }
 
 /// A run starts as its place 0.
@@ -153,33 +173,60 @@ fn starts(
     name: &str,
     entries: u64,
 ) -> Result<(), NoMemory> {
-    let start = start_of(alloc, run)?;
-    shows_openings(rt, &start, specs_of(run), name);
-    drop(start);
-    let mut navigator = navigator_of(alloc, run)?;
-    comes_back(rt, &mut navigator, specs_of(run), name, entries);
-    drop(navigator);
+    let specs = specs_of(run);
+    let is_start = is_opened(start_of(alloc, run)?, specs);
+    let (openings, places) = comes_back(navigator_of(alloc, run)?, specs);
+    let told = (true, [true, true], [Ok(entries), Ok(0)]);
+    same(rt, &name, &(is_start, openings, places), &told);
     Ok(())
 }
 
 #[test]
 fn a_run_starts_as_its_place_0(rt: HostRuntime) -> Result<(), Fail> {
-    for (name, script, entries) in SCRIPTS {
+    for (name, script, entries) in &SCRIPTS {
         let run = run_of(rt.alloc(), script)?;
-        let started = starts(&rt, rt.alloc(), &run, name, entries);
+        let started = starts(&rt, rt.alloc(), &run, name, *entries);
         drop(run);
         started?;
     }
     Ok(())
 }
 
-/// Where a navigator says that it stands at a place, and what its world shows there.
-fn visit<V: Copy>(
-    navigator: &mut Navigator<World<V>>,
+/// What the broadcast on channel 0 has sent and retains, and where its receiver 1 stands.
+type Shown<V> = Option<(u64, Option<V>, Option<V>, Option<u64>)>;
+
+/// What shows a broadcast. Tests have it as a parameter, so that no proof but that of its `impl` looks into a world.
+trait Showing {
+    /// What the channel carries.
+    type Value: Copy;
+
+    /// What is shown of the channel.
+    fn shown(&self) -> Shown<Self::Value>;
+}
+
+impl<V: Copy> Showing for World<V> {
+    type Value = V;
+
+    fn shown(&self) -> Shown<V> {
+        match self.channel(0) {
+            Some(Chan::Broadcast(machine)) => Some((
+                machine.sent(),
+                machine.window(0),
+                machine.window(1),
+                machine.position(1),
+            )),
+            _ => None,
+        }
+    }
+}
+
+/// Where a navigator says that it stands at a place, and what its machine shows there.
+fn visit<R: Reversible + Showing>(
+    navigator: &mut Navigator<R>,
     place: u64,
-) -> (Result<u64, OutOfRange>, Shown<V>) {
+) -> (Result<u64, OutOfRange>, Shown<R::Value>) {
     let stands = step(navigator, Move::Goto(place));
-    (stands, shown(state(navigator)))
+    (stands, state(navigator).shown())
 }
 
 /// What a navigator answers to moves, where it then stands, and how many calls its machine had; and its visits to four places.
@@ -189,16 +236,13 @@ type Walked<V> = (
     [(Result<u64, OutOfRange>, Shown<V>); 4],
 );
 
-/// What a navigator of a run answers.
-fn walked<V: Copy>(
+/// What a navigator answers, which then goes.
+fn walked_by<R: Reversible + Showing + Drop>(
     alloc: Global,
-    run: Run<V>,
+    mut navigator: Navigator<R>,
     moves: &[Move],
     [first, second, third, last]: [u64; 4],
-) -> Result<Walked<V>, NoMemory> {
-    let opened = navigator_of(alloc, &run);
-    drop(run);
-    let mut navigator = opened?;
+) -> Result<Walked<R::Value>, NoMemory> {
     let answers = walk(alloc, &mut navigator, moves);
     let end = place_and_turns(&navigator);
     let visits = [
@@ -211,27 +255,51 @@ fn walked<V: Copy>(
     Ok((answers?, end, visits))
 }
 
+/// What a navigator of a run answers.
+fn walked<V: Copy>(
+    alloc: Global,
+    run: Run<V>,
+    moves: &[Move],
+    places: [u64; 4],
+) -> Result<Walked<V>, NoMemory> {
+    let opened = navigator_of(alloc, &run);
+    drop(run);
+    walked_by(alloc, opened?, moves, places)
+}
+
+/// Moves of a run of seven entries.
+pub static MOVES: [Move; 5] = [
+    Move::Back(5),
+    Move::Forward(9),
+    Move::Goto(4),
+    Move::Start,
+    Move::End,
+];
+
+/// What those moves are answered.
+pub static ANSWERS: [Result<(), OutOfRange>; 5] = [
+    Err(OutOfRange),
+    Err(OutOfRange),
+    Ok(()),
+    Ok(()),
+    Ok(()),
+];
+
+/// What is shown at the four places.
+static VISITS: [(Result<u64, OutOfRange>, Shown<u64>); 4] = [
+    (Ok(7), Some((3, Some(2), Some(3), Some(3)))),
+    (Ok(2), Some((2, Some(1), Some(2), Some(0)))),
+    (Ok(3), Some((3, Some(2), Some(3), Some(0)))),
+    (Ok(0), Some((0, None, None, Some(0)))),
+];
+
 #[test]
 fn a_run_is_walked(rt: HostRuntime) -> Result<(), Fail> {
-    let moves = [
-        Move::Back(5),
-        Move::Forward(9),
-        Move::Goto(4),
-        Move::Start,
-        Move::End,
-    ];
     let run = run_of(rt.alloc(), OVERRUN)?;
-    let (answers, end, visits) = walked(rt.alloc(), run, &moves, [7, 2, 3, 0])?;
-    let answered = [Err(OutOfRange), Err(OutOfRange), Ok(()), Ok(()), Ok(())];
-    let told = [
-        (Ok(7), Some((3, Some(2), Some(3), Some(3)))),
-        (Ok(2), Some((2, Some(1), Some(2), Some(0)))),
-        (Ok(3), Some((3, Some(2), Some(3), Some(0)))),
-        (Ok(0), Some((0, None, None, Some(0)))),
-    ];
-    assert_eq!(rt;
-        (answers.as_slice(), end, visits),
-        (answered.as_slice(), (7, 15), told)
-    );
+    let (answers, end, visits) = walked(rt.alloc(), run, &MOVES, [7, 2, 3, 0])?;
+    same(&rt, &"answers", &answers.as_slice(), &ANSWERS.as_slice());
+    drop(answers);
+    same(&rt, &"end", &end, &(7, 15));
+    same(&rt, &"visits", &visits, &VISITS);
     Ok(())
 }

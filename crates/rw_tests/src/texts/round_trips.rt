@@ -1,6 +1,6 @@
 //! Runs that are written into memory and read again.
 
-use crate::plain::{length, run_again, run_in};
+use crate::plain::{length, run_again, run_in, same};
 use rw_journal::Run;
 use rw_law::Payload;
 use std::alloc::Global;
@@ -14,16 +14,20 @@ fn entries_read_back<V: Payload>(alloc: Global, text: &[u8]) -> Result<usize, Fa
     Ok(length(again?))
 }
 
+/// Texts, and how many entries their runs have.
+static TEXTS: [(&[u8], usize); 2] = [
+    (b"ttd-journal 1\nwatch 7\nsteps\nend\n", 0),
+    (
+        b"ttd-journal 1\nbroadcast 4\nsteps\n1 0 0 send 0 7 = sent 1\n2 0 0 try-recv 1 = value 7\n3 0 0 drop 0 = dropped\nend\n",
+        3,
+    ),
+];
+
 #[test]
 fn a_run_is_read_back(rt: HostRuntime) -> Result<(), Fail> {
-    for (text, entries) in [
-        (b"ttd-journal 1\nwatch 7\nsteps\nend\n".as_slice(), 0),
-        (
-            b"ttd-journal 1\nbroadcast 4\nsteps\n1 0 0 send 0 7 = sent 1\n2 0 0 try-recv 1 = value 7\n3 0 0 drop 0 = dropped\nend\n",
-            3,
-        ),
-    ] {
-        assert_eq!(rt; entries_read_back::<u64>(rt.alloc(), text)?, entries);
+    for (text, entries) in &TEXTS {
+        let found = entries_read_back::<u64>(rt.alloc(), text)?;
+        same(&rt, &"entries", &found, entries);
     }
     Ok(())
 }

@@ -1,9 +1,10 @@
 //! The runs of scripts, written as text, read again, and the same.
 
-use crate::plain::{entries_of, run_in, specs_of, written};
+use crate::plain::{entries_of, run_in, same, specs_of, written};
 use rw_journal::Run;
-use rw_law::Payload;
+use rw_law::{Entry, Payload};
 use rw_script::{Script, run_one};
+use rw_world::World;
 use std::alloc::Global;
 use std::fmt::Debug;
 use std::process::Abort;
@@ -22,7 +23,7 @@ pub const TWO_CHANNELS: &[u8] = b"broadcast 2\nwatch 5\nactors 2\n0 0 send 0 1\n
 
 /// A script for each row: what it is about, its lines, and how many entries its run has. That of the handle limit is
 /// `handle_limit`.
-pub const SCRIPTS: [(&str, &[u8], u64); 20] = [
+pub static SCRIPTS: [(&str, &[u8], u64); 20] = [
     ("empty_session", b"broadcast 4\n", 0),
     ("overrun_walked_back", OVERRUN, 7),
     (
@@ -126,6 +127,28 @@ pub fn run_of(alloc: Global, script: &[u8]) -> Result<Run<u64>, Fail> {
     Ok(run)
 }
 
+/// An entry is the same as another in all that it holds.
+fn is_same<V: Copy + PartialEq + Debug>(
+    rt: &impl Abort,
+    name: &str,
+    one: &Entry<World<V>>,
+    other: &Entry<World<V>>,
+) {
+    same(
+        rt,
+        &name,
+        &(one.actor, one.stamp),
+        &(other.actor, other.stamp),
+    );
+    same(rt, &name, &one.call, &other.call);
+    same(
+        rt,
+        &name,
+        &(one.reply, one.patch),
+        &(other.reply, other.patch),
+    );
+}
+
 /// Compares two runs in all that they hold, and counts their entries.
 fn compare<V: Copy + PartialEq + Debug>(
     rt: &impl Abort,
@@ -135,26 +158,10 @@ fn compare<V: Copy + PartialEq + Debug>(
     entries: usize,
 ) {
     let counts = (entries_of(run).len(), entries_of(again).len());
-    assert_eq!(rt; counts, (entries, entries), "{name}");
+    same(rt, &name, &counts, &(entries, entries));
     assert!(rt; specs_of(run) == specs_of(again), "{name}");
     for (entry, again) in entries_of(run).iter().zip(entries_of(again)) {
-        assert_eq!(rt;
-            (
-                again.actor,
-                again.stamp,
-                again.call,
-                again.reply,
-                again.patch
-            ),
-            (
-                entry.actor,
-                entry.stamp,
-                entry.call,
-                entry.reply,
-                entry.patch
-            ),
-            "{name}"
-        );
+        is_same(rt, name, again, entry);
     }
 }
 
@@ -172,10 +179,10 @@ fn write_and_read<V: Payload + PartialEq + Debug>(
     let second = written(alloc, &again, 4096, None);
     drop(again);
     let (second, text_again) = second?;
-    assert!(rt;
-        first.is_ok() && second.is_ok() && text_again == text,
-        "{name}"
-    );
+    let is_kept = first.is_ok() && second.is_ok() && text_again == text;
+    drop(text);
+    drop(text_again);
+    assert!(rt; is_kept, "{name}");
     Ok(())
 }
 
@@ -195,8 +202,8 @@ fn is_kept(
 
 #[test]
 fn each_run_is_written_and_read_again(rt: HostRuntime) -> Result<(), Fail> {
-    for (name, script, entries) in SCRIPTS {
-        is_kept(&rt, rt.alloc(), name, script, entries as usize)?;
+    for (name, script, entries) in &SCRIPTS {
+        is_kept(&rt, rt.alloc(), name, script, *entries as usize)?;
     }
     let script = handle_limit(rt.alloc())?;
     is_kept(&rt, rt.alloc(), "handle_limit", &script, 65_537)

@@ -2,11 +2,11 @@
 
 use super::rows::run_of;
 use super::writing::{OLD, SMALL};
-use crate::plain::{length, run_in, salvage_in, written};
+use crate::plain::{length, run_in, salvage_in, same, written};
 use rw_journal::Run;
 use rw_law::Payload;
 use rw_text::TextFault;
-use std::alloc::Global;
+use std::alloc::{AllocError, Global};
 use std::process::Abort;
 use std::test::Fail;
 
@@ -22,72 +22,90 @@ fn read_whole<V: Payload>(alloc: Global, text: &[u8]) -> Result<usize, TextFault
     Ok(length(run))
 }
 
-#[test]
-fn a_text_is_cut_at_each_byte(rt: HostRuntime) -> Result<(), Fail> {
-    let alloc = rt.alloc();
-    for n in 0..=110 {
-        let answer = match n {
-            0..=31 => Err(TextFault::Truncated),
-            32..=55 => Ok((0, 32)),
-            56..=82 => Ok((1, 56)),
-            83..=105 => Ok((2, 83)),
-            106..=109 => Ok((3, 106)),
-            _ => Ok((3, 110)),
-        };
-        let found = [
-            held::<u64>(alloc, &SMALL[..n]),
-            held::<u64>(alloc, &OLD[..n]),
-        ];
-        assert_eq!(rt; found, [answer, answer], "{n}");
+/// What the first so many bytes of the small text hold.
+fn held_by_front(n: usize) -> Result<(usize, u64), TextFault> {
+    match n {
+        0..=31 => Err(TextFault::Truncated),
+        32..=55 => Ok((0, 32)),
+        56..=82 => Ok((1, 56)),
+        83..=105 => Ok((2, 83)),
+        106..=109 => Ok((3, 106)),
+        _ => Ok((3, 110)),
     }
-    Ok(())
 }
 
+#[test]
+fn a_text_is_cut_at_each_byte(rt: HostRuntime) {
+    for n in 0..111 {
+        let answer = held_by_front(n);
+        same(&rt, &n, &held::<u64>(rt.alloc(), &SMALL[..n]), &answer);
+        same(&rt, &n, &held::<u64>(rt.alloc(), &OLD[..n]), &answer);
+    }
+}
+
+/// How many bytes of the small text are kept, with what in place of which part, what stands behind them, and what is found.
+type Damage = (usize, &'static str, &'static str, usize, TextFault);
+
+static DAMAGES: [Damage; 9] = [
+    (83, "#", "", 257, TextFault::LimitExceeded(6)),
+    (90, "value 7", "value 8", 0, TextFault::WrongReply(5)),
+    (90, "send 0 7", "send 0 07", 0, TextFault::Malformed(4)),
+    (90, "2 0 0 try", "1 0 0 try", 0, TextFault::WrongOrder(5)),
+    (
+        90,
+        "2 0 0 try",
+        "2 64 0 try",
+        0,
+        TextFault::LimitExceeded(5),
+    ),
+    // Behind the line `end`.
+    (110, "#", "", 1, TextFault::Malformed(8)),
+    // Behind no line `steps`.
+    (14, "broadcast", "broadcasts", 0, TextFault::Truncated),
+    (26, "broadcast", "broadcasts", 0, TextFault::Truncated),
+    (27, "broadcast", "broadcasts", 0, TextFault::Malformed(2)),
+];
+
 /// The first so many bytes of the small text, with this part in place of another, and so many letters behind it.
-fn damaged(alloc: Global, n: usize, from: &str, to: &str, letters: usize) -> Result<Vec<u8>, Fail> {
-    let mut text = Vec::new(alloc);
+fn damaged(
+    alloc: Global,
+    n: usize,
+    from: &str,
+    to: &str,
+    letters: usize,
+) -> Result<Vec<u8>, AllocError> {
     let whole = str::from_utf8(SMALL).unwrap_or_default();
-    for (i, part) in whole.split(from).enumerate() {
-        if i > 0 {
-            text.extend_from_slice(to.as_bytes())?;
-        }
-        text.extend_from_slice(part.as_bytes())?;
-    }
+    let (front, rest) = whole.split_once(from).unwrap_or((whole, ""));
+    let mut text = [front.as_bytes(), to.as_bytes(), rest.as_bytes()].concat(alloc)?;
     text.truncate(n);
-    for _ in 0..letters {
-        text.push(b'x')?;
-    }
+    text.extend_from_slice(&[b'x'; 257][..letters.min(257)])?;
     Ok(text)
+}
+
+/// What a text still holds, and how many entries it has that isn't cut off.
+type Held = (Result<(usize, u64), TextFault>, Result<usize, TextFault>);
+
+/// What these bytes hold.
+fn held_and_read(alloc: Global, text: &[u8]) -> Held {
+    (held::<u64>(alloc, text), read_whole::<u64>(alloc, text))
 }
 
 #[test]
 fn other_damage_is_answered_as_where_it_is_read(rt: HostRuntime) -> Result<(), Fail> {
-    let alloc = rt.alloc();
-    let long = damaged(alloc, 83, "#", "", 256)?;
-    let found = (held::<u64>(alloc, &long), read_whole::<u64>(alloc, &long));
-    assert_eq!(rt; found, (Ok((2, 83)), Err(TextFault::Truncated)));
-    for (n, from, to, letters, fault) in [
-        (83, "#", "", 257, TextFault::LimitExceeded(6)),
-        (90, "value 7", "value 8", 0, TextFault::WrongReply(5)),
-        (90, "send 0 7", "send 0 07", 0, TextFault::Malformed(4)),
-        (90, "2 0 0 try", "1 0 0 try", 0, TextFault::WrongOrder(5)),
-        (
-            90,
-            "2 0 0 try",
-            "2 64 0 try",
-            0,
-            TextFault::LimitExceeded(5),
-        ),
-        // Behind the line `end`.
-        (110, "#", "", 1, TextFault::Malformed(8)),
-        // Behind no line `steps`.
-        (14, "broadcast", "broadcasts", 0, TextFault::Truncated),
-        (26, "broadcast", "broadcasts", 0, TextFault::Truncated),
-        (27, "broadcast", "broadcasts", 0, TextFault::Malformed(2)),
-    ] {
-        let text = damaged(alloc, n, from, to, letters)?;
-        let found = (held::<u64>(alloc, &text), read_whole::<u64>(alloc, &text));
-        assert_eq!(rt; found, (Err(fault), Err(fault)), "{to}");
+    let long = damaged(rt.alloc(), 83, "#", "", 256)?;
+    let found = held_and_read(rt.alloc(), &long);
+    drop(long);
+    same(
+        &rt,
+        &"a long line",
+        &found,
+        &(Ok((2, 83)), Err(TextFault::Truncated)),
+    );
+    for (n, from, to, letters, fault) in &DAMAGES {
+        let text = damaged(rt.alloc(), *n, from, to, *letters)?;
+        let found = held_and_read(rt.alloc(), &text);
+        drop(text);
+        same(&rt, to, &found, &(Err(*fault), Err(*fault)));
     }
     Ok(())
 }
@@ -111,13 +129,6 @@ fn lines_of(bytes: &[u8]) -> (usize, &[u8]) {
     (count, bytes.get(..length).unwrap_or(bytes))
 }
 
-/// These lines, and `end` behind them.
-fn ended(alloc: Global, lines: &[u8]) -> Result<Vec<u8>, Fail> {
-    let mut text = Vec::from_slice(alloc, lines)?;
-    text.extend_from_slice(b"end\n")?;
-    Ok(text)
-}
-
 /// What is written of the run that a text holds, and how many bytes of the text say it.
 fn written_of<V: Payload>(alloc: Global, text: &[u8]) -> Result<(Vec<u8>, u64), Fail> {
     let (run, count): (Run<V>, u64) = salvage_in(alloc, text)?;
@@ -137,31 +148,40 @@ fn text_of<V: Payload>(alloc: Global, run: &Run<V>) -> Result<Vec<u8>, Fail> {
 fn is_read_back(rt: &impl Abort, alloc: Global, text: &[u8], opening: usize) -> Result<(), Fail> {
     let (count, lines) = lines_of(text);
     if count < opening {
-        assert_eq!(rt; held::<u64>(alloc, text), Err(TextFault::Truncated));
+        same(
+            rt,
+            &count,
+            &held::<u64>(alloc, text),
+            &Err(TextFault::Truncated),
+        );
         return Ok(());
     }
     let (written, kept) = written_of::<u64>(alloc, text)?;
-    let is_ended = written == ended(alloc, lines)?;
     let entries = read_whole::<u64>(alloc, &written);
-    assert_eq!(rt;
-        (kept, is_ended, entries),
-        (lines.len() as u64, true, Ok(count - opening)),
-        "{count}"
-    );
+    let found = (kept, written.strip_suffix(b"end\n"), entries);
+    let told = (lines.len() as u64, Some(lines), Ok(count - opening));
+    same(rt, &count, &found, &told);
+    drop(written);
     Ok(())
+}
+
+/// The text of the run of a long script.
+fn long_text(alloc: Global) -> Result<Vec<u8>, Fail> {
+    let run = run_of(alloc, &long_script(alloc)?)?;
+    let text = text_of(alloc, &run);
+    drop(run);
+    text
 }
 
 #[test]
 fn each_front_of_a_long_text_is_read_back(rt: HostRuntime) -> Result<(), Fail> {
-    let alloc = rt.alloc();
-    let run = run_of(alloc, &long_script(alloc)?)?;
-    let whole = text_of(alloc, &run);
-    drop(run);
-    let whole = whole?;
+    let whole = long_text(rt.alloc())?;
     for n in 0..whole.len() {
         // The first line, three channels and `steps`.
-        is_read_back(&rt, alloc, &whole[..n], 5)?;
+        is_read_back(&rt, rt.alloc(), &whole[..n], 5)?;
     }
-    assert_eq!(rt; held::<u64>(alloc, &whole), Ok((200, whole.len() as u64)));
+    let (found, length) = (held::<u64>(rt.alloc(), &whole), whole.len() as u64);
+    drop(whole);
+    same(&rt, &"the whole text", &found, &Ok((200, length)));
     Ok(())
 }

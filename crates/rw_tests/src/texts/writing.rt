@@ -1,6 +1,6 @@
 //! Runs that are written, and writers that fail.
 
-use crate::plain::{run_in, written};
+use crate::plain::{run_in, same, written};
 use rw_journal::Run;
 use rw_law::Payload;
 use rw_text::WriteFault;
@@ -33,34 +33,38 @@ fn rewritten<V: Payload>(
     Ok(answered?)
 }
 
-/// A run is written as this text, to a writer that takes a hundred bytes at a call.
-fn is_written(rt: &impl Abort, alloc: Global, text: &[u8], want: &[u8]) -> Result<(), Fail> {
-    let (answer, found) = rewritten::<u64>(alloc, text, 100, None)?;
-    assert_eq!(rt; (answer, found.as_slice()), (Ok(want.len() as u64), want));
+/// The write of the run of a text answers so, and writes this, to a writer that takes so many bytes at a call and fails at a call.
+fn is_written(
+    rt: &impl Abort,
+    alloc: Global,
+    text: &[u8],
+    (most, calls): (usize, Option<u64>),
+    (answer, want): (Result<u64, WriteFault>, &[u8]),
+) -> Result<(), Fail> {
+    let (found, bytes) = rewritten::<u64>(alloc, text, most, calls)?;
+    same(rt, &"a text", &(found, bytes.as_slice()), &(answer, want));
+    drop(bytes);
     Ok(())
 }
+
+/// Texts, and those that are written of their runs. An old text is written in the new version.
+static TEXTS: [(&[u8], &[u8]); 3] = [(SMALL, SMALL), (LARGE, LARGE), (OLD, SMALL)];
 
 #[test]
 fn what_is_read_is_written_again(rt: HostRuntime) -> Result<(), Fail> {
-    for text in [SMALL, LARGE] {
-        is_written(&rt, rt.alloc(), text, text)?;
+    for (text, want) in &TEXTS {
+        let told = (Ok(want.len() as u64), *want);
+        is_written(&rt, rt.alloc(), text, (100, None), told)?;
     }
     Ok(())
-}
-
-#[test]
-fn an_old_text_is_written_in_the_new_version(rt: HostRuntime) -> Result<(), Fail> {
-    is_written(&rt, rt.alloc(), OLD, SMALL)
 }
 
 #[test]
 fn a_writer_fails_at_each_byte(rt: HostRuntime) -> Result<(), Fail> {
     for n in 0..110 {
-        let (answer, found) = rewritten::<u64>(rt.alloc(), SMALL, 1, Some(n))?;
-        let front = &SMALL[..n as usize];
-        assert_eq!(rt; (answer, found.as_slice()), (Err(WriteFault(n)), front));
+        let told = (Err(WriteFault(n)), &SMALL[..n as usize]);
+        is_written(&rt, rt.alloc(), SMALL, (1, Some(n)), told)?;
     }
-    let (answer, _) = rewritten::<u64>(rt.alloc(), SMALL, 0, None)?;
-    assert_eq!(rt; answer, Err(WriteFault(0)));
-    Ok(())
+    let none = (Err(WriteFault(0)), b"".as_slice());
+    is_written(&rt, rt.alloc(), SMALL, (0, None), none)
 }
