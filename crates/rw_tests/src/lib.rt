@@ -20,6 +20,8 @@ mod scripts;
 #[cfg(test)]
 mod sessions;
 #[cfg(test)]
+mod streams;
+#[cfg(test)]
 mod texts;
 #[cfg(test)]
 mod values;

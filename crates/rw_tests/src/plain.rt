@@ -20,6 +20,8 @@ use std::io::Read;
 use std::process::Abort;
 
 /// What is found in a case is what is told of it.
+///
+/// An assert in a test is proved there, with its branch and its message; this one is proved once, for all tests.
 pub fn same<T: PartialEq + Debug>(rt: &impl Abort, case: &impl Display, found: &T, told: &T) {
     assert_eq!(rt; found, told, "{case}");
 }

@@ -1,8 +1,13 @@
 //! Scripts and journal texts in files, each kind of work once, and streams that fail.
 
+use super::endings::{Ending, ends_as};
+use crate::plain::same;
+use crate::streams::{checked, debugged, recorded, salvaged};
 use rw_devices::{FailingReader, FailingWriter};
-use rw_program::{check_file, debug_file, record_file, salvage_file};
-use std::test::Fail;
+use std::alloc::Global;
+use std::process::Abort;
+use std::sync::Wait;
+use std::thread::Threads;
 
 pub const SCRIPT: &[u8] = b"broadcast 4\n0 0 send 0 7\n0 0 try-recv 1\n0 0 drop 0\n";
 
@@ -10,102 +15,121 @@ pub const SCRIPT: &[u8] = b"broadcast 4\n0 0 send 0 7\n0 0 try-recv 1\n0 0 drop 
 pub const JOURNAL: &[u8] =
     b"ttd-journal 2\nbroadcast 4\nsteps\n1 0 0 send 0 7 = sent 1\n2 0 0 try-recv 1 = value 7\n3 0 0 drop 0 = dropped\nend\n";
 
+/// What two whole entry lines and a part of a third still hold.
+static SALVAGED: Ending = (
+    0,
+    b"ttd-journal 2\nbroadcast 4\nsteps\n1 0 0 send 0 7 = sent 1\n2 0 0 try-recv 1 = value 7\nend\n",
+    b"kept 83 bytes\n",
+);
+
 #[test]
-fn salvages_journals(rt: HostRuntime) -> Result<(), Fail> {
-    // Two whole entry lines, and a part of a third.
+fn salvages_journals(rt: HostRuntime) {
     let mut file = FailingReader::new(&JOURNAL[..90], 7, None);
     let mut out = FailingWriter::new(rt.alloc(), 64, None);
     let mut err = FailingWriter::new(rt.alloc(), 64, None);
-    let answered = salvage_file(rt.alloc(), &mut file, &mut out, &mut err);
-    let written: &[u8] =
-        b"ttd-journal 2\nbroadcast 4\nsteps\n1 0 0 send 0 7 = sent 1\n2 0 0 try-recv 1 = value 7\nend\n";
-    assert_eq!(rt;
-        (answered, out.handed_on(), err.written()),
-        (0, written, b"kept 83 bytes\n".as_slice())
-    );
-    Ok(())
+    let status = salvaged(rt.alloc(), &mut file, &mut out, &mut err);
+    ends_as(&rt, &"salvage", status, &out, &err, &SALVAGED);
 }
 
+static DEBUGGED: Ending = (
+    0,
+    b"place 3 of 3\nchannel 0 broadcast capacity 4 sent 1 queued 0 made 2 closed\nwindow 7\nsenders\nreceiver 1 position 1 unread 0 lag 0\nplace 2 of 3\n#2 2 0 0 try-recv 1 = value 7\n",
+    b"",
+);
+
 #[test]
-fn debugs_journals(rt: HostRuntime) -> Result<(), Fail> {
+fn debugs_journals(rt: HostRuntime) {
     let mut file = FailingReader::new(JOURNAL, 64, None);
     let mut input = FailingReader::new(b"state\nback\nstep\n", 64, None);
     let mut out = FailingWriter::new(rt.alloc(), 4096, None);
     let mut err = FailingWriter::new(rt.alloc(), 64, None);
-    let answered = debug_file(rt.alloc(), &mut file, &mut input, &mut out, &mut err);
-    let written: &[u8] =
-        b"place 3 of 3\nchannel 0 broadcast capacity 4 sent 1 queued 0 made 2 closed\nwindow 7\nsenders\nreceiver 1 position 1 unread 0 lag 0\nplace 2 of 3\n#2 2 0 0 try-recv 1 = value 7\n";
-    assert_eq!(rt;
-        (answered, out.handed_on(), err.written()),
-        (0, written, b"".as_slice())
-    );
-    Ok(())
+    let status = debugged(rt.alloc(), &mut file, &mut input, &mut out, &mut err);
+    ends_as(&rt, &"debug", status, &out, &err, &DEBUGGED);
+}
+
+/// Whether a run over streams that fail behind so many calls is whole. If not, no earlier one was, a front of what is to be written
+/// stands, and the fault is told: of a read, up to this call, or of a write.
+fn is_whole(
+    rt: &impl Abort,
+    (calls, reads, done): (u64, u64, bool),
+    status: u8,
+    out: &FailingWriter,
+    err: &FailingWriter,
+    want: &[u8],
+) -> bool {
+    let is_whole = status == 0 && out.handed_on() == want;
+    let is_front = status == 4 && !done && want.starts_with(out.written());
+    let told: &[u8] = match status {
+        0 => b"",
+        _ if calls <= reads => b"read fault\n",
+        _ => b"write fault\n",
+    };
+    let found = (is_whole || is_front, err.written());
+    same(rt, &calls, &found, &(true, told));
+    is_whole
+}
+
+/// Whether the record of the script is whole. Eight reads give the script, and a ninth its end.
+fn is_recorded<R: Abort + Threads + Wait + Sync>(
+    rt: &R,
+    alloc: Global,
+    calls: u64,
+    done: bool,
+) -> bool {
+    let mut file = FailingReader::new(SCRIPT, 7, Some(calls));
+    let mut out = FailingWriter::new(alloc, 3, Some(calls));
+    let mut err = FailingWriter::new(alloc, 64, None);
+    let status = recorded(rt, alloc, &mut file, &mut out, &mut err);
+    is_whole(rt, (calls, 8, done), status, &out, &err, JOURNAL)
 }
 
 #[test]
-fn each_read_and_each_write_fails(rt: HostRuntime) -> Result<(), Fail> {
+fn each_read_and_each_write_fails(rt: HostRuntime) {
     let mut done = false;
-    for k in 0..100u64 {
-        let mut file = FailingReader::new(SCRIPT, 7, Some(k));
-        let mut out = FailingWriter::new(rt.alloc(), 3, Some(k));
-        let mut err = FailingWriter::new(rt.alloc(), 64, None);
-        let answered = record_file(&rt, rt.alloc(), &mut file, false, &mut out, &mut err);
-        let is_whole = answered == 0 && out.handed_on() == JOURNAL;
-        let is_front = answered == 4 && !done && JOURNAL.starts_with(out.written());
-        // Eight reads give the script, and a ninth its end.
-        let told: &[u8] = match k {
-            _ if answered == 0 => b"",
-            0..=8 => b"read fault\n",
-            _ => b"write fault\n",
-        };
-        assert_eq!(rt; (is_whole || is_front, err.written()), (true, told), "{k}");
-        done = is_whole;
+    for calls in 0..100u64 {
+        done = is_recorded(&rt, rt.alloc(), calls, done);
     }
     assert!(rt; done);
-    Ok(())
+}
+
+/// Whether the check of the journal is whole. Sixteen reads give the journal, and one more its end.
+fn is_checked(rt: &impl Abort, alloc: Global, calls: u64, done: bool) -> bool {
+    let mut file = FailingReader::new(JOURNAL, 7, Some(calls));
+    let mut out = FailingWriter::new(alloc, 3, Some(calls / 9));
+    let mut err = FailingWriter::new(alloc, 64, None);
+    let status = checked(alloc, &mut file, &mut out, &mut err);
+    is_whole(rt, (calls, 16, done), status, &out, &err, b"ok 3\n")
 }
 
 #[test]
-fn each_read_and_each_write_of_a_check_fails(rt: HostRuntime) -> Result<(), Fail> {
+fn each_read_and_each_write_of_a_check_fails(rt: HostRuntime) {
     let mut done = false;
-    for k in 0..30u64 {
-        let mut file = FailingReader::new(JOURNAL, 7, Some(k));
-        let mut out = FailingWriter::new(rt.alloc(), 3, Some(k / 9));
-        let mut err = FailingWriter::new(rt.alloc(), 64, None);
-        let answered = check_file(rt.alloc(), &mut file, &mut out, &mut err);
-        let is_whole = answered == 0 && out.handed_on() == b"ok 3\n".as_slice();
-        let is_front = answered == 4 && !done && b"ok 3\n".starts_with(out.written());
-        // Sixteen reads give the journal, and one more its end.
-        let told: &[u8] = match k {
-            _ if answered == 0 => b"",
-            0..=16 => b"read fault\n",
-            _ => b"write fault\n",
-        };
-        assert_eq!(rt; (is_whole || is_front, err.written()), (true, told), "{k}");
-        done = is_whole;
+    for calls in 0..30u64 {
+        done = is_checked(&rt, rt.alloc(), calls, done);
     }
     assert!(rt; done);
-    Ok(())
+}
+
+/// How many writes go well, and how many bytes of the told line they take. Three bytes a write: five writes take the line.
+static WRITES: [(u64, usize); 6] = [(0, 0), (1, 3), (2, 6), (3, 9), (4, 12), (5, 13)];
+
+/// A script that would wait is told so, and recorded up to there, to a writer for errors that takes so many bytes of the line.
+fn is_told<R: Abort + Threads + Wait + Sync>(rt: &R, alloc: Global, calls: u64, length: usize) {
+    let mut file = FailingReader::new(b"broadcast 2\n0 0 recv 1\n", 64, None);
+    let mut out = FailingWriter::new(alloc, 64, None);
+    let mut err = FailingWriter::new(alloc, 3, Some(calls));
+    let status = recorded(rt, alloc, &mut file, &mut out, &mut err);
+    let told = err.written();
+    let is_front = b"would wait 2\n".starts_with(told);
+    let journal: &[u8] = b"ttd-journal 2\nbroadcast 2\nsteps\nend\n";
+    let found = (status, out.handed_on(), told.len(), is_front);
+    same(rt, &calls, &found, &(3, journal, length, true));
 }
 
 // A failed write on the stream for errors changes neither the status nor what is written.
 #[test]
-fn each_write_of_a_told_line_fails(rt: HostRuntime) -> Result<(), Fail> {
-    let script: &[u8] = b"broadcast 2\n0 0 recv 1\n";
-    let journal: &[u8] = b"ttd-journal 2\nbroadcast 2\nsteps\nend\n";
-    let line: &[u8] = b"would wait 2\n";
-    for k in 0..6u64 {
-        let mut file = FailingReader::new(script, 64, None);
-        let mut out = FailingWriter::new(rt.alloc(), 64, None);
-        let mut err = FailingWriter::new(rt.alloc(), 3, Some(k));
-        let answered = record_file(&rt, rt.alloc(), &mut file, false, &mut out, &mut err);
-        let is_front = line.starts_with(err.written());
-        // Three bytes a write: five writes take the line.
-        assert_eq!(rt;
-            (answered, out.handed_on(), err.written().len(), is_front),
-            (3, journal, line.len().min(3 * k as usize), true),
-            "{k}"
-        );
+fn each_write_of_a_told_line_fails(rt: HostRuntime) {
+    for (calls, length) in &WRITES {
+        is_told(&rt, rt.alloc(), *calls, *length);
     }
-    Ok(())
 }

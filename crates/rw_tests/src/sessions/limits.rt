@@ -1,6 +1,8 @@
 //! Input without end.
 
-use rw_console::{SessionFault, session};
+use crate::plain::same;
+use crate::streams::session_of;
+use rw_console::SessionFault;
 use rw_devices::FailingWriter;
 use std::io;
 
@@ -18,6 +20,7 @@ impl io::Read for EndlessLines {
 #[test]
 fn too_much_input(rt: HostRuntime) {
     let mut writer = FailingWriter::new(rt.alloc(), 64, None);
-    let ended = session(rt.alloc(), &mut EndlessLines, &mut writer);
-    assert_eq!(rt; ended, Err(SessionFault::TooMuch));
+    let ended = session_of(rt.alloc(), &mut EndlessLines, &mut writer);
+    drop(writer);
+    same(&rt, &"a session", &ended, &Err(SessionFault::TooMuch));
 }

@@ -1,0 +1,71 @@
+//! Sessions, and what the program makes of files, without their contracts, over any streams.
+//!
+//! A test says what comes back and needs no clause of what it calls.
+
+use rw_console::{Outcome, SessionFault, session};
+use rw_program::{check_file, debug_file, record_file, salvage_file, session_on};
+use std::alloc::Global;
+use std::io::{Read, Write};
+use std::sync::Wait;
+use std::thread::Threads;
+
+/// How a session ends.
+pub fn session_of<R: Read, W: Write>(
+    alloc: Global,
+    reader: &mut R,
+    writer: &mut W,
+) -> Result<Outcome, SessionFault> {
+    session(alloc, reader, writer)
+}
+
+/// The status of a session on three streams.
+pub fn session_by<R: Read, W: Write, E: Write>(
+    alloc: Global,
+    input: &mut R,
+    out: &mut W,
+    err: &mut E,
+) -> u8 {
+    session_on(alloc, input, out, err)
+}
+
+/// The status of a file's script that is recorded by one thread.
+pub fn recorded<F: Read, W: Write, E: Write, R: Threads + Wait + Sync>(
+    rt: &R,
+    alloc: Global,
+    file: &mut F,
+    out: &mut W,
+    err: &mut E,
+) -> u8 {
+    record_file(rt, alloc, file, false, out, err)
+}
+
+/// The status of a file's journal that is checked.
+pub fn checked<F: Read, W: Write, E: Write>(
+    alloc: Global,
+    file: &mut F,
+    out: &mut W,
+    err: &mut E,
+) -> u8 {
+    check_file(alloc, file, out, err)
+}
+
+/// The status of a file's journal that is walked.
+pub fn debugged<F: Read, R: Read, W: Write, E: Write>(
+    alloc: Global,
+    file: &mut F,
+    input: &mut R,
+    out: &mut W,
+    err: &mut E,
+) -> u8 {
+    debug_file(alloc, file, input, out, err)
+}
+
+/// The status of what a file's journal still holds.
+pub fn salvaged<F: Read, W: Write, E: Write>(
+    alloc: Global,
+    file: &mut F,
+    out: &mut W,
+    err: &mut E,
+) -> u8 {
+    salvage_file(alloc, file, out, err)
+}
