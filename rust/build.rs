@@ -1,4 +1,4 @@
-//! Links the proved core, which stands built in `lib/`.
+//! Names the folder of the archives that stand built: the proved core, which the crate links, and the program, which `ttd` links.
 
 use std::env;
 use std::path::Path;
@@ -8,13 +8,13 @@ fn main() {
     println!("cargo::rerun-if-changed=lib");
     let set = |name: &str| env::var(name).unwrap_or_default();
     let (arch, os) = (set("CARGO_CFG_TARGET_ARCH"), set("CARGO_CFG_TARGET_OS"));
-    if arch != "x86_64" || os != "linux" {
+    let folder = Path::new(&set("CARGO_MANIFEST_DIR")).join(format!("lib/{arch}-{os}"));
+    if !folder.join("libyovanelum_core.a").exists() {
         println!(
-            "cargo::error=yovanelum: its proved core is built for x86-64 Linux alone, and this target is {arch} {os}"
+            "cargo::error=yovanelum: its proved core is built for Linux on x86-64 and on ARM (aarch64), and this target is {arch} {os}"
         );
         return;
     }
-    let folder = Path::new(&set("CARGO_MANIFEST_DIR")).join("lib/x86_64-linux");
     println!("cargo::rustc-link-search=native={}", folder.display());
     println!("cargo::rustc-link-lib=static=yovanelum_core");
 }

@@ -2,8 +2,8 @@
 import json
 import os
 
+import native
 import opening
-import rebuilt
 import runs
 from hands import FAILING, script_asker
 from opening import check_place
@@ -23,7 +23,7 @@ def choose(tab, path):
 
 
 def empty_page(tab):
-    tab.load(rebuilt.PAGE)
+    tab.load(native.PAGE)
     tab.wait("window.ttd")
 
 

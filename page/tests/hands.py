@@ -7,7 +7,6 @@ import subprocess
 
 import native
 import opening
-import rebuilt
 from opening import check_place
 from shown import points_of
 
@@ -174,7 +173,7 @@ def mouse(tab, folder, journals):
 
 def drops(tab, folder, journals):
     """A journal, then a script, then a spoiled journal is dropped on the page."""
-    tab.load(rebuilt.PAGE)
+    tab.load(native.PAGE)
     tab.wait("window.ttd")
     journal = opening.put(folder, "dropped.journal", journals[63])
     tab.drop(journal)
@@ -251,7 +250,7 @@ def refusals(tab, folder, journals):
 
 def example(tab, folder, journals):
     """The page's own example, which has names."""
-    tab.load(rebuilt.PAGE)
+    tab.load(native.PAGE)
     tab.wait("window.ttd")
     tab.click("#example-button")
     opening.settle(tab, 0)

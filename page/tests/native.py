@@ -5,12 +5,10 @@ import tempfile
 from concurrent.futures import ThreadPoolExecutor
 
 TOP = os.path.dirname(os.path.dirname(os.path.dirname(os.path.realpath(__file__))))
-PROGRAM = os.path.join(TOP, "crates", "rw_ttd", "out", "rw_ttd")
-
-
-def build():
-    """The first run of the script builds the program where it must."""
-    subprocess.run([os.path.join(TOP, "ttd"), "session"], input=b"", stdout=subprocess.DEVNULL)
+PROGRAM = os.environ.get("YOVANELUM_TTD", os.path.join(TOP, "built", "x86_64-linux", "ttd"))
+# The page that is tested, and where the pictures of it go.
+PAGE = os.path.join(TOP, "built", "yovanelum.html")
+PICTURES = os.path.join(os.environ.get("YOVANELUM_OUT", os.path.join(TOP, "out")), "page")
 
 
 def answer(words, given=b""):

@@ -10,7 +10,6 @@ import given
 import hands
 import moves
 import native
-import rebuilt
 import runs
 import shown
 import speed
@@ -22,7 +21,7 @@ from browser import Browser, Tab
 def bare(test):
     """A test of the debugger alone, in the page without a run."""
     def run(tab, folder, journals):
-        tab.load(rebuilt.PAGE)
+        tab.load(native.PAGE)
         tab.wait("window.ttd")
         answers.prepare(tab, journals)
         test(tab, journals)
@@ -39,9 +38,6 @@ TESTS = [
     shown.quick_walking, shown.many_handles, weak.weak_senders, weak.weak_rows, texts.large_numbers, texts.long_texts, speed.figures,
     bare(answers.example_sessions), bare(answers.random_commands), bare(answers.spoiled_texts),
 ]
-
-# The word by which page/build takes the libraries as `rt ci` has just left them.
-PROVED = "--proved"
 
 
 def passes(name, run):
@@ -67,10 +63,8 @@ def in_tab(test, browser, journals):
         tab.close()
 
 
-def run_all(program, words, folder):
+def run_all(program, wanted):
     """How many tests there were, and how many passed."""
-    wanted = [it for it in words if it != PROVED]
-    built = None if wanted else rebuilt.Rebuilt(folder, *words)
     journals = runs.journals()
     tests = [test for test in TESTS if not wanted or test.__name__ in wanted]
     browser = Browser(program)
@@ -78,15 +72,11 @@ def run_all(program, words, folder):
         passed = [passes(test.__name__, lambda: in_tab(test, browser, journals)) for test in tests]
     finally:
         browser.close()
-    if built:
-        passed.append(passes("is what its sources make", built.is_same))
     return len(passed), sum(passed)
 
 
 def main():
-    native.build()
-    with tempfile.TemporaryDirectory() as folder:
-        count, passed = run_all(sys.argv[1], sys.argv[2:], folder)
+    count, passed = run_all(sys.argv[1], sys.argv[2:])
     print(f"{passed} passed, {count - passed} failed")
     sys.exit(passed < count)
 

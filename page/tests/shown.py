@@ -24,7 +24,7 @@ def lagging_picture(tab, folder, path):
 
 def pictures(tab, folder, journals):
     """The three runs are drawn, and pictures of them are written."""
-    out = os.path.join(native.TOP, "page", "out")
+    out = native.PICTURES
     os.makedirs(out, exist_ok=True)
     for calls, place in ((63, 22), (10_000, 4_200), (100_000, 50_000)):
         opening.load(tab, opening.page_of(folder, f"run_of_{calls}.journal", journals[calls]), place)

@@ -402,7 +402,7 @@ impl ForTest {
             Ok(()) => {
                 eprintln!("yovanelum: the calls of {} are in {path}", self.name);
                 eprintln!(
-                    "yovanelum: walk them by `ttd debug {path}`, or drop that file on page/yovanelum.html"
+                    "yovanelum: walk them by `ttd debug {path}`, or drop that file on built/yovanelum.html"
                 );
             }
             Err(error) => eprintln!("yovanelum: {path} isn't written: {error}"),

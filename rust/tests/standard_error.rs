@@ -24,7 +24,7 @@ fn kept(name: &str, folder: &Path) -> Vec<String> {
     vec![
         format!("yovanelum: the calls of {name} are in {path}"),
         format!(
-            "yovanelum: walk them by `ttd debug {path}`, or drop that file on page/yovanelum.html"
+            "yovanelum: walk them by `ttd debug {path}`, or drop that file on built/yovanelum.html"
         ),
     ]
 }

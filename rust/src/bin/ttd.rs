@@ -1,0 +1,122 @@
+//! The command `ttd`: the repository's proved program, which stands built as an archive in `lib/`.
+//!
+//! The archive has the program's `main`. It calls the C library, and seven functions that Rattle's own linking would bring along: the
+//! words of the command line, `errno`, and the heap. They are written here, by what Rattle's library says of each.
+#![cfg_attr(
+    all(target_arch = "x86_64", target_os = "linux", target_env = "gnu"),
+    no_main
+)]
+
+#[cfg(all(target_arch = "x86_64", target_os = "linux", target_env = "gnu"))]
+mod linked {
+    use std::env;
+    use std::ffi::{c_int, c_void};
+    use std::os::unix::ffi::OsStrExt;
+    use std::ptr;
+
+    // The program itself: it defines C's `main`, and nothing here calls it.
+    #[link(name = "yovanelum_ttd", kind = "static")]
+    unsafe extern "C" {}
+
+    unsafe extern "C" {
+        fn __errno_location() -> *mut c_int;
+        fn malloc(size: usize) -> *mut c_void;
+        fn realloc(block: *mut c_void, size: usize) -> *mut c_void;
+        fn free(block: *mut c_void);
+    }
+
+    /// What a request for memory answers: whether there is memory, and where.
+    #[repr(C)]
+    pub struct Tried {
+        ok: bool,
+        p: *mut c_void,
+    }
+
+    impl Tried {
+        /// The C library aligns to 16 bytes, as the program wants.
+        fn of(block: *mut c_void) -> Tried {
+            match block.is_null() {
+                false => Tried { ok: true, p: block },
+                true => Tried {
+                    ok: false,
+                    p: ptr::without_provenance_mut(16),
+                },
+            }
+        }
+    }
+
+    /// How many words the command line has, the program's name among them.
+    #[unsafe(no_mangle)]
+    extern "C" fn rattle_arg_count() -> usize {
+        env::args_os().len()
+    }
+
+    /// Copies a word of the command line and returns its length: -1 where there is no such word, -2 where it doesn't fit, and then as
+    /// much is copied as does.
+    ///
+    /// # Safety
+    ///
+    /// `room` has `len` bytes.
+    #[unsafe(no_mangle)]
+    unsafe extern "C" fn rattle_arg(index: usize, room: *mut u8, len: usize) -> isize {
+        let Some(word) = env::args_os().nth(index) else {
+            return -1;
+        };
+        let word = word.as_bytes();
+        // SAFETY: as many bytes are copied as both have.
+        unsafe { ptr::copy_nonoverlapping(word.as_ptr(), room, word.len().min(len)) };
+        match word.len() <= len {
+            true => word.len() as isize,
+            false => -2,
+        }
+    }
+
+    #[unsafe(no_mangle)]
+    extern "C" fn rattle_errno() -> c_int {
+        // SAFETY: the C library's `errno` of this thread.
+        unsafe { *__errno_location() }
+    }
+
+    #[unsafe(no_mangle)]
+    extern "C" fn rattle_set_errno(error: c_int) {
+        // SAFETY: the C library's `errno` of this thread.
+        unsafe { *__errno_location() = error }
+    }
+
+    #[unsafe(no_mangle)]
+    extern "C" fn rattle_alloc(size: usize, _align: usize) -> Tried {
+        // SAFETY: any size may be asked for. One byte more, since none may be answered by null.
+        Tried::of(unsafe { malloc(size.max(1)) })
+    }
+
+    /// # Safety
+    ///
+    /// `p` is a block of these functions, and isn't used again where there is memory.
+    #[unsafe(no_mangle)]
+    unsafe extern "C" fn rattle_realloc(
+        p: *mut c_void,
+        _kept: usize,
+        size: usize,
+        _align: usize,
+    ) -> Tried {
+        // SAFETY: `p` is a block.
+        Tried::of(unsafe { realloc(p, size.max(1)) })
+    }
+
+    /// # Safety
+    ///
+    /// `p` is a block of these functions, and isn't used again.
+    #[unsafe(no_mangle)]
+    unsafe extern "C" fn rattle_dealloc(p: *mut c_void) {
+        // SAFETY: `p` is a block.
+        unsafe { free(p) }
+    }
+}
+
+#[cfg(not(all(target_arch = "x86_64", target_os = "linux", target_env = "gnu")))]
+fn main() -> std::process::ExitCode {
+    eprintln!(
+        "ttd: the built program is for Linux on x86-64 with glibc; elsewhere the page yovanelum.html opens the same journals and scripts in a browser"
+    );
+    std::process::ExitCode::from(69)
+}

@@ -1,0 +1,85 @@
+# What the test scripts share. A script sets `top`, the repository's folder, and reads this file.
+#
+# All that tests write goes into one folder, out/ or the one that the variable YOVANELUM_OUT names, so that the checkout may be read-only.
+out=${YOVANELUM_OUT:-$top/out}
+mkdir -p "$out/tmp" || { echo "no folder for what the tests write: $out"; exit 70; }
+out=$(cd "$out" && pwd)
+export YOVANELUM_OUT=$out TMPDIR=$out/tmp PYTHONDONTWRITEBYTECODE=1
+# The program that is tested.
+export YOVANELUM_TTD=${YOVANELUM_TTD:-$top/built/x86_64-linux/ttd}
+passed=0
+failed=0
+
+# Counts a failure, and says what failed.
+fail() {
+  failed=$((failed + 1))
+  printf '%s: %s\n' "${0##*/}" "$*"
+}
+
+# Counts a command that has no count of its own, and prints what it said where it fails.
+step() {
+  local said
+  if said=$("$@" 2>&1); then
+    passed=$((passed + 1))
+  else
+    fail "failed: $*"
+    printf '%s\n' "$said"
+  fi
+}
+
+# Runs a command whose last line is 'N passed, M failed', adds that, and says how long it took.
+count() {
+  local since=$SECONDS last
+  last=$("$@" | tee >(cat >&2) | tail -n 1)
+  if [[ $last =~ ^([0-9]+)\ passed,\ ([0-9]+)\ failed ]]; then
+    passed=$((passed + BASH_REMATCH[1]))
+    failed=$((failed + BASH_REMATCH[2]))
+  else
+    fail "$* gave no count; its last line: $last"
+  fi
+  printf '%s: %s: %s, %s s\n' "${0##*/}" "$*" "$last" "$((SECONDS - since))" >&2
+}
+
+# Calls a function for each line of standard input, as many side by side as there are processors, and adds their counts. What one
+# prints comes when it ends.
+each() {
+  local number=0 counts line counted
+  counts=$(mktemp -d) || exit 70
+  while IFS= read -r line; do
+    number=$((number + 1))
+    while [ "$(jobs -rp | wc -l)" -ge "$(nproc)" ]; do wait -n; done
+    {
+      passed=0 failed=0
+      "$@" "$line" >"$counts/$number.said" </dev/null
+      echo "$passed $failed" >"$counts/$number"
+      cat "$counts/$number.said"
+    } &
+  done
+  wait
+  for ((; number > 0; number--)); do
+    counted='0 1'
+    [ ! -f "$counts/$number" ] || counted=$(<"$counts/$number")
+    passed=$((passed + ${counted% *}))
+    failed=$((failed + ${counted#* }))
+  done
+  rm -rf "$counts"
+}
+
+# Installs the packages that bring a command, where it isn't there and may be installed. Where it may not, `missing` says what is missing.
+install_tool() {
+  local command=$1
+  shift
+  command -v "$command" >/dev/null && return
+  echo "${0##*/}: installing $*" >&2
+  { apt-get update && DEBIAN_FRONTEND=noninteractive apt-get install -y --no-install-recommends "$@"; } >/dev/null 2>&1
+  command -v "$command" >/dev/null && return
+  missing="$command isn't there, and can't be installed here: apt-get install $*"
+  return 1
+}
+
+# Prints the sum, which is a script's last line, and ends with 0 where nothing failed.
+finish() {
+  echo "$passed passed, $failed failed"
+  [ "$failed" -eq 0 ]
+  exit
+}
