@@ -79,16 +79,25 @@ impl Actors {
     }
 }
 
-/// A future whose calls are an actor's of this name.
+/// Wraps a future, so that its calls are recorded under this name.
+///
+/// Returns a future with the same output. Without a name, calls are recorded under the name of the thread that makes them, so the tasks of
+/// a runtime would share it. The calls that the drop of the future makes have its name too. Within another named future, the inner name is
+/// used. Futures of the same name are recorded as one.
+///
+/// # Examples
 ///
 /// ```
-/// use yovanelum::{block_on, broadcast, named, Recorder};
+/// use yovanelum::{Recorder, block_on, broadcast, named};
 ///
 /// let recorder = Recorder::new();
 /// let _entered = recorder.enter();
-/// let (tx, _rx) = broadcast::channel(4);
-/// block_on(named("ticker", async move { tx.send(1) })).unwrap();
-/// assert!(recorder.names().contains(r#""ticker""#));
+/// let (prices, mut chart) = broadcast::channel(4);
+/// block_on(named("exchange", async { prices.send(101) })).unwrap();
+/// assert_eq!(block_on(named("screen", chart.recv())), Ok(101));
+///
+/// assert!(recorder.names().contains(r#"{"0": "exchange", "1": "screen"}"#));
+/// assert!(recorder.journal().unwrap().contains("2 1 0 recv 1 = value 0"));
 /// ```
 pub fn named<F: Future>(name: &str, future: F) -> Named<F> {
     Named {
@@ -98,7 +107,23 @@ pub fn named<F: Future>(name: &str, future: F) -> Named<F> {
     }
 }
 
-/// The future of [`named`].
+/// Future returned by [`named`].
+///
+/// Its output is that of the wrapped future.
+///
+/// # Examples
+///
+/// ```
+/// use std::thread;
+/// use yovanelum::{Named, Recorder, block_on, broadcast, named};
+///
+/// let (bus, mut listener) = broadcast::channel(4);
+/// let task: Named<_> = named("mailer", async move { listener.recv().await });
+/// let runtime = thread::spawn(move || block_on(task));
+/// bus.send("user created").unwrap();
+/// assert_eq!(runtime.join().unwrap(), Ok("user created"));
+/// assert!(Recorder::of(&bus).names().contains(r#""mailer""#));
+/// ```
 #[must_use = "futures do nothing unless polled"]
 pub struct Named<F> {
     name: Option<Arc<str>>,

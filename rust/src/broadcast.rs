@@ -1,26 +1,43 @@
-//! A channel of many senders and many receivers, in which every receiver gets every value: tokio's `sync::broadcast`, recorded.
+//! A channel with many senders and many receivers, in which every receiver gets every value: tokio's `sync::broadcast`, recorded.
 //!
-//! A sent value is kept until every receiver that was there has received it, or until it is overwritten. As many values are kept as the
-//! capacity says, rounded up to a power of two; a send to a full channel overwrites the oldest. A receiver that had not received that one
-//! *lags*: its next receive answers [`Lagged`](error::RecvError::Lagged) with the number of values that it lost, and the one after it gets the oldest
-//! value that is still there. So a slow receiver never holds up a sender.
+//! A [`Sender`] sends values. Each [`Receiver`] receives a clone of every value that is sent while it is alive, in the order of the sends.
+//! [`channel`] creates a sender and a receiver. [`Sender::subscribe`] and [`Receiver::resubscribe`] create further receivers, which receive
+//! what is sent from then on. A sender can be cloned, or shared by reference.
 //!
-//! New receivers are made by [`Sender::subscribe`] and [`Receiver::resubscribe`], and get what is sent from then on. The channel is closed
-//! when every [`Sender`] is gone; a receiver still gets what was sent before, and then [`Closed`](error::RecvError::Closed).
+//! Names, signatures and results are those of [`tokio::sync::broadcast`][tokio]. "As in tokio" marks what tokio's documentation says about
+//! the same item, in other words. "Unlike tokio" marks a difference.
+//!
+//! [tokio]: https://docs.rs/tokio/1/tokio/sync/broadcast/index.html
+//!
+//! # Lagging
+//!
+//! The channel retains as many values as its capacity says, rounded up to a power of two. A send never waits for a receiver: if the channel
+//! is full, it overwrites the oldest value. A receiver that had not received that value *lags*. Its next receive returns
+//! [`Lagged`](error::RecvError::Lagged) with the number of values that it lost. The receive after that returns the oldest value that is
+//! still retained.
+//!
+//! # Closing
+//!
+//! The channel is closed when every [`Sender`] has been dropped. A receiver still receives what was sent before, and then gets
+//! [`Closed`](error::RecvError::Closed). If every receiver has been dropped, a send fails until [`Sender::subscribe`] creates a new one.
+//!
+//! # Examples
+//!
+//! Two services listen to one event bus:
 //!
 //! ```
 //! use yovanelum::{block_on, broadcast};
 //!
-//! let (tx, mut first) = broadcast::channel(16);
-//! let mut second = tx.subscribe();
-//! tx.send("hello").unwrap();
-//! tx.send("world").unwrap();
-//! drop(tx);
+//! let (bus, mut mailer) = broadcast::channel(16);
+//! let mut audit = bus.subscribe();
+//! bus.send("user created").unwrap();
+//! bus.send("user deleted").unwrap();
+//! drop(bus);
 //! block_on(async {
-//!     for receiver in [&mut first, &mut second] {
-//!         assert_eq!(receiver.recv().await, Ok("hello"));
-//!         assert_eq!(receiver.recv().await, Ok("world"));
-//!         assert_eq!(receiver.recv().await, Err(broadcast::error::RecvError::Closed));
+//!     for service in [&mut mailer, &mut audit] {
+//!         assert_eq!(service.recv().await, Ok("user created"));
+//!         assert_eq!(service.recv().await, Ok("user deleted"));
+//!         assert_eq!(service.recv().await, Err(broadcast::error::RecvError::Closed));
 //!     }
 //! });
 //! ```
@@ -30,13 +47,13 @@
 //! ```
 //! use yovanelum::broadcast::{self, error::TryRecvError};
 //!
-//! let (tx, mut rx) = broadcast::channel(2);
-//! for price in [10, 20, 30] {
-//!     tx.send(price).unwrap();
+//! let (prices, mut chart) = broadcast::channel(2);
+//! for price in [101, 102, 103] {
+//!     prices.send(price).unwrap();
 //! }
-//! assert_eq!(rx.try_recv(), Err(TryRecvError::Lagged(1)));
-//! assert_eq!(rx.try_recv(), Ok(20));
-//! assert_eq!(rx.try_recv(), Ok(30));
+//! assert_eq!(chart.try_recv(), Err(TryRecvError::Lagged(1)));
+//! assert_eq!(chart.try_recv(), Ok(102));
+//! assert_eq!(chart.try_recv(), Ok(103));
 //! ```
 
 pub mod error;
@@ -65,11 +82,28 @@ struct Channel<T> {
     show: OnceLock<Show<T>>,
 }
 
-/// Makes a channel of this capacity, with a sender and a receiver.
+/// Creates a broadcast channel with this capacity, and returns its first sender and its first receiver.
+///
+/// As in tokio, every receiver that is alive gets every value, in the order of the sends, and the channel may retain more values than the
+/// capacity: it is rounded up to a power of two.
 ///
 /// # Panics
 ///
-/// Where the capacity is 0 or above 65,536.
+/// Panics if the capacity is 0 or greater than 65,536. Unlike tokio, whose limit is half of `usize::MAX`.
+///
+/// # Examples
+///
+/// ```
+/// use yovanelum::broadcast::{self, error::TryRecvError};
+///
+/// // A capacity of three is rounded up to four.
+/// let (prices, mut chart) = broadcast::channel(3);
+/// for price in 101..=105 {
+///     prices.send(price).unwrap();
+/// }
+/// assert_eq!(chart.try_recv(), Err(TryRecvError::Lagged(1)));
+/// assert_eq!(chart.try_recv(), Ok(102));
+/// ```
 #[track_caller]
 pub fn channel<T: Clone>(capacity: usize) -> (Sender<T>, Receiver<T>) {
     let channel = open(capacity);

@@ -1,8 +1,8 @@
 //! The proved core behind its C functions. All `unsafe` of this crate stands here and in the files of `proved/`.
 //!
 //! The declarations below are those of exports of `crates/rw_ffi` of the repository, name by name; nothing compares the two but the tests.
-//! What the exports require is kept by the types here: a [`Channel`] always holds a channel and a [`Cut`] a cut, each is given to one call at
-//! a time (`&mut`), and the number of an actor is an [`Actor`], which is below 64.
+//! What the exports require is kept by the types here: a [`Channel`] always holds a channel and a [`Cut`] a cut, each is given to one call
+//! at a time (`&mut`), and the number of an actor is an [`Actor`], which is below 64.
 #![allow(unsafe_code)]
 
 mod beside;

@@ -1,122 +1,22 @@
 //! Recorders: whose channels make one run, and its journal.
 
-use crate::actors::{self, Actors};
-use crate::line::{Line, Tap};
+mod for_test;
+mod shared;
+
+pub use for_test::ForTest;
+pub(crate) use shared::Shared;
+
+use crate::line::Tap;
 use crate::names;
-use crate::proved::{Actor, Channel, Cut};
+use crate::proved::Cut;
 use crate::wait::lock;
 use std::cell::RefCell;
-use std::ffi::OsStr;
 use std::io;
-use std::ops::Deref;
-use std::path::{self, Path, PathBuf};
-use std::sync::atomic::{AtomicBool, AtomicU64, Ordering};
+use std::path::Path;
+use std::sync::atomic::Ordering;
 use std::sync::{Arc, Mutex};
-use std::{env, fmt, fs, thread};
+use std::{fmt, fs};
 
-/// How many channels a run has at most.
-const MOST_CHANNELS: usize = 64;
-
-/// Recording goes on.
-const NEVER: u64 = u64::MAX;
-
-/// Counts calls. Each takes a number under its channel's lock and hands it to the core as its clock. Every call of every thread writes it,
-/// so it has cache lines of its own.
-#[repr(align(128))]
-struct Clock(AtomicU64);
-
-/// What a recorder's channels share.
-pub(crate) struct Shared {
-    id: u64,
-    clock: Clock,
-    // Changes once, while the first channel's lock is held.
-    has_several: AtomicBool,
-    // The last stamp that is recorded.
-    end: AtomicU64,
-    is_quiet: AtomicBool,
-    has_too_many: AtomicBool,
-    lines: Mutex<Vec<Arc<Line>>>,
-    actors: Mutex<Actors>,
-}
-
-impl Shared {
-    /// The clock's number for a call whose channel's lock is held.
-    #[inline]
-    pub(crate) fn tick(&self) -> u64 {
-        let Clock(clock) = &self.clock;
-        if self.has_several.load(Ordering::Relaxed) {
-            return clock.fetch_add(1, Ordering::SeqCst);
-        }
-        // Of one channel each call has the lock, so that no other changes the clock in between.
-        let now = clock.load(Ordering::Relaxed);
-        clock.store(now + 1, Ordering::Release);
-        now
-    }
-
-    #[inline]
-    pub(crate) fn has_ended(&self) -> bool {
-        self.end.load(Ordering::SeqCst) != NEVER
-    }
-
-    #[inline]
-    pub(crate) fn actor(&self) -> Actor {
-        actors::current(self.id, || self.find_actor())
-    }
-
-    #[cold]
-    fn find_actor(&self) -> Actor {
-        let (actor, is_first_to_share) = lock(&self.actors).find();
-        if is_first_to_share {
-            eprintln!(
-                "yovanelum: a journal names 64 actors; those who come later are recorded as the last one"
-            );
-        }
-        actor
-    }
-
-    /// Whether questions leave no entry.
-    #[inline]
-    pub(crate) fn is_quiet(&self) -> bool {
-        self.is_quiet.load(Ordering::Relaxed)
-    }
-
-    /// Ends recording, of all channels with the calls whose stamps are at most this.
-    pub(crate) fn end_at(&self, last: u64) {
-        if self.end.fetch_min(last, Ordering::SeqCst) == NEVER {
-            eprintln!(
-                "yovanelum: a channel has recorded as many calls as a journal takes (1048576); recording ended there, and calls go on unrecorded"
-            );
-        }
-    }
-
-    /// Adds a channel to the run, which was handed so many values at its opening. The 65th and later ones are recorded by none.
-    pub(crate) fn add(self: &Arc<Shared>, channel: Channel, values: u64) -> Tap {
-        let line = Arc::new(Line::new(channel, values));
-        let mut lines = lock(&self.lines);
-        let count = lines.len();
-        if let [first] = &lines[..] {
-            first.locked(|| self.has_several.store(true, Ordering::Relaxed));
-        }
-        if count < MOST_CHANNELS {
-            lines.push(line.clone());
-        }
-        drop(lines);
-        if count >= MOST_CHANNELS {
-            line.end();
-            if !self.has_too_many.swap(true, Ordering::Relaxed) {
-                eprintln!(
-                    "yovanelum: a run has 64 channels; this channel is recorded by none, nor are those made later"
-                );
-            }
-        }
-        Tap {
-            recorder: self.clone(),
-            line,
-        }
-    }
-}
-
-static IDS: AtomicU64 = AtomicU64::new(1);
 static INSTALLED: Mutex<Option<Recorder>> = Mutex::new(None);
 
 thread_local! {
@@ -124,12 +24,46 @@ thread_local! {
     static ENTERED: RefCell<Vec<(u64, Recorder)>> = const { RefCell::new(Vec::new()) };
 }
 
-/// Records the calls of the channels that are made under it, as one run.
+/// Records the calls on the channels that belong to it, as one run.
 ///
-/// A channel belongs to the recorder that is entered on the thread which makes it ([`enter`](Recorder::enter)), else to the one that is
-/// installed for the process ([`install`](Recorder::install)), else to one of its own ([`of`](Recorder::of)). It stays there, whoever calls it.
+/// A channel belongs to one recorder from its creation on, whichever thread uses it:
 ///
-/// A recorder is a handle: clones record the same run.
+/// 1. to the recorder that is entered on the thread that creates the channel ([`enter`](Recorder::enter),
+///    [`for_test`](Recorder::for_test)),
+/// 2. else to the one that is installed for the process ([`install`](Recorder::install)),
+/// 3. else to one of its own ([`of`](Recorder::of) returns it).
+///
+/// The journal has an entry for each call: which channel, who called, what the call was and what it returned. The drop of a sender or a
+/// receiver is a call too. Who called is a thread, or a future that was wrapped by [`named`](crate::named). A call that waits is recorded
+/// when it completes, and not at all if its future is dropped before. On one channel, entries are in the order of the calls; on several
+/// they are wherever one call returned before the other began.
+///
+/// A recorder is a handle: its clones record the same run.
+///
+/// # Limits
+///
+/// Nothing fails at these limits, and the first time that one is reached a line on standard error says so.
+///
+/// - The 65th channel of a recorder and later ones can be used, and are not recorded.
+/// - When a channel has 1,048,576 entries, recording ends for all channels of the recorder.
+/// - A thread or named future after the 64th is recorded under the number of the 64th.
+///
+/// # Examples
+///
+/// ```
+/// use yovanelum::{Recorder, broadcast};
+///
+/// let recorder = Recorder::new();
+/// let _entered = recorder.enter();
+/// let (prices, mut chart) = broadcast::channel(2);
+/// prices.send(101).unwrap();
+/// assert_eq!(chart.try_recv(), Ok(101));
+///
+/// // Sender 0 sent value 0 to one receiver, and receiver 1 received value 0.
+/// let journal = recorder.journal().unwrap();
+/// assert!(journal.contains("send 0 0 = sent 1"));
+/// assert!(journal.contains("try-recv 1 = value 0"));
+/// ```
 #[derive(Clone)]
 pub struct Recorder(pub(crate) Arc<Shared>);
 
@@ -148,33 +82,50 @@ impl fmt::Debug for Recorder {
 }
 
 impl Recorder {
-    /// A recorder without channels.
-    pub fn new() -> Recorder {
-        Recorder(Arc::new(Shared {
-            id: IDS.fetch_add(1, Ordering::Relaxed),
-            clock: Clock(AtomicU64::new(0)),
-            has_several: AtomicBool::new(false),
-            end: AtomicU64::new(NEVER),
-            is_quiet: AtomicBool::new(false),
-            has_too_many: AtomicBool::new(false),
-            lines: Mutex::default(),
-            actors: Mutex::default(),
-        }))
-    }
-
-    /// A recorder for a test, entered on this thread: where the thread panics while this is alive, or the variable `YOVANELUM_KEEP` is set,
-    /// the journal is kept at `target/yovanelum/NAME.journal`, and two lines on standard error say where it is and how to walk it.
+    /// Creates a recorder without channels.
     ///
-    /// Make it the first variable of the test, so that it is dropped last and the drops of senders and receivers are in the journal. Where
-    /// other threads of a runtime make channels, [`install`](Recorder::install) it too.
+    /// It records nothing before it is entered by [`enter`](Recorder::enter) or installed by [`install`](Recorder::install), and a channel
+    /// is created.
+    ///
+    /// # Examples
     ///
     /// ```
-    /// use yovanelum::{broadcast, Recorder};
+    /// use yovanelum::{Recorder, broadcast};
     ///
-    /// let _recorder = Recorder::for_test("prices_arrive");
-    /// let (tx, mut rx) = broadcast::channel(2);
-    /// tx.send(101).unwrap();
-    /// assert_eq!(rx.try_recv(), Ok(101));
+    /// let recorder = Recorder::new();
+    /// broadcast::Sender::<u32>::new(4);
+    /// assert!(recorder.is_empty());
+    /// let entered = recorder.enter();
+    /// broadcast::Sender::<u32>::new(4);
+    /// assert!(!recorder.is_empty());
+    /// ```
+    pub fn new() -> Recorder {
+        Recorder(Arc::new(Shared::new()))
+    }
+
+    /// Creates a recorder for a test, and enters it on this thread until the result is dropped.
+    ///
+    /// If the thread panics while the result is alive, or the environment variable `YOVANELUM_KEEP` is set, the drop of the result writes
+    /// the journal to `yovanelum/NAME.journal` in the build's folder `target`, and the names to `NAME.names` beside it. Two lines on
+    /// standard error say where the journal is and how to walk it. If it cannot be written, one line says why. A `/` in the name becomes a
+    /// `_`.
+    ///
+    /// Make it the first variable of the test. It is then dropped last, and the drops of senders and receivers are in the journal. If other
+    /// threads create channels, [`install`](Recorder::install) it too.
+    ///
+    /// A test that returns an `Err` does not panic, so its journal is written only with `YOVANELUM_KEEP`. If a test passes, cargo shows
+    /// the two lines only with `-- --nocapture`.
+    ///
+    /// # Examples
+    ///
+    /// ```
+    /// use yovanelum::{Recorder, broadcast};
+    ///
+    /// let recorder = Recorder::for_test("every_price_arrives");
+    /// let (prices, mut chart) = broadcast::channel(2);
+    /// prices.send(101).unwrap();
+    /// assert_eq!(chart.try_recv(), Ok(101));
+    /// assert_eq!(recorder.len(), 2);
     /// ```
     #[must_use = "dropped at once, it records nothing"]
     pub fn for_test(name: &str) -> ForTest {
@@ -187,7 +138,27 @@ impl Recorder {
         }
     }
 
-    /// Channels that this thread makes belong to this recorder, until the guard is dropped.
+    /// Enters the recorder on this thread: channels that the thread creates belong to it until the returned guard is dropped.
+    ///
+    /// If several recorders are entered, the one that was entered last is used. Channels that were created before are not affected.
+    ///
+    /// # Examples
+    ///
+    /// ```
+    /// use yovanelum::{Recorder, broadcast};
+    ///
+    /// let recorder = Recorder::new();
+    /// let entered = recorder.enter();
+    /// let orders = broadcast::Sender::<u32>::new(4);
+    /// drop(entered);
+    /// let refunds = broadcast::Sender::<u32>::new(4);
+    ///
+    /// let calls = recorder.len();
+    /// assert_eq!(refunds.receiver_count(), 0);
+    /// assert_eq!(recorder.len(), calls);
+    /// assert_eq!(orders.receiver_count(), 0);
+    /// assert_eq!(recorder.len(), calls + 1);
+    /// ```
     #[must_use = "dropped at once, it changes nothing"]
     pub fn enter(&self) -> Entered {
         let guard = ENTERED.with_borrow_mut(|entered| {
@@ -201,12 +172,45 @@ impl Recorder {
         }
     }
 
-    /// Channels that any thread makes on which no recorder is entered belong to this recorder: for runtimes of many threads.
+    /// Installs the recorder for the process: channels that any thread creates belong to it, unless a recorder is entered on that thread.
+    ///
+    /// This is for runtimes with many threads. The recorder replaces the one that was installed before. It stays installed until another
+    /// one is, also for tests that run later in the same process.
+    ///
+    /// # Examples
+    ///
+    /// ```
+    /// use std::thread;
+    /// use yovanelum::{Recorder, broadcast};
+    ///
+    /// let recorder = Recorder::new();
+    /// recorder.install();
+    /// let service = thread::spawn(|| {
+    ///     let (bus, _listener) = broadcast::channel(4);
+    ///     bus.send("started").unwrap();
+    /// });
+    /// service.join().unwrap();
+    /// assert!(recorder.journal().unwrap().contains("send 0 0 = sent 1"));
+    /// ```
     pub fn install(&self) {
         *lock(&INSTALLED) = Some(self.clone());
     }
 
-    /// The recorder to which a channel belongs.
+    /// Returns the recorder to which the channel of this sender or receiver belongs.
+    ///
+    /// # Examples
+    ///
+    /// A channel that was created under no recorder has one of its own:
+    ///
+    /// ```
+    /// use yovanelum::{Recorder, broadcast};
+    ///
+    /// let (prices, _chart) = broadcast::channel(2);
+    /// prices.send(101).unwrap();
+    /// let recorder = Recorder::of(&prices);
+    /// assert_eq!(recorder.len(), 1);
+    /// assert!(recorder.journal().unwrap().contains("send 0 0 = sent 1"));
+    /// ```
     pub fn of<H: Handle>(handle: &H) -> Recorder {
         Recorder(handle.tap().recorder.clone())
     }
@@ -227,33 +231,75 @@ impl Recorder {
             .unwrap_or_default()
     }
 
-    /// Questions leave no entry from now on: `len`, `is_empty`, `receiver_count`, `borrow`, `has_changed` and `is_closed`. So a loop that
-    /// polls doesn't fill the journal.
+    /// Ends the recording of questions, so that a loop that polls does not fill the journal. Returns the recorder, for the next call.
+    ///
+    /// Questions are `len`, `is_empty` and `receiver_count`, and on a watch channel also `borrow`, `has_changed` and `is_closed`. What they
+    /// return does not change. Calls that wait, such as `closed`, are still recorded when they complete. This cannot be undone.
+    ///
+    /// # Examples
+    ///
+    /// ```
+    /// use yovanelum::{Recorder, broadcast};
+    ///
+    /// let recorder = Recorder::new();
+    /// let _entered = recorder.enter();
+    /// let (bus, listener) = broadcast::channel::<u32>(4);
+    /// assert_eq!(bus.receiver_count(), 1);
+    /// assert_eq!(recorder.len(), 1);
+    ///
+    /// recorder.quiet_questions();
+    /// assert_eq!(bus.receiver_count(), 1);
+    /// assert!(listener.is_empty());
+    /// assert_eq!(recorder.len(), 1);
+    /// ```
     pub fn quiet_questions(&self) -> &Recorder {
         self.0.is_quiet.store(true, Ordering::Relaxed);
         self
     }
 
-    /// Gives a channel a name, by one of its senders or receivers.
+    /// Names the channel of this sender or receiver, in place of an earlier name. Returns the recorder, for the next call.
+    ///
+    /// The page shows the name in place of the channel's number.
+    ///
+    /// # Examples
+    ///
+    /// ```
+    /// use yovanelum::{Recorder, broadcast, watch};
+    ///
+    /// let recorder = Recorder::new();
+    /// let _entered = recorder.enter();
+    /// let (prices, _chart) = broadcast::channel::<u32>(2);
+    /// let (state, _rx) = watch::channel("open");
+    /// recorder.name(&prices, "prices").name(&state, "state of the exchange");
+    /// assert!(recorder.names().contains(r#"{"0": "prices", "1": "state of the exchange"}"#));
+    /// ```
     pub fn name<H: Handle>(&self, handle: &H, name: &str) -> &Recorder {
         handle.tap().line.set_name(name);
         self
     }
 
-    /// Keeps the text of each value that is sent on a channel from now on, so that it can be read beside the journal also where the value
-    /// is long gone. Of a channel only the first such function is taken.
+    /// Records a text of each value that is sent on the channel from now on. Returns the recorder, for the next call.
     ///
-    /// It runs before the channel is locked. Only of a value that stands in a watch, the one that it was opened with or one that a closure has
-    /// changed, the text is made while that value is locked: there it may neither look at that watch nor send on it.
+    /// In the journal values are numbers: 0, 1, 2, … in the order in which they were sent on the channel, and on a watch channel 0 is the
+    /// value that it was created with. The texts say what the values were, also after they have been dropped. The first value of a watch
+    /// channel has its text too, if no other was sent before this call. If a channel has a function already, the new one is not used.
+    ///
+    /// The function runs before the channel is locked, and a panic in it is one of the call that sends. Only for a value that is in a watch
+    /// channel already (the first one, or one that a closure has changed) it runs while that value is locked. There it must neither look at
+    /// the value of that channel nor send on it.
+    ///
+    /// # Examples
     ///
     /// ```
-    /// # use yovanelum::{broadcast, Recorder};
+    /// use yovanelum::{Recorder, broadcast};
+    ///
     /// let recorder = Recorder::new();
     /// let _entered = recorder.enter();
-    /// let (tx, _rx) = broadcast::channel::<(&str, u32)>(2);
-    /// recorder.name(&tx, "prices").show(&tx, |(name, price)| format!("{name} {price}"));
-    /// tx.send(("AAPL", 101)).unwrap();
-    /// assert!(recorder.names().contains(r#""0": {"0": "AAPL 101"}"#));
+    /// let (prices, _chart) = broadcast::channel(2);
+    /// recorder.show(&prices, |(share, price)| format!("{share} {price} EUR"));
+    /// prices.send(("ACME", 101)).unwrap();
+    /// prices.send(("ACME", 102)).unwrap();
+    /// assert!(recorder.names().contains(r#"{"0": "ACME 101 EUR", "1": "ACME 102 EUR"}"#));
     /// ```
     pub fn show<H: Handle>(
         &self,
@@ -264,17 +310,37 @@ impl Recorder {
         self
     }
 
-    /// The text of the journal so far, which `ttd check`, `ttd debug` and the page read: all calls up to one moment, none later.
+    /// Returns the text of the journal so far: all calls up to one moment, and none after it.
+    ///
+    /// `ttd check`, `ttd debug` and the page read it. An entry has a stamp, which increases from entry to entry, the number of who called
+    /// and the number of the channel, then the call with the number of its sender or receiver, and what it returned. This can be called at
+    /// any time, also while other threads use the channels.
+    ///
+    /// # Errors
+    ///
+    /// Returns an error if no channel belongs to the recorder, or if there is no memory for the text.
+    ///
+    /// # Examples
+    ///
+    /// ```
+    /// use yovanelum::{Recorder, broadcast};
+    ///
+    /// let recorder = Recorder::new();
+    /// let _entered = recorder.enter();
+    /// let (prices, mut chart) = broadcast::channel(2);
+    /// for price in [101, 102, 103] {
+    ///     prices.send(price).unwrap();
+    /// }
+    /// assert!(chart.try_recv().is_err());
+    ///
+    /// let journal = recorder.journal().unwrap();
+    /// let entries: Vec<_> = journal.lines().filter(|line| line.contains(" = ")).collect();
+    /// assert_eq!(entries[2..], ["3 0 0 send 0 2 = sent 1", "4 0 0 try-recv 1 = lagged 1"]);
+    /// ```
     pub fn journal(&self) -> io::Result<String> {
         // Each call takes its number under its channel's lock. So once that lock is had, each call before the cut is recorded.
-        let last = self
-            .0
-            .clock
-            .0
-            .load(Ordering::SeqCst)
-            .min(self.0.end.load(Ordering::SeqCst));
         let text = self
-            .cut(last)
+            .cut(self.0.last())
             .map_err(|fault| io::Error::other(fault.to_string()))?;
         String::from_utf8(text).map_err(io::Error::other)
     }
@@ -288,7 +354,30 @@ impl Recorder {
         cut.text()
     }
 
-    /// The names beside the journal, as JSON: `actors` and `channels` by number, and in `values` the texts of each channel's values.
+    /// Returns the names that belong to the journal, as JSON.
+    ///
+    /// `actors` has the names of threads and of [`named`](crate::named) futures, and `channels` those of channels, both by number. `values`
+    /// has the texts of each channel's values. What has no name is left out.
+    ///
+    /// # Examples
+    ///
+    /// ```
+    /// use yovanelum::{Recorder, block_on, broadcast, named};
+    ///
+    /// let recorder = Recorder::new();
+    /// let _entered = recorder.enter();
+    /// let (prices, _chart) = broadcast::channel(2);
+    /// recorder.name(&prices, "prices").show(&prices, |price| format!("{price} EUR"));
+    /// block_on(named("exchange", async { prices.send(101) })).unwrap();
+    ///
+    /// let wanted = r#"{
+    ///   "actors": {"0": "exchange"},
+    ///   "channels": {"0": "prices"},
+    ///   "values": {"0": {"0": "101 EUR"}}
+    /// }
+    /// "#;
+    /// assert_eq!(recorder.names(), wanted);
+    /// ```
     pub fn names(&self) -> String {
         let actors = lock(&self.0.actors).names();
         let lines = lock(&self.0.lines).clone();
@@ -306,28 +395,110 @@ impl Recorder {
         )
     }
 
-    /// Writes the journal to a file, and the names beside it: to `RUN.names` those of `RUN.journal`.
+    /// Writes the journal to a file, and the names to a file beside it: those of `RUN.journal` to `RUN.names`.
+    ///
+    /// Files with these names are overwritten. This can be called at any time, as [`journal`](Recorder::journal).
+    ///
+    /// # Errors
+    ///
+    /// Returns an error if [`journal`](Recorder::journal) does, and then no file is changed, or if a file cannot be written. If only the
+    /// names cannot be written, the journal has been written.
+    ///
+    /// # Examples
+    ///
+    /// ```
+    /// use std::{env, fs, process};
+    /// use yovanelum::{Recorder, broadcast};
+    ///
+    /// let recorder = Recorder::new();
+    /// let _entered = recorder.enter();
+    /// let (prices, _chart) = broadcast::channel(2);
+    /// prices.send(101).unwrap();
+    ///
+    /// let path = env::temp_dir().join(format!("prices-{}.journal", process::id()));
+    /// recorder.save(&path)?;
+    /// assert_eq!(fs::read_to_string(&path)?, recorder.journal()?);
+    /// assert_eq!(fs::read_to_string(path.with_extension("names"))?, recorder.names());
+    /// # fs::remove_file(path.with_extension("names"))?;
+    /// # fs::remove_file(&path)?;
+    /// # Ok::<(), std::io::Error>(())
+    /// ```
     pub fn save(&self, path: impl AsRef<Path>) -> io::Result<()> {
         let path = path.as_ref();
         fs::write(path, self.journal()?)?;
         fs::write(path.with_extension("names"), self.names())
     }
 
-    /// How many calls are recorded.
+    /// Returns the number of calls that are recorded.
+    ///
+    /// # Examples
+    ///
+    /// ```
+    /// use yovanelum::{Recorder, broadcast};
+    ///
+    /// let recorder = Recorder::new();
+    /// let _entered = recorder.enter();
+    /// let (prices, mut chart) = broadcast::channel(2);
+    /// prices.send(101).unwrap();
+    /// chart.try_recv().unwrap();
+    /// assert_eq!(recorder.len(), 2);
+    /// drop(chart);
+    /// assert_eq!(recorder.len(), 3);
+    /// ```
     pub fn len(&self) -> u64 {
         let lines = lock(&self.0.lines).clone();
         lines.iter().map(|line| line.entries()).sum()
     }
 
-    /// Whether no call is recorded.
+    /// Returns `true` if no call is recorded.
+    ///
+    /// # Examples
+    ///
+    /// ```
+    /// use yovanelum::{Recorder, broadcast};
+    ///
+    /// let recorder = Recorder::new();
+    /// let _entered = recorder.enter();
+    /// let (prices, _chart) = broadcast::channel(2);
+    /// assert!(recorder.is_empty());
+    /// prices.send(101).unwrap();
+    /// assert!(!recorder.is_empty());
+    /// ```
     pub fn is_empty(&self) -> bool {
         self.len() == 0
     }
 }
 
-/// A sender or receiver of a channel. [`Recorder::name`], [`Recorder::show`] and [`Recorder::of`] take any.
+/// A sender or a receiver, of either kind of channel.
+///
+/// [`Recorder::name`], [`Recorder::show`] and [`Recorder::of`] take any. It is implemented for the senders and receivers of
+/// [`broadcast`](crate::broadcast) and [`watch`](crate::watch), weak senders included, and cannot be implemented for other types.
+///
+/// # Examples
+///
+/// A function that names a channel and shows its values, for tests with many channels:
+///
+/// ```
+/// use std::fmt::Debug;
+/// use yovanelum::{Handle, Recorder, broadcast, watch};
+///
+/// fn describe<H: Handle<Value: Debug>>(recorder: &Recorder, handle: &H, name: &str) {
+///     recorder.name(handle, name).show(handle, |value| format!("{value:?}"));
+/// }
+///
+/// let recorder = Recorder::new();
+/// let _entered = recorder.enter();
+/// let (prices, _chart) = broadcast::channel(2);
+/// let (_state, rx) = watch::channel(Some("open"));
+/// describe(&recorder, &prices, "prices");
+/// describe(&recorder, &rx, "state");
+/// prices.send(101).unwrap();
+/// let names = recorder.names();
+/// assert!(names.contains(r#"{"0": "prices", "1": "state"}"#));
+/// assert!(names.contains(r#"{"0": {"0": "101"}, "1": {"0": "Some(\"open\")"}}"#));
+/// ```
 pub trait Handle: sealed::Tapped {
-    /// What the channel carries.
+    /// The type of the channel's values.
     type Value;
 
     #[doc(hidden)]
@@ -345,8 +516,27 @@ pub(crate) mod sealed {
     }
 }
 
-/// What [`Recorder::enter`] gives. Of the recorders whose guards are alive, the one that was entered last has the channels: guards may be
-/// dropped in any order.
+/// Guard returned by [`Recorder::enter`], which enters the recorder on this thread until it is dropped.
+///
+/// Guards may be dropped in any order. Of the recorders whose guards are alive, the one that was entered last gets the channels. A guard
+/// cannot be sent to another thread.
+///
+/// # Examples
+///
+/// ```
+/// use yovanelum::{Entered, Recorder, broadcast};
+///
+/// let (all, orders_only) = (Recorder::new(), Recorder::new());
+/// let _all: Entered = all.enter();
+/// let entered: Entered = orders_only.enter();
+/// let (orders, _mailer) = broadcast::channel(4);
+/// drop(entered);
+/// let (refunds, _clerk) = broadcast::channel(4);
+/// orders.send(7).unwrap();
+/// refunds.send(8).unwrap();
+/// refunds.send(9).unwrap();
+/// assert_eq!((orders_only.len(), all.len()), (1, 2));
+/// ```
 #[derive(Debug)]
 pub struct Entered {
     guard: u64,
@@ -363,61 +553,4 @@ impl Drop for Entered {
         // It may be the last handle of its recorder, with whatever wakers wait there.
         drop(left);
     }
-}
-
-/// What [`Recorder::for_test`] gives: its recorder, entered, whose journal is kept where the test fails.
-#[derive(Debug)]
-pub struct ForTest {
-    recorder: Recorder,
-    name: String,
-    _entered: Entered,
-}
-
-impl Deref for ForTest {
-    type Target = Recorder;
-
-    fn deref(&self) -> &Recorder {
-        &self.recorder
-    }
-}
-
-impl Drop for ForTest {
-    fn drop(&mut self) {
-        if thread::panicking() || env::var_os("YOVANELUM_KEEP").is_some() {
-            self.keep();
-        }
-    }
-}
-
-impl ForTest {
-    fn keep(&self) {
-        // The whole path, since whoever reads it may be in another folder, as in that of a workspace.
-        let target = target();
-        let folder = path::absolute(&target).unwrap_or(target).join("yovanelum");
-        // A name is one file, also where it has a path's separator in it.
-        let path = folder.join(format!("{}.journal", self.name.replace('/', "_")));
-        let saved = fs::create_dir_all(&folder).and_then(|()| self.recorder.save(&path));
-        let path = path.display();
-        match saved {
-            Ok(()) => {
-                eprintln!("yovanelum: the calls of {} are in {path}", self.name);
-                eprintln!(
-                    "yovanelum: walk them by `ttd debug {path}`, or drop that file on built/yovanelum.html"
-                );
-            }
-            Err(error) => eprintln!("yovanelum: {path} isn't written: {error}"),
-        }
-    }
-}
-
-/// The folder `target` of the build in which this runs, or of this folder.
-fn target() -> PathBuf {
-    if let Some(folder) = env::var_os("CARGO_TARGET_DIR") {
-        return folder.into();
-    }
-    let program = env::current_exe().unwrap_or_default();
-    let found = program
-        .ancestors()
-        .find(|folder| folder.file_name() == Some(OsStr::new("target")));
-    found.map_or_else(|| PathBuf::from("target"), Path::to_path_buf)
 }

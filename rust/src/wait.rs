@@ -94,7 +94,27 @@ impl Wake for Unpark {
     }
 }
 
-/// Blocks this thread until the future is ready: for tests that have threads and no runtime.
+/// Runs a future on the current thread, blocks the thread until it completes, and returns its output.
+///
+/// This is for tests that have threads and no runtime. It starts no runtime, so it cannot run futures that need one, such as timers of
+/// tokio.
+///
+/// # Panics
+///
+/// Panics if the future panics.
+///
+/// # Examples
+///
+/// ```
+/// use std::thread;
+/// use yovanelum::{block_on, broadcast};
+///
+/// let (bus, mut listener) = broadcast::channel(4);
+/// let service = thread::spawn(move || block_on(async { (listener.recv().await, listener.recv().await) }));
+/// bus.send("started").unwrap();
+/// bus.send("stopped").unwrap();
+/// assert_eq!(service.join().unwrap(), (Ok("started"), Ok("stopped")));
+/// ```
 pub fn block_on<F: Future>(future: F) -> F::Output {
     let mut future = pin!(future);
     let unpark = Arc::new(Unpark {

@@ -1,17 +1,37 @@
 //! A channel that holds one value, the last that was sent: tokio's `sync::watch`, recorded.
 //!
-//! Receivers see the value when they look, and each knows whether it has seen the last one: [`Receiver::changed`] waits until there is one that it
-//! hasn't seen. Values that were replaced before a receiver looked it never sees. So a watch suits a configuration, or a state whose history
-//! doesn't matter.
+//! A [`Sender`] replaces or changes the value. A [`Receiver`] looks at it by [`borrow`](Receiver::borrow), and waits for the next one by
+//! [`changed`](Receiver::changed). Only the last value is available: a receiver that looks late does not see the values that were replaced
+//! before. So a watch suits a configuration, or a state whose history does not matter. [`channel`] creates a sender and a receiver, and
+//! both can be cloned.
 //!
-//! The first value counts as seen, and so does the last one for a receiver that [`Sender::subscribe`] makes; a cloned receiver has seen what its
-//! source has. The channel is closed for receivers when every [`Sender`] is gone, and for senders when every [`Receiver`] is.
+//! Names, signatures and results are those of [`tokio::sync::watch`][tokio]. "As in tokio" marks what tokio's documentation says about the
+//! same item, in other words. "Unlike tokio" marks a difference.
+//!
+//! [tokio]: https://docs.rs/tokio/1/tokio/sync/watch/index.html
+//!
+//! # Seen and unseen values
+//!
+//! For each receiver the last value is either seen or unseen. The value that the channel is created with is seen by its first receiver, and
+//! the value at a call of [`Sender::subscribe`] by the receiver which that call creates. A cloned receiver has seen what the original has.
+//! [`changed`](Receiver::changed), [`borrow_and_update`](Receiver::borrow_and_update) and [`wait_for`](Receiver::wait_for) mark the value
+//! as seen, [`borrow`](Receiver::borrow) does not. Values are not compared: a value that is sent twice is unseen twice.
+//!
+//! # Closing
+//!
+//! The channel is closed for receivers when every [`Sender`] has been dropped. A receiver can still look at the last value. It is closed
+//! for senders when every [`Receiver`] has been dropped; [`Sender::subscribe`] opens it again.
+//!
+//! # Examples
+//!
+//! A worker that follows a configuration:
 //!
 //! ```
+//! use std::thread;
 //! use yovanelum::{block_on, watch};
 //!
-//! let (tx, mut rx) = watch::channel("hello");
-//! let reader = std::thread::spawn(move || {
+//! let (config, mut rx) = watch::channel("log = info");
+//! let worker = thread::spawn(move || {
 //!     block_on(async {
 //!         let mut seen = vec![*rx.borrow_and_update()];
 //!         while rx.changed().await.is_ok() {
@@ -20,9 +40,9 @@
 //!         seen
 //!     })
 //! });
-//! tx.send("world").unwrap();
-//! drop(tx);
-//! assert_eq!(reader.join().unwrap().last(), Some(&"world"));
+//! config.send("log = debug").unwrap();
+//! drop(config);
+//! assert_eq!(worker.join().unwrap().last(), Some(&"log = debug"));
 //! ```
 
 pub mod error;
@@ -72,7 +92,22 @@ fn free<G>(tried: TryLockResult<G>) -> Option<G> {
     }
 }
 
-/// Makes a channel that holds this value, with a sender and a receiver, which has seen it.
+/// Creates a watch channel that holds this value, and returns its first sender and its first receiver.
+///
+/// The receiver has seen the value. As in tokio, the receivers can look at the last value alone, and those before it are dropped.
+///
+/// # Examples
+///
+/// ```
+/// use yovanelum::watch;
+///
+/// let (config, mut rx) = watch::channel("log = info");
+/// assert!(!rx.has_changed().unwrap());
+/// config.send("log = warn").unwrap();
+/// config.send("log = debug").unwrap();
+/// assert!(rx.has_changed().unwrap());
+/// assert_eq!(*rx.borrow_and_update(), "log = debug");
+/// ```
 pub fn channel<T>(init: T) -> (Sender<T>, Receiver<T>) {
     let channel = open(init);
     (

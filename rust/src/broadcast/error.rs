@@ -1,9 +1,22 @@
-//! The errors of a broadcast.
+//! Errors of the broadcast channel.
 
 use std::error::Error;
 use std::fmt;
 
-/// What [`Sender::send`](super::Sender::send) answers where no receiver is alive: the value comes back.
+/// Error returned by [`Sender::send`](super::Sender::send) when the channel has no receiver.
+///
+/// It contains the value that was not sent. As in tokio, a send fails for no other reason.
+///
+/// # Examples
+///
+/// ```
+/// use yovanelum::broadcast::{self, error::SendError};
+///
+/// let (bus, listener) = broadcast::channel(4);
+/// drop(listener);
+/// let SendError(event) = bus.send("user created").unwrap_err();
+/// assert_eq!(event, "user created");
+/// ```
 #[derive(Debug)]
 pub struct SendError<T>(pub T);
 
@@ -15,13 +28,37 @@ impl<T> fmt::Display for SendError<T> {
 
 impl<T: fmt::Debug> Error for SendError<T> {}
 
-/// Why [`Receiver::recv`](super::Receiver::recv) has no value.
+/// Error returned by [`Receiver::recv`](super::Receiver::recv) and [`Receiver::blocking_recv`](super::Receiver::blocking_recv).
+///
+/// # Examples
+///
+/// A listener that counts the events that it lost, until the channel is closed:
+///
+/// ```
+/// use yovanelum::broadcast::{self, error::RecvError};
+///
+/// let (bus, mut listener) = broadcast::channel(2);
+/// for event in 1..=5 {
+///     bus.send(event).unwrap();
+/// }
+/// drop(bus);
+/// let (mut received, mut lost) = (vec![], 0);
+/// loop {
+///     match listener.blocking_recv() {
+///         Ok(event) => received.push(event),
+///         Err(RecvError::Lagged(n)) => lost += n,
+///         Err(RecvError::Closed) => break,
+///     }
+/// }
+/// assert_eq!(received, [4, 5]);
+/// assert_eq!(lost, 3);
+/// ```
 #[derive(Debug, PartialEq, Eq, Clone)]
 pub enum RecvError {
-    /// Every sender is gone, and what they sent was received.
+    /// Every sender has been dropped, and everything that was sent has been received. As in tokio, no value will ever be sent again.
     Closed,
-    /// The receiver fell behind, and so many values were overwritten before it received them. The next call gets the oldest value that is
-    /// still there.
+    /// The receiver lagged, and this many values were overwritten before it received them. As in tokio, the next receive returns the oldest
+    /// value that is still retained.
     Lagged(u64),
 }
 
@@ -36,15 +73,30 @@ impl fmt::Display for RecvError {
 
 impl Error for RecvError {}
 
-/// Why [`Receiver::try_recv`](super::Receiver::try_recv) has no value.
+/// Error returned by [`Receiver::try_recv`](super::Receiver::try_recv).
+///
+/// # Examples
+///
+/// ```
+/// use yovanelum::broadcast::{self, error::TryRecvError};
+///
+/// let (prices, mut chart) = broadcast::channel(1);
+/// assert_eq!(chart.try_recv(), Err(TryRecvError::Empty));
+/// prices.send(101).unwrap();
+/// prices.send(102).unwrap();
+/// drop(prices);
+/// assert_eq!(chart.try_recv(), Err(TryRecvError::Lagged(1)));
+/// assert_eq!(chart.try_recv(), Ok(102));
+/// assert_eq!(chart.try_recv(), Err(TryRecvError::Closed));
+/// ```
 #[derive(Debug, PartialEq, Eq, Clone)]
 pub enum TryRecvError {
-    /// There is no value now; a sender is alive and may send one.
+    /// There is no value to receive now. As in tokio, a sender is still alive and may send one.
     Empty,
-    /// Every sender is gone, and what they sent was received.
+    /// Every sender has been dropped, and everything that was sent has been received. As in tokio, no value will ever be sent again.
     Closed,
-    /// The receiver fell behind, and so many values were overwritten before it received them. The next call gets the oldest value that is
-    /// still there.
+    /// The receiver lagged, and this many values were overwritten before it received them. As in tokio, the next receive returns the oldest
+    /// value that is still retained.
     Lagged(u64),
 }
 

@@ -1,4 +1,4 @@
-//! The receiving half of a broadcast.
+//! The receiving half of a broadcast channel.
 
 use super::error::{RecvError, TryRecvError};
 use super::values::Value;
@@ -12,7 +12,33 @@ use std::future::poll_fn;
 use std::panic::{RefUnwindSafe, UnwindSafe};
 use std::sync::Arc;
 
-/// The receiving half. It gets each value that is sent while it is alive, in the order of the sends, as long as it doesn't lag.
+/// The receiving half of a broadcast channel.
+///
+/// It gets a clone of each value that is sent while it is alive, in the order of the sends, unless it lags. As in tokio, it is not `Clone`:
+/// [`Sender::subscribe`](super::Sender::subscribe) and [`resubscribe`](Receiver::resubscribe) create receivers. When it is dropped, the
+/// values that it alone had yet to receive are dropped too.
+///
+/// # Examples
+///
+/// A listener that receives until the channel is closed:
+///
+/// ```
+/// use std::thread;
+/// use yovanelum::{block_on, broadcast};
+///
+/// let (bus, mut listener) = broadcast::channel(16);
+/// let logger = thread::spawn(move || {
+///     let mut log = vec![];
+///     while let Ok(event) = block_on(listener.recv()) {
+///         log.push(event);
+///     }
+///     log
+/// });
+/// bus.send("user created").unwrap();
+/// bus.send("user deleted").unwrap();
+/// drop(bus);
+/// assert_eq!(logger.join().unwrap(), ["user created", "user deleted"]);
+/// ```
 pub struct Receiver<T> {
     pub(super) channel: Arc<Channel<T>>,
     pub(super) handle: u32,
@@ -22,7 +48,24 @@ pub struct Receiver<T> {
 type Got<T> = Result<Value<T>, TryRecvError>;
 
 impl<T> Receiver<T> {
-    /// How many values were sent to it that it has yet to receive. Those that were overwritten count too, until it is told that it lags.
+    /// Returns the number of values that were sent to this receiver and that it has yet to receive.
+    ///
+    /// As in tokio, overwritten values are counted until a receive returns `Lagged`. If the number is greater than the capacity, rounded up
+    /// to a power of two, the next receive returns `Lagged`.
+    ///
+    /// # Examples
+    ///
+    /// ```
+    /// use yovanelum::broadcast::{self, error::TryRecvError};
+    ///
+    /// let (prices, mut chart) = broadcast::channel(2);
+    /// for price in [101, 102, 103] {
+    ///     prices.send(price).unwrap();
+    /// }
+    /// assert_eq!(chart.len(), 3);
+    /// assert_eq!(chart.try_recv(), Err(TryRecvError::Lagged(1)));
+    /// assert_eq!(chart.len(), 2);
+    /// ```
     pub fn len(&self) -> usize {
         let tap = &self.channel.tap;
         if tap.recorder.is_quiet() {
@@ -31,27 +74,90 @@ impl<T> Receiver<T> {
         count(tap.call(|channel, caller| channel.broadcast_receiver_len(caller, self.handle)))
     }
 
-    /// Whether it has received all that was sent to it.
+    /// Returns `true` if this receiver has received everything that was sent to it, as in tokio: if [`len`](Receiver::len) is 0.
+    ///
+    /// # Examples
+    ///
+    /// ```
+    /// use yovanelum::broadcast;
+    ///
+    /// let (bus, mut mailer) = broadcast::channel(4);
+    /// let audit = bus.subscribe();
+    /// bus.send("user created").unwrap();
+    /// mailer.try_recv().unwrap();
+    /// assert!(mailer.is_empty());
+    /// assert!(!audit.is_empty());
+    /// ```
     pub fn is_empty(&self) -> bool {
         self.len() == 0
     }
 
-    /// Whether both are receivers of one channel.
+    /// Returns `true` if both receivers belong to the same channel, as in tokio. It is not recorded.
+    ///
+    /// # Examples
+    ///
+    /// ```
+    /// use yovanelum::broadcast;
+    ///
+    /// let (orders, mailer) = broadcast::channel::<u32>(4);
+    /// let (_refunds, other) = broadcast::channel::<u32>(4);
+    /// assert!(mailer.same_channel(&orders.subscribe()));
+    /// assert!(!mailer.same_channel(&other));
+    /// ```
     pub fn same_channel(&self, other: &Self) -> bool {
         Arc::ptr_eq(&self.channel, &other.channel)
     }
 
-    /// How many senders are alive.
+    /// Returns the number of senders that are alive, as in tokio. Weak senders are not counted. It is not recorded.
+    ///
+    /// # Examples
+    ///
+    /// ```
+    /// use yovanelum::broadcast;
+    ///
+    /// let (bus, listener) = broadcast::channel::<u32>(4);
+    /// let other = bus.clone();
+    /// assert_eq!(listener.sender_strong_count(), 2);
+    /// drop((bus, other));
+    /// assert_eq!(listener.sender_strong_count(), 0);
+    /// ```
     pub fn sender_strong_count(&self) -> usize {
         self.channel.tap.ask(|channel| channel.senders()) as usize
     }
 
-    /// How many weak senders are alive.
+    /// Returns the number of weak senders that are alive, as in tokio. It is not recorded.
+    ///
+    /// # Examples
+    ///
+    /// ```
+    /// use yovanelum::broadcast;
+    ///
+    /// let (bus, listener) = broadcast::channel::<u32>(4);
+    /// let plugin = bus.downgrade();
+    /// assert_eq!(listener.sender_weak_count(), 1);
+    /// drop(plugin);
+    /// assert_eq!(listener.sender_weak_count(), 0);
+    /// ```
     pub fn sender_weak_count(&self) -> usize {
         self.channel.tap.ask(|channel| channel.weak_senders()) as usize
     }
 
-    /// Whether every sender is gone. There may be values to receive all the same.
+    /// Returns `true` if the channel is closed.
+    ///
+    /// As in tokio, the channel is closed when every sender has been dropped. There may still be values to receive. It is not recorded.
+    ///
+    /// # Examples
+    ///
+    /// ```
+    /// use yovanelum::broadcast;
+    ///
+    /// let (bus, mut listener) = broadcast::channel(4);
+    /// bus.send("shutting down").unwrap();
+    /// assert!(!listener.is_closed());
+    /// drop(bus);
+    /// assert!(listener.is_closed());
+    /// assert_eq!(listener.try_recv(), Ok("shutting down"));
+    /// ```
     pub fn is_closed(&self) -> bool {
         self.sender_strong_count() == 0
     }
@@ -74,23 +180,27 @@ impl<T> Receiver<T> {
 }
 
 impl<T: Clone> Receiver<T> {
-    /// Makes a receiver, which gets the values that are sent from now on, and none of those that this one has yet to receive.
+    /// Creates a receiver of the same channel, which receives the values that are sent after this call.
+    ///
+    /// As in tokio, it receives none of the values that this receiver has yet to receive. This receiver is unchanged.
+    ///
+    /// # Panics
+    ///
+    /// Panics if the channel has created 65,536 senders, weak senders and receivers, dropped ones included.
+    ///
+    /// # Examples
     ///
     /// ```
     /// use yovanelum::broadcast::{self, error::TryRecvError};
     ///
-    /// let (tx, mut rx) = broadcast::channel(4);
-    /// tx.send(1).unwrap();
-    /// let mut later = rx.resubscribe();
-    /// tx.send(2).unwrap();
-    /// assert_eq!(later.try_recv(), Ok(2));
-    /// assert_eq!(rx.try_recv(), Ok(1));
-    /// assert_eq!(later.try_recv(), Err(TryRecvError::Empty));
+    /// let (prices, mut chart) = broadcast::channel(4);
+    /// prices.send(101).unwrap();
+    /// let mut late = chart.resubscribe();
+    /// prices.send(102).unwrap();
+    /// assert_eq!(late.try_recv(), Ok(102));
+    /// assert_eq!(late.try_recv(), Err(TryRecvError::Empty));
+    /// assert_eq!(chart.try_recv(), Ok(101));
     /// ```
-    ///
-    /// # Panics
-    ///
-    /// Where the channel has made 65,536 senders, weak senders and receivers.
     pub fn resubscribe(&self) -> Receiver<T> {
         let handle = made(
             self.channel
@@ -103,14 +213,52 @@ impl<T: Clone> Receiver<T> {
         }
     }
 
-    /// Receives the next value, and waits for it where there is none.
+    /// Receives the next value, and waits for one if there is none.
     ///
-    /// It may be dropped before it is done, as by a `select!`: then it has received nothing.
+    /// Returns a clone of the value. As in tokio, a receiver that lags is moved to the oldest value that is still retained, and the next
+    /// receive returns that value, unless it has been overwritten too.
+    ///
+    /// # Cancel safety
+    ///
+    /// As in tokio, nothing has been received if the future is dropped before it completes, for example by `select!`. A receive that is
+    /// dropped is not recorded.
     ///
     /// # Errors
     ///
-    /// [`RecvError::Closed`] where every sender is gone and all was received, [`RecvError::Lagged`] where values were overwritten before this
-    /// receiver received them.
+    /// - [`RecvError::Lagged`] if values were overwritten before this receiver received them.
+    /// - [`RecvError::Closed`] if every sender has been dropped and everything that was sent has been received.
+    ///
+    /// # Examples
+    ///
+    /// ```
+    /// use std::thread;
+    /// use yovanelum::broadcast::{self, error::RecvError};
+    /// use yovanelum::block_on;
+    ///
+    /// let (prices, mut chart) = broadcast::channel(2);
+    /// let exchange = thread::spawn(move || prices.send(101).unwrap());
+    /// block_on(async {
+    ///     assert_eq!(chart.recv().await, Ok(101));
+    ///     assert_eq!(chart.recv().await, Err(RecvError::Closed));
+    /// });
+    /// exchange.join().unwrap();
+    /// ```
+    ///
+    /// A receiver that lags:
+    ///
+    /// ```
+    /// use yovanelum::broadcast::{self, error::RecvError};
+    /// use yovanelum::block_on;
+    ///
+    /// let (prices, mut chart) = broadcast::channel(2);
+    /// for price in [101, 102, 103] {
+    ///     prices.send(price).unwrap();
+    /// }
+    /// block_on(async {
+    ///     assert_eq!(chart.recv().await, Err(RecvError::Lagged(1)));
+    ///     assert_eq!(chart.recv().await, Ok(102));
+    /// });
+    /// ```
     pub async fn recv(&mut self) -> Result<T, RecvError> {
         let mut waiting = Waiting::new(&self.channel.tap, For::Value);
         let got = poll_fn(|context| {
@@ -129,12 +277,28 @@ impl<T: Clone> Receiver<T> {
         }
     }
 
-    /// Receives the next value, if there is one.
+    /// Receives the next value if there is one, without waiting.
+    ///
+    /// Returns a clone of the value. As in tokio, a receiver that lags is moved to the oldest value that is still retained.
     ///
     /// # Errors
     ///
-    /// [`TryRecvError::Empty`] where there is none now, [`TryRecvError::Closed`] where there will be none, [`TryRecvError::Lagged`] where
-    /// values were overwritten before this receiver received them.
+    /// - [`TryRecvError::Empty`] if there is no value now. Nothing has changed.
+    /// - [`TryRecvError::Lagged`] if values were overwritten before this receiver received them.
+    /// - [`TryRecvError::Closed`] if every sender has been dropped and everything that was sent has been received.
+    ///
+    /// # Examples
+    ///
+    /// ```
+    /// use yovanelum::broadcast::{self, error::TryRecvError};
+    ///
+    /// let (bus, mut listener) = broadcast::channel(4);
+    /// assert_eq!(listener.try_recv(), Err(TryRecvError::Empty));
+    /// bus.send("user created").unwrap();
+    /// drop(bus);
+    /// assert_eq!(listener.try_recv(), Ok("user created"));
+    /// assert_eq!(listener.try_recv(), Err(TryRecvError::Closed));
+    /// ```
     pub fn try_recv(&mut self) -> Result<T, TryRecvError> {
         let mut turn = self.channel.tap.turn();
         let got = self.receive(&mut turn, proved::Channel::broadcast_try_recv);
@@ -143,11 +307,26 @@ impl<T: Clone> Receiver<T> {
             .map(Value::cloned)
     }
 
-    /// Receives the next value, and blocks this thread until there is one. Not for use within a runtime.
+    /// Receives the next value, and blocks the current thread until there is one.
+    ///
+    /// As in tokio, it is [`recv`](Receiver::recv) for code that is not asynchronous. Unlike tokio, it does not panic within a runtime: it
+    /// blocks the thread there.
     ///
     /// # Errors
     ///
     /// As [`recv`](Receiver::recv).
+    ///
+    /// # Examples
+    ///
+    /// ```
+    /// use std::thread;
+    /// use yovanelum::broadcast;
+    ///
+    /// let (prices, mut chart) = broadcast::channel(4);
+    /// let screen = thread::spawn(move || chart.blocking_recv());
+    /// prices.send(101).unwrap();
+    /// assert_eq!(screen.join().unwrap(), Ok(101));
+    /// ```
     pub fn blocking_recv(&mut self) -> Result<T, RecvError> {
         block_on(self.recv())
     }

@@ -1,4 +1,4 @@
-//! The sending half of a broadcast.
+//! The sending half of a broadcast channel.
 
 use super::error::SendError;
 use super::{Channel, Receiver, WeakSender, count, made, open};
@@ -10,18 +10,55 @@ use std::future::poll_fn;
 use std::panic::{RefUnwindSafe, UnwindSafe};
 use std::sync::Arc;
 
-/// The sending half. Any number of senders send on one channel, and a sender is shared or cloned; each call takes `&self`.
+/// The sending half of a broadcast channel.
+///
+/// [`channel`](super::channel) and [`Sender::new`] create the first sender, `clone` and [`WeakSender::upgrade`] create further ones. As in
+/// tokio, a sender may be used from many threads: each method takes `&self`. The channel is closed when the last sender is dropped.
+///
+/// # Examples
+///
+/// ```
+/// use std::thread;
+/// use yovanelum::broadcast;
+///
+/// let (bus, mut audit) = broadcast::channel(16);
+/// let workers = ["mail", "backup"].map(|job| {
+///     let bus = bus.clone();
+///     thread::spawn(move || bus.send(job).unwrap())
+/// });
+/// for worker in workers {
+///     assert_eq!(worker.join().unwrap(), 1);
+/// }
+/// let mut done = [audit.try_recv().unwrap(), audit.try_recv().unwrap()];
+/// done.sort();
+/// assert_eq!(done, ["backup", "mail"]);
+/// ```
 pub struct Sender<T> {
     pub(super) channel: Arc<Channel<T>>,
     pub(super) handle: u32,
 }
 
 impl<T> Sender<T> {
-    /// Makes a channel with a sender and no receiver. [`subscribe`](Sender::subscribe) makes receivers.
+    /// Creates a broadcast channel with this capacity and without a receiver, and returns its first sender.
+    ///
+    /// As in tokio, this is [`channel`](super::channel) without the receiver: [`subscribe`](Sender::subscribe) creates one. The journal
+    /// begins with the drop of receiver 1, so the first receiver that is created has the number 2.
     ///
     /// # Panics
     ///
-    /// Where the capacity is 0 or above 65,536.
+    /// Panics if the capacity is 0 or greater than 65,536.
+    ///
+    /// # Examples
+    ///
+    /// ```
+    /// use yovanelum::broadcast;
+    ///
+    /// let bus = broadcast::Sender::new(16);
+    /// assert!(bus.send("nobody listens").is_err());
+    /// let mut listener = bus.subscribe();
+    /// bus.send("started").unwrap();
+    /// assert_eq!(listener.try_recv(), Ok("started"));
+    /// ```
     #[track_caller]
     pub fn new(capacity: usize) -> Sender<T> {
         let channel = open(capacity);
@@ -32,18 +69,31 @@ impl<T> Sender<T> {
         Sender { channel, handle: 0 }
     }
 
-    /// Sends a value to all receivers that are alive, and answers how many these are.
+    /// Sends a value to all receivers of the channel, and returns how many there are.
     ///
-    /// That it was sent doesn't mean that anybody will receive it: receivers may be dropped, or lag. Where no receiver is alive the value
-    /// comes back, and later sends may succeed, once there is a receiver.
+    /// The call never waits. If the channel is full, the value overwrites the oldest one.
+    ///
+    /// As in tokio, `Ok` does not mean that a receiver will get the value, since receivers may be dropped or lag before. `Err` does not
+    /// mean that later sends will fail, since [`subscribe`](Sender::subscribe) may create a receiver.
+    ///
+    /// # Errors
+    ///
+    /// Returns [`SendError`] with the value if the channel has no receiver. The channel is then unchanged: the value is not stored, and a
+    /// receiver that is created later does not get it.
+    ///
+    /// # Examples
     ///
     /// ```
     /// use yovanelum::broadcast;
     ///
-    /// let (tx, rx) = broadcast::channel(4);
-    /// assert_eq!(tx.send(1).unwrap(), 1);
-    /// drop(rx);
-    /// assert_eq!(tx.send(2).unwrap_err().0, 2);
+    /// let (prices, chart) = broadcast::channel(4);
+    /// let ticker = prices.subscribe();
+    /// assert_eq!(prices.send(101).unwrap(), 2);
+    /// drop((chart, ticker));
+    /// assert_eq!(prices.send(102).unwrap_err().0, 102);
+    /// let mut late = prices.subscribe();
+    /// assert_eq!(prices.send(103).unwrap(), 1);
+    /// assert_eq!(late.try_recv(), Ok(103));
     /// ```
     pub fn send(&self, value: T) -> Result<usize, SendError<T>> {
         let channel = &*self.channel;
@@ -67,11 +117,27 @@ impl<T> Sender<T> {
         }
     }
 
-    /// Makes a receiver, which gets the values that are sent from now on.
+    /// Creates a receiver, which receives the values that are sent after this call.
+    ///
+    /// As in tokio, it receives none of the values that were sent before. Other receivers are not affected.
     ///
     /// # Panics
     ///
-    /// Where the channel has made 65,536 senders, weak senders and receivers.
+    /// Panics if the channel has created 65,536 senders, weak senders and receivers, dropped ones included.
+    ///
+    /// # Examples
+    ///
+    /// ```
+    /// use yovanelum::broadcast::{self, error::TryRecvError};
+    ///
+    /// let (prices, mut chart) = broadcast::channel(4);
+    /// prices.send(101).unwrap();
+    /// let mut late = prices.subscribe();
+    /// prices.send(102).unwrap();
+    /// assert_eq!(late.try_recv(), Ok(102));
+    /// assert_eq!(late.try_recv(), Err(TryRecvError::Empty));
+    /// assert_eq!(chart.try_recv(), Ok(101));
+    /// ```
     pub fn subscribe(&self) -> Receiver<T> {
         let handle = made(
             self.channel
@@ -84,11 +150,27 @@ impl<T> Sender<T> {
         }
     }
 
-    /// Makes a weak sender, which doesn't keep the channel open.
+    /// Creates a weak sender, which does not keep the channel open.
+    ///
+    /// As in tokio, the channel is closed when the last `Sender` is dropped, whatever weak senders are left. This sender can still be used.
     ///
     /// # Panics
     ///
-    /// Where the channel has made 65,536 senders, weak senders and receivers.
+    /// Panics if the channel has created 65,536 senders, weak senders and receivers, dropped ones included.
+    ///
+    /// # Examples
+    ///
+    /// ```
+    /// use yovanelum::broadcast;
+    ///
+    /// let (bus, mut audit) = broadcast::channel(4);
+    /// let plugin = bus.downgrade();
+    /// plugin.upgrade().unwrap().send("plugin loaded").unwrap();
+    /// drop(bus);
+    /// assert!(plugin.upgrade().is_none());
+    /// assert_eq!(audit.try_recv(), Ok("plugin loaded"));
+    /// assert!(audit.is_closed());
+    /// ```
     #[must_use = "a weak sender that isn't used does nothing"]
     pub fn downgrade(&self) -> WeakSender<T> {
         let tap = &self.channel.tap;
@@ -100,7 +182,25 @@ impl<T> Sender<T> {
         }
     }
 
-    /// How many values are kept that some receiver has yet to receive.
+    /// Returns the number of queued values.
+    ///
+    /// As in tokio, a value is queued until every receiver that was alive at its send has received it or was dropped, or until it is
+    /// overwritten. Unlike [`Receiver::len`], the number does not include overwritten values.
+    ///
+    /// # Examples
+    ///
+    /// ```
+    /// use yovanelum::broadcast;
+    ///
+    /// let (prices, mut chart) = broadcast::channel(2);
+    /// for price in [101, 102, 103] {
+    ///     prices.send(price).unwrap();
+    /// }
+    /// assert_eq!(prices.len(), 2);
+    /// assert_eq!(chart.len(), 3);
+    /// drop(chart);
+    /// assert_eq!(prices.len(), 0);
+    /// ```
     pub fn len(&self) -> usize {
         let tap = &self.channel.tap;
         if tap.recorder.is_quiet() {
@@ -109,12 +209,40 @@ impl<T> Sender<T> {
         count(tap.call(|channel, caller| channel.broadcast_sender_len(caller, self.handle)))
     }
 
-    /// Whether there is no value that some receiver has yet to receive.
+    /// Returns `true` if no value is queued, as in tokio: if [`len`](Sender::len) is 0.
+    ///
+    /// # Examples
+    ///
+    /// ```
+    /// use yovanelum::broadcast;
+    ///
+    /// let (prices, mut chart) = broadcast::channel(2);
+    /// assert!(prices.is_empty());
+    /// prices.send(101).unwrap();
+    /// assert!(!prices.is_empty());
+    /// chart.try_recv().unwrap();
+    /// assert!(prices.is_empty());
+    /// ```
     pub fn is_empty(&self) -> bool {
         self.len() == 0
     }
 
-    /// How many receivers are alive.
+    /// Returns the number of receivers that are alive.
+    ///
+    /// As in tokio, these are the receivers that a value is sent to, and not all of them need to get it: a receiver may be dropped or lag
+    /// before.
+    ///
+    /// # Examples
+    ///
+    /// ```
+    /// use yovanelum::broadcast;
+    ///
+    /// let (bus, mailer) = broadcast::channel::<&str>(4);
+    /// let audit = bus.subscribe();
+    /// assert_eq!(bus.receiver_count(), 2);
+    /// drop((mailer, audit));
+    /// assert_eq!(bus.receiver_count(), 0);
+    /// ```
     pub fn receiver_count(&self) -> usize {
         let tap = &self.channel.tap;
         if tap.recorder.is_quiet() {
@@ -123,22 +251,39 @@ impl<T> Sender<T> {
         count(tap.call(|channel, caller| channel.broadcast_receiver_count(caller, self.handle)))
     }
 
-    /// Whether both are senders of one channel.
+    /// Returns `true` if both senders belong to the same channel, as in tokio. It is not recorded.
+    ///
+    /// # Examples
+    ///
+    /// ```
+    /// use yovanelum::broadcast;
+    ///
+    /// let orders = broadcast::Sender::<u32>::new(4);
+    /// let refunds = broadcast::Sender::<u32>::new(4);
+    /// assert!(orders.same_channel(&orders.clone()));
+    /// assert!(!orders.same_channel(&refunds));
+    /// ```
     pub fn same_channel(&self, other: &Self) -> bool {
         Arc::ptr_eq(&self.channel, &other.channel)
     }
 
-    /// Waits until no receiver is alive.
+    /// Waits until the channel has no receiver.
     ///
-    /// It may be dropped before it is done without any effect. It is recorded as a question for the number of receivers, once that is 0.
+    /// As in tokio, the future completes when the number of receivers reaches zero; [`subscribe`](Sender::subscribe) may create a receiver
+    /// again. If there is none at the call, it completes at once. If the future is dropped before it completes, nothing has changed. It is
+    /// recorded when it completes, as a [`receiver_count`](Sender::receiver_count) of 0.
+    ///
+    /// # Examples
     ///
     /// ```
+    /// use std::thread;
     /// use yovanelum::{block_on, broadcast};
     ///
-    /// let (tx, rx) = broadcast::channel::<u32>(4);
-    /// let other = std::thread::spawn(move || drop(rx));
-    /// block_on(tx.closed());
-    /// other.join().unwrap();
+    /// let (prices, chart) = broadcast::channel::<u32>(4);
+    /// let window = thread::spawn(move || drop(chart));
+    /// block_on(prices.closed());
+    /// assert_eq!(prices.receiver_count(), 0);
+    /// window.join().unwrap();
     /// ```
     pub async fn closed(&self) {
         let mut waiting = Waiting::new(&self.channel.tap, For::NoReceiver);
@@ -154,21 +299,49 @@ impl<T> Sender<T> {
         .await
     }
 
-    /// How many senders are alive.
+    /// Returns the number of senders that are alive, as in tokio. Weak senders are not counted. It is not recorded.
+    ///
+    /// # Examples
+    ///
+    /// ```
+    /// use yovanelum::broadcast;
+    ///
+    /// let bus = broadcast::Sender::<u32>::new(4);
+    /// let other = bus.clone();
+    /// let _weak = bus.downgrade();
+    /// assert_eq!(bus.strong_count(), 2);
+    /// drop(other);
+    /// assert_eq!(bus.strong_count(), 1);
+    /// ```
     pub fn strong_count(&self) -> usize {
         self.channel.tap.ask(|channel| channel.senders()) as usize
     }
 
-    /// How many weak senders are alive.
+    /// Returns the number of weak senders that are alive, as in tokio. It is not recorded.
+    ///
+    /// # Examples
+    ///
+    /// ```
+    /// use yovanelum::broadcast;
+    ///
+    /// let bus = broadcast::Sender::<u32>::new(4);
+    /// assert_eq!(bus.weak_count(), 0);
+    /// let plugins = [bus.downgrade(), bus.downgrade()];
+    /// assert_eq!(bus.weak_count(), 2);
+    /// drop(plugins);
+    /// assert_eq!(bus.weak_count(), 0);
+    /// ```
     pub fn weak_count(&self) -> usize {
         self.channel.tap.ask(|channel| channel.weak_senders()) as usize
     }
 }
 
 impl<T> Clone for Sender<T> {
+    /// Creates another sender of the same channel.
+    ///
     /// # Panics
     ///
-    /// Where the channel has made 65,536 senders, weak senders and receivers.
+    /// Panics if the channel has created 65,536 senders, weak senders and receivers, dropped ones included.
     fn clone(&self) -> Sender<T> {
         let handle = made(
             self.channel

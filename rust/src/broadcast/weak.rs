@@ -1,4 +1,4 @@
-//! Senders that keep no broadcast open.
+//! Senders that do not keep a broadcast channel open.
 
 use super::{Channel, Sender, made};
 use crate::line::Tap;
@@ -8,16 +8,27 @@ use std::fmt;
 use std::panic::{RefUnwindSafe, UnwindSafe};
 use std::sync::Arc;
 
-/// A sender that doesn't keep the channel open: the channel is closed when every [`Sender`] is gone, whatever weak ones there are.
+/// A sender that does not keep the channel open.
+///
+/// As in tokio, the channel is closed when every [`Sender`] has been dropped, also if weak senders are left. To send,
+/// [`upgrade`](WeakSender::upgrade) a weak sender to a sender. [`Sender::downgrade`] and `clone` create weak senders.
+///
+/// # Examples
+///
+/// A plugin that may send as long as the application runs:
 ///
 /// ```
 /// use yovanelum::broadcast;
 ///
-/// let (tx, _rx) = broadcast::channel::<u32>(4);
-/// let weak = tx.downgrade();
-/// weak.upgrade().unwrap().send(1).unwrap();
-/// drop(tx);
-/// assert!(weak.upgrade().is_none());
+/// let (bus, mut audit) = broadcast::channel(4);
+/// let plugin = bus.downgrade();
+/// if let Some(bus) = plugin.upgrade() {
+///     bus.send("plugin loaded").unwrap();
+/// }
+/// assert_eq!(audit.try_recv(), Ok("plugin loaded"));
+/// drop(bus);
+/// assert!(audit.is_closed());
+/// assert!(plugin.upgrade().is_none());
 /// ```
 pub struct WeakSender<T> {
     pub(super) channel: Arc<Channel<T>>,
@@ -25,11 +36,29 @@ pub struct WeakSender<T> {
 }
 
 impl<T> WeakSender<T> {
-    /// A sender, unless every sender is gone.
+    /// Creates a sender of the channel, or returns `None` if every sender has been dropped.
+    ///
+    /// As in tokio, it returns `Some` if another sender is alive. Once it has returned `None`, it always will: a closed channel stays
+    /// closed. The weak sender itself is unchanged.
     ///
     /// # Panics
     ///
-    /// Where the channel has made 65,536 senders, weak senders and receivers.
+    /// Panics if the channel has created 65,536 senders, weak senders and receivers, dropped ones included.
+    ///
+    /// # Examples
+    ///
+    /// ```
+    /// use yovanelum::broadcast;
+    ///
+    /// let (bus, _audit) = broadcast::channel::<u32>(4);
+    /// let weak = bus.downgrade();
+    /// let upgraded = weak.upgrade().unwrap();
+    /// drop(bus);
+    /// // The upgraded sender is alive.
+    /// assert!(weak.upgrade().is_some());
+    /// drop(upgraded);
+    /// assert!(weak.upgrade().is_none());
+    /// ```
     #[must_use]
     pub fn upgrade(&self) -> Option<Sender<T>> {
         let tap = &self.channel.tap;
@@ -42,21 +71,48 @@ impl<T> WeakSender<T> {
         }
     }
 
-    /// How many senders are alive.
+    /// Returns the number of senders that are alive, as in tokio. Weak senders are not counted. It is not recorded.
+    ///
+    /// # Examples
+    ///
+    /// ```
+    /// use yovanelum::broadcast;
+    ///
+    /// let bus = broadcast::Sender::<u32>::new(4);
+    /// let weak = bus.downgrade();
+    /// assert_eq!(weak.strong_count(), 1);
+    /// drop(bus);
+    /// assert_eq!(weak.strong_count(), 0);
+    /// ```
     pub fn strong_count(&self) -> usize {
         self.channel.tap.ask(|channel| channel.senders()) as usize
     }
 
-    /// How many weak senders are alive.
+    /// Returns the number of weak senders that are alive, this one included, as in tokio. It is not recorded.
+    ///
+    /// # Examples
+    ///
+    /// ```
+    /// use yovanelum::broadcast;
+    ///
+    /// let bus = broadcast::Sender::<u32>::new(4);
+    /// let weak = bus.downgrade();
+    /// let other = weak.clone();
+    /// assert_eq!(weak.weak_count(), 2);
+    /// drop(other);
+    /// assert_eq!(weak.weak_count(), 1);
+    /// ```
     pub fn weak_count(&self) -> usize {
         self.channel.tap.ask(|channel| channel.weak_senders()) as usize
     }
 }
 
 impl<T> Clone for WeakSender<T> {
+    /// Creates another weak sender of the same channel.
+    ///
     /// # Panics
     ///
-    /// Where the channel has made 65,536 senders, weak senders and receivers.
+    /// Panics if the channel has created 65,536 senders, weak senders and receivers, dropped ones included.
     fn clone(&self) -> WeakSender<T> {
         let tap = &self.channel.tap;
         let handle =

@@ -1,9 +1,22 @@
-//! The errors of a watch.
+//! Errors of the watch channel.
 
 use std::error::Error;
 use std::fmt;
 
-/// What [`Sender::send`](super::Sender::send) answers where no receiver is alive: the value comes back.
+/// Error returned by [`Sender::send`](super::Sender::send) when the channel has no receiver.
+///
+/// It contains the value that was not sent. As in tokio, the value that the channel holds is then the one from before.
+///
+/// # Examples
+///
+/// ```
+/// use yovanelum::watch::{self, error::SendError};
+///
+/// let (config, rx) = watch::channel("log = info");
+/// drop(rx);
+/// assert_eq!(config.send("log = debug"), Err(SendError("log = debug")));
+/// assert_eq!(*config.borrow(), "log = info");
+/// ```
 #[derive(PartialEq, Eq, Clone, Copy)]
 pub struct SendError<T>(pub T);
 
@@ -21,7 +34,27 @@ impl<T> fmt::Display for SendError<T> {
 
 impl<T> Error for SendError<T> {}
 
-/// What a receiver is answered where every sender is gone.
+/// Error returned by the methods of [`Receiver`](super::Receiver) when every sender has been dropped.
+///
+/// As in tokio, it carries nothing: the only reason is that the channel is closed.
+///
+/// # Examples
+///
+/// ```
+/// use yovanelum::watch::{self, error::RecvError};
+///
+/// /// The version of a configuration, if it has changed.
+/// fn reloaded(rx: &mut watch::Receiver<u32>) -> Result<Option<u32>, RecvError> {
+///     Ok(rx.has_changed()?.then(|| *rx.borrow_and_update()))
+/// }
+///
+/// let (config, mut rx) = watch::channel(1);
+/// config.send(2).unwrap();
+/// assert_eq!(reloaded(&mut rx).unwrap(), Some(2));
+/// assert_eq!(reloaded(&mut rx).unwrap(), None);
+/// drop(config);
+/// assert_eq!(reloaded(&mut rx).unwrap_err().to_string(), "channel closed");
+/// ```
 #[derive(Debug, Clone)]
 pub struct RecvError(pub(super) ());
 

@@ -1,24 +1,55 @@
-//! A look at the value of a watch.
+//! A reference to the value of a watch channel.
 
 use std::fmt;
 use std::ops::Deref;
 use std::sync::RwLockReadGuard;
 
-/// The value, looked at: as long as this is alive senders wait, so keep it no longer than needed, and across no `await`.
+/// A reference to the value of a watch channel, which holds a read lock on it.
+///
+/// [`Receiver::borrow`], [`Receiver::borrow_and_update`], [`Receiver::wait_for`] and [`Sender::borrow`] return it. It dereferences to the
+/// value, and the value does not change while it is alive.
+///
+/// As in tokio, a sender that changes the value blocks until every `Ref` of the channel has been dropped. So keep a `Ref` for a short time,
+/// and not across an `.await`. A thread that holds a `Ref` and sends on the same channel may wait forever.
+///
+/// [`Receiver::borrow`]: super::Receiver::borrow
+/// [`Receiver::borrow_and_update`]: super::Receiver::borrow_and_update
+/// [`Receiver::wait_for`]: super::Receiver::wait_for
+/// [`Sender::borrow`]: super::Sender::borrow
+///
+/// # Examples
+///
+/// ```
+/// use yovanelum::watch::{self, Ref};
+///
+/// let (config, rx) = watch::channel(vec!["log = info"]);
+/// {
+///     let lines: Ref<'_, Vec<_>> = rx.borrow();
+///     assert_eq!(lines.len(), 1);
+/// }
+/// // The reference has been dropped, so the send does not wait.
+/// config.send(vec!["log = info", "port = 80"]).unwrap();
+/// assert_eq!(rx.borrow().len(), 2);
+/// ```
 pub struct Ref<'a, T> {
     pub(super) inner: RwLockReadGuard<'a, T>,
     pub(super) has_changed: bool,
 }
 
 impl<T> Ref<'_, T> {
-    /// Whether the receiver that looked had not seen this value before. Where a sender looked it is `false`.
+    /// Returns `true` if the receiver had not seen the value when it borrowed it.
+    ///
+    /// As in tokio, it does not fail if the channel is closed, and for a `Ref` of a sender it is always `false`.
+    ///
+    /// # Examples
     ///
     /// ```
     /// use yovanelum::watch;
     ///
-    /// let (tx, mut rx) = watch::channel(1);
+    /// let (config, mut rx) = watch::channel("log = info");
     /// assert!(!rx.borrow_and_update().has_changed());
-    /// tx.send(2).unwrap();
+    /// config.send("log = debug").unwrap();
+    /// assert!(!config.borrow().has_changed());
     /// assert!(rx.borrow().has_changed());
     /// assert!(rx.borrow_and_update().has_changed());
     /// assert!(!rx.borrow_and_update().has_changed());

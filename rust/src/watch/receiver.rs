@@ -1,4 +1,4 @@
-//! The receiving half of a watch.
+//! The receiving half of a watch channel.
 
 use super::error::RecvError;
 use super::{Channel, Ref, debug, made};
@@ -10,19 +10,69 @@ use std::future::poll_fn;
 use std::panic::{RefUnwindSafe, UnwindSafe};
 use std::sync::Arc;
 
-/// The receiving half: it looks at the value, and is told when there is one that it hasn't seen.
+/// The receiving half of a watch channel.
+///
+/// It looks at the last value, and waits for values that it has not seen. [`channel`](super::channel),
+/// [`Sender::subscribe`](super::Sender::subscribe) and `clone` create receivers. As in tokio, a clone has seen what the original has, and
+/// from then on each of the two sees values for itself.
+///
+/// # Examples
+///
+/// ```
+/// use yovanelum::{block_on, watch};
+///
+/// let (config, mut rx) = watch::channel("log = info");
+/// config.send("log = debug").unwrap();
+/// // Both have yet to see the value.
+/// let mut other = rx.clone();
+/// block_on(async {
+///     rx.changed().await.unwrap();
+///     assert_eq!(*rx.borrow(), "log = debug");
+/// });
+/// assert!(!rx.has_changed().unwrap());
+/// assert!(other.borrow_and_update().has_changed());
+/// ```
 pub struct Receiver<T> {
     pub(super) channel: Arc<Channel<T>>,
     pub(super) handle: u32,
 }
 
 impl<T> Receiver<T> {
-    /// Looks at the value without marking it as seen. Keep what is answered no longer than needed: senders wait for it.
+    /// Returns a reference to the last value, without marking the value as seen.
+    ///
+    /// As in tokio, the reference holds a read lock: senders block until it is dropped, so keep it for a short time. In a loop with
+    /// [`changed`](Receiver::changed) use [`borrow_and_update`](Receiver::borrow_and_update): with `borrow`, a value that was sent between
+    /// the two is looked at twice.
+    ///
+    /// # Examples
+    ///
+    /// ```
+    /// use yovanelum::watch;
+    ///
+    /// let (config, rx) = watch::channel("log = info");
+    /// config.send("log = debug").unwrap();
+    /// assert_eq!(*rx.borrow(), "log = debug");
+    /// assert!(rx.has_changed().unwrap());
+    /// ```
     pub fn borrow(&self) -> Ref<'_, T> {
         self.channel.look(self.handle, true)
     }
 
-    /// Looks at the value and marks it as seen. Keep what is answered no longer than needed: senders wait for it.
+    /// Returns a reference to the last value, and marks the value as seen.
+    ///
+    /// As in tokio, [`changed`](Receiver::changed) then waits for the next value. The reference holds a read lock: senders block until it
+    /// is dropped, so keep it for a short time.
+    ///
+    /// # Examples
+    ///
+    /// ```
+    /// use yovanelum::watch;
+    ///
+    /// let (config, mut rx) = watch::channel("log = info");
+    /// config.send("log = debug").unwrap();
+    /// assert_eq!(*rx.borrow_and_update(), "log = debug");
+    /// assert!(!rx.has_changed().unwrap());
+    /// ```
     pub fn borrow_and_update(&mut self) -> Ref<'_, T> {
         self.update()
     }
@@ -36,11 +86,28 @@ impl<T> Receiver<T> {
         Ref { inner, has_changed }
     }
 
-    /// Whether there is a value that this receiver hasn't seen.
+    /// Returns `true` if there is a value that this receiver has not seen.
+    ///
+    /// As in tokio, the value is not marked as seen, and values are not compared: a value that is equal to the one before counts as a
+    /// change.
     ///
     /// # Errors
     ///
-    /// Where every sender is gone, whether the last value was seen or not.
+    /// Returns [`RecvError`] if every sender has been dropped, also if the last value has not been seen.
+    ///
+    /// # Examples
+    ///
+    /// ```
+    /// use yovanelum::watch;
+    ///
+    /// let (config, rx) = watch::channel("log = info");
+    /// assert!(!rx.has_changed().unwrap());
+    /// config.send("log = info").unwrap();
+    /// assert!(rx.has_changed().unwrap());
+    /// drop(config);
+    /// assert!(rx.has_changed().is_err());
+    /// assert_eq!(*rx.borrow(), "log = info");
+    /// ```
     pub fn has_changed(&self) -> Result<bool, RecvError> {
         let tap = &self.channel.tap;
         if tap.recorder.is_quiet() {
@@ -59,39 +126,80 @@ impl<T> Receiver<T> {
         }
     }
 
-    /// Makes the value one that this receiver hasn't seen.
+    /// Marks the last value as unseen by this receiver.
+    ///
+    /// As in tokio, [`changed`](Receiver::changed) then returns at once, whether a value was sent or not. So a new receiver can handle the
+    /// value that was there before it in the same loop as later ones. Other receivers are not affected.
+    ///
+    /// # Examples
+    ///
+    /// ```
+    /// use yovanelum::{block_on, watch};
+    ///
+    /// let config = watch::Sender::new("log = info");
+    /// let mut rx = config.subscribe();
+    /// rx.mark_changed();
+    /// assert!(rx.has_changed().unwrap());
+    /// block_on(rx.changed()).unwrap();
+    /// assert!(!rx.has_changed().unwrap());
+    /// ```
     pub fn mark_changed(&mut self) {
         self.channel
             .tap
             .call(|channel, caller| channel.watch_mark_changed(caller, self.handle));
     }
 
-    /// Makes the value one that this receiver has seen.
+    /// Marks the last value as seen by this receiver.
+    ///
+    /// As in tokio, this is for a receiver that is not interested in that value. Other receivers are not affected.
+    ///
+    /// # Examples
+    ///
+    /// ```
+    /// use yovanelum::watch;
+    ///
+    /// let (config, mut rx) = watch::channel("log = info");
+    /// config.send("log = debug").unwrap();
+    /// rx.mark_unchanged();
+    /// assert!(!rx.has_changed().unwrap());
+    /// config.send("log = warn").unwrap();
+    /// assert!(rx.has_changed().unwrap());
+    /// ```
     pub fn mark_unchanged(&mut self) {
         self.channel
             .tap
             .call(|channel, caller| channel.watch_mark_unchanged(caller, self.handle));
     }
 
-    /// Waits until there is a value that this receiver hasn't seen, and marks it as seen.
+    /// Waits until there is a value that this receiver has not seen, and marks it as seen.
     ///
-    /// It may be dropped before it is done, as by a `select!`: then no value was marked as seen.
+    /// As in tokio, it returns at once if the last value is unseen at the call. To look at the value, call
+    /// [`borrow_and_update`](Receiver::borrow_and_update).
+    ///
+    /// # Cancel safety
+    ///
+    /// As in tokio, no value has been marked as seen if the future is dropped before it completes, for example by `select!`. It is then not
+    /// recorded.
     ///
     /// # Errors
     ///
-    /// Where every sender is gone and the last value was seen.
+    /// Returns [`RecvError`] if every sender has been dropped and the last value has been seen.
+    ///
+    /// # Examples
     ///
     /// ```
+    /// use std::thread;
     /// use yovanelum::{block_on, watch};
     ///
-    /// let (tx, mut rx) = watch::channel(0);
-    /// tx.send(1).unwrap();
-    /// drop(tx);
+    /// let (price, mut rx) = watch::channel(101);
+    /// let exchange = thread::spawn(move || price.send(102).unwrap());
     /// block_on(async {
-    ///     assert!(rx.changed().await.is_ok());
-    ///     assert_eq!(*rx.borrow(), 1);
+    ///     rx.changed().await.unwrap();
+    ///     assert_eq!(*rx.borrow_and_update(), 102);
+    ///     // The exchange ends, and drops the sender.
     ///     assert!(rx.changed().await.is_err());
     /// });
+    /// exchange.join().unwrap();
     /// ```
     pub async fn changed(&mut self) -> Result<(), RecvError> {
         self.wait().await
@@ -112,24 +220,40 @@ impl<T> Receiver<T> {
         .await
     }
 
-    /// Waits until the closure is true of the value, and looks at that value. The closure is called at once, and after each change; each value
-    /// that it was called with is marked as seen.
+    /// Waits until the closure returns `true` for the value, and returns a reference to that value.
     ///
-    /// The closure runs while the value is locked: it may neither look at this channel nor send on it, as the second look waits for a sender
-    /// that waits for the first. It may be dropped before it is done, as by a `select!`: then the closure was false of the last value that was
-    /// seen.
+    /// The closure is called with the value at the call, and after that whenever there is a value that this receiver has not seen. As in
+    /// tokio, it is called with the value at the call also if that has been seen, and values that are replaced quickly may be skipped. Each
+    /// value with which it was called is marked as seen. The reference holds a read lock: senders block until it is dropped.
+    ///
+    /// The closure runs while the value is locked. It must neither look at the value of this channel nor send on it, since that may be a
+    /// deadlock. Each call of the closure is recorded, as a [`borrow_and_update`](Receiver::borrow_and_update), and so is each wait for a
+    /// value, as a [`changed`](Receiver::changed).
+    ///
+    /// # Cancel safety
+    ///
+    /// As in tokio, if the future is dropped before it completes, for example by `select!`, the closure has returned `false` for the last
+    /// value that was seen.
     ///
     /// # Errors
     ///
-    /// Where every sender is gone and the closure is false of the last value.
+    /// Returns [`RecvError`] if every sender has been dropped and the closure has returned `false` for the last value.
+    ///
+    /// # Panics
+    ///
+    /// Panics if the closure panics. As in tokio, the channel can still be used.
+    ///
+    /// # Examples
     ///
     /// ```
+    /// use std::thread;
     /// use yovanelum::{block_on, watch};
     ///
-    /// let (tx, mut rx) = watch::channel("loading");
-    /// let worker = std::thread::spawn(move || tx.send("ready"));
-    /// block_on(rx.wait_for(|state| *state == "ready")).unwrap();
-    /// worker.join().unwrap().unwrap();
+    /// let (state, mut rx) = watch::channel("loading");
+    /// let worker = thread::spawn(move || state.send("ready").unwrap());
+    /// assert_eq!(*block_on(rx.wait_for(|state| *state == "ready")).unwrap(), "ready");
+    /// worker.join().unwrap();
+    /// assert!(block_on(rx.wait_for(|state| *state == "stopped")).is_err());
     /// ```
     pub async fn wait_for(
         &mut self,
@@ -146,16 +270,29 @@ impl<T> Receiver<T> {
         }
     }
 
-    /// Whether both are receivers of one channel.
+    /// Returns `true` if both receivers belong to the same channel, as in tokio. It is not recorded.
+    ///
+    /// # Examples
+    ///
+    /// ```
+    /// use yovanelum::watch;
+    ///
+    /// let (_config, rx) = watch::channel("log = info");
+    /// let (_state, other) = watch::channel("starting");
+    /// assert!(rx.same_channel(&rx.clone()));
+    /// assert!(!rx.same_channel(&other));
+    /// ```
     pub fn same_channel(&self, other: &Self) -> bool {
         self.channel.same(&other.channel)
     }
 }
 
 impl<T> Clone for Receiver<T> {
+    /// Creates another receiver of the same channel, which has seen what this one has.
+    ///
     /// # Panics
     ///
-    /// Where the channel has made 65,536 senders and receivers.
+    /// Panics if the channel has created 65,536 senders and receivers, dropped ones included.
     fn clone(&self) -> Receiver<T> {
         let handle = made(
             self.channel

@@ -1,4 +1,4 @@
-//! The sending half of a watch.
+//! The sending half of a watch channel.
 
 use super::error::SendError;
 use super::{Channel, Receiver, Ref, debug, free, made, open, put};
@@ -11,14 +11,49 @@ use std::panic::{self, RefUnwindSafe, UnwindSafe};
 use std::sync::Arc;
 use std::{fmt, mem};
 
-/// The sending half. A sender is shared or cloned; each call takes `&self`.
+/// The sending half of a watch channel.
+///
+/// [`channel`](super::channel) and [`Sender::new`] create the first sender, `clone` creates further ones. A sender may be used from many
+/// threads: each method takes `&self`. As in tokio, the channel is closed for its receivers when the last sender is dropped.
+///
+/// # Examples
+///
+/// ```
+/// use std::thread;
+/// use yovanelum::watch;
+///
+/// let (progress, rx) = watch::channel(0);
+/// let workers = [10, 20].map(|files| {
+///     let progress = progress.clone();
+///     thread::spawn(move || progress.send_modify(|done| *done += files))
+/// });
+/// for worker in workers {
+///     worker.join().unwrap();
+/// }
+/// assert_eq!(*rx.borrow(), 30);
+/// ```
 pub struct Sender<T> {
     pub(super) channel: Arc<Channel<T>>,
     pub(super) handle: u32,
 }
 
 impl<T> Sender<T> {
-    /// Makes a channel that holds this value, with a sender and no receiver. [`subscribe`](Sender::subscribe) makes receivers.
+    /// Creates a watch channel that holds this value and has no receiver, and returns its first sender.
+    ///
+    /// As in tokio, this is [`channel`](super::channel) without the receiver: [`subscribe`](Sender::subscribe) creates one. The journal
+    /// begins with the drop of receiver 1, so the first receiver that is created has the number 2.
+    ///
+    /// # Examples
+    ///
+    /// ```
+    /// use yovanelum::watch;
+    ///
+    /// let config = watch::Sender::new("log = info");
+    /// assert!(config.is_closed());
+    /// let rx = config.subscribe();
+    /// assert!(!config.is_closed());
+    /// assert_eq!(*rx.borrow(), "log = info");
+    /// ```
     pub fn new(init: T) -> Sender<T> {
         let channel = open(init);
         // The core opens each channel with a receiver.
@@ -28,18 +63,27 @@ impl<T> Sender<T> {
         Sender { channel, handle: 0 }
     }
 
-    /// Replaces the value and wakes the receivers.
+    /// Replaces the value and notifies all receivers.
     ///
-    /// Where no receiver is alive the value comes back, and the channel's stays; [`send_replace`](Sender::send_replace) replaces it all the same.
+    /// The value from before is dropped. The call blocks while a [`Ref`] of the channel is alive; without receivers it returns at once.
+    ///
+    /// # Errors
+    ///
+    /// Returns [`SendError`] with the new value if the channel has no receiver. As in tokio, receivers that are created later do not see
+    /// that value: the one from before stays. [`send_replace`](Sender::send_replace), [`send_modify`](Sender::send_modify) and
+    /// [`send_if_modified`](Sender::send_if_modified) change the value also without receivers.
+    ///
+    /// # Examples
     ///
     /// ```
     /// use yovanelum::watch;
     ///
-    /// let (tx, rx) = watch::channel(1);
-    /// tx.send(2).unwrap();
+    /// let (config, rx) = watch::channel("log = info");
+    /// config.send("log = debug").unwrap();
+    /// assert_eq!(*rx.borrow(), "log = debug");
     /// drop(rx);
-    /// assert_eq!(tx.send(3).unwrap_err().0, 3);
-    /// assert_eq!(*tx.borrow(), 2);
+    /// assert_eq!(config.send("log = warn").unwrap_err().0, "log = warn");
+    /// assert_eq!(*config.subscribe().borrow(), "log = debug");
     /// ```
     pub fn send(&self, value: T) -> Result<(), SendError<T>> {
         let channel = &*self.channel;
@@ -85,10 +129,29 @@ impl<T> Sender<T> {
         true
     }
 
-    /// Changes the value in place and wakes the receivers, also where there is none.
+    /// Changes the value in place and notifies all receivers.
     ///
-    /// The closure runs while the value is locked: it may neither look at this channel nor send on it, which is a panic. Where it panics the
-    /// value is what it left, and no receiver is woken.
+    /// As in tokio, the value need not be allocated anew, and it is changed also if there is no receiver. If the change depends on the
+    /// value, use [`send_if_modified`](Sender::send_if_modified). The call blocks while a [`Ref`] of the channel is alive.
+    ///
+    /// # Panics
+    ///
+    /// Panics if the closure panics. As in tokio, receivers are not notified then, and a later look at the value sees what the closure has
+    /// changed so far.
+    ///
+    /// The closure runs while the value is locked. Panics if the closure waits for the value of this channel, by a look at it or by a send.
+    /// Unlike tokio, where this is a deadlock.
+    ///
+    /// # Examples
+    ///
+    /// ```
+    /// use yovanelum::watch;
+    ///
+    /// let (config, rx) = watch::channel(vec!["log = info"]);
+    /// config.send_modify(|lines| lines.push("port = 80"));
+    /// assert!(rx.has_changed().unwrap());
+    /// assert_eq!(*rx.borrow(), ["log = info", "port = 80"]);
+    /// ```
     pub fn send_modify<F>(&self, modify: F)
     where
         F: FnOnce(&mut T),
@@ -99,26 +162,44 @@ impl<T> Sender<T> {
         });
     }
 
-    /// Changes the value in place, and wakes the receivers where the closure answers `true`, which comes back. Where it answers `false` a
-    /// changed value is seen by who looks, and nobody is told of it.
+    /// Changes the value in place, and notifies all receivers if the closure returns `true`.
     ///
-    /// The closure runs while the value is locked: it may neither look at this channel nor send on it, which is a panic. Where it panics the
-    /// value is what it left, and no receiver is woken.
+    /// Returns what the closure returns. As in tokio, the closure should return `false` only if it has not changed the value. If it has
+    /// changed it all the same, a later look sees the changed value, but no receiver is notified of it. The call blocks while a [`Ref`] of
+    /// the channel is alive.
+    ///
+    /// # Panics
+    ///
+    /// As [`send_modify`](Sender::send_modify).
+    ///
+    /// # Examples
     ///
     /// ```
     /// use yovanelum::watch;
     ///
-    /// let (tx, mut rx) = watch::channel(1);
-    /// let add = |value: &mut u32| {
-    ///     *value += 1;
-    ///     *value % 2 == 1
+    /// let (highest, mut rx) = watch::channel(101);
+    /// let raise_to = |price| {
+    ///     highest.send_if_modified(|highest| {
+    ///         let is_higher = price > *highest;
+    ///         if is_higher {
+    ///             *highest = price;
+    ///         }
+    ///         is_higher
+    ///     })
     /// };
-    /// assert!(!tx.send_if_modified(add));
+    /// assert!(!raise_to(100));
     /// assert!(!rx.has_changed().unwrap());
-    /// assert_eq!(*rx.borrow(), 2);
-    /// assert!(tx.send_if_modified(add));
+    /// assert!(raise_to(102));
     /// assert!(rx.has_changed().unwrap());
-    /// assert_eq!(*rx.borrow_and_update(), 3);
+    /// assert_eq!(*rx.borrow_and_update(), 102);
+    ///
+    /// // A change that no receiver is notified of.
+    /// highest.send_if_modified(|highest| {
+    ///     *highest = 103;
+    ///     false
+    /// });
+    /// assert!(!rx.has_changed().unwrap());
+    /// assert_eq!(*rx.borrow(), 103);
     /// ```
     pub fn send_if_modified<F>(&self, modify: F) -> bool
     where
@@ -144,7 +225,21 @@ impl<T> Sender<T> {
         }
     }
 
-    /// Replaces the value and wakes the receivers, also where there is none, and answers the value from before.
+    /// Replaces the value, notifies all receivers, and returns the value from before.
+    ///
+    /// As in tokio, the buffers of that value can be used again, and the value is replaced also if there is no receiver. The call blocks
+    /// while a [`Ref`] of the channel is alive.
+    ///
+    /// # Examples
+    ///
+    /// ```
+    /// use yovanelum::watch;
+    ///
+    /// let config = watch::Sender::new("log = info");
+    /// // There is no receiver.
+    /// assert_eq!(config.send_replace("log = debug"), "log = info");
+    /// assert_eq!(*config.subscribe().borrow(), "log = debug");
+    /// ```
     pub fn send_replace(&self, value: T) -> T {
         let channel = &*self.channel;
         let text = channel.text(&value);
@@ -158,12 +253,40 @@ impl<T> Sender<T> {
         before
     }
 
-    /// Looks at the value. Keep what is answered no longer than needed: senders wait for it.
+    /// Returns a reference to the last value.
+    ///
+    /// As in tokio, the reference holds a read lock: senders block until it is dropped, so keep it for a short time.
+    ///
+    /// # Examples
+    ///
+    /// ```
+    /// use yovanelum::watch;
+    ///
+    /// let (config, _rx) = watch::channel("log = info");
+    /// assert_eq!(*config.borrow(), "log = info");
+    /// config.send("log = debug").unwrap();
+    /// assert_eq!(*config.borrow(), "log = debug");
+    /// ```
     pub fn borrow(&self) -> Ref<'_, T> {
         self.channel.look(self.handle, false)
     }
 
-    /// Whether no receiver is alive. One may be made all the same, by [`subscribe`](Sender::subscribe).
+    /// Returns `true` if the channel has no receiver.
+    ///
+    /// As in tokio, this is the case once every receiver has been dropped; [`subscribe`](Sender::subscribe) opens the channel again.
+    ///
+    /// # Examples
+    ///
+    /// ```
+    /// use yovanelum::watch;
+    ///
+    /// let (config, rx) = watch::channel("log = info");
+    /// assert!(!config.is_closed());
+    /// drop(rx);
+    /// assert!(config.is_closed());
+    /// let _rx = config.subscribe();
+    /// assert!(!config.is_closed());
+    /// ```
     pub fn is_closed(&self) -> bool {
         let tap = &self.channel.tap;
         if tap.recorder.is_quiet() {
@@ -173,9 +296,28 @@ impl<T> Sender<T> {
             == Reply::Flag(true)
     }
 
-    /// Waits until no receiver is alive.
+    /// Waits until the channel has no receiver.
     ///
-    /// It may be dropped before it is done without any effect.
+    /// If there is none at the call, the future completes at once. As in tokio, a producer learns by it that nobody wants its values any
+    /// more, and [`subscribe`](Sender::subscribe) opens the channel again. If receivers are created right after the last one was dropped,
+    /// the future may complete, or go on waiting.
+    ///
+    /// # Cancel safety
+    ///
+    /// As in tokio, nothing has changed if the future is dropped before it completes. It is then not recorded.
+    ///
+    /// # Examples
+    ///
+    /// ```
+    /// use std::thread;
+    /// use yovanelum::{block_on, watch};
+    ///
+    /// let (price, chart) = watch::channel(101);
+    /// let window = thread::spawn(move || drop(chart));
+    /// block_on(price.closed());
+    /// assert!(price.is_closed());
+    /// window.join().unwrap();
+    /// ```
     pub async fn closed(&self) {
         let mut waiting = Waiting::new(&self.channel.tap, For::NoReceiver);
         poll_fn(|context| {
@@ -190,21 +332,28 @@ impl<T> Sender<T> {
         .await
     }
 
-    /// Makes a receiver, which has seen the value that the channel holds now.
+    /// Creates a receiver, which has seen the value that the channel holds.
+    ///
+    /// As in tokio, [`changed`](Receiver::changed) then waits for the next value, and a channel without receivers is open again. Other
+    /// receivers are not affected.
+    ///
+    /// # Panics
+    ///
+    /// Panics if the channel has created 65,536 senders and receivers, dropped ones included.
+    ///
+    /// # Examples
     ///
     /// ```
     /// use yovanelum::watch;
     ///
-    /// let tx = watch::Sender::new(0);
-    /// tx.send_replace(5);
-    /// let mut rx = tx.subscribe();
+    /// let config = watch::Sender::new("log = info");
+    /// config.send_replace("log = debug");
+    /// let rx = config.subscribe();
     /// assert!(!rx.has_changed().unwrap());
-    /// assert_eq!(*rx.borrow_and_update(), 5);
+    /// assert_eq!(*rx.borrow(), "log = debug");
+    /// config.send("log = warn").unwrap();
+    /// assert!(rx.has_changed().unwrap());
     /// ```
-    ///
-    /// # Panics
-    ///
-    /// Where the channel has made 65,536 senders and receivers.
     pub fn subscribe(&self) -> Receiver<T> {
         let handle = made(
             self.channel
@@ -217,7 +366,19 @@ impl<T> Sender<T> {
         }
     }
 
-    /// How many receivers are alive.
+    /// Returns the number of receivers that are alive, as in tokio.
+    ///
+    /// # Examples
+    ///
+    /// ```
+    /// use yovanelum::watch;
+    ///
+    /// let (config, rx) = watch::channel("log = info");
+    /// let other = rx.clone();
+    /// assert_eq!(config.receiver_count(), 2);
+    /// drop((rx, other));
+    /// assert_eq!(config.receiver_count(), 0);
+    /// ```
     pub fn receiver_count(&self) -> usize {
         let tap = &self.channel.tap;
         if tap.recorder.is_quiet() {
@@ -229,21 +390,46 @@ impl<T> Sender<T> {
         }
     }
 
-    /// How many senders are alive.
+    /// Returns the number of senders that are alive, as in tokio. It is not recorded.
+    ///
+    /// # Examples
+    ///
+    /// ```
+    /// use yovanelum::watch;
+    ///
+    /// let (config, _rx) = watch::channel("log = info");
+    /// let other = config.clone();
+    /// assert_eq!(config.sender_count(), 2);
+    /// drop(other);
+    /// assert_eq!(config.sender_count(), 1);
+    /// ```
     pub fn sender_count(&self) -> usize {
         self.channel.tap.ask(|channel| channel.senders()) as usize
     }
 
-    /// Whether both are senders of one channel.
+    /// Returns `true` if both senders belong to the same channel, as in tokio. It is not recorded.
+    ///
+    /// # Examples
+    ///
+    /// ```
+    /// use yovanelum::watch;
+    ///
+    /// let config = watch::Sender::new("log = info");
+    /// let state = watch::Sender::new("starting");
+    /// assert!(config.same_channel(&config.clone()));
+    /// assert!(!config.same_channel(&state));
+    /// ```
     pub fn same_channel(&self, other: &Self) -> bool {
         self.channel.same(&other.channel)
     }
 }
 
 impl<T> Clone for Sender<T> {
+    /// Creates another sender of the same channel.
+    ///
     /// # Panics
     ///
-    /// Where the channel has made 65,536 senders and receivers.
+    /// Panics if the channel has created 65,536 senders and receivers, dropped ones included.
     fn clone(&self) -> Sender<T> {
         let handle = made(
             self.channel

@@ -1,0 +1,134 @@
+//! What the channels of a recorder share.
+
+use crate::actors::{self, Actors};
+use crate::line::{Line, Tap};
+use crate::proved::{Actor, Channel};
+use crate::wait::lock;
+use std::sync::atomic::{AtomicBool, AtomicU64, Ordering};
+use std::sync::{Arc, Mutex};
+
+/// How many channels a run has at most.
+const MOST_CHANNELS: usize = 64;
+
+/// Recording goes on.
+const NEVER: u64 = u64::MAX;
+
+static IDS: AtomicU64 = AtomicU64::new(1);
+
+/// Counts calls. Each takes a number under its channel's lock and hands it to the core as its clock. Every call of every thread writes it,
+/// so it has cache lines of its own.
+#[repr(align(128))]
+struct Clock(AtomicU64);
+
+/// What a recorder's channels share.
+pub(crate) struct Shared {
+    id: u64,
+    clock: Clock,
+    // Changes once, while the first channel's lock is held.
+    has_several: AtomicBool,
+    // The last stamp that is recorded.
+    end: AtomicU64,
+    pub(super) is_quiet: AtomicBool,
+    has_too_many: AtomicBool,
+    pub(super) lines: Mutex<Vec<Arc<Line>>>,
+    pub(super) actors: Mutex<Actors>,
+}
+
+impl Shared {
+    /// Of a recorder without channels.
+    pub(super) fn new() -> Shared {
+        Shared {
+            id: IDS.fetch_add(1, Ordering::Relaxed),
+            clock: Clock(AtomicU64::new(0)),
+            has_several: AtomicBool::new(false),
+            end: AtomicU64::new(NEVER),
+            is_quiet: AtomicBool::new(false),
+            has_too_many: AtomicBool::new(false),
+            lines: Mutex::default(),
+            actors: Mutex::default(),
+        }
+    }
+
+    /// The stamp of the last call that is recorded by now.
+    pub(super) fn last(&self) -> u64 {
+        let Clock(clock) = &self.clock;
+        clock
+            .load(Ordering::SeqCst)
+            .min(self.end.load(Ordering::SeqCst))
+    }
+
+    /// The clock's number for a call whose channel's lock is held.
+    #[inline]
+    pub(crate) fn tick(&self) -> u64 {
+        let Clock(clock) = &self.clock;
+        if self.has_several.load(Ordering::Relaxed) {
+            return clock.fetch_add(1, Ordering::SeqCst);
+        }
+        // Of one channel each call has the lock, so that no other changes the clock in between.
+        let now = clock.load(Ordering::Relaxed);
+        clock.store(now + 1, Ordering::Release);
+        now
+    }
+
+    #[inline]
+    pub(crate) fn has_ended(&self) -> bool {
+        self.end.load(Ordering::SeqCst) != NEVER
+    }
+
+    #[inline]
+    pub(crate) fn actor(&self) -> Actor {
+        actors::current(self.id, || self.find_actor())
+    }
+
+    #[cold]
+    fn find_actor(&self) -> Actor {
+        let (actor, is_first_to_share) = lock(&self.actors).find();
+        if is_first_to_share {
+            eprintln!(
+                "yovanelum: a journal names 64 actors; those who come later are recorded as the last one"
+            );
+        }
+        actor
+    }
+
+    /// Whether questions leave no entry.
+    #[inline]
+    pub(crate) fn is_quiet(&self) -> bool {
+        self.is_quiet.load(Ordering::Relaxed)
+    }
+
+    /// Ends recording, of all channels with the calls whose stamps are at most this.
+    pub(crate) fn end_at(&self, last: u64) {
+        if self.end.fetch_min(last, Ordering::SeqCst) == NEVER {
+            eprintln!(
+                "yovanelum: a channel has recorded as many calls as a journal takes (1048576); recording ended there, and calls go on unrecorded"
+            );
+        }
+    }
+
+    /// Adds a channel to the run, which was handed so many values at its opening. The 65th and later ones are recorded by none.
+    pub(crate) fn add(self: &Arc<Shared>, channel: Channel, values: u64) -> Tap {
+        let line = Arc::new(Line::new(channel, values));
+        let mut lines = lock(&self.lines);
+        let count = lines.len();
+        if let [first] = &lines[..] {
+            first.locked(|| self.has_several.store(true, Ordering::Relaxed));
+        }
+        if count < MOST_CHANNELS {
+            lines.push(line.clone());
+        }
+        drop(lines);
+        if count >= MOST_CHANNELS {
+            line.end();
+            if !self.has_too_many.swap(true, Ordering::Relaxed) {
+                eprintln!(
+                    "yovanelum: a run has 64 channels; this channel is recorded by none, nor are those made later"
+                );
+            }
+        }
+        Tap {
+            recorder: self.clone(),
+            line,
+        }
+    }
+}
