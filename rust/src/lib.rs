@@ -1,4 +1,129 @@
-#![doc = include_str!("../README.md")]
+//! tokio's [`broadcast`] and [`watch`] for tests: when a test fails, walk back to the call that made a receiver lag.
+//!
+//! The channels have the names, signatures and results of `tokio::sync`. Each call is recorded: on which channel, who made it, and what it
+//! returned. If a test fails, the journal of its calls is written to a file. The command `ttd` and a page in the browser walk that journal,
+//! forwards and backwards.
+//!
+//! # Getting started
+//!
+//! Add the crate to the dependencies of the tests:
+//!
+//! ```toml
+//! [dev-dependencies]
+//! yovanelum = "0.1"
+//! ```
+//!
+//! Use its channels where the code is built for tests:
+//!
+//! ```
+//! # mod tokio {
+//! #     pub mod sync {
+//! #         pub use yovanelum::broadcast;
+//! #     }
+//! # }
+//! #[cfg(not(test))]
+//! use tokio::sync::broadcast;
+//! #[cfg(test)]
+//! use yovanelum::broadcast;
+//!
+//! /// Announces each order to the services of a shop.
+//! pub struct Shop {
+//!     orders: broadcast::Sender<u32>,
+//! }
+//! # fn main() {
+//! #     let (orders, mut mailer) = broadcast::channel(2);
+//! #     Shop { orders }.orders.send(71).unwrap();
+//! #     assert_eq!(mailer.try_recv(), Ok(71));
+//! # }
+//! ```
+//!
+//! Create a recorder in the test, as its first variable:
+//!
+//! ```
+//! use yovanelum::Recorder;
+//!
+//! let recorder = Recorder::for_test("slow_audit");
+//! assert!(recorder.is_empty());
+//! ```
+//!
+//! # A test that fails
+//!
+//! A bus of capacity 2 announces orders. The screen receives each one at once, and the audit receives late:
+//!
+//! ```should_panic
+//! use yovanelum::{Recorder, broadcast};
+//!
+//! let recorder = Recorder::for_test("slow_audit");
+//! let (orders, mut audit) = broadcast::channel(2);
+//! recorder.name(&orders, "orders").show(&orders, |id| format!("order {id}"));
+//! let mut screen = orders.subscribe();
+//! for id in [71, 72, 73] {
+//!     orders.send(id).unwrap();
+//!     assert_eq!(screen.try_recv(), Ok(id));
+//! }
+//! assert_eq!(audit.try_recv(), Ok(71));
+//! ```
+//!
+//! It prints where the journal is:
+//!
+//! ```text
+//! assertion `left == right` failed
+//!   left: Err(Lagged(1))
+//!  right: Ok(71)
+//! yovanelum: the calls of slow_audit are in /shop/target/yovanelum/slow_audit.journal
+//! yovanelum: walk them by `ttd debug /shop/target/yovanelum/slow_audit.journal`, or …
+//! ```
+//!
+//! # Finding the step
+//!
+//! `cargo install yovanelum` installs the command `ttd`. It reads a journal, and commands from its standard input. Which call made the
+//! audit lag? The audit is receiver 1 of channel 0, since all numbers count from 0 in the order of creation, and `channel` creates sender 0
+//! and receiver 1. `rback` searches backwards from the end:
+//!
+//! ```text
+//! $ printf 'rback lagging 0 1\nstep\nstate\n' | ttd debug target/yovanelum/slow_audit.journal
+//! hit 6 of 11
+//! #6 6 0 0 send 0 2 = sent 2
+//! place 6 of 11
+//! channel 0 broadcast capacity 2 sent 3 queued 2 made 3 open
+//! window 1 2
+//! senders 0
+//! receiver 1 position 0 unread 3 lag 1
+//! receiver 2 position 2 unread 1 lag 0
+//! ```
+//!
+//! It was call 6 of 11, the send of value 2, which is the third value. The channel then retained the values 1 and 2, and receiver 1 had not
+//! received value 0. `rforward` searches forwards, `back`, `forward` and `goto 4` walk from call to call, and `list` prints all calls.
+//!
+//! The page `yovanelum.html` draws the same run in a browser. Drop the journal on it, together with the file `.names` beside the journal.
+//! It then shows `orders` for the channel and `order 73` for value 2. The key `L` goes to the next receive that returned `Lagged`.
+//!
+//! # Recording
+//!
+//! - [`Recorder::for_test`] records the channels that the test's thread creates, and [`Recorder::install`] those of all threads of a
+//!   runtime.
+//! - [`named`] gives a future a name of its own in the journal. Without it, calls have the name of their thread.
+//! - [`Recorder::name`] and [`Recorder::show`] give names to channels and texts to values.
+//! - [`Recorder::save`] writes the journal at any time, also if nothing fails.
+//!
+//! # Differences from tokio
+//!
+//! - A capacity is at most 65,536, and a channel creates at most 65,536 senders, weak senders and receivers. More than that panics.
+//! - The futures need no runtime: [`block_on`] runs them. They do not count towards tokio's cooperative budget.
+//! - `blocking_recv` does not panic within a runtime, it blocks there.
+//! - A closure of `send_modify` or `send_if_modified` that waits for its own channel panics, where tokio has a deadlock.
+//! - Calls are slower, since they are recorded, and an entry of the journal takes about 90 bytes of memory. [`Recorder`] lists the limits.
+//! - tokio's other channels are not included.
+//!
+//! # Platforms
+//!
+//! Linux on x86-64 and ARM.
+//!
+//! # What is proved
+//!
+//! The core of the channels has a machine-checked proof: each call returns what tokio's documentation says after the calls before it, and
+//! the journal is a legal run that has each recorded call exactly once. The Rust code around the core is tested and not proved: it holds
+//! the values, wakes the futures that wait, and calls the core.
 #![deny(unsafe_code)]
 
 mod actors;
@@ -13,3 +138,8 @@ pub mod watch;
 pub use actors::{Named, named};
 pub use recorder::{Entered, ForTest, Handle, Recorder};
 pub use wait::block_on;
+
+// Runs the programs of the README.
+#[cfg(doctest)]
+#[doc = include_str!("../README.md")]
+struct Readme;

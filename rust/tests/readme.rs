@@ -5,7 +5,7 @@ mod support;
 use std::fs;
 use std::path::Path;
 use support::debugged;
-use support::parts::{Folder, is_part, play};
+use support::parts::{Folder, between, is_part, lines_of_failure, play};
 
 const README: &str = include_str!("../README.md");
 const NAME: &str = "no_price_is_missing";
@@ -44,12 +44,6 @@ fn program() {
     // Its end.
 }
 
-/// The part of a text between two others.
-fn between<'a>(text: &'a str, start: &str, end: &str) -> &'a str {
-    let (_, rest) = text.split_once(start).unwrap();
-    rest.split_once(end).unwrap().0
-}
-
 /// The program's lines above, by which the functions here know it.
 fn source() -> String {
     let lines = between(
@@ -74,12 +68,7 @@ fn said_in_readme(folder: &Path) -> String {
 fn said(folder: &Path) -> String {
     let (succeeds, said) = play("the_program_says_what_readme_has_of_it", folder, None);
     assert!(!succeeds, "{said}");
-    let lines = said.lines().filter(|line| {
-        ["assertion ", "  left: ", " right: ", "yovanelum: "]
-            .iter()
-            .any(|start| line.starts_with(start))
-    });
-    lines.map(|line| format!("{line}\n")).collect()
+    lines_of_failure(&said)
 }
 
 #[test]

@@ -41,3 +41,19 @@ pub fn play(test: &str, folder: &Path, keep: Option<&str>) -> (bool, String) {
     let ran = part.output().unwrap();
     (ran.status.success(), String::from_utf8(ran.stderr).unwrap())
 }
+
+/// What a failing program says on standard error, but for the lines that Rust adds to it.
+pub fn lines_of_failure(said: &str) -> String {
+    let lines = said.lines().filter(|line| {
+        ["assertion ", "  left: ", " right: ", "yovanelum: "]
+            .iter()
+            .any(|start| line.starts_with(start))
+    });
+    lines.map(|line| format!("{line}\n")).collect()
+}
+
+/// The part of a text between two others.
+pub fn between<'a>(text: &'a str, start: &str, end: &str) -> &'a str {
+    let (_, rest) = text.split_once(start).unwrap();
+    rest.split_once(end).unwrap().0
+}

@@ -1,0 +1,82 @@
+//! The failing test of the crate's front page, word for word: what it prints, and the walk over what it leaves.
+
+mod support;
+
+use std::fs;
+use support::debugged;
+use support::parts::{Folder, between, is_part, lines_of_failure, play};
+
+const NAME: &str = "slow_audit";
+
+#[rustfmt::skip]
+fn program() {
+    // The program of the front page.
+    use yovanelum::{Recorder, broadcast};
+
+    let recorder = Recorder::for_test("slow_audit");
+    let (orders, mut audit) = broadcast::channel(2);
+    recorder.name(&orders, "orders").show(&orders, |id| format!("order {id}"));
+    let mut screen = orders.subscribe();
+    for id in [71, 72, 73] {
+        orders.send(id).unwrap();
+        assert_eq!(screen.try_recv(), Ok(id));
+    }
+    assert_eq!(audit.try_recv(), Ok(71));
+    // Its end.
+}
+
+/// The text of the front page.
+fn front_page() -> String {
+    let lines = include_str!("../src/lib.rs").lines();
+    let lines = lines.map_while(|line| line.strip_prefix("//!"));
+    lines
+        .map(|line| format!("{}\n", line.strip_prefix(' ').unwrap_or(line)))
+        .collect()
+}
+
+#[test]
+fn the_program_is_that_of_the_front_page() {
+    let lines = between(
+        include_str!("front_page.rs"),
+        "    // The program of the front page.\n",
+        "    // Its end.\n",
+    );
+    let lines = lines
+        .lines()
+        .map(|line| line.strip_prefix("    ").unwrap_or(line));
+    let source: String = lines.map(|line| format!("{line}\n")).collect();
+    assert_eq!(source, between(&front_page(), "```should_panic\n", "```"));
+}
+
+#[test]
+fn the_program_prints_what_the_front_page_has_of_it() {
+    if is_part() {
+        return program();
+    }
+    let folder = Folder::new("front-page");
+    let page = front_page();
+    let (succeeds, said) = play(
+        "the_program_prints_what_the_front_page_has_of_it",
+        &folder.0,
+        None,
+    );
+    assert!(!succeeds, "{said}");
+    let built = folder.0.join("built").display().to_string();
+    // The end of the last line is left out.
+    let wanted = between(&page, "```text\nassertion", "…\n```").replace("/shop/target", &built);
+    let found = lines_of_failure(&said);
+    assert!(found.starts_with(&format!("assertion{wanted}")), "{found}");
+    assert_eq!(found.lines().count(), 5, "{found}");
+
+    let walk = between(&page, "```text\n$ printf '", "```");
+    let (commands, written) = walk.split_once('\n').unwrap();
+    let commands = commands.split_once('\'').unwrap().0.replace("\\n", "\n");
+    let journal = folder.0.join(format!("built/yovanelum/{NAME}.journal"));
+    if let Some(debugged) = debugged(&journal, &commands) {
+        assert_eq!(debugged, written);
+    }
+    let names = fs::read_to_string(journal.with_extension("names")).unwrap();
+    for text in [r#""0": "orders""#, r#""2": "order 73""#] {
+        assert!(names.contains(text), "{names}");
+    }
+}
