@@ -13,7 +13,7 @@ failed=0
 # Counts a failure, and says what failed.
 fail() {
   failed=$((failed + 1))
-  printf '%s: %s\n' "${0##*/}" "$*"
+  printf '%s: %s\n' "${0#"$top/"}" "$*"
 }
 
 # Counts a command that has no count of its own, and prints what it said where it fails.
@@ -37,7 +37,7 @@ count() {
   else
     fail "$* gave no count; its last line: $last"
   fi
-  printf '%s: %s: %s, %s s\n' "${0##*/}" "$*" "$last" "$((SECONDS - since))" >&2
+  printf '%s: %s: %s, %s s\n' "${0#"$top/"}" "$*" "$last" "$((SECONDS - since))" >&2
 }
 
 # Calls a function for each line of standard input, as many side by side as there are processors, and adds their counts. What one
@@ -70,7 +70,7 @@ install_tool() {
   local command=$1
   shift
   command -v "$command" >/dev/null && return
-  echo "${0##*/}: installing $*" >&2
+  echo "${0#"$top/"}: installing $*" >&2
   { apt-get update && DEBIAN_FRONTEND=noninteractive apt-get install -y --no-install-recommends "$@"; } >/dev/null 2>&1
   command -v "$command" >/dev/null && return
   missing="$command isn't there, and can't be installed here: apt-get install $*"
