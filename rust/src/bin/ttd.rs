@@ -1,6 +1,6 @@
 //! The command `ttd`: the repository's proved program, which stands built as an archive in `lib/`.
 //!
-//! The archive has the program's `main`. It calls the C library, and seven functions that Rattle's own linking would bring along: the
+//! The archive has the program's `main`. It calls the C library, and six functions that Rattle's own linking would bring along: the
 //! words of the command line, `errno`, and the heap. They are written here, by what Rattle's library says of each.
 #![cfg_attr(
     all(target_arch = "x86_64", target_os = "linux", target_env = "gnu"),
@@ -43,12 +43,6 @@ mod linked {
                 },
             }
         }
-    }
-
-    /// How many words the command line has, the program's name among them.
-    #[unsafe(no_mangle)]
-    extern "C" fn rattle_arg_count() -> usize {
-        env::args_os().len()
     }
 
     /// Copies a word of the command line and returns its length: -1 where there is no such word, -2 where it doesn't fit, and then as
