@@ -65,6 +65,14 @@ each() {
   rm -rf "$counts"
 }
 
+# Ends the script where a command isn't there that it can't do without.
+need() {
+  local command
+  for command in "$@"; do
+    command -v "$command" >/dev/null || { fail "$command isn't there: install it"; finish; }
+  done
+}
+
 # Installs the packages that bring a command, where it isn't there and may be installed. Where it may not, `missing` says what is missing.
 install_tool() {
   local command=$1
