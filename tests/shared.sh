@@ -1,12 +1,13 @@
 # What the test scripts share. A script sets `top`, the repository's folder, and reads this file.
 #
 # All that tests write goes into one folder, out/ or the one that the variable YOVANELUM_OUT names, so that the checkout may be read-only.
+# `work` is a folder in it that is removed at the script's end: `rt ci` refuses a checkout with links or stray sources, as some leave there.
 out=${YOVANELUM_OUT:-$top/out}
-mkdir -p "$out/tmp" || { echo "no folder for what the tests write: $out"; exit 70; }
-out=$(cd "$out" && pwd)
-export YOVANELUM_OUT=$out TMPDIR=$out/tmp PYTHONDONTWRITEBYTECODE=1
+mkdir -p "$out" && out=$(cd "$out" && pwd) && work=$(mktemp -d "$out/work.XXXXXX") || { echo "the tests can't write into $out"; exit 70; }
+trap 'rm -rf "$work"' EXIT
+export YOVANELUM_OUT=$out TMPDIR=$work PYTHONDONTWRITEBYTECODE=1
 # The program that is tested.
-export YOVANELUM_TTD=${YOVANELUM_TTD:-$top/built/x86_64-linux/ttd}
+export YOVANELUM_TTD=${YOVANELUM_TTD:-$top/rust/built/x86_64-linux/ttd}
 passed=0
 failed=0
 

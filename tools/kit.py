@@ -19,7 +19,7 @@ def folder():
     """The kit's folder, in which `rt` stands."""
     rt = shutil.which("rt")
     if rt is None:
-        raise Refused("rt, Rattle's command, isn't on the PATH: only who changes the sources builds, and what is built is in built/")
+        raise Refused("rt, Rattle's command, isn't on the PATH: only who changes the sources builds, and what is built is in rust/built/")
     return os.path.dirname(os.path.dirname(os.path.realpath(rt)))
 
 

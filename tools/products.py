@@ -1,4 +1,4 @@
-"""What is built: the program, the archives for C and Rust, and the page, each as the bytes of its files under built/."""
+"""What is built: the program, the archives for C and Rust, and the page, each as the bytes of its files under rust/built/."""
 import base64
 import hashlib
 import os
@@ -68,10 +68,10 @@ def page(top, work):
 
 def page_again(top):
     """The page of today's scripts over the module that the built page has, for work on the page alone: it needs no kit."""
-    built = read(f"{top}/built/{PAGE}").decode()
+    built = read(f"{top}/rust/built/{PAGE}").decode()
     found = re.search(r'<script type="[\w/-]+" id="module">([^<]*)</script>', built)
     if not found:
-        raise kit.Refused(f"built/{PAGE} has no module: build it whole")
+        raise kit.Refused(f"rust/built/{PAGE} has no module: build it whole")
     return {PAGE: document.page(f"{top}/page", base64.b64decode(found[1])).encode()}
 
 

@@ -5,9 +5,9 @@ import tempfile
 from concurrent.futures import ThreadPoolExecutor
 
 TOP = os.path.dirname(os.path.dirname(os.path.dirname(os.path.realpath(__file__))))
-PROGRAM = os.environ.get("YOVANELUM_TTD", os.path.join(TOP, "built", "x86_64-linux", "ttd"))
+PROGRAM = os.environ.get("YOVANELUM_TTD", os.path.join(TOP, "rust", "built", "x86_64-linux", "ttd"))
 # The page that is tested, and where the pictures of it go.
-PAGE = os.path.join(TOP, "built", "yovanelum.html")
+PAGE = os.path.join(TOP, "rust", "built", "yovanelum.html")
 PICTURES = os.path.join(os.environ.get("YOVANELUM_OUT", os.path.join(TOP, "out")), "page")
 
 

@@ -61,7 +61,9 @@ fn source() -> String {
 fn said_in_readme(folder: &Path) -> String {
     let told = between(README, "```text\nassertion", "```");
     let built = folder.join("built").display().to_string();
-    format!("assertion{told}").replace("/bus/target", &built)
+    format!("assertion{told}")
+        .replace("/bus/target", &built)
+        .replace("/yovanelum/rust", env!("CARGO_MANIFEST_DIR"))
 }
 
 /// What the program says on standard error, but for the lines that Rust adds to it.

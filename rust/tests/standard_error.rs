@@ -14,17 +14,23 @@ fn played(test: &str, folder: &Path, keep: Option<&str>) -> (bool, Vec<String>) 
     (succeeds, ours.map(String::from).collect())
 }
 
-/// The two lines about a journal, and that it stands there with its names.
+/// The two lines about a journal, and that it is there with its names, and the page.
 fn kept(name: &str, folder: &Path) -> Vec<String> {
     let path = folder.join(format!("built/yovanelum/{name}.journal"));
     let journal = fs::read_to_string(&path).unwrap();
     assert!(journal.contains(" send 0 0 = sent 1\n"), "{journal}");
     assert!(path.with_extension("names").exists());
+    assert!(
+        Path::new(env!("CARGO_MANIFEST_DIR"))
+            .join("built/yovanelum.html")
+            .exists()
+    );
     let path = path.display();
     vec![
         format!("yovanelum: the calls of {name} are in {path}"),
         format!(
-            "yovanelum: walk them by `ttd debug {path}`, or drop that file on built/yovanelum.html"
+            "yovanelum: walk them by `ttd debug {path}`, or drop that file on {}/built/yovanelum.html",
+            env!("CARGO_MANIFEST_DIR")
         ),
     ]
 }

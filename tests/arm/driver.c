@@ -10,7 +10,7 @@
 
    A call is printed with channel, handle and value. What is printed is a function of the seeds alone: no expression draws twice, as C
    doesn't order what stands in one. The driver keeps what docs/FOREIGN.md asks of callers, and judges no answer. */
-#include "exports.h"
+#include "yovanelum.h"
 #include <inttypes.h>
 #include <malloc.h>
 #include <stdio.h>
@@ -85,8 +85,8 @@ struct Call {
   const char *name;
   uint8_t wanted, made;
   uint32_t weight;
-  OfHandle *of_handle;
-  OfValue *of_value;
+  YovanelumCall *of_handle;
+  YovanelumSend *of_value;
 };
 
 static struct Answer modify_told(struct Held *held, uint32_t actor, uint64_t clock, uint32_t sender, uint64_t value) {
@@ -289,12 +289,12 @@ static void make_handles(struct Channel *channel, uint32_t count) {
 
 /* ---- Questions. */
 
-static const struct { const char *name; Count *count; } counts[] = {
+static const struct { const char *name; uint64_t (*count)(struct Held *held); } counts[] = {
     {"entries", yovanelum_entries},     {"senders", yovanelum_senders}, {"weak_senders", yovanelum_weak_senders},
     {"receivers", yovanelum_receivers}, {"queued", yovanelum_queued},
 };
 
-static const struct { const char *name; Find *find; } finds[] = {
+static const struct { const char *name; struct Found (*find)(struct Held *held, uint32_t receiver); } finds[] = {
     {"position", yovanelum_position}, {"unread", yovanelum_unread}, {"seen", yovanelum_seen},
 };
 

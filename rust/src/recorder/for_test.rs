@@ -59,13 +59,16 @@ impl ForTest {
             Ok(()) => {
                 eprintln!("yovanelum: the calls of {} are in {path}", self.name);
                 eprintln!(
-                    "yovanelum: walk them by `ttd debug {path}`, or drop that file on built/yovanelum.html"
+                    "yovanelum: walk them by `ttd debug {path}`, or drop that file on {PAGE}"
                 );
             }
             Err(error) => eprintln!("yovanelum: {path} isn't written: {error}"),
         }
     }
 }
+
+/// The page, which comes with the sources of this crate.
+const PAGE: &str = concat!(env!("CARGO_MANIFEST_DIR"), "/built/yovanelum.html");
 
 /// The folder `target` of the build in which this runs, or of this folder.
 fn target() -> PathBuf {

@@ -1,0 +1,112 @@
+/* tokio's broadcast and watch channels for C: each channel is held by one pointer, with the journal of its calls, and the journals of
+   several give the text of one run, which `ttd debug` walks. docs/FOREIGN.md says what each function promises and what its caller has to
+   uphold, docs/CALLS.md what each call does and returns.
+
+   The archives are rust/built/x86_64-linux/libyovanelum_core.a and rust/built/aarch64-linux/libyovanelum_core.a. A program that links one defines the
+   three functions of the heap, which stand last here. */
+#ifndef YOVANELUM_H
+#define YOVANELUM_H
+
+#include <stdbool.h>
+#include <stddef.h>
+#include <stdint.h>
+
+#ifdef __cplusplus
+extern "C" {
+#endif
+
+/* A channel with its journal, or null. It is given to one call at a time. C neither reads, writes nor copies the pointer. */
+struct Held { void *channel; };
+
+/* What channels have recorded up to one stamp, or null. It stays on its thread. */
+struct HeldCut { void *cut; };
+
+/* What a call returns: a kind of reply, and the number that the reply carries. docs/FOREIGN.md has the kinds, 0 to 22. */
+struct Answer { uint32_t kind; uint64_t number; };
+
+/* A number that there may be: 1 and the number, or 0 and 0. */
+struct Found { uint32_t is_some; uint64_t number; };
+
+/* Opens a channel with sender 0 and receiver 1, where `held` is null. It returns 0; 1 where the capacity is 0 or above 65,536; or 2 where
+   there is no memory. Then nothing is held. */
+uint32_t yovanelum_open_broadcast(struct Held *held, uint32_t capacity);
+uint32_t yovanelum_open_watch(struct Held *held, uint64_t value);
+
+/* Ends recording: later calls are made and not recorded. */
+void yovanelum_end(struct Held *held);
+
+/* Frees the channel with its journal. Nothing is held then. */
+void yovanelum_free(struct Held *held);
+
+/* A call: its actor is below 64, and it is stamped one above the greater of `clock` and the channel's last stamp. Where it isn't made (the
+   journal is full, no memory, it would wait, or the channel is of the other kind) the channel is as before. */
+typedef struct Answer YovanelumCall(struct Held *held, uint32_t actor, uint64_t clock, uint32_t handle);
+typedef struct Answer YovanelumSend(struct Held *held, uint32_t actor, uint64_t clock, uint32_t sender, uint64_t value);
+
+/* By a sender of a broadcast. */
+YovanelumSend yovanelum_broadcast_send;
+YovanelumCall yovanelum_broadcast_subscribe, yovanelum_broadcast_clone_sender, yovanelum_broadcast_sender_len,
+    yovanelum_broadcast_receiver_count, yovanelum_broadcast_downgrade;
+/* By a receiver of a broadcast. */
+YovanelumCall yovanelum_broadcast_try_recv, yovanelum_broadcast_recv, yovanelum_broadcast_resubscribe, yovanelum_broadcast_receiver_len;
+/* By a weak sender of a broadcast. */
+YovanelumCall yovanelum_broadcast_upgrade, yovanelum_broadcast_clone_weak;
+/* Drops a handle of a broadcast. */
+YovanelumCall yovanelum_broadcast_drop;
+
+/* By a sender of a watch. `told` says whether receivers are told of the modified value. */
+YovanelumSend yovanelum_watch_send, yovanelum_watch_send_replace;
+struct Answer yovanelum_watch_modify(struct Held *held, uint32_t actor, uint64_t clock, bool told, uint32_t sender, uint64_t value);
+YovanelumCall yovanelum_watch_subscribe, yovanelum_watch_clone_sender, yovanelum_watch_receiver_count, yovanelum_watch_is_closed,
+    yovanelum_watch_closed;
+/* By a receiver of a watch. */
+YovanelumCall yovanelum_watch_update, yovanelum_watch_has_changed, yovanelum_watch_changed, yovanelum_watch_mark_changed,
+    yovanelum_watch_mark_unchanged, yovanelum_watch_clone_receiver;
+/* By a sender or a receiver of a watch. */
+YovanelumCall yovanelum_watch_borrow, yovanelum_watch_drop;
+
+/* How many entries the journal has, and how many senders, weak senders and receivers are alive. */
+uint64_t yovanelum_entries(struct Held *held);
+uint64_t yovanelum_senders(struct Held *held);
+uint64_t yovanelum_weak_senders(struct Held *held);
+uint64_t yovanelum_receivers(struct Held *held);
+
+/* How many values a broadcast retains for some receiver; for one receiver, how many values were sent before the one that it receives next,
+   and how many it has yet to receive. */
+uint64_t yovanelum_queued(struct Held *held);
+struct Found yovanelum_position(struct Held *held, uint32_t receiver);
+struct Found yovanelum_unread(struct Held *held, uint32_t receiver);
+
+/* Whether a receiver of a watch has seen its value: 1 or 0. */
+struct Found yovanelum_seen(struct Held *held, uint32_t receiver);
+
+/* Opens a cut without channels, where `cut` is null. It returns whether there is memory. */
+bool yovanelum_cut_open(struct HeldCut *cut);
+
+/* Adds a channel, with its entries before the first that is stamped above `last`. It returns 0; 4 where there are 64; or 2 where there is no
+   memory. Then the cut is as before. */
+uint32_t yovanelum_cut_add(struct HeldCut *cut, struct Held *held, uint64_t last);
+
+/* Makes the journal text of the run of these channels. It returns 0; 3 where there is no channel; 5 where the stamps don't put the entries
+   into one order; or 2 where there is no memory. Then the cut is as before. */
+uint32_t yovanelum_cut_merge(struct HeldCut *cut);
+
+/* The length of the text; copies the text where `len` is that length, and returns whether it is. */
+uint64_t yovanelum_cut_text_len(struct HeldCut *cut);
+bool yovanelum_cut_text(struct HeldCut *cut, uint8_t *room, size_t len);
+
+/* Frees the cut. Nothing is held then. */
+void yovanelum_cut_free(struct HeldCut *cut);
+
+/* The heap, which the program defines. A block is aligned to 16 bytes. A resized one keeps its first `old` bytes, of which it may have
+   more; where there is no memory it is as before. */
+struct Tried { bool is_there; void *block; };
+struct Tried rattle_alloc(size_t size, size_t align);
+struct Tried rattle_realloc(void *block, size_t old, size_t new_size, size_t align);
+void rattle_dealloc(void *block);
+
+#ifdef __cplusplus
+}
+#endif
+
+#endif
