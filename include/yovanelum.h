@@ -21,7 +21,7 @@ struct Held { void *channel; };
 /* What channels have recorded up to one stamp, or null. It stays on its thread. */
 struct HeldCut { void *cut; };
 
-/* What a call returns: a kind of reply, and the number that the reply carries. docs/FOREIGN.md has the kinds, 0 to 22. */
+/* What a call returns: a kind of reply, and the number that the reply carries. docs/CALLS.md has the kinds, 0 to 22. */
 struct Answer { uint32_t kind; uint64_t number; };
 
 /* A number that there may be: 1 and the number, or 0 and 0. */
