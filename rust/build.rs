@@ -1,4 +1,4 @@
-//! Names the folder of the archives that stand built: the proved core, which the crate links, and the program, which `ttd` links.
+//! Names the folder of the archives that come with the crate: the proved core, which it links, and the program, which `ttd` links.
 
 use std::env;
 use std::path::Path;

@@ -1,4 +1,4 @@
-"""Rattle's kit, as the builds use it: where it is, which crates stand on which, and its compiler over proved libraries."""
+"""Rattle's kit, as the builds use it: where it is, which crates depend on which, and its compiler over proved libraries."""
 import os
 import shutil
 import subprocess
@@ -16,7 +16,7 @@ def run(*words, **how):
 
 
 def folder():
-    """The kit's folder, in which `rt` stands."""
+    """The kit's folder, which has `rt` in it."""
     rt = shutil.which("rt")
     if rt is None:
         raise Refused("rt, Rattle's command, isn't on the PATH: only who changes the sources builds, and what is built is in rust/built/")
@@ -35,7 +35,7 @@ def uses_of(top):
 
 
 def below(name, uses):
-    """The crates of the repository that a crate stands on, each behind those that it needs itself."""
+    """The crates of the repository that a crate depends on, each behind those that it needs itself."""
     found = []
     for used in uses[name]:
         if used in uses:

@@ -1,4 +1,4 @@
-"""Proves crates and all that they stand on, side by side, and says how far it is.
+"""Proves crates and all that they depend on, side by side, and says how far it is.
 
 `rt` lets nobody else into a crate and those below it while it works there. So each crate is proved in a tree of its own, `out/trees/NAME`:
 copies of its sources and of those below it, and links to the libraries that are proved already.
@@ -232,7 +232,7 @@ def interrupted(_number, _frame):
 
 
 def prove(top, goals):
-    """Proves the goals and all that they stand on. One build at a time works in a checkout."""
+    """Proves the goals and all that they depend on. One build at a time works in a checkout."""
     for number in (signal.SIGTERM, signal.SIGHUP):
         signal.signal(number, interrupted)
     with locked(f"{top}/crates.txt", "waiting for another build in this checkout"):

@@ -1,4 +1,4 @@
-//! The command `ttd`: the repository's proved program, which stands built as an archive in `built/`.
+//! The command `ttd`: the repository's proved program, built as an archive in `built/`.
 //!
 //! The archive has the program's `main`. It calls the C library, and six functions that Rattle's own linking would bring along: the
 //! words of the command line, `errno`, and the heap. They are written here, by what Rattle's library says of each.
