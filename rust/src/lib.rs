@@ -117,7 +117,7 @@
 //!
 //! # Platforms
 //!
-//! Linux on x86-64 and ARM.
+//! Linux on x86-64. The core is also built and tested for Linux on ARM (aarch64), where the crate itself was not yet run.
 //!
 //! # What is proved
 //!
