@@ -1,4 +1,4 @@
--- What holds of a call by the check of its handle.
+-- What holds of a call, by the cases of the check of its handle.
 use Rattle.std.proofs.Common.{◌≡◌, ℕ, ◌<◌, Bool, true, false, cond, refl}
 use Rattle.std.specs.Prelude.{◌&&◌, nat_le}
 use Rattle.std.proofs.lemmas.Bool.{leb-false}
@@ -9,12 +9,12 @@ use Rattle.rw_handles.specs.declared.kinds.Found.TheVariants.{Fault, Handle}
 use Rattle.rw_handles.specs.declared.table.TheConstants.{MOST_HANDLES}
 use Rattle.rw_handles.specs.Channels.{answer_of_check}
 
--- what a call that makes a handle learns of the check on their number
+-- a call that makes a handle passes the check on their number only below the limit
 room_for_more : (b : Bool) (n : ℕ) → (b && nat_le MOST_HANDLES n) ≡ false → b ≡ true → n < MOST_HANDLES
 room_for_more true n h _ = leb-false MOST_HANDLES n h
 room_for_more false n h is = cc
 
--- what holds of a refusal, of too many handles, and of a live handle that serves, holds of the call
+-- what holds of a refusal, of too many handles, and of a call that a live handle serves, holds of every call
 pub of_checked : {X E : Type 0} (P : E → Type 0) (refused : HandleFault → E) (too_many : E) (makes : Bool) (made : ℕ) (served : Kind → X → E) (f : Found X)
     → ((fault : HandleFault) → P (refused fault)) → P too_many
     → ((kind : Kind) (x : X) → f ≡ Handle kind x → (makes ≡ true → made < MOST_HANDLES) → P (served kind x))

@@ -9,7 +9,7 @@ use Rattle.rw_handles.specs.declared.kinds.Slot.{Slot}
 use Rattle.rw_handles.specs.declared.kinds.Slot.TheVariants.{Live, Spent}
 use Rattle.rw_handles.specs.Slots.{alive, is_alive, same_kind}
 
--- a write takes away what stood there, and adds what stands there now
+-- a write removes the old slot from the count, and adds the new one
 pub alive-set : {X : Type 0} (k : Kind) (slots : List (Slot X)) (id : ℕ) (was now : Slot X) → slice_get slots id ≡ Some was
     → alive k (set slots id now) + cond (is_alive k was) 1 0 ≡ alive k slots + cond (is_alive k now) 1 0
 alive-set k slots id was now at =
@@ -34,7 +34,7 @@ alive-some kind slots id x at =
     let one : ◌≡◌ {A = ℕ} (cond (same_kind kind kind) 1 0) 1 = rw same_kind-refl refl in
     omega (arith, less, one)
 
--- a spent slot leaves room in the count
+-- with a spent slot, the count is below the number of slots
 pub alive-below : {X : Type 0} (k : Kind) (slots : List (Slot X)) (id : ℕ) (x : X) → slice_get slots id ≡ Some Spent → alive k slots < length slots
 alive-below k slots id x at =
     let more = alive-set k slots id Spent (Live k x) at in

@@ -1,4 +1,4 @@
--- The undoings give back what was there.
+-- Each undoing restores the slots before the step.
 use Rattle.std.proofs.Common.{◌≡◌, ap, ◌∙◌}
 use Rattle.std.specs.Prelude.{Some, slice_get, slice_set}
 use Rattle.rw_handles.specs.declared.kinds.Slot.TheVariants.{Live, Spent}

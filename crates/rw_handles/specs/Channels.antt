@@ -9,13 +9,13 @@ use Rattle.rw_handles.specs.declared.kinds.Found.TheVariants.{Fault, Handle}
 use Rattle.rw_handles.specs.Handles.{Table}
 use Rattle.rw_handles.specs.declared.table.TheConstants.{MOST_HANDLES}
 
--- what a call comes to, by the check of its handle: it is refused for a fault of the handle, or, where it makes one more
--- than may be made, for too many; otherwise the live handle serves it
+-- the result of a call, by the check of its handle: the call is refused for a fault of the handle, or for too many handles
+-- where it would make one more than is allowed; otherwise the live handle serves it
 abbrev pub answer_of_check : {X E : Type 0} → (refused : HandleFault → E) → (too_many : E) → (makes : Bool) → (made : ℕ) → (served : Kind → X → E) → Found X → E
 answer_of_check refused too_many makes made served (Fault fault) = refused fault
 answer_of_check refused too_many makes made served (Handle kind x) = if makes && nat_le MOST_HANDLES made then too_many else served kind x
 
--- what a channel shows is allowed, and there is memory for all that its limit allows
+-- what a channel shows is allowed, and there is memory for all calls up to its limit
 pub record HasRoom {V X : Type 0} (IsAllowed : V → Type 0) (weight : V → ℕ) (machine : Machine V) (handles : Table X) : Type 0 where
   pub allowed : IsAllowed machine.shown
   pub within : weight machine.shown ≤ machine.limit

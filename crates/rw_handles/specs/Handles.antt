@@ -2,7 +2,7 @@
 use Rattle.std.specs.Prelude.{ℕ, List}
 use Rattle.rw_handles.specs.declared.kinds.Slot.{Slot}
 
--- what stands under each number, and how many more handles can be made without memory
+-- the slot under each number, and how many more handles can be made without allocating
 pub record Table (X : Type 0) : Type 0 where
   pub slots : List (Slot X)
   pub room : ℕ

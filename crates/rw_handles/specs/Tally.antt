@@ -10,6 +10,6 @@ tally_of t Sender = t.senders
 tally_of t Receiver = t.receivers
 tally_of t Weak = t.weak
 
--- many has one handle more of this kind than few, and as many of each other
+-- many has one handle more of this kind than few, and as many of each other kind
 abbrev pub IsOneMore : Kind → Tally → Tally → Type 0
 IsOneMore kind few many = (k : Kind) → tally_of many k ≡ tally_of few k + cond (same_kind k kind) 1 0

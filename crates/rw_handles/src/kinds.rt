@@ -1,4 +1,4 @@
-//! The words of handles: kinds, slots, and what a look for a handle finds.
+//! The types of handles: kinds, slots, and the results of a lookup.
 
 use thiserror::Error;
 
@@ -7,11 +7,11 @@ use thiserror::Error;
 pub enum Kind {
     Sender,
     Receiver,
-    /// A sender that doesn't keep its channel open. It sends nothing, but as long as there is a sender it can be made into one.
+    /// A sender that doesn't keep its channel open. It sends nothing, but can be upgraded to a sender while there is one.
     Weak,
 }
 
-/// What stands under a handle's number: a live handle of a kind with its value, or the spent number of a dropped one.
+/// What is under a handle's number: a live handle with its kind and value, or the spent number of a dropped one.
 #[derive(Clone, Copy, Debug, PartialEq, Eq)]
 pub enum Slot<X> {
     Live(Kind, X),
@@ -21,18 +21,18 @@ pub enum Slot<X> {
 /// Why a handle can't be used for a call.
 #[derive(Clone, Copy, Debug, PartialEq, Eq, Error)]
 pub enum HandleFault {
-    /// The number was never made.
+    /// No handle with this number was made.
     #[error("unknown handle")]
     Unknown,
-    /// Its handle was dropped.
+    /// The handle was dropped.
     #[error("handle is gone")]
     Gone,
-    /// Its handle is of another kind.
+    /// The handle is of another kind.
     #[error("wrong kind of handle")]
     WrongKind,
 }
 
-/// What a look for a handle finds: a fault, or a live handle that serves, with its value.
+/// The result of a lookup: a fault, or a live handle of a wanted kind, with its value.
 #[derive(Clone, Copy, Debug, PartialEq, Eq)]
 pub enum Found<X> {
     Fault(HandleFault),

@@ -1,7 +1,7 @@
-//! What each undoing gives back.
+//! What each undoing restores.
 ghost use Rattle.rw_handles.specs.Laws.{UnmakeUndoesMake, UndropUndoesDrop, SetUndoesSet};
 
-/// Each undoing gives back the slots from before: it is no work, and its clauses are the laws.
+/// Each undoing restores the slots before the step. The function does nothing: its clauses are the laws.
 pub fn undoings<X: Copy>()
     ensures unmake { UnmakeUndoesMake X }
     ensures undrop { UndropUndoesDrop X }

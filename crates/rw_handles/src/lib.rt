@@ -1,9 +1,9 @@
-//! Handles of a channel, numbered in order of making, with a value each.
+//! Handles of a channel, numbered in the order of making, with a value each.
 //!
-//! The one contract: a table is a finite map from live numbers to a kind and a value, beside the count of all numbers ever
-//! made, as the list of what stands under each number (`specs/Slots.antt`). Numbers aren't used again, and each making,
-//! drop and write has its undoing.
-//! Start reading at `kinds.rt`, the words, then at `specs/Slots.antt`, and then at `table.rt`.
+//! The one contract: a table is the list of the slots under the numbers 0, 1, 2, .. (`specs/Slots.antt`). A slot has the
+//! kind and the value of a live handle, or is spent. No number is used again, and each making, drop and write can be
+//! undone.
+//! Start reading at `kinds.rt`, the types, then at `specs/Slots.antt`, and then at `table.rt`.
 #![tactic(auto)]
 
 mod kinds;

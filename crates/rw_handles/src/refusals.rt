@@ -1,9 +1,9 @@
-//! Why a reply hasn't what its call asks for, of either kind of channel.
+//! Why a reply has no result for its call, in either kind of channel.
 
 use crate::kinds::HandleFault;
 use thiserror::Error;
 
-/// Why a reply hasn't what its call asks for, where the channel's own documentation names no such error.
+/// Why a reply has no result for its call, where tokio has no such error.
 #[derive(Clone, Copy, Debug, PartialEq, Eq, Error)]
 pub enum Refusal {
     /// The call's handle can't be used for it.
@@ -15,18 +15,18 @@ pub enum Refusal {
     /// The call would wait.
     #[error("would wait")]
     Waits,
-    /// The reply is that of another call.
+    /// The reply is to another call.
     #[error("reply of another call")]
     OtherCall,
 }
 
-/// Why a value isn't sent, by a channel of either kind.
+/// Why a value wasn't sent, in either kind of channel.
 #[derive(Clone, Copy, Debug, PartialEq, Eq, Error)]
 pub enum SendError<V> {
-    /// No receiver is alive, so the value comes back.
+    /// No receiver is alive. The value is returned.
     #[error("no receivers")]
     NoReceivers(V),
-    /// The reply isn't that of a send.
+    /// The call was refused, or the reply isn't to a send.
     #[error("{0}")]
     Refused(Refusal),
 }

@@ -11,10 +11,10 @@ use rw_law::NoMemory;
 use std::alloc::Global;
 use std::marker::Model;
 
-/// How many handles a table makes at most.
+/// The greatest number of handles that a table makes.
 pub const MOST_HANDLES: usize = 65536;
 
-/// Numbered handles of a kind with a value each.
+/// Numbered handles, each with a kind and a value.
 #[derive(Drop)]
 pub struct Table<X: Copy> {
     slots: Vec<Slot<X>>,
@@ -36,7 +36,7 @@ impl<X: Copy> Model for Table<X> {
     ghost invariant = { λ t. (vec_len t.slots ≤ MOST_HANDLES) × ((kind : Kind) → tally_of t.tally kind ≡ alive kind t.slots.items) };
 }
 
-/// Whether a handle of this kind serves where one of the wanted kind is asked for.
+/// Whether a handle of this kind serves where that kind is wanted. At `None`, any kind serves.
 fn serves(wanted: Option<Kind>, own: Kind) -> bool
     ensures { result ≡ serves wanted own }
 {
@@ -47,7 +47,7 @@ fn serves(wanted: Option<Kind>, own: Kind) -> bool
 }
 
 impl<X: Copy> Table<X> {
-    /// A table with no handle.
+    /// Returns a table without handles.
     pub fn new(alloc: Global) -> Result<Self, NoMemory>
         ensures made { IfOk result (λ t. t.slots ≡ []) }
         ensures ok { IsOk result }
@@ -62,7 +62,7 @@ impl<X: Copy> Table<X> {
         })
     }
 
-    /// A table with a sender, 0, and a receiver, 1, of these values: the handles of a channel at its opening.
+    /// Returns a table with sender 0 and receiver 1, of these values: the handles of a channel at its opening.
     pub fn of_two(alloc: Global, sender: X, receiver: X) -> Result<Self, NoMemory>
         ensures { IfOk result (λ t. t.slots ≡ Live Sender sender ∷ Live Receiver receiver ∷ []) }
     {
@@ -73,7 +73,7 @@ impl<X: Copy> Table<X> {
         Ok(table)
     }
 
-    /// How many handles were made.
+    /// Returns how many handles were made.
     pub fn made(&self) -> u32
         ensures made { result ≡ length self.now.slots }
         ensures limited { result ≤ MOST_HANDLES }
@@ -81,14 +81,14 @@ impl<X: Copy> Table<X> {
         self.slots.len() as u32
     }
 
-    /// How many more can be made without memory.
+    /// Returns how many more can be made without allocating.
     pub fn room(&self) -> u64
         ensures { result ≡ self.now.room }
     {
         (self.slots.capacity() - self.slots.len()) as u64
     }
 
-    /// Makes room for n more. Where it is there already, no memory is taken.
+    /// Makes room for n more. Where there is room already, it doesn't allocate.
     pub fn ready(&mut self, n: u64) -> Result<(), NoMemory>
         requires { length self.old.slots + n ≤ MOST_HANDLES }
         ensures same { self.new.slots ≡ self.old.slots }
@@ -103,7 +103,7 @@ impl<X: Copy> Table<X> {
         Ok(())
     }
 
-    /// Makes the next number's handle.
+    /// Makes the handle of the next number, and returns the number.
     pub fn make(&mut self, kind: Kind, x: X) -> u32
         requires room { 0 < self.old.room }
         requires limit { length self.old.slots < MOST_HANDLES }
@@ -117,7 +117,7 @@ impl<X: Copy> Table<X> {
         id
     }
 
-    /// Undoes the last making: the number is as if never made.
+    /// Undoes the last making, as if its number had never been used.
     pub fn unmake(&mut self)
         requires { IsLive (slice_get self.old.slots (length self.old.slots - 1)) }
         ensures slots { self.new.slots ≡ take (length self.old.slots - 1) self.old.slots }
@@ -128,7 +128,7 @@ impl<X: Copy> Table<X> {
         }
     }
 
-    /// Drops a live handle, and gives its kind and value.
+    /// Drops a live handle, and returns its kind and value.
     pub fn drop_one(&mut self, id: u32) -> (Kind, X)
         requires { IsLive (slice_get self.old.slots id) }
         ensures dropped { slice_get self.old.slots id ≡ Some (Live result.0 result.1) }
@@ -155,7 +155,7 @@ impl<X: Copy> Table<X> {
         self.slots[id as usize] = Slot::Live(kind, x);
     }
 
-    /// The value of a live handle.
+    /// Returns the value of this handle, if it is alive.
     pub fn get(&self, id: u32) -> Option<X>
         ensures { result ≡ value_at (slice_get self.now.slots id) }
     {
@@ -165,7 +165,7 @@ impl<X: Copy> Table<X> {
         }
     }
 
-    /// The value of a live receiver.
+    /// Returns the value of this handle, if it is a live receiver.
     pub fn receiver(&self, id: u32) -> Option<X>
         ensures { result ≡ receiver_at (slice_get self.now.slots id) }
     {
@@ -175,7 +175,7 @@ impl<X: Copy> Table<X> {
         }
     }
 
-    /// The kind of a live handle.
+    /// Returns the kind of this handle, if it is alive.
     pub fn kind(&self, id: u32) -> Option<Kind>
         ensures { result ≡ kind_at (slice_get self.now.slots id) }
     {
@@ -185,7 +185,7 @@ impl<X: Copy> Table<X> {
         }
     }
 
-    /// Writes the value of a live handle, which keeps its kind.
+    /// Writes the value of a live handle. Its kind stays.
     pub fn set(&mut self, id: u32, x: X)
         requires { IsLive (slice_get self.old.slots id) }
         ensures slots { self.new.slots ≡ slice_set self.old.slots id (with_value x (slice_get self.old.slots id)) }
@@ -196,14 +196,14 @@ impl<X: Copy> Table<X> {
         }
     }
 
-    /// How many handles of this kind are alive. It reads a count and looks at no handle.
+    /// Returns how many handles of this kind are alive. It reads a count, and no handle.
     pub fn alive(&self, kind: Kind) -> u64
         ensures { result ≡ alive kind self.now.slots }
     {
         self.tally.of(kind)
     }
 
-    /// The handle of this number, where it is alive and of the wanted kind, if one is wanted.
+    /// Returns the handle of this number, where it is alive and of the wanted kind. At `None`, any kind serves.
     pub fn find(&self, id: u32, wanted: Option<Kind>) -> Found<X>
         ensures { result ≡ lookup wanted self.now.slots id }
     {
@@ -220,7 +220,7 @@ impl<X: Copy> Table<X> {
         }
     }
 
-    /// Whether the number is that of a live handle of this kind.
+    /// Returns `Ok` if the number is that of a live handle of this kind.
     pub fn look(&self, id: u32, kind: Kind) -> Result<(), HandleFault>
         ensures { result ≡ look_answer (lookup (Some kind) self.now.slots id) }
     {
@@ -230,14 +230,14 @@ impl<X: Copy> Table<X> {
         }
     }
 
-    /// What stands under this number, if it was made.
+    /// Returns the slot under this number, if it was made.
     fn slot(&self, id: u32) -> Option<Slot<X>>
         ensures { result ≡ slice_get self.now.slots id }
     {
         self.slots.get(id as usize).copied()
     }
 
-    /// What stands under each number, in order of making.
+    /// Returns the slots, in the order of making.
     pub fn slots(&self) -> &[Slot<X>]
         ensures { result.now ≡ self.now.slots }
     {

@@ -1,13 +1,13 @@
--- Lists that a value was pushed to, and whose first ones are dropped.
+-- Lists after a push, and lists without their first elements.
 use Rattle.std.proofs.Common.{◌≡◌, ℕ, zero, suc, ◌+◌, ◌-◌, List, [], ◌∷◌, ◌++◌, length, take, drop, refl, zero-add, suc-add, arith}
 use Rattle.std.specs.Prelude.{slice_get}
 use Rattle.std.proofs.lemmas.List.{take_at, length_push}
 
--- the list from before a push
+-- without its last element, the list is as it was before the push
 pub push_back : {A : Type 0} (xs : List A) (a : A) → take (length (xs ++ a ∷ []) - 1) (xs ++ a ∷ []) ≡ xs
 push_back xs a = take_at xs (a ∷ []) (length (xs ++ a ∷ []) - 1) (omega (arith, length_push xs a))
 
--- an element under its place, in a list from which the first ones are dropped
+-- an element by its index, in a list without its first n elements
 pub slice_get-drop : {A : Type 0} (n : ℕ) (xs : List A) (i : ℕ) → slice_get (drop n xs) i ≡ slice_get xs (n + i)
 slice_get-drop zero xs i = rw zero-add refl
 slice_get-drop (suc n) [] i = refl

@@ -1,4 +1,4 @@
--- A machine that is given by one function: what a call leads to, from what is shown. Each law is then a fact of one outcome.
+-- A machine that is defined by one function: the outcome of a call, from what is shown. Each law is then a fact about one outcome.
 use Rattle.std.specs.Prelude.{◌≡◌, ℕ, ◌+◌, ◌≤◌, Bool, true, false, if◌then◌else◌, refl}
 use Rattle.rw_law.specs.Laws.{Laws}
 
@@ -8,12 +8,12 @@ pub record Outcome (V R P : Type 0) : Type 0 where
   pub reply : R
   pub patch : P
 
--- a machine, as its callers see it: what it shows, and the weight for which it has room
+-- a machine, as its callers see it: what it shows, and the weight up to which it has room
 pub record Machine (V : Type 0) : Type 0 where
   pub shown : V
   pub limit : ℕ
 
--- the machine went from the one to the other by this outcome, and gave its reply and patch
+-- the machine went from old to new by this outcome, and returned its reply and patch
 pub record Follows {V R P : Type 0} (old new : Machine V) (given : R × P) (o : Outcome V R P) : Type 0 where
   pub shown : new.shown ≡ o.next
   pub limit : new.limit ≡ old.limit
@@ -21,7 +21,7 @@ pub record Follows {V R P : Type 0} (old new : Machine V) (given : R × P) (o : 
   pub patch : given.1 ≡ o.patch
 
 module _ {V C R P : Type 0} (allowed : V → Type 0) (weigh : V → ℕ) (back : V → C → P → V) (fits : V → C → P → Type 0) (refuses : R → Bool) where
-  -- the laws of a machine, of one outcome of a call from x
+  -- the laws of a machine, for one outcome of a call from x
   pub record IsSound (x : V) (c : C) (o : Outcome V R P) : Type 0 where
     pub undone : allowed x → back o.next c o.patch ≡ x
     pub next_allowed : allowed x → allowed o.next
@@ -29,12 +29,12 @@ module _ {V C R P : Type 0} (allowed : V → Type 0) (weigh : V → ℕ) (back :
     pub refused : refuses o.reply ≡ true → o.next ≡ x
     pub weight_rises : weigh o.next ≤ weigh x + 1
 
-  -- the outcome of what depends on a test is sound where that of both of its cases is
+  -- an outcome that depends on a test is sound if it is sound in both cases
   pub sound_if : {E : Type 0} (f : E → Outcome V R P) {x : V} {c : C} (b : Bool) {o p : E} → (b ≡ true → IsSound x c (f o)) → (b ≡ false → IsSound x c (f p)) → IsSound x c (f (if b then o else p))
   sound_if f true h k = h refl
   sound_if f false h k = k refl
 
-  -- sound outcomes make the laws of a machine
+  -- where all outcomes are sound, the laws hold
   pub laws_of : (outcome : V → C → Outcome V R P) (is_waiting is_straying : R → Bool) → ((x : V) (c : C) → IsSound x c (outcome x c))
       → ((r : R) → is_waiting r ≡ true → refuses r ≡ true) → ((r : R) → is_straying r ≡ true → refuses r ≡ true)
       → Laws allowed weigh (λ x c. (outcome x c).next) (λ x c. (outcome x c).reply) (λ x c. (outcome x c).patch) back fits refuses is_waiting is_straying

@@ -1,9 +1,9 @@
 //! What every recorded machine promises: each of its steps has an inverse.
 //!
-//! The one contract is the record `Laws` of `specs/Laws.antt`, which each `Reversible` proves of itself: a step that is
-//! undone with its patch gives the state from before it, and a step that is refused changes nothing.
-//! Start reading at `machine.rt`, the trait, and then at `specs/Journal.antt`, which says what a list of recorded steps
-//! means: the state at a place, and which journals are legal.
+//! The one contract is the record `Laws` of `specs/Laws.antt`, which each `Reversible` proves: undoing a step with its patch
+//! gives the state before it, and a call that is refused changes nothing.
+//! Start reading at the trait in `machine.rt`, and then at `specs/Journal.antt`, which defines the state at a place of a
+//! list of recorded steps, and which of these lists are legal.
 #![tactic(auto)]
 
 mod journal;

@@ -8,26 +8,26 @@ use crate::memory::NoMemory;
 
 /// A machine whose steps can be undone.
 ///
-/// Contracts see a machine by what it shows, its view, and by the room that it has reserved. A step, its reply, its patch
-/// and its inverse are functions of the view.
+/// Contracts describe a machine by what it shows, its view, and by the room that it has reserved. A step, its reply, its
+/// patch and its inverse are functions of the view.
 pub trait Reversible {
-    /// What a machine is asked for.
+    /// A call to a machine.
     type Call: Copy;
 
-    /// What it answers.
+    /// The reply to a call.
     type Reply: Copy;
 
-    /// What undoing a step needs beside its call. It is copied, so of fixed size.
+    /// What undoing a step needs besides its call. It is copied, so it is of fixed size.
     type Patch: Copy;
 
     /// What a machine shows: all but the room that it has reserved.
     ghost View: { Type 0 };
 
     ghost shown: { Self → View };
-    /// The weight that its room allows.
+    /// The weight up to which it has room.
     ghost reserved: { Self → ℕ };
 
-    /// Which views machines have.
+    /// Holds of the views that machines have.
     ghost allowed: { View → Type 0 };
 
     /// How much of the room a machine uses.
@@ -36,38 +36,38 @@ pub trait Reversible {
     /// What is shown after a call.
     ghost next: { View → Self.Call → View };
 
-    /// The answer to a call.
+    /// The reply to a call.
     ghost reply_of: { View → Self.Call → Self.Reply };
 
-    /// What undoing the call's step will need.
+    /// The patch of a call's step.
     ghost patch_of: { View → Self.Call → Self.Patch };
 
     /// What was shown before the step, where the patch fits.
     ghost back: { View → Self.Call → Self.Patch → View };
 
-    /// The patch is one that the call can leave where this is shown.
+    /// Holds where the patch can undo the call in this view.
     ghost fits: { View → Self.Call → Self.Patch → Type 0 };
 
-    /// The reply says that the machine is as it was.
+    /// Whether the reply refuses: the call has changed nothing.
     ghost refuses: { Self.Reply → Bool };
 
-    /// The reply says that the call would wait.
+    /// Whether the reply means that the call would wait.
     ghost is_waiting: { Self.Reply → Bool };
 
-    /// The reply says that the call names no channel of the machine.
+    /// Whether the reply means that the machine has no channel for the call.
     ghost is_straying: { Self.Reply → Bool };
 
-    /// How much of the room is used. No call raises it by more than one.
+    /// Returns how much of the room is used. No call raises it by more than one.
     fn weight(&self) -> u64
         ensures weight { result ≡ weigh (shown self.now) }
         ensures known { allowed (shown self.now) };
 
-    /// The weight that the room allows.
+    /// Returns the weight up to which there is room.
     fn limit(&self) -> u64
         ensures limit { result ≡ reserved self.now }
         ensures bound { result ≤ MOST_WEIGHT };
 
-    /// Makes room for n more calls. Where there is room already, no memory is taken.
+    /// Makes room for n more calls. Where there is room already, it doesn't allocate.
     fn ready(&mut self, n: u64) -> Result<(), NoMemory>
         requires { weigh (shown self.old) + n ≤ MOST_WEIGHT }
         ensures view { shown self.new ≡ shown self.old }
@@ -75,7 +75,7 @@ pub trait Reversible {
         ensures kept { reserved self.old ≤ reserved self.new }
         ensures ample { weigh (shown self.old) + n ≤ reserved self.old → IsOk result };
 
-    /// Makes a call. It takes no memory.
+    /// Makes a call. It doesn't allocate.
     fn apply(&mut self, call: &Self::Call) -> (Self::Reply, Self::Patch)
         requires { weigh (shown self.old) < reserved self.old }
         ensures view { shown self.new ≡ next (shown self.old) call.now }
@@ -83,7 +83,7 @@ pub trait Reversible {
         ensures patch { result.1 ≡ patch_of (shown self.old) call.now }
         ensures room { reserved self.new ≡ reserved self.old };
 
-    /// Undoes the last call with the patch that `apply` gave for it. It takes no memory.
+    /// Undoes the last call with the patch that `apply` returned for it. It doesn't allocate.
     fn undo(&mut self, call: &Self::Call, patch: &Self::Patch)
         requires { fits (shown self.old) call.now patch.now }
         ensures view { shown self.new ≡ back (shown self.old) call.now patch.now }
@@ -93,10 +93,10 @@ pub trait Reversible {
     fn waits(reply: &Self::Reply) -> bool
         ensures { result ≡ is_waiting reply.now };
 
-    /// Whether a call with this reply names no channel of the machine. Such a reply is never recorded.
+    /// Whether the machine has no channel for a call with this reply. Such a reply is never recorded.
     fn strays(reply: &Self::Reply) -> bool
         ensures { result ≡ is_straying reply.now };
 
-    /// What each machine proves of these.
+    /// The laws, which each machine proves.
     ghost laws: { Laws allowed weigh next reply_of patch_of back fits refuses is_waiting is_straying };
 }

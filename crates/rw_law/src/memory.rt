@@ -1,9 +1,9 @@
-//! The one fault of a growth.
+//! The error of a failed allocation.
 
 use std::alloc::{AllocError, AllocFailed};
 use thiserror::Error;
 
-/// A growth was refused. What was to grow is as it was.
+/// An allocation failed. What was to grow is as it was.
 #[derive(Clone, Copy, Debug, PartialEq, Eq, Error)]
 #[error("no memory")]
 pub struct NoMemory;

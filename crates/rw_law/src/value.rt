@@ -2,7 +2,7 @@
 
 ghost use Rattle.std.specs.Prelude.{◌≡◌, ℕ, ◌<◌, ◌^◌, Some, Option, refl};
 
-/// A value that a channel carries, and its word: the number that stands for it in a journal's text.
+/// A value that a channel carries. Its word is the number for it in a journal's text.
 pub trait Payload: Copy {
     /// Holds of the values of the type.
     ghost is_value: { Self → Type 0 };
@@ -13,19 +13,19 @@ pub trait Payload: Copy {
     /// The value of a word, if it has one.
     ghost value_of: { ℕ → Option Self };
 
-    /// The word of this value.
+    /// Returns the word of this value.
     fn word(&self) -> u64
         ensures word { result ≡ word_of self.now }
         ensures known { is_value self.now };
 
-    /// The value of a word, or `None` where it is the word of no value.
+    /// Returns the value of a word, or `None` where no value has this word.
     fn from_word(w: u64) -> Option<Self>
         ensures { result ≡ value_of w };
 
-    /// A word gives its value back.
+    /// A value's word leads back to the value.
     ghost value_of_word: { (v : Self) → is_value v → value_of (word_of v) ≡ Some v };
 
-    /// A value is given by its own word alone.
+    /// No other word leads to the value.
     ghost word_of_value: { (w : ℕ) (v : Self) → value_of w ≡ Some v → word_of v ≡ w };
 }
 

@@ -13,7 +13,7 @@ pair a b = Some (a, b)
 abbrev stop : Bool → List ℕ → Option (List ℕ × List ℕ) → Option (List ℕ × List ℕ)
 stop b bs more = cond b (pair [] bs) more
 
--- what was joined by a byte is cut there
+-- two parts joined by the byte are cut there, if the first one lacks it
 pub cut_joined : (mark : ℕ) (a rest : List ℕ) → lacks mark a ≡ true → cut mark (a ++ mark ∷ rest) ≡ Some (a, rest)
 cut_joined mark [] rest h = cond-true (eqb mark mark) (pair [] rest) (onto mark (cut mark rest)) (eq-eqb mark mark refl)
 cut_joined mark (b ∷ a) rest h =
@@ -21,7 +21,7 @@ cut_joined mark (b ∷ a) rest h =
     cond-false (eqb b mark) (pair [] (a ++ mark ∷ rest)) (onto b (cut mark (a ++ mark ∷ rest))) (not-true _ p.0)
     ∙ ap (onto b) (cut_joined mark a rest p.1)
 
--- where the byte isn't, there is no cut
+-- without the byte there is no cut
 pub cut_lacks : (mark : ℕ) (a : List ℕ) → lacks mark a ≡ true → cut mark a ≡ None
 cut_lacks mark [] h = refl
 cut_lacks mark (b ∷ a) h =
@@ -56,7 +56,7 @@ cut_parts mark (b ∷ bs) p e =
           rw (← q.2) (and_from (not (eqb b mark)) (lacks mark q.0.0) (ap not h.0) ih.0, ap (λ (x : List ℕ). b ∷ x) ih.1)
     ]
 
--- where there is no cut, the byte isn't
+-- without a cut, the byte is missing
 pub lacks_uncut : (mark : ℕ) (bytes : List ℕ) → cut mark bytes ≡ None → lacks mark bytes ≡ true
 lacks_uncut mark [] e = refl
 lacks_uncut mark (b ∷ bs) e =
@@ -72,7 +72,7 @@ lacks-append mark (c ∷ a) b h k =
 pub lacks_one : (mark b : ℕ) → b ≢ mark → lacks mark (b ∷ []) ≡ true
 lacks_one mark b ne = and_from (not (eqb b mark)) true (ap not (ne_eqb b mark ne)) refl
 
--- ---- by places, as slices are cut
+-- ---- by index, as slices are cut
 
 at_index : (mark : ℕ) (bytes : List ℕ) (i : ℕ) → i < length bytes → eqb (get_or bytes i 0) mark ≡ true → ((k : ℕ) → k < i → eqb (get_or bytes k 0) mark ≡ false)
     → cut mark bytes ≡ Some (take i bytes, drop (suc i) bytes)

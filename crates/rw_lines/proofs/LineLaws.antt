@@ -14,7 +14,7 @@ use Rattle.rw_lines.proofs.CutLaws.{cut_parts, lacks_uncut}
 lines-cons : (b : ℕ) (bs : List ℕ) → not (eqb b 10) ≡ true → lines (b ∷ bs) ≡ onto_first b (lines bs)
 lines-cons b bs ne = cond-false (eqb b 10) ([] ∷ lines bs) (onto_first b (lines bs)) (not-true _ ne)
 
--- a line with its LF, and more
+-- a line with its LF, followed by more bytes
 pub lines_line : (text bs : List ℕ) → IsUnbroken text → lines (text ++ 10 ∷ bs) ≡ text ∷ lines bs
 lines_line [] bs h = refl
 lines_line (b ∷ text) bs h =
@@ -29,14 +29,14 @@ lines_last (b ∷ c ∷ text) h lt =
     let p = and_parts (not (eqb b 10)) (lacks 10 (c ∷ text)) h in
     lines-cons b (c ∷ text) p.0 ∙ ap (onto_first b) (lines_last (c ∷ text) p.1 (omega arith))
 
--- lines with their LF, and more
+-- lines with their LF, followed by more bytes
 pub lines_unlines : (ls : List (List ℕ)) (bs : List ℕ) → All IsUnbroken ls → lines (unlines ls ++ bs) ≡ ls ++ lines bs
 lines_unlines [] bs h = refl
 lines_unlines (l ∷ ls) bs h =
     let regrouped : unlines (l ∷ ls) ++ bs ≡ l ++ 10 ∷ (unlines ls ++ bs) = ap (λ (x : List ℕ). x ++ bs) (flat_map-cons (λ (l : List ℕ). l ++ 10 ∷ []) l ls) ∙ append_assoc (l ++ 10 ∷ []) (unlines ls) bs ∙ append_assoc l (10 ∷ []) (unlines ls ++ bs) in
     ap lines regrouped ∙ lines_line l (unlines ls ++ bs) (All-head IsUnbroken l ls h) ∙ ap (λ (x : List (List ℕ)). l ∷ x) (lines_unlines ls bs (All-tail IsUnbroken l ls h))
 
--- one line more
+-- with one more line
 pub unlines_push : (ls : List (List ℕ)) (l : List ℕ) → unlines (ls ++ l ∷ []) ≡ unlines ls ++ (l ++ 10 ∷ [])
 unlines_push ls l = sym (flat_map_more (λ (l : List ℕ). l ++ 10 ∷ []) [] ls l)
 
@@ -44,11 +44,11 @@ unlines_push ls l = sym (flat_map_more (λ (l : List ℕ). l ++ 10 ∷ []) [] ls
 pub lines_cut : (bytes : List ℕ) (p : List ℕ × List ℕ) → cut 10 bytes ≡ Some p → lines bytes ≡ p.0 ∷ lines p.1
 lines_cut bytes p e = let parts = cut_parts 10 bytes p e in ap lines parts.1 ∙ lines_line p.0 p.1 parts.0
 
--- where there is no LF, there is one line at most
+-- bytes without LF are one line, unless there are none
 pub lines_uncut : (bytes : List ℕ) → cut 10 bytes ≡ None → 0 < length bytes → lines bytes ≡ bytes ∷ []
 lines_uncut bytes e some = lines_last bytes (lacks_uncut 10 bytes e) some
 
--- ---- what is kept of a line says of it what the line does
+-- ---- what the stored part of a line shows about the line
 
 pub kept_short : (text : List ℕ) → length text ≤ LONGEST_LINE → kept_part text ≡ text
 kept_short text le = take_all (LONGEST_LINE + 1) text (omega arith)

@@ -22,7 +22,7 @@ passed_some : (b : Bool) (x : Option ℕ) (m : ℕ) → cond b None x ≡ Some m
 passed_some true x m e = absurd cc
 passed_some false x m e = (refl, e)
 
--- what was read are digits, with their value
+-- what was read is digits, and the result is their value
 digits_read : (ds : List ℕ) (m : ℕ) → digits_in ds ≡ Some m → (all_ascii_digits ds ≡ true) × (digits_value 10 ds ≡ m) × (m < 2 ^ 64)
 digits_read ds m e =
     let c = chosen_some (all_ascii_digits ds && ltb (digits_value 10 ds) (2 ^ 64)) (digits_value 10 ds) m e in
@@ -36,7 +36,7 @@ digits_again ds n lt e =
     cond-true (all_ascii_digits ds && ltb (digits_value 10 ds) (2 ^ 64)) (Some (digits_value 10 ds)) None (and_from _ _ digits (lt-ltb _ _ (rw value lt)))
     ∙ ap (λ (m : ℕ). Some m) value
 
--- what a numeral is
+-- a numeral is the decimal text of its number
 pub named : (t : List ℕ) (n : ℕ) → numeral_in t ≡ Some n → (t ≡ decimal n) × (n < 2 ^ 64)
 named [] n e = absurd cc
 named (d ∷ []) n e =
@@ -47,7 +47,7 @@ named (d ∷ c ∷ ds) n e =
     let r = digits_read (d ∷ c ∷ ds) n k.1 in
     (sym (rw (← r.1) (decimal-digits_value own (d ∷ c ∷ ds) r.0 (omega arith) (λ z. absurd (eqb-false d 48 k.0 z)) (rw r.1 r.2))), r.2)
 
--- what names a number
+-- the decimal text of a number is its numeral
 pub only : (t : List ℕ) (n : ℕ) → n < 2 ^ 64 → t ≡ decimal n → numeral_in t ≡ Some n
 only [] n lt e = absurd (omega (arith, ap length e, decimal_nonempty n lt))
 only (d ∷ []) n lt e = digits_again (d ∷ []) n lt e
@@ -67,13 +67,13 @@ lacks-digits mark (d ∷ ds) other all =
     let p = and_parts (is_ascii_digit d) (all_ascii_digits ds) all in
     and_from _ _ (not_from_false _ (ne_eqb d mark (λ same. absurd cc))) (lacks-digits mark ds other p.1)
 
--- in a numeral there are digits alone
+-- a numeral has digits alone
 pub lacks-decimal : (mark n : ℕ) → is_ascii_digit mark ≡ false → n < 2 ^ 64 → lacks mark (decimal n) ≡ true
 lacks-decimal mark n other lt = lacks-digits mark (decimal n) other (digits_decimal own n lt)
 
 -- ---- digit by digit
 
--- the number of these digits behind those of n, if it is below 2^64
+-- the number that has these digits after those of n, if it is below 2^64
 abbrev pub digits_from : ℕ → List ℕ → Option ℕ
 digits_from n [] = Some n
 digits_from n (d ∷ ds) = cond (is_ascii_digit d && ltb (n * 10 + (d - 48)) (2 ^ 64)) (digits_from (n * 10 + (d - 48)) ds) None
@@ -109,6 +109,6 @@ read_from n (d ∷ ds) lt =
       | inr none ↦ rw none refl
     ]
 
--- read digit by digit they give the same number
+-- read digit by digit, they give the same number
 pub digits_from_none : (ds : List ℕ) → digits_from 0 ds ≡ digits_in ds
 digits_from_none ds = read_from 0 ds (omega arith)

@@ -1,4 +1,4 @@
--- A line of which a part was read.
+-- A line that is read in part.
 use Rattle.std.proofs.Common.{◌≡◌, ◌≢◌, ◌++◌, ◌∷◌, [], ◌≤◌, ◌+◌, ◌-◌, ◌<◌, ℕ, min, List, Option, sym, ap, ◌∙◌, length, arith, inl, inr, subst}
 use Rattle.std.specs.Io.KnownBytes.{Consumes}
 use Rattle.std.proofs.lemmas.Bool.{cases_lt}
@@ -11,7 +11,7 @@ use Rattle.rw_lines.specs.Reading.{kept_part, IsKept}
 use Rattle.rw_lines.proofs.CutLaws.{lacks-append, lacks_one}
 use Rattle.rw_lines.proofs.Known.{Consumes-then}
 
--- from old to now the reader gave this text of a line, with no LF yet
+-- between old and now this text of a line was read, with no LF yet
 pub record PartLine (old now : Option (List ℕ)) (before allowed : ℕ) (line : List ℕ) : Type 0 where
   pub text : List ℕ
   pub unbroken : IsUnbroken text
@@ -19,18 +19,18 @@ pub record PartLine (old now : Option (List ℕ)) (before allowed : ℕ) (line :
   pub read : Consumes old now text
   pub count : length text + allowed ≡ before
 
--- what is kept of it: all that was read, up to one byte more than the longest line has
+-- what is stored of it: all that was read, up to one byte more than the longest line has
 pub kept_of_part : {old now : Option (List ℕ)} {before allowed : ℕ} {line : List ℕ} → PartLine old now before allowed line → length line ≡ min (before - allowed) (LONGEST_LINE + 1)
 kept_of_part p = omega (arith, ap length p.fits, length-take (LONGEST_LINE + 1) p.text, p.count)
 
--- so it is at a failed read
+-- the same where a read failed
 pub kept_at_read : {old now : Option (List ℕ)} {before allowed : ℕ} {line : List ℕ} {fault : StreamFault} → PartLine old now before allowed line → fault ≡ Read → IsKept (before - allowed) (length line) fault
 kept_at_read {before = before} {allowed = allowed} {line = line} p failed = subst (IsKept (before - allowed) (length line)) (sym failed) (kept_of_part p)
 
 short : (line text : List ℕ) → line ≡ kept_part text → length line ≤ LONGEST_LINE → line ≡ text
 short line text e le = e ∙ take_all (LONGEST_LINE + 1) text (omega (arith, ap length e, length-take (LONGEST_LINE + 1) text))
 
--- one byte more is a part again
+-- with one more byte, it is again a line that is read in part
 pub next_part : (old now new : Option (List ℕ)) (before allowed : ℕ) (line next : List ℕ) (byte : ℕ) → PartLine old now before allowed line → Consumes now new (byte ∷ []) → byte ≢ 10
     → 0 < allowed → (length line ≤ LONGEST_LINE → next ≡ line ++ byte ∷ []) → (LONGEST_LINE < length line → next ≡ line) → PartLine old new before (allowed - 1) next
 next_part old now new before allowed line next byte p read ne some push keep =

@@ -3,7 +3,7 @@ use Rattle.std.specs.Prelude.{ℕ, List, [], ◌∷◌, ◌++◌, ◌==◌, Bool
 use Rattle.std.specs.List.{onto_first, flat_map}
 use Rattle.rw_lines.specs.Cut.{lacks}
 
--- Each line ends with LF, which the last one may lack. No line has its LF.
+-- Each line ends with LF, which the last one may lack. A line doesn't include its LF.
 abbrev pub lines : List ℕ → List (List ℕ)
 lines [] = []
 lines (b ∷ bs) = if b == 10 then [] ∷ lines bs else onto_first b (lines bs)
@@ -16,7 +16,7 @@ unlines ls = flat_map (λ l. l ++ 10 ∷ []) ls
 abbrev pub IsUnbroken : List ℕ → Type 0
 IsUnbroken text = IsTrue (lacks 10 text)
 
--- a line that says nothing: it is empty, or begins with '#'
+-- a line to skip: it is empty, or begins with '#'
 abbrev pub is_skipped : List ℕ → Bool
 is_skipped [] = true
 is_skipped (b ∷ bs) = b == 35

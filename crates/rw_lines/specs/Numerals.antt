@@ -7,7 +7,7 @@ use Rattle.std.specs.Str.Parse.{digits_value}
 abbrev pub digits_in : List ℕ → Option ℕ
 digits_in ds = if all_ascii_digits ds && nat_lt (digits_value 10 ds) (2 ^ 64) then Some (digits_value 10 ds) else None
 
--- the number that a numeral names: it is `0`, or digits with no 0 in front
+-- the number of a numeral, which is `0`, or digits with no 0 in front
 abbrev pub numeral_in : List ℕ → Option ℕ
 numeral_in [] = None
 numeral_in (d ∷ []) = digits_in (d ∷ [])

@@ -1,4 +1,4 @@
--- What reading a line takes from a reader.
+-- What is read from a reader for a line.
 use Rattle.std.specs.Prelude.{◌≡◌, ◌+◌, ◌<◌, ◌≤◌, ℕ, min, List, [], ◌∷◌, ◌++◌, Option, length, take}
 use Rattle.std.specs.Io.KnownBytes.{Consumes, IsAtEnd}
 use Rattle.rw_lines.specs.declared.lines.TheConstants.{LONGEST_LINE}
@@ -8,12 +8,12 @@ use Rattle.rw_lines.specs.declared.streams.StreamFault.{StreamFault}
 use Rattle.rw_lines.specs.declared.streams.StreamFault.TheVariants.{Read, Write, TooMuch, NoMemory}
 use Rattle.rw_lines.specs.Lines.{IsUnbroken}
 
--- what is kept of a line: one byte more than the longest line has shows that it is too long, whatever follows
+-- what is stored of a line: up to one byte more than the longest line has, which shows that the line is too long
 abbrev pub kept_part : List ℕ → List ℕ
 kept_part text = take (LONGEST_LINE + 1) text
 
--- From old to new the reader gave a whole line with its LF.
--- before, after: how many bytes it was and is allowed to give
+-- Between old and new a whole line with its LF was read.
+-- before, after: how many bytes were allowed to be read, before and after
 pub record GivesLine (old new : Option (List ℕ)) (before after : ℕ) (line : List ℕ) : Type 0 where
   pub text : List ℕ
   pub unbroken : IsUnbroken text
@@ -21,7 +21,7 @@ pub record GivesLine (old new : Option (List ℕ)) (before after : ℕ) (line : 
   pub read : Consumes old new (text ++ 10 ∷ [])
   pub count : length text + 1 + after ≡ before
 
--- It gave a line without LF, and then ended.
+-- A line without LF was read, and then the reader was at its end.
 pub record GivesLast (old new : Option (List ℕ)) (before after : ℕ) (line : List ℕ) : Type 0 where
   pub text : List ℕ
   pub unbroken : IsUnbroken text
@@ -31,7 +31,7 @@ pub record GivesLast (old new : Option (List ℕ)) (before after : ℕ) (line : 
   pub count : length text + after ≡ before
   pub ended : IsAtEnd new
 
--- It gave nothing, being at its end.
+-- Nothing was read, since the reader was at its end.
 pub record GivesNone (old new : Option (List ℕ)) (before after : ℕ) : Type 0 where
   pub read : Consumes old new []
   pub count : after ≡ before
@@ -42,21 +42,21 @@ GivesNext old new before after line Line = GivesLine old new before after line
 GivesNext old new before after line Last = GivesLast old new before after line
 GivesNext old new before after line End = GivesNone old new before after
 
--- Why reading stopped in the midst of a line of which this text was read.
--- At too much, the text's last byte is the first one that wasn't allowed.
+-- Why reading stopped within a line, after this text of it was read.
+-- At TooMuch, the text's last byte is the first one that wasn't allowed.
 abbrev pub StopsBecause : List ℕ → ℕ → StreamFault → Type 0
 StopsBecause text before Read = IsUnbroken text × (length text ≤ before)
 StopsBecause text before TooMuch = length text ≡ before + 1
 StopsBecause text before NoMemory = IsUnbroken text × (length text ≤ before)
 StopsBecause text before Write = ⊥
 
--- Reading stopped at a failed read, at a byte too much, or for want of memory.
+-- Reading stopped: a read failed, a byte more than allowed was read, or an allocation failed.
 pub record StopsInLine (old new : Option (List ℕ)) (before : ℕ) (fault : StreamFault) : Type 0 where
   pub text : List ℕ
   pub read : Consumes old new text
   pub why : StopsBecause text before fault
 
--- How many bytes of the line are kept where reading stopped, of so many that came: for want of memory all but the last.
+-- How many of the bytes that were read are stored where reading stopped: where an allocation failed, all but the last.
 abbrev pub IsKept : (came kept : ℕ) → StreamFault → Type 0
 IsKept came kept Read = kept ≡ min came (LONGEST_LINE + 1)
 IsKept came kept TooMuch = kept ≡ min came (LONGEST_LINE + 1)

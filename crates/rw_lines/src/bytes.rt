@@ -1,10 +1,10 @@
-//! Bytes put at a place of an array.
+//! Bytes written to an array.
 
 ghost use Rattle.std.specs.Prelude.{◌≡◌, ◌++◌, ◌+◌, ◌≤◌, length, take, decimal};
 
 use itoa::Buffer;
 
-/// Puts bytes at a place and answers where they end.
+/// Writes bytes at an index, and returns the index after them.
 #[inline]
 pub fn put_bytes(out: &mut [u8; 256], at: usize, bytes: &[u8]) -> usize
     requires { at + length bytes.now ≤ 256 }
@@ -16,7 +16,7 @@ pub fn put_bytes(out: &mut [u8; 256], at: usize, bytes: &[u8]) -> usize
     end
 }
 
-/// Puts the numeral of a number of 64 bits.
+/// Writes a 64-bit number in decimal at an index, and returns the index after it.
 #[inline]
 pub fn put_number(out: &mut [u8; 256], at: usize, n: u64) -> usize
     requires { at + 20 ≤ 256 }
@@ -27,7 +27,7 @@ pub fn put_number(out: &mut [u8; 256], at: usize, n: u64) -> usize
     put_bytes(out, at, buffer.format(n).as_bytes())
 }
 
-/// Puts the numeral of a number of 32 bits.
+/// Writes a 32-bit number in decimal at an index, and returns the index after it.
 #[inline]
 pub fn put_small_number(out: &mut [u8; 256], at: usize, n: u32) -> usize
     requires { at + 10 ≤ 256 }

@@ -1,10 +1,10 @@
 //! Lines from any reader, bytes to any writer, and the tokens and numerals that lines are made of.
 //!
-//! Sessions, scripts, journal texts and the console stand on these. The one contract is that no byte is lost or made up:
-//! `next_line` says which bytes it took from the reader and which line they make, also where it stops in the midst of
-//! one, and `put` says which bytes the writer holds, also where it stops before the last.
-//! Start reading at `specs/Lines.antt`, which says what the lines of bytes are, and then at `lines.rt`.
-//! Readers and writers that fail are in `rw_devices`; the tests over them are in `rw_tests`.
+//! Sessions, scripts, journal texts and the console use these. The one contract is that no byte is lost or made up. The
+//! clauses of `next_line` define exactly which bytes were read and which line they make, even where reading stops within a
+//! line. Those of `put` define exactly which bytes were written, even where writing stops before the last.
+//! Start reading at `specs/Lines.antt`, which defines the lines of bytes, and then at `lines.rt`.
+//! Readers and writers that fail are in `rw_devices`; the tests with them are in `rw_tests`.
 #![tactic(auto)]
 
 mod bytes;

@@ -10,7 +10,7 @@ use std::io::Read;
 /// The most bytes that a line may have, without its LF.
 pub const LONGEST_LINE: usize = 256;
 
-/// What came next.
+/// What `next_line` read.
 #[derive(Clone, Copy, Debug, PartialEq, Eq)]
 pub enum Next {
     /// A line that ended with LF.
@@ -21,11 +21,11 @@ pub enum Next {
     End,
 }
 
-/// Reads the next line into `line`, without its LF. Of a line that is too long one byte more than the longest line has is kept,
-/// which shows that it is.
+/// Reads the next line into `line`, without its LF. Of a line that is too long, it stores one byte more than the longest line
+/// has, which shows that the line is too long.
 ///
-/// `allowed` is how many bytes the reader may still give, and counts down. Memory is taken only until `line` has held
-/// the longest line. After an `Err` the two say how much came, and how much of it was kept.
+/// `allowed` is how many more bytes may be read, and counts down. Memory is allocated only until `line` has held the longest
+/// line. After an `Err`, `allowed` shows how many bytes were read, and `line` has those that were stored.
 pub fn next_line<R: Read>(
     reader: &mut R,
     allowed: &mut u64,
@@ -59,7 +59,7 @@ pub fn next_line<R: Read>(
     }
 }
 
-/// Whether a line says nothing: it is empty, or begins with `#`.
+/// Whether a line is to be skipped: it is empty, or begins with `#`.
 pub fn is_skipped(line: &[u8]) -> bool
     ensures { result ≡ is_skipped line.now }
 {

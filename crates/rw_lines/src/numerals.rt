@@ -29,17 +29,17 @@ fn exact_numeral(token: &[u8]) -> Option<u64>
     }
 }
 
-/// The number that a numeral names: `0`, or digits with no 0 in front, below 2^64.
+/// Returns the number of a numeral: `0`, or digits with no 0 in front, below 2^64.
 pub fn numeral(token: &[u8]) -> Option<u64>
     ensures exact { result ≡ numeral_in token.now }
-    // A numeral is the decimal text of its number, and each number below 2^64 has that one.
+    // A numeral is the decimal text of its number, and each number below 2^64 has no other numeral.
     ensures named { IfSome result (λ n. (token.now ≡ decimal n) × (n < 2 ^ 64)) }
     ensures only { (n : ℕ) → n < 2 ^ 64 → token.now ≡ decimal n → result ≡ Some n }
 {
     exact_numeral(token)
 }
 
-/// Appends the numeral of a number. At an `Err` nothing was appended.
+/// Appends a number in decimal. On `Err`, nothing was appended.
 pub fn push_number(out: &mut Vec<u8>, n: u64) -> Result<(), AllocError>
     ensures ok { OnOk result (out.new.items ≡ out.old.items ++ decimal n) }
     ensures err { OnErr result (out.new.items ≡ out.old.items) }

@@ -1,6 +1,6 @@
-//! Bytes from a reader and to a writer, with what each took or left.
+//! Bytes from a reader and to a writer, with exactly which of them were read or written.
 //!
-//! Neither a read nor a write is tried again: an interruption is a failure like any other.
+//! A failed read or write is never retried. An interruption is a failure like any other.
 
 ghost use Rattle.std.specs.Prelude.{◌≡◌, ◌<◌, take, length, option_to_list, IsNone, IfOk, IfErr, OnErr, OnOk};
 ghost use Rattle.std.specs.Io.KnownBytes.{Keeps, Appends, Consumes, IsAtEnd};
@@ -15,25 +15,25 @@ pub enum StreamFault {
     /// The reader failed.
     #[error("read fault")]
     Read,
-    /// The writer failed, or took no byte.
+    /// The writer failed, or wrote no byte.
     #[error("write fault")]
     Write,
-    /// More bytes came than are allowed. It is shown like the reader's failure.
+    /// More bytes were read than are allowed. It is printed like a failed read.
     #[error("read fault")]
     TooMuch,
-    /// A growth was refused.
+    /// An allocation failed.
     #[error("no memory")]
     NoMemory,
 }
 
-/// A writer failed, or took no byte, when it had taken so many.
+/// A writer failed, or wrote no byte, after it had written this many.
 #[derive(Clone, Copy, Debug, PartialEq, Eq, Error)]
 #[error("write fault after {written} bytes")]
 pub struct ShortWrite {
     pub written: usize,
 }
 
-/// The next byte, or none at the end.
+/// Reads the next byte, or returns `None` at the end.
 pub fn next_byte<R: io::Read>(reader: &mut R) -> Result<Option<u8>, StreamFault>
     ensures byte { IfOk result
         (λ o. Consumes (R.remaining reader.old) (R.remaining reader.new) (option_to_list o)) }
@@ -49,7 +49,7 @@ pub fn next_byte<R: io::Read>(reader: &mut R) -> Result<Option<u8>, StreamFault>
     }
 }
 
-/// Writes all of the bytes. At an `Err` the writer holds exactly those that it says. This doesn't flush.
+/// Writes all of the bytes. On `Err`, exactly `written` of them were written. This doesn't flush.
 pub fn put<W: io::Write>(writer: &mut W, bytes: &[u8]) -> Result<(), ShortWrite>
     ensures ok { OnOk result (Appends (W.contents writer.old) (W.contents writer.new) bytes.now) }
     ensures short { IfErr result (λ e. e.written < length bytes.now) }
@@ -66,7 +66,7 @@ pub fn put<W: io::Write>(writer: &mut W, bytes: &[u8]) -> Result<(), ShortWrite>
     Ok(())
 }
 
-/// Makes a writer hand on what it holds back. Once per command is enough, so that many lines go out together.
+/// Flushes a writer. Once per command is enough, so that many lines are written together.
 pub fn flush<W: io::Write>(writer: &mut W) -> Result<(), StreamFault>
     ensures bytes { Keeps (W.contents writer.old) (W.contents writer.new) }
     ensures err { IfErr result (λ e. e ≡ StreamFault.Write) }
@@ -74,7 +74,7 @@ pub fn flush<W: io::Write>(writer: &mut W) -> Result<(), StreamFault>
     writer.flush().map_err(|_| StreamFault::Write)
 }
 
-/// The same for a caller that doesn't count: at an `Err` the writer holds a prefix of the bytes.
+/// Writes all of the bytes, as `put` does. On `Err`, a prefix of them was written, of unknown length.
 pub fn put_out<W: io::Write>(writer: &mut W, bytes: &[u8]) -> Result<(), StreamFault>
     ensures ok { OnOk result (Appends (W.contents writer.old) (W.contents writer.new) bytes.now) }
     ensures err { IfErr result (StopsWriting (W.contents writer.old) (W.contents writer.new) bytes.now) }
@@ -87,7 +87,7 @@ pub fn put_out<W: io::Write>(writer: &mut W, bytes: &[u8]) -> Result<(), StreamF
     }
 }
 
-/// Writes all of the bytes, and makes the writer hand them on. At an `Err` it holds a prefix of them.
+/// Writes all of the bytes, and flushes the writer. On `Err`, a prefix of them was written.
 pub fn put_whole<W: io::Write>(writer: &mut W, bytes: &[u8]) -> Result<(), StreamFault>
     ensures ok { OnOk result (Appends (W.contents writer.old) (W.contents writer.new) bytes.now) }
     ensures err { IfErr result (StopsWriting (W.contents writer.old) (W.contents writer.new) bytes.now) }

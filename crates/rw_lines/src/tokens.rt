@@ -13,9 +13,9 @@ fn place_of(bytes: &[u8], mark: u8) -> Option<usize>
     bytes.iter().position(|b| *b == mark)
 }
 
-/// What stands before the first such byte, and what stands behind it, or none where there is no such byte.
+/// Returns what is before the first such byte, and what is after it, or `None` where there is no such byte.
 ///
-/// A cut at a space gives the first token of a line and the rest, a cut at LF the first line.
+/// A cut at a space gives the first token of a line and the rest. A cut at LF gives the first line and the rest.
 #[inline]
 #[tactic(auto, using(crate::proofs::CutLaws::cut_none, crate::proofs::CutLaws::cut_some))]
 pub fn cut(bytes: &[u8], mark: u8) -> Option<(&[u8], &[u8])>
@@ -33,7 +33,7 @@ fn has_word_bytes(token: &[u8]) -> bool
     token.iter().all(|b| b.is_ascii_lowercase() || *b == b'-')
 }
 
-/// Whether a token is a word: of a to z and `-`, with one byte at least.
+/// Whether a token is a word: one or more bytes, each a to z or `-`.
 pub fn is_word(token: &[u8]) -> bool
     ensures { result ≡ is_word token.now }
 {
@@ -48,7 +48,7 @@ fn has_name_bytes(token: &[u8]) -> bool
         .all(|b| b.is_ascii_lowercase() || b.is_ascii_digit())
 }
 
-/// Whether a token is a name: a letter a to z, then at most 15 of a to z and 0 to 9. The token `as` is none.
+/// Whether a token is a name: a letter a to z, then at most 15 of a to z and 0 to 9. The token `as` isn't a name.
 pub fn is_name(token: &[u8]) -> bool
     ensures { result ≡ is_name token.now }
 {

@@ -10,7 +10,7 @@ use Rattle.rw_ring.specs.Cells.{rotation, in_order}
 use Rattle.rw_law.proofs.Lists.{push_back}
 use Rattle.rw_ring.specs.Windows.{window_after, window_before}
 
--- a list with one element told apart from those before and behind it
+-- a list split at one element, into it and those before and after it
 record Split {V : Type 0} (cells : List V) (i : ℕ) : Type 0 where
   before : List V
   at : V
@@ -26,7 +26,7 @@ split (x ∷ xs) (suc i) within = let s = split xs i (omega arith) in record { b
 rotated_at : {V : Type 0} (n : ℕ) (a b : List V) → length a ≡ n → rotation n (a ++ b) ≡ b ++ a
 rotated_at n a b long = rw (drop_at a b n long, take_at a b n long) refl
 
--- past the last cell comes the first
+-- the last cell is followed by the first
 rotated_whole : {V : Type 0} (cells : List V) → rotation (length cells) cells ≡ rotation 0 cells
 rotated_whole cells = ap (rotation (length cells)) (sym (append-nil cells)) ∙ (rotated_at (length cells) cells [] refl ∙ sym (append-nil cells))
 
@@ -37,7 +37,7 @@ mod_sum n i k =
     let moved : n + i ≡ n / k * k + (n % k + i) = omega (arith, split_n) in
     ap (λ m. m % k) moved ∙ mul-add-mod_self_right (n / k) k (n % k + i)
 
--- the cell so many places on, where the end isn't reached
+-- the cell i further on, where the end isn't reached
 cell_on : (n i k : ℕ) → n % k + i < k → (n + i) % k ≡ n % k + i
 cell_on n i k short = mod_sum n i k ∙ mod-eq_of_lt short
 
@@ -56,7 +56,7 @@ rotated_next k n cells some full = elim (cases_lt (n % k + 1) k) [
       ap (λ m. rotation m cells) (cell_round n 1 k long (omega arith) ∙ first) ∙ (sym (rotated_whole cells) ∙ ap (λ m. rotation m cells) (sym last))
 ]
 
--- before an eviction the values stand in the cells as they are
+-- before the first eviction, the cells have the values in order
 pub young : {V : Type 0} (k n : ℕ) (cells : List V) → n ≤ k → length cells ≡ n → in_order k n cells ≡ cells
 young k n cells few long = elim (cases_lt n k) [
   | inl short ↦ ap (λ m. rotation m cells) (mod-eq_of_lt short ∙ sym long) ∙ (rotated_whole cells ∙ append-nil cells)
@@ -71,13 +71,13 @@ put_room k w v room = rw (lt-ltb (length w) k room) refl
 put_evicting : {V : Type 0} (k : ℕ) (w : List V) (v : V) → k ≤ length w → window_after k w v ≡ drop 1 w ++ v ∷ []
 put_evicting k w v full = rw (le-ltb (length w) k full) refl
 
--- one more value, where a cell is left
+-- one more value, where there is still an unused cell
 pub push_puts : {V : Type 0} (k n : ℕ) (cells : List V) (v : V) → n < k → length cells ≡ n → in_order k (n + 1) (cells ++ v ∷ []) ≡ window_after k (in_order k n cells) v
 push_puts k n cells v room long =
     young k (n + 1) (cells ++ v ∷ []) (omega arith) (omega (arith, length_push cells v))
     ∙ (sym (put_room k cells v (omega arith)) ∙ ap (λ w. window_after k w v) (sym (young k n cells (omega arith) long)))
 
--- the order of full cells, and after a write to the cell of the next value
+-- the order of full cells, before and after a write to the cell of the next value
 oldest_first : {V : Type 0} (k n : ℕ) (cells : List V) (s : Split cells (n % k)) → in_order k n cells ≡ s.at ∷ s.behind ++ s.before
 oldest_first k n cells s = ap (rotation (n % k)) s.is ∙ rotated_at (n % k) s.before (s.at ∷ s.behind) s.long
 
@@ -90,7 +90,7 @@ newest_last k n cells s some full =
     let long : length (s.before ++ s.at ∷ []) ≡ n % k + 1 = omega (arith, length_push s.before s.at, s.long) in
     rotated_next k n cells some full ∙ (ap (rotation (n % k + 1)) split_behind ∙ rotated_at (n % k + 1) (s.before ++ s.at ∷ []) s.behind long)
 
--- one more value, where all cells are full: it's written over the oldest one
+-- one more value, where all cells are full: it overwrites the oldest one
 pub write_puts : {V : Type 0} (k n : ℕ) (cells : List V) (v : V) → 0 < k → k ≤ n → length cells ≡ k → in_order k (n + 1) (set cells (n % k) v) ≡ window_after k (in_order k n cells) v
 write_puts k n cells v some many full =
     let s = split cells (n % k) (omega (arith, mod_below n k some)) in
@@ -101,7 +101,7 @@ write_puts k n cells v some many full =
     ∙ (sym (append_assoc s.behind s.before (v ∷ []))
     ∙ (sym (put_evicting k w v long) ∙ ap (λ l. window_after k l v) (sym (oldest_first k n cells s))))
 
--- and taken back: the evicted value is written over it
+-- and undone: the evicted value overwrites it
 pub write_unputs : {V : Type 0} (k n : ℕ) (cells : List V) (v : V) → 0 < k → length cells ≡ k → in_order k n (set cells (n % k) v) ≡ window_before (Some v) (in_order k (n + 1) cells)
 write_unputs k n cells v some full =
     let s = split cells (n % k) (omega (arith, mod_below n k some)) in
@@ -111,7 +111,7 @@ write_unputs k n cells v some full =
     ∙ (ap (λ l. v ∷ l) (sym (push_back (s.behind ++ s.before) s.at))
     ∙ ap (window_before (Some v)) (sym (newest_last k n cells s some full ∙ last)))
 
--- the place in order of the cell so many places on
+-- the value at index i, in order, is in the cell i further on
 rotated_get : {V : Type 0} (k n i : ℕ) (cells : List V) (d : V) → 0 < k → length cells ≡ k → i < k → get_or (in_order k n cells) i d ≡ get_or cells ((n + i) % k) d
 rotated_get k n i cells d some full within =
     let first = n % k in
@@ -128,7 +128,7 @@ rotated_get k n i cells d some full within =
           ∙ ap (λ m. get_or cells m d) (round ∙ sym (cell_round n i k long (omega (arith, below)))))
     ]
 
--- the cell of a position that is kept
+-- the cell of a retained position
 pub cell_at : {V : Type 0} (k n position : ℕ) (cells : List V) (d : V) → 0 < k → length cells ≡ min n k → n - k ≤ position → position < n → slice_get (in_order k n cells) (position - (n - k)) ≡ Some (get_or cells (position % k) d)
 cell_at k n position cells d some long kept before = elim (cases_lt k n) [
   | inl many ↦

@@ -1,4 +1,4 @@
--- The last values of all that were put, as many as the capacity: their window under one more value, and its undoing.
+-- The last values of all that were put, as many as the capacity: their window after one more value, and before it.
 use Rattle.std.proofs.Common.{◌≡◌, ℕ, ◌+◌, ◌-◌, ◌<◌, ◌≤◌, min, Bool, true, false, cond, List, [], ◌∷◌, ◌++◌, length, take, drop, refl, ap, sym, ◌∙◌, arith, length-drop}
 use Rattle.std.specs.Prelude.{Option, Some, None, if◌then◌else◌, slice_get, nat_lt, is_some}
 use Rattle.std.proofs.lemmas.Bool.{cond_both, ltb-true, ltb-false, le-ltb, lt-ltb}
@@ -7,22 +7,22 @@ use Rattle.rw_law.proofs.Lists.{push_back}
 
 -- what a ring shows
 pub record Ring (V : Type 0) : Type 0 where
-  -- how many values are kept
+  -- how many values are retained at most
   pub capacity : ℕ
   -- how many were ever put
   pub count : ℕ
-  -- the last of them, as many as are kept, the oldest first
+  -- the last of them, as many as are retained, oldest first
   pub values : List V
 
 -- before the first value
 abbrev pub empty_window : {V : Type 0} → ℕ → Ring V
 empty_window capacity = record { capacity = capacity; count = 0; values = [] }
 
--- the position of the oldest value that is kept
+-- the position of the oldest retained value
 abbrev pub oldest : {V : Type 0} → Ring V → ℕ
 oldest w = w.count - w.capacity
 
--- the last of all values that were put
+-- the last values of all that were put, as many as the capacity
 abbrev pub last_values : {V : Type 0} → ℕ → List V → List V
 last_values capacity all = drop (length all - capacity) all
 
@@ -34,18 +34,18 @@ window_after capacity window v = if nat_lt (length window) capacity then window 
 abbrev pub eviction : {V : Type 0} → ℕ → List V → Option V
 eviction capacity window = if nat_lt (length window) capacity then None else slice_get window 0
 
--- the window from before a value, given the value that was evicted for it
+-- the window before a put, given the value that it evicted
 abbrev pub window_before : {V : Type 0} → Option V → List V → List V
 window_before None window = take (length window - 1) window
 window_before (Some v) window = v ∷ take (length window - 1) window
 
--- by whether there is room
+-- in both cases: with room, and without
 window_before-after_by : {V : Type 0} (b : Bool) (w : List V) (v : V) → (b ≡ false → 0 < length w) → window_before (cond b None (slice_get w 0)) (cond b (w ++ v ∷ []) (drop 1 w ++ v ∷ [])) ≡ w
 window_before-after_by true w v some = push_back w v
 window_before-after_by false [] v some = absurd (omega (arith, some refl))
 window_before-after_by false (x ∷ xs) v some = ap (λ ys. x ∷ ys) (push_back xs v)
 
--- the window from before a value
+-- undoing a put gives the window before it
 pub window_before-after : {V : Type 0} (capacity : ℕ) (w : List V) (v : V) → 0 < capacity → window_before (eviction capacity w) (window_after capacity w v) ≡ w
 window_before-after capacity w v some = window_before-after_by (nat_lt (length w) capacity) w v (λ full. omega (arith, ltb-false (length w) capacity full))
 
@@ -72,7 +72,7 @@ window_after-drop capacity s v some =
     let within : length s - capacity + 1 ≤ length s = omega arith in
     rw (one_more, drop-append-le, drop-drop) refl)
 
--- a value is evicted where more were put than are kept
+-- a value is evicted where more are put than the capacity
 pub is_some-eviction : {V : Type 0} (capacity : ℕ) (w : List V) (n : ℕ) → 0 < capacity → length w ≡ min n capacity → is_some (eviction capacity w) ≡ nat_lt capacity (n + 1)
 is_some-eviction capacity w n some is =
     let P = λ (o : Option _). is_some o ≡ nat_lt capacity (n + 1) in

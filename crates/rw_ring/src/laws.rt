@@ -1,7 +1,7 @@
 //! What a ring's values are, among all that were put.
 ghost use Rattle.rw_ring.specs.Laws.{UnputUndoesPut, PutFitsUnput, PutKeepsTheLast, ReadsByPosition};
 
-/// Holds of every window: it is no work, and its clauses are the laws.
+/// Holds of every window. The function does nothing: its clauses are the laws.
 pub fn window_laws<V: Copy>()
     ensures undoes { UnputUndoesPut V }
     ensures fits { PutFitsUnput V }

@@ -1,8 +1,8 @@
 //! The last values of all that were ever put, as many as the capacity, each read by its position among all.
 //!
-//! The one contract: a ring's values are the last `min(count, capacity)` of all that were put, in order, whatever was
-//! evicted for them (`specs/Windows.antt`), and each value that is put can be taken back.
-//! Start reading at `specs/Windows.antt`, the words, and then at `ring.rt`.
+//! The one contract: a ring's values are the last `min(count, capacity)` of all that were put, in order
+//! (`specs/Windows.antt`), and each put can be undone.
+//! Start reading at `specs/Windows.antt`, the definitions, and then at `ring.rt`.
 #![tactic(auto)]
 
 mod laws;

@@ -1,4 +1,4 @@
-//! The ring: a value stands in the cell whose number is its position's remainder by the capacity.
+//! The ring: a value is in the cell whose index is its position modulo the capacity.
 ghost use Rattle.std.specs.Prelude.{◌≡◌, ◌+◌, ◌-◌, ◌<◌, ◌≤◌, min, [], length, slice_get, None, IfOk, is_some, nat_lt};
 ghost use Rattle.rw_ring.specs.declared.ring.TheConstants.{MOST_CAPACITY};
 ghost use Rattle.rw_law.specs.declared.limits.TheConstants.{MOST_WEIGHT};
@@ -9,7 +9,7 @@ use std::alloc::Global;
 use std::marker::Model;
 use std::mem;
 
-/// How many values a ring keeps at most.
+/// The greatest capacity of a ring.
 pub const MOST_CAPACITY: u32 = 65_536;
 
 /// The last values of all that were put.
@@ -34,7 +34,7 @@ impl<V: Copy> Model for Ring<V> {
 }
 
 impl<V: Copy> Ring<V> {
-    /// A ring to which nothing was put. All the memory it will need is taken here, and no cell is written.
+    /// Returns an empty ring. All the memory that it will need is allocated here, and no cell is written.
     pub fn new(alloc: Global, capacity: u64) -> Result<Self, NoMemory>
         requires some { 0 < capacity }
         requires most { capacity ≤ MOST_CAPACITY }
@@ -47,7 +47,7 @@ impl<V: Copy> Ring<V> {
         })
     }
 
-    /// How many values the ring keeps at most.
+    /// Returns how many values the ring retains at most.
     pub fn capacity(&self) -> u64
         ensures capacity { result ≡ self.now.capacity }
         ensures some { 0 < result }
@@ -56,7 +56,7 @@ impl<V: Copy> Ring<V> {
         self.capacity
     }
 
-    /// How many values were put. The next one has this position.
+    /// Returns how many values were put. The next one has this position.
     pub fn count(&self) -> u64
         ensures count { result ≡ self.now.count }
         ensures kept { length self.now.values ≡ min result self.now.capacity }
@@ -64,14 +64,14 @@ impl<V: Copy> Ring<V> {
         self.count
     }
 
-    /// The position of the oldest value that is kept, or of the next one where none is.
+    /// Returns the position of the oldest retained value, or of the next one where none is retained.
     pub fn oldest(&self) -> u64
         ensures { result ≡ oldest self.now }
     {
         self.count.saturating_sub(self.capacity)
     }
 
-    /// The value at a position, if it was put and is kept.
+    /// Returns the value at a position, if it was put and is still retained.
     pub fn at(&self, position: u64) -> Option<V>
         ensures evicted { position < oldest self.now → result ≡ None }
         ensures kept { oldest self.now ≤ position → result ≡ slice_get self.now.values (position - oldest self.now) }
@@ -82,7 +82,7 @@ impl<V: Copy> Ring<V> {
         Some(self.cells[(position % self.capacity) as usize])
     }
 
-    /// Puts one more value, and gives the one that is evicted for it.
+    /// Puts one more value, and returns the one that it evicts.
     pub fn put(&mut self, v: V) -> Option<V>
         requires { self.old.count < MOST_WEIGHT }
         ensures evicted { result ≡ eviction self.old.capacity self.old.values }
@@ -100,7 +100,7 @@ impl<V: Copy> Ring<V> {
         Some(mem::replace(&mut self.cells[cell], v))
     }
 
-    /// Takes the last value back, given the one that was evicted for it.
+    /// Undoes the last put, given the value that it evicted.
     pub fn unput(&mut self, evicted: Option<V>)
         requires some { 0 < self.old.count }
         requires evicted { is_some evicted ≡ nat_lt self.old.capacity self.old.count }
