@@ -16,7 +16,7 @@ least-push : (ps : List ℕ) (p : ℕ) → least (ps ++ p ∷ []) ≡ least_with
 least-push [] p = refl
 least-push (q ∷ qs) p = ap Some (fold_push min q qs p)
 
--- where no receiver stands the least position stays
+-- a slot without a receiver leaves the least position as it is
 stays : (o : Option ℕ) (s : Slot ℕ) → values Receiver (s ∷ []) ≡ [] → o ≡ least_with o s
 stays None (Live Receiver position) none = absurd cc
 stays (Some p) (Live Receiver position) none = absurd cc

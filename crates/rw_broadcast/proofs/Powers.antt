@@ -1,4 +1,4 @@
--- The retained capacity is the least power of two that is at least the one asked for.
+-- The retained capacity is the least power of two that is at least the requested one.
 use Rattle.std.proofs.Common.{◌≡◌, ℕ, zero, suc, ◌*◌, ◌/◌, ◌^◌, ◌<◌, ◌≤◌, max, [], refl, ap, sym, ◌∙◌, arith, inl, inr}
 use Rattle.std.specs.Prelude.{nat_le, ◌⊎◌, ◌-◌}
 use Rattle.std.specs.Int.{IsPowerOfTwo, IsNextPowerOfTwo}
@@ -31,7 +31,7 @@ pub retains_next_power : RetainsNextPower
 unfolding doubled retained_capacity
 retains_next_power asked some small = next_power_from 16 1 asked (0, refl) (omega arith) small
 
--- there is one such power
+-- there is only one such power
 no_power_between : (n a b : ℕ) → a < b → n ≤ 2 ^ a → 2 ^ b / 2 < max 1 n → ⊥
 no_power_between n a zero h low high = omega (arith, h)
 no_power_between n a (suc c) h low high =

@@ -1,4 +1,4 @@
--- Worked rows of calls, computed: their replies, and what is shown at some places.
+-- Worked examples of lists of calls, computed: their replies, and what is shown at some places.
 use Rattle.std.proofs.Common.{◌≡◌, ℕ, List, [], ◌∷◌, take, refl}
 use Rattle.rw_handles.specs.declared.kinds.Kind.TheVariants.{Sender, Receiver, Weak}
 use Rattle.rw_handles.specs.declared.kinds.Slot.TheVariants.{Live, Spent}

@@ -37,13 +37,13 @@ module _ {V : Type 0} (r : Record V) where
   abbrev rest : Channel V
   rest = of_shown.channel_of (shown r)
 
-  -- a value that is retained is shown
+  -- a retained value is shown
   value_is : (position : ℕ) → lag (oldest whole) position ≡ 0 → rest.value position ≡ whole.value position
   value_is position none =
       let here : oldest whole + (position - oldest whole) ≡ position = omega arith in
       slice_get-drop (oldest whole) r.sent (position - oldest whole) ∙ ap (slice_get r.sent) here
 
-  -- calls read the same of both
+  -- calls read the same from both
   same_receive : (h position : ℕ) (nothing : BReply V) → receive rest h position nothing ≡ receive whole h position nothing
   same_receive h position nothing =
       by_test (nat_lt 0 (lag (oldest whole) position)) _ (rest.value position) (whole.value position)
@@ -64,7 +64,7 @@ module _ {V : Type 0} (r : Record V) where
   same_effect : (call : BCall V) → effect rest call ≡ effect whole call
   same_effect call = same_found call (lookup (wanted_kind call) r.slots (handle_of call))
 
-  -- a change of the record changes what it shows
+  -- what is shown after a change is what the record after that change shows
   shows_its_change : 0 < r.capacity → (change : Change V) → of_shown.with_change (shown r) change ≡ shown (of_record.with_change r change)
   shows_its_change some Keep = refl
   shows_its_change some (Append v) =
@@ -79,7 +79,7 @@ shows_its_steps V r call some =
     let same = same_effect r call in
     (ap (λ e. e.1) same, ap (λ e. of_shown.with_change (shown r) e.0) same ∙ shows_its_change r some (effect (of_record.channel_of r) call).0)
 
--- the same of any record that shows x
+-- the same for any record that shows x
 pub documented : {V : Type 0} (x : Shown V) (call : BCall V) → 0 < x.capacity → IsDocumented x call (of_shown.reply_of x call) (next x call)
 documented {V} x call some r shows =
     let here = shows_its_steps V r call (omega (arith, ap (λ (y : Shown V). y.capacity) shows)) in
@@ -121,14 +121,14 @@ replies_by_record V asked calls call =
     ap (λ (x : Shown V). of_shown.reply_of x call) (shows_its_record V asked calls)
     ∙ (shows_its_steps V (after (opening_record asked) calls) call (shows_allowed V asked calls).some_capacity).0
 
--- what a record shows that sent these values
+-- what a record with these sent values shows
 shown_is : {V : Type 0} (capacity sent : ℕ) (all window : List V) (slots : List (Slot ℕ)) → length all ≡ sent → drop (sent - capacity) all ≡ window
     → shown (record { capacity = capacity; sent = all; slots = slots }) ≡ record { capacity = capacity; sent = sent; window = window; slots = slots }
 shown_is capacity sent all window slots count last =
     ap (λ n. record { capacity = capacity; sent = n; window = drop (n - capacity) all; slots = slots }) count
     ∙ ap (λ w. record { capacity = capacity; sent = sent; window = w; slots = slots }) last
 
--- the record that sent the oldest retained value over and over, and then all that are retained
+-- a record that sent the oldest retained value over and over, and then all retained ones
 some_record : {V : Type 0} (capacity sent : ℕ) (window : List V) (slots : List (Slot ℕ)) → 0 < capacity → length window ≡ min sent capacity
     → (r : Record V) × (0 < r.capacity) × (shown r ≡ record { capacity = capacity; sent = sent; window = window; slots = slots })
 some_record {V} capacity sent [] slots some is =

@@ -7,11 +7,11 @@ abbrev pub power_from : ℕ → ℕ → ℕ → ℕ
 power_from zero p n = p
 power_from (suc k) p n = if nat_le n p then p else power_from k (2 * p) n
 
--- how many values a channel retains: the least power of two that is at least the capacity asked for, 1 to 65,536
+-- how many values a channel retains: the least power of two that is at least the requested capacity, 1 to 65,536
 unfoldable pub retained_capacity : ℕ → ℕ
 retained_capacity asked = power_from 16 1 asked
 
--- the position of the oldest value that is retained, of so many sent
+-- the position of the oldest retained value, after this many were sent
 abbrev pub oldest : (sent capacity : ℕ) → ℕ
 oldest sent capacity = sent - capacity
 
@@ -19,7 +19,7 @@ oldest sent capacity = sent - capacity
 abbrev pub unread : (sent position : ℕ) → ℕ
 unread sent position = sent - position
 
--- how many of these are retained no longer
+-- how many of these were evicted
 abbrev pub lag : (oldest position : ℕ) → ℕ
 lag oldest position = oldest - position
 
@@ -28,12 +28,12 @@ abbrev pub least : List ℕ → Option ℕ
 least [] = None
 least (p ∷ ps) = Some (fold min p ps)
 
--- how many of the sent values stand neither before the oldest one nor before the least position, if there is one
+-- how many of the sent values come neither before the oldest retained one nor before the least position, if there is one
 abbrev pub queued_from : (sent oldest : ℕ) → Option ℕ → ℕ
 queued_from sent oldest None = 0
 queued_from sent oldest (Some position) = sent - max oldest position
 
--- how many of the sent values are queued, where the receivers stand at these positions.
+-- how many of the sent values are queued, where the receivers are at these positions.
 -- tokio: "A value is queued until it has either been seen by all receivers that were alive at the time it was sent, or
 -- has been evicted from the queue by subsequent sends that exceeded the queue's capacity."
 abbrev pub queued : (sent oldest : ℕ) → (positions : List ℕ) → ℕ

@@ -1,8 +1,8 @@
 -- The calls of a broadcast channel: what each does, and its reply. The sentences in quotes are tokio's.
 --
 -- A call reads four things of a channel: its capacity, how many values were ever sent, the value at a position, and the
--- handles. So the one table of calls serves the record of all that was ever sent (`Record`), of which tokio's
--- documentation speaks, and what a machine still shows that has let the evicted values go (`Shown`).
+-- handles. So one table of calls serves both the record of all that was ever sent (`Record`), which tokio's documentation
+-- describes, and what a machine still shows without the evicted values (`Shown`).
 use Rattle.std.specs.Prelude.{ℕ, ◌+◌, Bool, true, false, ◌==◌, nat_lt, if◌then◌else◌, List, Option, Some, None, length}
 use Rattle.rw_handles.specs.declared.kinds.Kind.{Kind}
 use Rattle.rw_handles.specs.declared.kinds.Kind.TheVariants.{Sender, Receiver, Weak}
@@ -26,7 +26,7 @@ pub record Channel (V : Type 0) : Type 0 where
   pub sent : ℕ
   -- the value at a position, if one was sent there
   pub value : ℕ → Option V
-  -- what stands under each handle's number: a receiver with its position, a handle of another kind with 0, or nothing any more
+  -- the slot under each handle's number: a receiver with its position, a handle of another kind with 0, or a dropped handle
   pub slots : List (Slot ℕ)
 
 -- what a call changes
@@ -37,7 +37,7 @@ pub data Change (V : Type 0) : Type 0 where
   Append : V → Change V
   -- the next number becomes a handle of this kind, with this position
   Make : Kind → ℕ → Change V
-  -- the receiver of this number goes from one position to another
+  -- the receiver of this number moves from one position to another
   Move : (h from to : ℕ) → Change V
   -- the handle of this number, of this kind and at this position, is dropped
   Leave : (h : ℕ) → Kind → ℕ → Change V
@@ -52,7 +52,7 @@ receivers c = alive Receiver c.slots
 abbrev pub is_closed : {V : Type 0} → Channel V → Bool
 is_closed c = alive Sender c.slots == 0
 
--- the position of the oldest value that is retained
+-- the position of the oldest retained value
 abbrev pub oldest : {V : Type 0} → Channel V → ℕ
 oldest c = number.oldest c.sent c.capacity
 
@@ -92,7 +92,7 @@ with_handle (Downgrade h) g = Downgrade g
 with_handle (Upgrade h) g = Upgrade g
 with_handle (CloneWeak h) g = CloneWeak g
 
--- the kind that this handle has to be of; None: any
+-- the kind that the handle must be of; None for any kind
 abbrev pub wanted_kind : {V : Type 0} → BCall V → Option Kind
 wanted_kind (Send h v) = Some Sender
 wanted_kind (Subscribe h) = Some Sender
@@ -108,7 +108,7 @@ wanted_kind (Downgrade h) = Some Sender
 wanted_kind (Upgrade h) = Some Weak
 wanted_kind (CloneWeak h) = Some Weak
 
--- whether a call makes a handle, where it isn't refused
+-- whether a call makes a handle, unless it is refused
 abbrev pub makes : {V : Type 0} → BCall V → Bool
 makes (Subscribe h) = true
 makes (CloneSender h) = true
@@ -137,13 +137,13 @@ make c kind position = (Make kind position, New (length c.slots))
 abbrev pub upgrade : {V : Type 0} → Channel V → Change V × BReply V
 upgrade c = if is_closed c then (Keep, NoSender) else make c Sender 0
 
--- what receiver h gets of the value at its position, if there is one. "Once a receiver has received all values retained
--- by the channel, the next call to recv will return with RecvError::Closed." Where more may come, the reply is `nothing`.
+-- receiver h receives the value at its position, if there is one. "Once a receiver has received all values retained
+-- by the channel, the next call to recv will return with RecvError::Closed." Where one may still be sent, the reply is `nothing`.
 abbrev pub read : {V : Type 0} → Channel V → (h position : ℕ) → Option V → (nothing : BReply V) → Change V × BReply V
 read c h position (Some v) nothing = (Move h position (position + 1), Value v)
 read c h position None nothing = (Keep, if is_closed c then Closed else nothing)
 
--- what receiver h gets. "Any receiver that has not yet seen the released value will return RecvError::Lagged the next
+-- what receiver h receives. "Any receiver that has not yet seen the released value will return RecvError::Lagged the next
 -- time recv is called. Once RecvError::Lagged is returned, the lagging receiver's position is updated to the oldest value
 -- contained by the channel."
 abbrev pub receive : {V : Type 0} → Channel V → (h position : ℕ) → (nothing : BReply V) → Change V × BReply V
@@ -168,8 +168,8 @@ effect_with c (Downgrade h) kind position = make c Weak 0
 effect_with c (Upgrade h) kind position = upgrade c
 effect_with c (CloneWeak h) kind position = make c Weak 0
 
--- the same, where the handle is looked for: a call is checked for an unknown number, a dropped handle, one of the wrong
--- kind, and too many handles, in this order
+-- the same, by what the lookup of the handle found: a call is checked for an unknown number, a dropped handle, one of the
+-- wrong kind, and too many handles, in this order
 abbrev pub effect_found : {V : Type 0} → Channel V → BCall V → Found ℕ → Change V × BReply V
 effect_found c call f = answer_of_check (λ fault. (Keep, fault_reply fault)) (Keep, TooManyHandles) (makes call) (length c.slots) (effect_with c call) f
 

@@ -1,4 +1,4 @@
--- The laws of a broadcast channel, beside those of any machine whose steps can be undone.
+-- The laws of a broadcast channel, besides those of any machine whose steps can be undone.
 use Rattle.std.specs.Prelude.{◌≡◌, ℕ, ◌<◌, ◌≤◌, List}
 use Rattle.std.specs.List.{fold}
 use Rattle.std.specs.Int.{IsNextPowerOfTwo}
@@ -19,11 +19,11 @@ abbrev pub ShowsItsSteps : Type 0 → Type 0
 ShowsItsSteps V = (r : Record V) (call : BCall V) → 0 < r.capacity →
     (reply_of (shown r) call ≡ (step r call).1) × (next (shown r) call ≡ shown (step r call).0)
 
--- after any calls from its opening a channel shows what its record shows
+-- after any calls from its opening, a channel shows what its record shows
 abbrev pub ShowsItsRecord : Type 0 → Type 0
 ShowsItsRecord V = (asked : ℕ) (calls : List (BCall V)) → shown_after (shown (opening_record asked)) calls ≡ shown (after (opening_record asked) calls)
 
--- after any calls from its opening a channel replies to a call as its record does
+-- after any calls from its opening, a channel replies to a call as its record does
 abbrev pub RepliesByRecord : Type 0 → Type 0
 RepliesByRecord V = (asked : ℕ) (calls : List (BCall V)) (call : BCall V)
     → reply_of (shown_after (shown (opening_record asked)) calls) call ≡ (step (after (opening_record asked) calls) call).1
@@ -36,11 +36,11 @@ ShowsAllowed V = (asked : ℕ) (calls : List (BCall V)) → IsAllowed (shown (af
 abbrev pub IsShownBySome : Type 0 → Type 0
 IsShownBySome V = (x : Shown V) → IsAllowed x → (r : Record V) × (0 < r.capacity) × (shown r ≡ x)
 
--- the retained capacity is the least power of two that is at least the one asked for
+-- the retained capacity is the least power of two that is at least the requested one
 abbrev pub RetainsNextPower : Type 0
 RetainsNextPower = (asked : ℕ) → 0 < asked → asked ≤ MOST_CAPACITY → IsNextPowerOfTwo asked (retained_capacity asked)
 
--- from x to y, the call was answered and made as documented: for each record that shows x, the reply is that of its step,
--- and y is what the record after it shows
+-- the call leads from x to y with this reply, as documented: for each record that shows x, the reply is that of its step,
+-- and y is what the record shows after its step
 abbrev pub IsDocumented : {V : Type 0} → Shown V → BCall V → BReply V → Shown V → Type 0
 IsDocumented {V} x call reply y = (r : Record V) → shown r ≡ x → (reply ≡ (step r call).1) × (y ≡ shown (step r call).0)

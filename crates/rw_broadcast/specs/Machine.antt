@@ -10,19 +10,19 @@ use Rattle.rw_broadcast.specs.declared.calls.BPatch.{BPatch}
 use Rattle.rw_broadcast.specs.Channel.{Change}
 use Rattle.rw_broadcast.specs.Shown.{Shown, outcome_of}
 
--- what it shows, and the weight for which it has room
+-- what it shows, and the weight up to which it has room
 abbrev pub Machine : Type 0 → Type 0
 Machine V = MachineOf (Shown V)
 
--- the machine made this change, gave this reply, and a patch that undoes the change
+-- the machine made this change, and returned this reply and the patch that undoes the change
 abbrev pub Takes : {V : Type 0} → (old new : Machine V) → BReply V × BPatch V → Change V × BReply V → Type 0
 Takes old new given e = Follows old new given (outcome_of old.shown e)
 
--- the position of the live receiver that stands under a number, if one does
+-- the position of the live receiver under a number, if there is one
 abbrev pub position_at : Option (Slot ℕ) → Option ℕ
 position_at o = receiver_at o
 
--- the least position so far and that of one more slot, if a receiver stands there
+-- the least position so far or that of one more slot, if this is a receiver's and less
 abbrev pub least_with : Option ℕ → Slot ℕ → Option ℕ
 least_with None (Live Receiver position) = Some position
 least_with (Some other) (Live Receiver position) = Some (min other position)

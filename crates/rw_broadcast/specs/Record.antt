@@ -1,4 +1,4 @@
--- A broadcast channel as all that ever happened to it, and the documented step.
+-- A broadcast channel as the record of all that ever happened to it, and the documented step.
 use Rattle.std.specs.Prelude.{ℕ, List, [], ◌∷◌, ◌++◌, length, slice_get, slice_set}
 use Rattle.rw_handles.specs.declared.kinds.Kind.TheVariants.{Sender, Receiver}
 use Rattle.rw_handles.specs.declared.kinds.Slot.{Slot}
@@ -8,17 +8,17 @@ use Rattle.rw_broadcast.specs.declared.calls.BReply.{BReply}
 use Rattle.rw_broadcast.specs.Arithmetic.{retained_capacity}
 use Rattle.rw_broadcast.specs.Channel.{Channel, Change, Keep, Append, Make, Move, Leave, effect}
 
--- the channel record: the retained capacity, all values ever sent, in order, and what stands under each handle's number
+-- the channel record: the retained capacity, all values ever sent, in order, and the slot under each handle's number
 pub record Record (V : Type 0) : Type 0 where
   pub capacity : ℕ
   pub sent : List V
   pub slots : List (Slot ℕ)
 
--- sender 0 and receiver 1, with no value before it
+-- sender 0 and receiver 1, before any value is sent
 abbrev pub first_slots : List (Slot ℕ)
 first_slots = Live Sender 0 ∷ Live Receiver 0 ∷ []
 
--- a channel at its opening, where this capacity is asked for
+-- a channel at its opening, with this requested capacity
 abbrev pub opening_record : {V : Type 0} → ℕ → Record V
 opening_record asked = record { capacity = retained_capacity asked; sent = []; slots = first_slots }
 

@@ -1,4 +1,4 @@
--- What a broadcast channel shows, which is the record without the values that were evicted: its steps, and their undoing.
+-- What a broadcast channel shows: the record without the evicted values. Its steps, and how they are undone.
 use Rattle.std.specs.Prelude.{◌≡◌, ℕ, ◌+◌, ◌-◌, ◌≤◌, ◌<◌, min, Bool, true, false, List, [], ◌∷◌, ◌++◌, Option, Some, None, All, slice_get, slice_set, length, take, drop, ⊤}
 use Rattle.rw_handles.specs.declared.kinds.Kind.TheVariants.{Receiver}
 use Rattle.rw_handles.specs.declared.kinds.Slot.{Slot}
@@ -17,8 +17,8 @@ use Rattle.rw_broadcast.specs.Arithmetic.{oldest}
 use Rattle.rw_broadcast.specs.Record.{Record}
 use Rattle.rw_broadcast.specs.Channel.{Channel, Change, Keep, Append, Make, Move, Leave, effect, handle_of}
 
--- the retained capacity, how many values were ever sent, the retained ones of them, the oldest first, and what stands under
--- each handle's number
+-- the retained capacity, how many values were ever sent, the retained ones of them, oldest first, and the slot under each
+-- handle's number
 pub record Shown (V : Type 0) : Type 0 where
   pub capacity : ℕ
   pub sent : ℕ
@@ -33,7 +33,7 @@ shown r = record { capacity = r.capacity; sent = length r.sent; window = drop (o
 abbrev pub channel_of : {V : Type 0} → Shown V → Channel V
 channel_of x = record { capacity = x.capacity; sent = x.sent; value = λ position. slice_get x.window (position - oldest x.sent x.capacity); slots = x.slots }
 
--- what is shown after a change. Of one value more: "If a value is sent when the channel is at capacity, the oldest value
+-- what is shown after a change. For one more value: "If a value is sent when the channel is at capacity, the oldest value
 -- currently held by the channel is released." (`window_after`)
 abbrev pub with_change : {V : Type 0} → Shown V → Change V → Shown V
 with_change x Keep = x
@@ -42,7 +42,7 @@ with_change x (Make kind position) = record x { slots = x.slots ++ Live kind pos
 with_change x (Move h from to) = record x { slots = slice_set x.slots h (Live Receiver to) }
 with_change x (Leave h kind position) = record x { slots = slice_set x.slots h Spent }
 
--- the patch of a value that was sent
+-- the patch of a send, by the value that it evicted
 abbrev pub patch_of_send : {V : Type 0} → Option V → BPatch V
 patch_of_send None = Pushed
 patch_of_send (Some old) = Evicted old
@@ -84,8 +84,8 @@ back x call Made = record x { slots = take (length x.slots - 1) x.slots }
 back x call (Moved from) = record x { slots = slice_set x.slots (handle_of call) (Live Receiver from) }
 back x call (Left kind position) = record x { slots = slice_set x.slots (handle_of call) (Live kind position) }
 
--- what can stand under a number, where so many values were sent: a receiver with a position up to the end, a handle of another
--- kind with 0, or nothing any more
+-- what can be under a number, after this many values were sent: a receiver with a position up to the end, a handle of another
+-- kind with 0, or a dropped handle
 abbrev pub IsPlaced : ℕ → Slot ℕ → Type 0
 IsPlaced sent (Live Receiver position) = position ≤ sent
 IsPlaced sent (Live kind position) = position ≡ 0
@@ -99,12 +99,12 @@ pub record IsAllowed {V : Type 0} (x : Shown V) : Type 0 where
   pub few_slots : length x.slots ≤ MOST_HANDLES
   pub placed : All (IsPlaced x.sent) x.slots
 
--- one of the values can have been sent last: no receiver has received them all
+-- the last call can have been a send: a value was sent, and no receiver has received the last one
 pub record CanUnsend {V : Type 0} (y : Shown V) : Type 0 where
   pub some_sent : 0 < y.sent
   pub placed : All (IsPlaced (y.sent - 1)) y.slots
 
--- the patch undoes this call here: it is one that the call can leave, and what `back` gives is allowed
+-- the patch undoes this call here: it can be that of the call, and what `back` gives is allowed
 abbrev pub Fits : {V : Type 0} → Shown V → BCall V → BPatch V → Type 0
 Fits y call Same = ⊤
 Fits y call Pushed = CanUnsend y × (y.sent ≤ y.capacity)
@@ -113,11 +113,11 @@ Fits y call Made = IsLive (slice_get y.slots (length y.slots - 1))
 Fits y call (Moved from) = IsReceiver (slice_get y.slots (handle_of call)) × (from ≤ y.sent)
 Fits y call (Left kind position) = (slice_get y.slots (handle_of call) ≡ Some Spent) × IsPlaced y.sent (Live kind position)
 
--- how many values were sent and handles made
+-- how many values were sent, plus how many handles were made
 abbrev pub weight : {V : Type 0} → Shown V → ℕ
 weight x = x.sent + length x.slots
 
--- the reply says that nothing changed
+-- whether the reply refuses: the call has changed nothing
 abbrev pub refuses : {V : Type 0} → BReply V → Bool
 refuses (NoReceivers v) = true
 refuses Empty = true
@@ -130,11 +130,11 @@ refuses TooManyHandles = true
 refuses NoSender = true
 refuses _ = false
 
--- the reply says that the call would wait
+-- whether the reply means that the call would wait
 abbrev pub waits : {V : Type 0} → BReply V → Bool
 waits Waits = true
 waits _ = false
 
--- no reply of a broadcast channel says that there is no such channel
+-- no reply of a broadcast channel means that there is no such channel
 abbrev pub strays : {V : Type 0} → BReply V → Bool
 strays _ = false

@@ -1,4 +1,4 @@
--- A broadcast channel keeps the laws of a machine whose steps can be undone.
+-- A broadcast channel obeys the laws of a machine whose steps can be undone.
 use Rattle.std.proofs.Common.{◌≡◌, ℕ, ◌+◌, ◌-◌, ◌<◌, ◌≤◌, Bool, true, false, cond, List, [], ◌∷◌, length, set, refl, ap, ◌∙◌, arith, length-set}
 use Rattle.std.specs.Prelude.{Option, Some, None, slice_get, ◌==◌, nat_lt}
 use Rattle.std.proofs.lemmas.Bool.{ltb-true, ltb-false}
@@ -26,11 +26,11 @@ use Rattle.rw_broadcast.specs.Channel.{Change, Keep, Append, Make, Move, Leave, 
 use Rattle.rw_broadcast.specs.Shown.{Shown, channel_of, with_change, patch_of_send, outcome_of, outcome, next, reply_of, patch_of, back, IsPlaced, IsAllowed, CanUnsend, Fits, weight, refuses, waits, strays}
 use Rattle.rw_ring.specs.Windows.{window_after, eviction, window_before, window_before-after, length-window_after}
 
--- the laws, of one change and reply of a call
+-- the laws, for one change and reply of a call
 abbrev IsRight : {V : Type 0} → Shown V → BCall V → Change V × BReply V → Type 0
 IsRight x call e = IsSound IsAllowed weight back Fits refuses x call (outcome_of x e)
 
--- this stands under the number of the call's handle
+-- this slot is under the number of the call's handle
 Stands : {V : Type 0} → Shown V → BCall V → Slot ℕ → Type 0
 Stands x call slot = slice_get x.slots (handle_of call) ≡ Some slot
 
@@ -58,7 +58,7 @@ right_make x call kind position placed few = record {
   weight_rises = omega (arith, length_push x.slots (Live kind position));
 }
 
--- a write to the call's handle
+-- after a write to the call's handle, what is shown is still allowed
 set_allowed : {V : Type 0} (x : Shown V) (call : BCall V) (slot : Slot ℕ) → (IsAllowed x → IsPlaced x.sent slot) → IsAllowed x → IsAllowed (record x { slots = set x.slots (handle_of call) slot })
 set_allowed x call slot placed ok = record {
   some_capacity = ok.some_capacity;
@@ -93,12 +93,12 @@ placed_more n (Live Receiver position) h = omega arith
 placed_more n (Live kind position) h = h
 placed_more n Spent h = h
 
--- what a send evicts decides its patch
+-- undoing a send, by the value that it evicted
 back_send : {V : Type 0} (y : Shown V) (call : BCall V) (old : Option V) → back y call (patch_of_send old) ≡ record y { sent = y.sent - 1; window = window_before old y.window }
 back_send y call None = refl
 back_send y call (Some old) = refl
 
--- none is evicted where there was room, and the first one where there was none
+-- the patch of a send fits: it evicted nothing where there was room, and the oldest value where there was none
 fits_send : {V : Type 0} (y : Shown V) (call : BCall V) (b : Bool) (w : List V) → CanUnsend y → (b ≡ true → y.sent ≤ y.capacity) → (b ≡ false → (0 < length w) × (y.capacity < y.sent)) → Fits y call (patch_of_send (cond b None (slice_get w 0)))
 fits_send y call true w can room full = (can, room refl)
 fits_send y call false [] can room full = absurd (omega (arith, (full refl).0))
@@ -145,7 +145,7 @@ right_receive x call position nothing here =
     (λ _. right_move x call position (oldest (channel_of x)) (Lagged behind) here (λ _. omega arith) refl)
     (λ none. right_read x call position _ nothing here (omega (arith, ltb-false 0 behind none)) refl)
 
--- each call, with the handle that it found
+-- each call, with the handle that was found
 right_with : {V : Type 0} (x : Shown V) (call : BCall V) (kind : Kind) (position : ℕ) → lookup (wanted_kind call) x.slots (handle_of call) ≡ Handle kind position → (makes call ≡ true → length x.slots < MOST_HANDLES) → IsRight x call (effect_with (channel_of x) call kind position)
 unfolding Stands
 right_with x (Send h v) kind position is few = sound_if IsAllowed weight back Fits refuses (outcome_of x) (receivers (channel_of x) == 0) (λ _. right_keep x _ _) (λ _. right_append x _ v (Sent (receivers (channel_of x))) refl)

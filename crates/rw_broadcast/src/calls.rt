@@ -1,4 +1,4 @@
-//! The calls of a broadcast channel, their replies, and what a step leaves for its undoing.
+//! The calls of a broadcast channel, their replies, and the patches of their steps.
 ghost use Rattle.std.specs.Prelude.{◌≡◌};
 ghost use Rattle.rw_broadcast.specs.Channel.{handle_of, makes, fault_reply, wanted_kind, with_handle};
 ghost use Rattle.rw_broadcast.specs.Shown.{patch_of_send};
@@ -14,42 +14,42 @@ pub enum BCall<V> {
     Subscribe(u32),
     /// Makes another sender.
     CloneSender(u32),
-    /// Makes a receiver out of another; it gets the values sent from now on.
+    /// Makes a receiver from another; it gets the values sent from now on.
     Resubscribe(u32),
     /// Receives a value, if there is one.
     TryRecv(u32),
-    /// Receives a value, and waits for one where there is none yet.
+    /// Receives a value, or waits for one where there is none yet.
     Recv(u32),
     /// Drops a handle of any kind.
     DropHandle(u32),
-    /// Asks a sender how many values are queued.
+    /// Reads how many values are queued, with a sender.
     SenderLen(u32),
-    /// Asks a sender how many receivers are alive.
+    /// Reads how many receivers are alive, with a sender.
     ReceiverCount(u32),
-    /// Asks a receiver how many values it has yet to receive.
+    /// Reads how many values a receiver has yet to receive.
     ReceiverLen(u32),
     /// Makes a weak sender, which doesn't keep the channel open.
     Downgrade(u32),
-    /// Makes a sender out of a weak one, as long as there is a sender.
+    /// Upgrades a weak sender to a sender, as long as there is a sender.
     Upgrade(u32),
     /// Makes another weak sender.
     CloneWeak(u32),
 }
 
-/// What a call answers.
+/// A reply to a call.
 #[derive(Clone, Copy, Debug, PartialEq)]
 pub enum BReply<V> {
-    /// The value was sent to so many receivers.
+    /// The value was sent to this many receivers.
     Sent(u64),
-    /// No receiver is alive, so the value comes back.
+    /// No receiver is alive. The value is returned.
     NoReceivers(V),
     /// The receiver's next value.
     Value(V),
-    /// So many values were skipped, which the receiver had not received when they were evicted.
+    /// This many values were evicted before the receiver had received them. The receiver skips them.
     Lagged(u64),
     /// There is no value yet.
     Empty,
-    /// There is no value, and no sender any more.
+    /// There is no value to receive, and no sender is alive.
     Closed,
     /// There is no value yet, and the call would wait.
     Waits,
@@ -57,7 +57,7 @@ pub enum BReply<V> {
     New(u32),
     /// The handle was dropped.
     Dropped,
-    /// What was asked for.
+    /// The number of values or of receivers.
     Count(u64),
     /// No handle of this number was made.
     Unknown,
@@ -67,11 +67,11 @@ pub enum BReply<V> {
     WrongKind,
     /// The channel has made all the handles that it may make.
     TooManyHandles,
-    /// No sender is alive, so a weak one can't be made into a sender.
+    /// No sender is alive, so the weak sender can't be upgraded.
     NoSender,
 }
 
-/// What undoing a step needs beside its call.
+/// What undoing a step needs besides its call.
 #[derive(Clone, Copy, Debug, PartialEq)]
 pub enum BPatch<V> {
     /// Nothing changed.
@@ -82,14 +82,14 @@ pub enum BPatch<V> {
     Evicted(V),
     /// A handle was made.
     Made,
-    /// The receiver stood at this position.
+    /// The receiver was at this position.
     Moved(u64),
-    /// The dropped handle was of this kind, and stood at this position.
+    /// The dropped handle was of this kind, and at this position.
     Left(Kind, u64),
 }
 
 impl<V: Copy> BCall<V> {
-    /// The number of the handle that the call is made with.
+    /// Returns the number of the handle that the call is made with.
     pub(crate) fn handle(&self) -> u32
         ensures { result ≡ handle_of self.now }
     {
@@ -110,7 +110,7 @@ impl<V: Copy> BCall<V> {
         }
     }
 
-    /// The same call, made with another handle.
+    /// Returns the same call, made with another handle.
     pub fn with_handle(self, handle: u32) -> BCall<V>
         ensures { result ≡ with_handle self handle }
     {
@@ -131,7 +131,7 @@ impl<V: Copy> BCall<V> {
         }
     }
 
-    /// The kind that this handle has to be of; `None` where any kind will do.
+    /// Returns the kind that the handle must be of, or `None` if any kind will do.
     pub(crate) fn wanted(&self) -> Option<Kind>
         ensures { result ≡ wanted_kind self.now }
     {
@@ -149,7 +149,7 @@ impl<V: Copy> BCall<V> {
         }
     }
 
-    /// Whether the call makes a handle, where it isn't refused.
+    /// Whether the call makes a handle, unless it is refused.
     pub fn makes(&self) -> bool
         ensures { result ≡ makes self.now }
     {
@@ -166,7 +166,7 @@ impl<V: Copy> BCall<V> {
 }
 
 impl<V: Copy> BReply<V> {
-    /// The reply for a handle that can't be used.
+    /// Returns the reply for a handle that can't be used.
     pub(crate) fn refused(fault: HandleFault) -> BReply<V>
         ensures { result ≡ fault_reply fault }
     {
@@ -179,7 +179,7 @@ impl<V: Copy> BReply<V> {
 }
 
 impl<V: Copy> BPatch<V> {
-    /// The patch of a value that was sent, given the value that was evicted for it.
+    /// Returns the patch of a send, given the value that it evicted.
     pub(crate) fn of_send(evicted: Option<V>) -> BPatch<V>
         ensures { result ≡ patch_of_send evicted }
     {

@@ -7,7 +7,7 @@ ghost use Rattle.rw_broadcast.specs.Machine.{least_with};
 
 use rw_handles::{Kind, Slot};
 
-/// The least position of a live receiver, if there is one.
+/// Returns the least position of a live receiver, if there is one.
 #[tactic(auto, using(crate::proofs::LeastPosition::least_more))]
 pub fn least_position(slots: &[Slot<u64>]) -> Option<u64>
     ensures { result ≡ least (values Receiver slots.now) }
@@ -19,7 +19,7 @@ pub fn least_position(slots: &[Slot<u64>]) -> Option<u64>
     least
 }
 
-/// The lesser of a position and that of one more slot.
+/// Returns the lesser of a position and that of one more slot.
 fn lesser(least: Option<u64>, slot: &Slot<u64>) -> Option<u64>
     ensures { result ≡ least_with least slot.now }
 {

@@ -2,8 +2,8 @@
 //!
 //! The one contract: `Broadcast` is a machine whose steps can be undone (`rw_law::Reversible`), and its steps are those of
 //! tokio's documentation of `tokio::sync::broadcast`, by the table of calls in `specs/Channel.antt`.
-//! Start reading at that table, go on with `specs/Record.antt`, the record of all that was ever sent, and `specs/Shown.antt`,
-//! what a machine still shows of it, and then read `machine.rt`.
+//! Start reading at that table. Continue with `specs/Record.antt`, the record of all that was ever sent, and with
+//! `specs/Shown.antt`, what a machine still shows of it. Then read `machine.rt`.
 #![tactic(auto)]
 
 mod calls;

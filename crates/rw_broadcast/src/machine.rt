@@ -16,7 +16,7 @@ use std::alloc::Global;
 use std::marker::Model;
 use thiserror::Error;
 
-/// A broadcast channel: the last values that were sent, as many as it retains, and its handles.
+/// A broadcast channel: its retained values and its handles.
 #[derive(Drop)]
 pub struct Broadcast<V: Copy> {
     values: Ring<V>,
@@ -36,13 +36,13 @@ impl<V: Copy> Model for Broadcast<V> {
     ghost invariant = { HasRoom };
 }
 
-/// Why a channel isn't opened.
+/// Why a channel wasn't opened.
 #[derive(Clone, Copy, Debug, PartialEq, Eq, Error)]
 pub enum OpenFault {
-    /// The capacity that was asked for is 0 or above 65,536.
+    /// The requested capacity is 0 or above 65,536.
     #[error("bad capacity")]
     BadCapacity,
-    /// A growth was refused.
+    /// An allocation failed.
     #[error("no memory")]
     NoMemory,
 }
@@ -59,8 +59,8 @@ impl From<NoMemory> for OpenFault {
 }
 
 impl<V: Copy> Broadcast<V> {
-    /// Opens a channel with one sender, 0, and one receiver, 1. It retains as many values as the least power of two that is
-    /// at least this capacity.
+    /// Opens a channel with sender 0 and receiver 1. It retains as many values as the least power of two that is at least
+    /// this capacity.
     pub fn open(alloc: Global, capacity: u32) -> Result<Broadcast<V>, OpenFault>
         ensures ok { IfOk result (λ machine. machine.shown ≡ shown (opening_record capacity)) }
         ensures bad { (result ≡ Err OpenFault.BadCapacity) ↔ ((capacity ≡ 0) ⊎ (MOST_CAPACITY < capacity)) }
@@ -78,7 +78,7 @@ impl<V: Copy> Broadcast<V> {
     }
 }
 
-/// How many values are retained where this many are asked for.
+/// Returns how many values are retained where this many are requested.
 fn retained_capacity(asked: u32) -> u64
     requires some { 0 < asked }
     requires small { asked ≤ MOST_CAPACITY }

@@ -1,4 +1,4 @@
-//! What a reply tells the caller of one call, under the names of tokio's results and errors.
+//! Replies as the results and errors of tokio's methods.
 ghost use Rattle.std.specs.Prelude.{◌≡◌};
 ghost use Rattle.rw_broadcast.specs.Results.{count, dropped, made, received, refusal_of, sent, upgraded};
 
@@ -6,25 +6,25 @@ use crate::calls::BReply;
 use rw_handles::{HandleFault, Refusal, SendError};
 use thiserror::Error;
 
-/// Why a receive gives no value.
+/// Why a receive returned no value.
 #[derive(Clone, Copy, Debug, PartialEq, Eq, Error)]
 pub enum TryRecvError {
-    /// There is no value yet. A sender is alive, so one may come.
+    /// There is no value yet. A sender is alive, so one may be sent.
     #[error("channel empty")]
     Empty,
-    /// There is no value, and no sender any more.
+    /// There is no value, and no sender is alive.
     #[error("channel closed")]
     Closed,
-    /// So many values were evicted before the receiver had received them. The next receive gets the oldest that is retained.
+    /// This many values were evicted before the receiver had received them. The next receive returns the oldest retained one.
     #[error("channel lagged by {0}")]
     Lagged(u64),
-    /// The reply isn't that of a receive.
+    /// The call was refused, or the reply isn't to a receive.
     #[error("{0}")]
     Refused(Refusal),
 }
 
 impl<V: Copy> BReply<V> {
-    /// Of `Send`: to how many receivers the value was sent, or the value back where there are none.
+    /// The result of `Send`: how many receivers the value was sent to, or the value itself where there are none.
     pub fn sent(self) -> Result<u64, SendError<V>>
         ensures { result ≡ sent self }
     {
@@ -35,7 +35,7 @@ impl<V: Copy> BReply<V> {
         }
     }
 
-    /// Of `TryRecv` and `Recv`: the value, or why there is none. A `Recv` that would wait is `Empty`.
+    /// The result of `TryRecv` and `Recv`: the value, or why there is none. For a `Recv` that would wait, it is `Empty`.
     pub fn received(self) -> Result<V, TryRecvError>
         ensures { result ≡ received self }
     {
@@ -48,7 +48,7 @@ impl<V: Copy> BReply<V> {
         }
     }
 
-    /// Of a call that always makes a handle, where it isn't refused: the number of the new handle.
+    /// The result of a call that always makes a handle, unless it is refused: the number of the new handle.
     pub fn made(self) -> Result<u32, Refusal>
         ensures { result ≡ made self }
     {
@@ -58,7 +58,7 @@ impl<V: Copy> BReply<V> {
         }
     }
 
-    /// Of `Upgrade`: the number of the new sender, or `None` where no sender is alive.
+    /// The result of `Upgrade`: the number of the new sender, or `None` where no sender is alive.
     pub fn upgraded(self) -> Result<Option<u32>, Refusal>
         ensures { result ≡ upgraded self }
     {
@@ -69,7 +69,7 @@ impl<V: Copy> BReply<V> {
         }
     }
 
-    /// Of `DropHandle`: whether the handle was dropped.
+    /// The result of `DropHandle`: `Ok` where the handle was dropped.
     pub fn dropped(self) -> Result<(), Refusal>
         ensures { result ≡ dropped self }
     {
@@ -79,7 +79,7 @@ impl<V: Copy> BReply<V> {
         }
     }
 
-    /// Of `SenderLen`, `ReceiverCount` and `ReceiverLen`: what was asked for.
+    /// The result of `SenderLen`, `ReceiverCount` and `ReceiverLen`: the number.
     pub fn count(self) -> Result<u64, Refusal>
         ensures { result ≡ count self }
     {
@@ -89,7 +89,7 @@ impl<V: Copy> BReply<V> {
         }
     }
 
-    /// Why the reply hasn't what its call asks for, where that call has no error of its own for it.
+    /// Returns why the reply has no result for its call, where that call has no error of its own for it.
     fn refusal(self) -> Refusal
         ensures { result ≡ refusal_of self }
     {

@@ -8,7 +8,7 @@ use Rattle.rw_watch.specs.declared.calls.WReply.TheVariants.{Stored, NoReceivers
 use Rattle.rw_watch.specs.Record.{opening_record, replies, after}
 use Rattle.rw_watch.specs.Shown.{shown}
 
--- the same value is a change
+-- sending the same value again is a change
 same_value-replies : replies {V = ℕ} (opening_record 7) (HasChanged 1 ∷ Send 0 7 ∷ HasChanged 1 ∷ Changed 1 ∷ HasChanged 1 ∷ []) ≡ Flag false ∷ Stored ∷ Flag true ∷ Done ∷ Flag false ∷ []
 same_value-replies = refl
 
@@ -18,11 +18,11 @@ same_value-shown = refl
 same_value-shown_at_3 : shown {V = ℕ} (after (opening_record 7) (HasChanged 1 ∷ Send 0 7 ∷ HasChanged 1 ∷ [])) ≡ record { version = 1; value = 7; slots = Live Sender None ∷ Live Receiver (Some 0) ∷ [] }
 same_value-shown_at_3 = refl
 
--- the last change of a closed watch is still found, once
+-- the last change of a closed watch is still received, once
 last_change-replies : replies {V = ℕ} (opening_record 7) (Send 0 8 ∷ DropHandle 0 ∷ HasChanged 1 ∷ Changed 1 ∷ Changed 1 ∷ Borrow 1 ∷ []) ≡ Stored ∷ Dropped ∷ Closed ∷ Done ∷ Closed ∷ Value 8 ∷ []
 last_change-replies = refl
 
--- a watch without receivers stores nothing by Send
+-- on a watch without receivers, Send stores nothing
 without_receivers-replies : replies {V = ℕ} (opening_record 1) (DropHandle 1 ∷ IsClosed 0 ∷ AwaitClosed 0 ∷ ReceiverCount 0 ∷ Send 0 2 ∷ Borrow 0 ∷ SendReplace 0 3 ∷ Subscribe 0 ∷ HasChanged 2 ∷ Borrow 2 ∷ []) ≡ Dropped ∷ Flag true ∷ Done ∷ Count 0 ∷ NoReceivers 2 ∷ Value 1 ∷ Old 1 ∷ New 2 ∷ Flag false ∷ Value 3 ∷ []
 without_receivers-replies = refl
 
@@ -33,7 +33,7 @@ silent-replies = refl
 silent-shown : shown {V = ℕ} (after (opening_record 1) (Modify false 0 5 ∷ Borrow 1 ∷ HasChanged 1 ∷ [])) ≡ record { version = 0; value = 5; slots = Live Sender None ∷ Live Receiver (Some 0) ∷ [] }
 silent-shown = refl
 
--- marks are cloned
+-- a cloned receiver has the mark of its source
 cloned-replies : replies {V = ℕ} (opening_record 4) (MarkChanged 1 ∷ MarkChanged 1 ∷ CloneReceiver 1 ∷ MarkUnchanged 1 ∷ HasChanged 1 ∷ HasChanged 2 ∷ Changed 2 ∷ []) ≡ Done ∷ Done ∷ New 2 ∷ Done ∷ Flag false ∷ Flag true ∷ Done ∷ []
 cloned-replies = refl
 

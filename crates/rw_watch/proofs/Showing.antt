@@ -36,7 +36,7 @@ shown-changed r (Leave h kind mark) = refl
 pub shows_its_steps : (V : Type 0) → ShowsItsSteps V
 shows_its_steps V r call = (refl, shown-changed r (effect (channel_of r) call).0)
 
--- so where a machine's step is that of what it shows, it is the documented one
+-- so where a machine's step is that on what it shows, it is the documented one
 pub documented : {V : Type 0} (x y : Shown V) (call : WCall V) (reply : WReply V) → reply ≡ reply_of x call → y ≡ next x call → IsDocumented x call reply y
 documented {V} x y call reply same_reply same_next r is =
     let P = λ (z : Shown V). (reply ≡ reply_of z call) × (y ≡ next z call) in
@@ -69,7 +69,7 @@ pub replies_by_record : (V : Type 0) → RepliesByRecord V
 replies_by_record V initial calls call =
     ap (λ (x : Shown V). reply_of x call) (shows_its_record V initial calls) ∙ (shows_its_steps V (after (opening_record initial) calls) call).0
 
--- so many changes, each told, that give the same value again
+-- n changes with notification, each to the same value
 abbrev told_again : {V : Type 0} → V → ℕ → List (V × Bool)
 told_again v zero = []
 told_again v (suc n) = told_again v n ++ (v, true) ∷ []

@@ -1,8 +1,8 @@
 -- The calls of a watch channel: what each does, and its reply. The sentences in quotes are tokio's.
 --
--- A call reads three things of a channel: its version, its value and the handles. So the one table of calls serves the record
--- of all that happened (`Record`), of which tokio's documentation speaks, and what a machine still shows that has let the
--- earlier values go (`Shown`).
+-- A call reads three things of a channel: its version, its value and the handles. So one table of calls serves both the
+-- record of all that happened (`Record`), which tokio's documentation describes, and what a machine still shows without the
+-- earlier values (`Shown`).
 use Rattle.std.specs.Prelude.{ℕ, Bool, true, false, not, ◌==◌, if◌then◌else◌, List, Option, Some, None, length}
 use Rattle.rw_handles.specs.declared.kinds.Kind.{Kind}
 use Rattle.rw_handles.specs.declared.kinds.Kind.TheVariants.{Sender, Receiver}
@@ -19,23 +19,23 @@ use Rattle.rw_watch.specs.declared.calls.WReply.TheVariants.{Stored, NoReceivers
 
 -- a channel, as its calls read it
 pub record Channel (V : Type 0) : Type 0 where
-  -- how many changes the receivers were told of
+  -- how many changes the receivers were notified of
   pub version : ℕ
   -- "the most recently sent value"
   pub value : V
-  -- what stands under each handle's number: a receiver with its mark, which is a version that it has seen or None, a sender
-  -- with None, or nothing any more
+  -- the slot under each handle's number: a receiver with its mark, which is a version that it has seen or None, a sender with
+  -- None, or a dropped handle
   pub slots : List (Slot (Option ℕ))
 
 -- what a call changes
 pub data Change (V : Type 0) : Type 0 where
   -- nothing
   Keep : Change V
-  -- the channel has this value, and the receivers are told of it or not
+  -- this value is written, and the receivers are notified or not
   Write : V → (told : Bool) → Change V
   -- the next number becomes a handle of this kind, with this mark
   Make : Kind → Option ℕ → Change V
-  -- the receiver of this number goes from one mark to another
+  -- the receiver of this number changes from one mark to another
   Mark : (h : ℕ) → (from to : Option ℕ) → Change V
   -- the handle of this number, of this kind and with this mark, is dropped
   Leave : (h : ℕ) → Kind → Option ℕ → Change V
@@ -96,7 +96,7 @@ with_handle (ReceiverCount h) g = ReceiverCount g
 with_handle (IsClosed h) g = IsClosed g
 with_handle (AwaitClosed h) g = AwaitClosed g
 
--- the kind that this handle has to be of; None: any
+-- the kind that the handle must be of; None for any kind
 abbrev pub wanted_kind : {V : Type 0} → WCall V → Option Kind
 wanted_kind (Send h v) = Some Sender
 wanted_kind (SendReplace h v) = Some Sender
@@ -115,7 +115,7 @@ wanted_kind (ReceiverCount h) = Some Sender
 wanted_kind (IsClosed h) = Some Sender
 wanted_kind (AwaitClosed h) = Some Sender
 
--- whether a call makes a handle, where it isn't refused
+-- whether a call makes a handle, unless it is refused
 abbrev pub makes : {V : Type 0} → WCall V → Bool
 makes (Subscribe h) = true
 makes (CloneSender h) = true
@@ -189,8 +189,8 @@ effect_with c (ReceiverCount h) kind mark = (Keep, Count (receivers c))
 effect_with c (IsClosed h) kind mark = (Keep, Flag (has_no_receiver c))
 effect_with c (AwaitClosed h) kind mark = (Keep, await_closed c)
 
--- the same, where the handle is looked for: a call is checked for an unknown number, a dropped handle, one of the wrong
--- kind, and too many handles, in this order
+-- the same, by what the lookup of the handle found: a call is checked for an unknown number, a dropped handle, one of the
+-- wrong kind, and too many handles, in this order
 abbrev pub effect_found : {V : Type 0} → Channel V → WCall V → Found (Option ℕ) → Change V × WReply V
 effect_found c call f = answer_of_check (λ fault. (Keep, fault_reply fault)) (Keep, TooManyHandles) (makes call) (length c.slots) (effect_with c call) f
 

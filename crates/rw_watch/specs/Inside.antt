@@ -1,4 +1,4 @@
--- What the fields of a watch machine stand for.
+-- What the fields of a watch machine mean.
 use Rattle.rw_handles.specs.Channels.{HasRoom as HasRoomFor}
 use Rattle.rw_watch.specs.declared.machine.Watch.TheInside.{Inside}
 use Rattle.rw_watch.specs.Shown.{IsAllowed, weight}
@@ -10,6 +10,6 @@ machine_of a = record {
   limit = a.limit;
 }
 
--- it is one that channels can be, and there is memory for all that its limit allows
+-- what it shows is allowed, and there is memory for all calls up to its limit
 abbrev pub HasRoom : {V : Type 0} → Inside V → Type 0
 HasRoom a = HasRoomFor IsAllowed weight (machine_of a) a.handles

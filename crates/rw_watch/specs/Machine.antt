@@ -8,15 +8,15 @@ use Rattle.rw_watch.specs.declared.calls.WPatch.{WPatch}
 use Rattle.rw_watch.specs.Channel.{Change, is_unseen}
 use Rattle.rw_watch.specs.Shown.{Shown, outcome_of}
 
--- what it shows, and the weight for which it has room
+-- what it shows, and the weight up to which it has room
 abbrev pub Machine : Type 0 → Type 0
 Machine V = MachineOf (Shown V)
 
--- the machine made this change, gave this reply, and a patch that undoes the change
+-- the machine made this change, and returned this reply and the patch that undoes the change
 abbrev pub Takes : {V : Type 0} → (old new : Machine V) → WReply V × WPatch V → Change V × WReply V → Type 0
 Takes old new given e = Follows old new given (outcome_of old.shown e)
 
--- the mark of the live receiver that stands under a number, if one does
+-- the mark of the live receiver under a number, if there is one
 abbrev pub mark_at : Option (Slot (Option ℕ)) → Option (Option ℕ)
 mark_at o = receiver_at o
 

@@ -1,4 +1,4 @@
--- A watch channel as all that ever happened to it, and the documented step.
+-- A watch channel as the record of all that ever happened to it, and the documented step.
 use Rattle.std.specs.Prelude.{ℕ, Bool, List, [], ◌∷◌, ◌++◌, Option, Some, None, count_by, slice_set}
 use Rattle.rw_handles.specs.declared.kinds.Kind.TheVariants.{Sender, Receiver}
 use Rattle.rw_handles.specs.declared.kinds.Slot.{Slot}
@@ -7,8 +7,8 @@ use Rattle.rw_watch.specs.declared.calls.WCall.{WCall}
 use Rattle.rw_watch.specs.declared.calls.WReply.{WReply}
 use Rattle.rw_watch.specs.Channel.{Channel, Change, Keep, Write, Make, Mark, Leave, effect}
 
--- the channel record: the value at its opening, each later value and whether the receivers were told of it, in order, and
--- what stands under each handle's number
+-- the channel record: the value at its opening, each later value and whether the receivers were notified of it, in order,
+-- and the slot under each handle's number
 pub record Record (V : Type 0) : Type 0 where
   pub initial : V
   pub changes : List (V × Bool)
@@ -22,7 +22,7 @@ first_slots = Live Sender None ∷ Live Receiver (Some 0) ∷ []
 abbrev pub opening_record : {V : Type 0} → V → Record V
 opening_record initial = record { initial = initial; changes = []; slots = first_slots }
 
--- how many of these changes were told
+-- how many of these changes the receivers were notified of
 abbrev pub told_count : {V : Type 0} → List (V × Bool) → ℕ
 told_count changes = count_by (λ change. change.1) changes
 

@@ -1,4 +1,4 @@
--- What a watch channel shows, which is the record without the earlier values: its steps, and their undoing.
+-- What a watch channel shows: the record without the earlier values. Its steps, and how they are undone.
 use Rattle.std.specs.Prelude.{◌≡◌, ℕ, ◌+◌, ◌-◌, ◌≤◌, ◌<◌, Bool, true, false, if◌then◌else◌, [], ◌∷◌, ◌++◌, Option, Some, None, All, slice_get, slice_set, length, take, ⊤}
 use Rattle.rw_handles.specs.declared.kinds.Kind.{Kind}
 use Rattle.rw_handles.specs.declared.kinds.Kind.TheVariants.{Sender, Receiver}
@@ -15,7 +15,7 @@ use Rattle.rw_watch.specs.declared.calls.WPatch.TheVariants.{Same, Wrote, Made, 
 use Rattle.rw_watch.specs.Channel.{Channel, Change, Keep, Write, Make, Mark, Leave, effect, handle_of}
 use Rattle.rw_watch.specs.Record.{Record, channel_of}
 
--- the version, the value, and what stands under each handle's number: all that calls read
+-- the version, the value, and the slot under each handle's number: all that calls read
 abbrev pub Shown : Type 0 → Type 0
 Shown V = Channel V
 
@@ -23,7 +23,7 @@ Shown V = Channel V
 abbrev pub shown : {V : Type 0} → Record V → Shown V
 shown r = channel_of r
 
--- the version after a change that is told or not
+-- the version after a change, with or without notification
 abbrev pub version_after : ℕ → (told : Bool) → ℕ
 version_after version told = if told then version + 1 else version
 
@@ -39,12 +39,12 @@ with_change x (Make kind mark) = record x { slots = x.slots ++ Live kind mark �
 with_change x (Mark h from to) = record x { slots = slice_set x.slots h (Live Receiver to) }
 with_change x (Leave h kind mark) = record x { slots = slice_set x.slots h Spent }
 
--- the patch of a receiver's mark, which was this one before
+-- the patch of a receiver's new mark, given the one before it
 abbrev pub patch_of_mark : {V : Type 0} → Option ℕ → WPatch V
 patch_of_mark None = Unmarked
 patch_of_mark (Some mark) = Marked mark
 
--- the patch of a drop, of a handle of this kind and with this mark
+-- the patch of a drop of a handle of this kind and with this mark
 abbrev pub patch_of_drop : {V : Type 0} → Kind → Option ℕ → WPatch V
 patch_of_drop kind None = LeftUnmarked kind
 patch_of_drop kind (Some mark) = Left kind mark
@@ -87,13 +87,13 @@ back x call Unmarked = record x { slots = slice_set x.slots (handle_of call) (Li
 back x call (Left kind mark) = record x { slots = slice_set x.slots (handle_of call) (Live kind (Some mark)) }
 back x call (LeftUnmarked kind) = record x { slots = slice_set x.slots (handle_of call) (Live kind None) }
 
--- a receiver's mark, in a channel of this version
+-- what a receiver's mark can be, in a channel of this version
 abbrev pub IsMark : (version : ℕ) → Option ℕ → Type 0
 IsMark version None = ⊤
 IsMark version (Some mark) = mark ≤ version
 
--- what can stand under a number, in a channel of this version: a sender with None, a receiver that has seen no later one, or
--- nothing any more; a watch has no handle of another kind
+-- what can be under a number, in a channel of this version: a sender with None, a receiver that has seen no later version, or
+-- a dropped handle; a watch has no handle of another kind
 abbrev pub IsMarked : (version : ℕ) → Slot (Option ℕ) → Type 0
 IsMarked version (Live Sender mark) = mark ≡ None
 IsMarked version (Live Receiver mark) = IsMark version mark
@@ -105,12 +105,12 @@ pub record IsAllowed {V : Type 0} (x : Shown V) : Type 0 where
   pub few_slots : length x.slots ≤ MOST_HANDLES
   pub marked : All (IsMarked x.version) x.slots
 
--- the last change can have been told: no receiver has seen it
+-- the last change can have been one with notification: no receiver has seen it
 pub record CanUntell {V : Type 0} (y : Shown V) : Type 0 where
   pub some_told : 0 < y.version
   pub marked : All (IsMarked (y.version - 1)) y.slots
 
--- the patch undoes this call here: it is one that the call can leave, and what `back` gives is allowed
+-- the patch undoes this call here: it can be that of the call, and what `back` gives is allowed
 abbrev pub Fits : {V : Type 0} → Shown V → WCall V → WPatch V → Type 0
 Fits y call Same = ⊤
 Fits y call (Wrote true before) = CanUntell y
@@ -121,11 +121,11 @@ Fits y call Unmarked = IsReceiver (slice_get y.slots (handle_of call))
 Fits y call (Left kind mark) = (slice_get y.slots (handle_of call) ≡ Some Spent) × IsMarked y.version (Live kind (Some mark))
 Fits y call (LeftUnmarked kind) = (slice_get y.slots (handle_of call) ≡ Some Spent) × IsMarked y.version (Live kind None)
 
--- how many changes were told and handles made
+-- how many changes the receivers were notified of, plus how many handles were made
 abbrev pub weight : {V : Type 0} → Shown V → ℕ
 weight x = x.version + length x.slots
 
--- the reply says that nothing changed
+-- whether the reply refuses: the call has changed nothing
 abbrev pub refuses : {V : Type 0} → WReply V → Bool
 refuses (NoReceivers v) = true
 refuses Closed = true
@@ -136,11 +136,11 @@ refuses WrongKind = true
 refuses TooManyHandles = true
 refuses _ = false
 
--- the reply says that the call would wait
+-- whether the reply means that the call would wait
 abbrev pub waits : {V : Type 0} → WReply V → Bool
 waits Waits = true
 waits _ = false
 
--- no reply of a watch channel says that there is no such channel
+-- no reply of a watch channel means that there is no such channel
 abbrev pub strays : {V : Type 0} → WReply V → Bool
 strays _ = false

@@ -1,4 +1,4 @@
--- A watch channel keeps the laws of a machine whose steps can be undone.
+-- A watch channel obeys the laws of a machine whose steps can be undone.
 use Rattle.std.proofs.Common.{◌≡◌, ℕ, ◌+◌, ◌-◌, ◌<◌, Bool, true, false, length, set, refl, ap, ◌∙◌, arith, length-set}
 use Rattle.std.specs.Prelude.{Option, Some, None, slice_get}
 use Rattle.std.proofs.lemmas.List.{length_push}
@@ -22,15 +22,15 @@ use Rattle.rw_watch.specs.declared.calls.WReply.TheVariants.{Stored, Old, Told, 
 use Rattle.rw_watch.specs.Channel.{Change, Keep, Write, Make, Mark, Leave, handle_of, wanted_kind, makes, fault_reply, has_no_receiver, is_unseen, effect_with, effect}
 use Rattle.rw_watch.specs.Shown.{Shown, with_change, patch_of_mark, patch_of_drop, outcome_of, outcome, next, reply_of, patch_of, back, IsMark, IsMarked, IsAllowed, Fits, weight, refuses, waits, strays}
 
--- the laws, of one change and reply of a call
+-- the laws, for one change and reply of a call
 abbrev IsRight : {V : Type 0} → Shown V → WCall V → Change V × WReply V → Type 0
 IsRight x call e = IsSound IsAllowed weight back Fits refuses x call (outcome_of x e)
 
--- this stands under the number of the call's handle
+-- this slot is under the number of the call's handle
 Stands : {V : Type 0} → Shown V → WCall V → Slot (Option ℕ) → Type 0
 Stands x call slot = slice_get x.slots (handle_of call) ≡ Some slot
 
--- it can stand there
+-- in an allowed channel, it is one that can be there
 marked_at : {V : Type 0} (x : Shown V) (call : WCall V) (slot : Slot (Option ℕ)) → Stands x call slot → IsAllowed x → IsMarked x.version slot
 unfolding Stands
 marked_at x call slot here ok = All-slice_get (IsMarked x.version) x.slots (handle_of call) slot here ok.marked
@@ -56,14 +56,14 @@ right_make x call kind mark marked few = record {
   weight_rises = omega (arith, length_push x.slots (Live kind mark));
 }
 
--- a write to the call's handle
+-- after a write to the call's handle, what is shown is still allowed
 set_allowed : {V : Type 0} (x : Shown V) (call : WCall V) (slot : Slot (Option ℕ)) → IsMarked x.version slot → IsAllowed x → IsAllowed (record x { slots = set x.slots (handle_of call) slot })
 set_allowed x call slot marked ok = record {
   few_slots = omega (arith, ok.few_slots, length-set x.slots (handle_of call) slot);
   marked = All-set (IsMarked x.version) x.slots (handle_of call) slot marked ok.marked;
 }
 
--- the patch of a mark and of a drop: undoing it writes what stood under the handle's number
+-- the patch of a mark and of a drop: undoing it writes back what was under the handle's number
 back_mark : {V : Type 0} (y : Shown V) (call : WCall V) (from : Option ℕ) → back y call (patch_of_mark from) ≡ record y { slots = set y.slots (handle_of call) (Live Receiver from) }
 back_mark y call None = refl
 back_mark y call (Some mark) = refl
@@ -92,7 +92,7 @@ right_mark x call from to reply here mark served =
       weight_rises = omega (arith, length-set x.slots (handle_of call) (Live Receiver to));
     }
 
--- the value is seen
+-- a receiver marks the value as seen
 right_see : {V : Type 0} (x : Shown V) (call : WCall V) (from : Option ℕ) (reply : WReply V) → Stands x call (Live Receiver from) → refuses reply ≡ false → IsRight x call (Mark (handle_of call) from (Some x.version), reply)
 right_see x call from reply here served = right_mark x call from (Some x.version) reply here (omega arith) served
 
@@ -136,7 +136,7 @@ right_write x call v false reply served = record {
   weight_rises = omega arith;
 }
 
--- each call, with the handle that it found
+-- each call, with the handle that was found
 right_with : {V : Type 0} (x : Shown V) (call : WCall V) (kind : Kind) (mark : Option ℕ) → lookup (wanted_kind call) x.slots (handle_of call) ≡ Handle kind mark → (makes call ≡ true → length x.slots < MOST_HANDLES) → IsRight x call (effect_with x call kind mark)
 unfolding Stands
 right_with x (Send h v) kind mark is few = sound_if IsAllowed weight back Fits refuses (outcome_of x) (has_no_receiver x) (λ _. right_keep x _ _) (λ _. right_write x _ v true Stored refl)

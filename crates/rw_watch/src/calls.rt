@@ -1,4 +1,4 @@
-//! The calls of a watch channel, their replies, and what a step leaves for its undoing.
+//! The calls of a watch channel, their replies, and the patches of their steps.
 ghost use Rattle.std.specs.Prelude.{◌≡◌};
 ghost use Rattle.rw_watch.specs.Channel.{handle_of, makes, fault_reply, wanted_kind, with_handle};
 ghost use Rattle.rw_watch.specs.Shown.{patch_of_drop, patch_of_mark};
@@ -8,51 +8,51 @@ use rw_handles::{HandleFault, Kind};
 /// A call. The number is that of the handle that it is made with.
 #[derive(Clone, Copy, Debug, PartialEq)]
 pub enum WCall<V> {
-    /// Writes a value and tells the receivers, if there are any.
+    /// Writes a value and notifies the receivers, if there are any.
     Send(u32, V),
-    /// Writes a value and tells the receivers, and gets the value from before.
+    /// Writes a value, notifies the receivers, and returns the previous value.
     SendReplace(u32, V),
-    /// Writes a value, of which the receivers are told or not. Fields lie in the order of the source, so with the flag first
-    /// a call has 16 bytes at `u64`; with the flag last it would have 24.
+    /// Writes a value, and notifies the receivers if `told`. Fields are stored in the order of the source: with the flag first,
+    /// a call has 16 bytes for `u64`; with the flag last it would have 24.
     Modify { told: bool, handle: u32, value: V },
     /// Makes a receiver that has seen the value.
     Subscribe(u32),
     /// Makes another sender.
     CloneSender(u32),
-    /// Makes a receiver that has seen what this one has.
+    /// Makes a receiver that has seen what its source has.
     CloneReceiver(u32),
     /// Reads the value.
     Borrow(u32),
-    /// Reads the value, which the receiver then has seen.
+    /// Reads the value, and marks it as seen.
     Update(u32),
-    /// Asks a receiver whether it has not seen the value.
+    /// Checks whether a receiver has not seen the value.
     HasChanged(u32),
-    /// Waits for a value that the receiver has not seen, which it then has.
+    /// Waits for a value that the receiver has not seen, and marks it as seen.
     Changed(u32),
-    /// Makes the value one that the receiver has not seen.
+    /// Marks the value as not seen.
     MarkChanged(u32),
-    /// Makes the value one that the receiver has seen.
+    /// Marks the value as seen.
     MarkUnchanged(u32),
     /// Drops a handle of either kind.
     DropHandle(u32),
-    /// Asks a sender how many receivers are alive.
+    /// Reads how many receivers are alive, with a sender.
     ReceiverCount(u32),
-    /// Asks a sender whether no receiver is alive.
+    /// Checks whether no receiver is alive, with a sender.
     IsClosed(u32),
     /// Waits until no receiver is alive.
     AwaitClosed(u32),
 }
 
-/// What a call answers.
+/// A reply to a call.
 #[derive(Clone, Copy, Debug, PartialEq)]
 pub enum WReply<V> {
     /// The value was sent.
     Stored,
-    /// No receiver is alive, so the value comes back.
+    /// No receiver is alive. The value is returned.
     NoReceivers(V),
-    /// The value from before.
+    /// The previous value.
     Old(V),
-    /// The receivers were told of the value or not.
+    /// Whether the receivers were notified of the value.
     Told(bool),
     /// A handle of this number was made.
     New(u32),
@@ -60,13 +60,13 @@ pub enum WReply<V> {
     Value(V),
     /// Yes or no.
     Flag(bool),
-    /// There is no sender any more.
+    /// No sender is alive.
     Closed,
     /// The call would wait.
     Waits,
-    /// It is done.
+    /// The call was done, and has no other result.
     Done,
-    /// What was asked for.
+    /// The number of live receivers.
     Count(u64),
     /// The handle was dropped.
     Dropped,
@@ -80,12 +80,12 @@ pub enum WReply<V> {
     TooManyHandles,
 }
 
-/// What undoing a step needs beside its call.
+/// What undoing a step needs besides its call.
 #[derive(Clone, Copy, Debug, PartialEq)]
 pub enum WPatch<V> {
     /// Nothing changed.
     Same,
-    /// The receivers were told of a new value or not, and this was the value before it.
+    /// A value was written, with the receivers notified or not. This was the value before it.
     Wrote { told: bool, before: V },
     /// A handle was made.
     Made,
@@ -100,7 +100,7 @@ pub enum WPatch<V> {
 }
 
 impl<V: Copy> WCall<V> {
-    /// The number of the handle that the call is made with.
+    /// Returns the number of the handle that the call is made with.
     pub(crate) fn handle(&self) -> u32
         ensures { result ≡ handle_of self.now }
     {
@@ -124,7 +124,7 @@ impl<V: Copy> WCall<V> {
         }
     }
 
-    /// The same call, made with another handle.
+    /// Returns the same call, made with another handle.
     pub fn with_handle(self, handle: u32) -> WCall<V>
         ensures { result ≡ with_handle self handle }
     {
@@ -152,7 +152,7 @@ impl<V: Copy> WCall<V> {
         }
     }
 
-    /// The kind that this handle has to be of; `None` where either kind will do.
+    /// Returns the kind that the handle must be of, or `None` if either kind will do.
     pub(crate) fn wanted(&self) -> Option<Kind>
         ensures { result ≡ wanted_kind self.now }
     {
@@ -175,7 +175,7 @@ impl<V: Copy> WCall<V> {
         }
     }
 
-    /// Whether the call makes a handle, where it isn't refused.
+    /// Whether the call makes a handle, unless it is refused.
     pub fn makes(&self) -> bool
         ensures { result ≡ makes self.now }
     {
@@ -187,7 +187,7 @@ impl<V: Copy> WCall<V> {
 }
 
 impl<V: Copy> WReply<V> {
-    /// The reply for a handle that can't be used.
+    /// Returns the reply for a handle that can't be used.
     pub(crate) fn refused(fault: HandleFault) -> WReply<V>
         ensures { result ≡ fault_reply fault }
     {
@@ -200,7 +200,7 @@ impl<V: Copy> WReply<V> {
 }
 
 impl<V: Copy> WPatch<V> {
-    /// The patch of a receiver's mark, given the one from before.
+    /// Returns the patch of a receiver's new mark, given the one before it.
     pub(crate) fn of_mark(before: Option<u64>) -> WPatch<V>
         ensures { result ≡ patch_of_mark before }
     {
@@ -210,7 +210,7 @@ impl<V: Copy> WPatch<V> {
         }
     }
 
-    /// The patch of a drop, given the handle's kind and mark.
+    /// Returns the patch of a drop, given the handle's kind and mark.
     pub(crate) fn of_drop(kind: Kind, mark: Option<u64>) -> WPatch<V>
         ensures { result ≡ patch_of_drop kind mark }
     {

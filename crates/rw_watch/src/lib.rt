@@ -1,9 +1,9 @@
 //! A watch channel whose steps can be undone.
 //!
-//! The one contract: `Watch` is a machine whose steps can be undone (`rw_law::Reversible`), and its steps are those that
-//! tokio's documentation of `tokio::sync::watch` names, by the table of calls in `specs/Channel.antt`.
-//! Start reading there, go on with `specs/Record.antt`, the record of all that ever happened, and `specs/Shown.antt`, what a
-//! machine shows of it, and then read `machine.rt`.
+//! The one contract: `Watch` is a machine whose steps can be undone (`rw_law::Reversible`), and its steps are those of
+//! tokio's documentation of `tokio::sync::watch`, by the table of calls in `specs/Channel.antt`.
+//! Start reading at that table. Continue with `specs/Record.antt`, the record of all that ever happened, and with
+//! `specs/Shown.antt`, what a machine shows of it. Then read `machine.rt`.
 #![tactic(auto)]
 
 mod calls;

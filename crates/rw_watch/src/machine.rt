@@ -12,7 +12,7 @@ use rw_law::NoMemory;
 use std::alloc::Global;
 use std::marker::Model;
 
-/// A watch channel: its value, how many changes the receivers were told of, and its handles with the receivers' marks.
+/// A watch channel: its value, how many changes the receivers were notified of, and its handles with the receivers' marks.
 #[derive(Drop)]
 pub struct Watch<V: Copy> {
     value: V,
@@ -34,7 +34,7 @@ impl<V: Copy> Model for Watch<V> {
 }
 
 impl<V: Copy> Watch<V> {
-    /// Opens a channel with this value, one sender, 0, and one receiver, 1, which has seen it.
+    /// Opens a channel with this value, sender 0, and receiver 1, which has seen the value.
     pub fn open(alloc: Global, init: V) -> Result<Watch<V>, NoMemory>
         ensures { IfOk result (λ machine. machine.shown ≡ shown (opening_record init)) }
     {

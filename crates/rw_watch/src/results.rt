@@ -1,4 +1,4 @@
-//! What a reply tells the caller of one call, under the names of tokio's results and errors.
+//! Replies as the results and errors of tokio's methods.
 ghost use Rattle.std.specs.Prelude.{◌≡◌};
 ghost use Rattle.rw_watch.specs.Results.{borrowed, changed, count, done, dropped, has_changed, is_closed, made, modified, recv_error_of, refusal_of, replaced, sent};
 
@@ -6,19 +6,19 @@ use crate::calls::WReply;
 use rw_handles::{HandleFault, Refusal, SendError};
 use thiserror::Error;
 
-/// Why a receiver isn't told of a change.
+/// Why a call for changes failed.
 #[derive(Clone, Copy, Debug, PartialEq, Eq, Error)]
 pub enum RecvError {
     /// No sender is alive.
     #[error("channel closed")]
     Closed,
-    /// The reply isn't that of a call for changes, or the call would wait for one.
+    /// The call was refused, the call would wait, or the reply isn't to a call for changes.
     #[error("{0}")]
     Refused(Refusal),
 }
 
 impl<V: Copy> WReply<V> {
-    /// Of `Send`: that the value was stored, or the value back where there are no receivers.
+    /// The result of `Send`: `Ok` where the value was stored, or the value itself where there are no receivers.
     pub fn sent(self) -> Result<(), SendError<V>>
         ensures { result ≡ sent self }
     {
@@ -29,7 +29,7 @@ impl<V: Copy> WReply<V> {
         }
     }
 
-    /// Of `SendReplace`: the value from before.
+    /// The result of `SendReplace`: the previous value.
     pub fn replaced(self) -> Result<V, Refusal>
         ensures { result ≡ replaced self }
     {
@@ -39,7 +39,7 @@ impl<V: Copy> WReply<V> {
         }
     }
 
-    /// Of `Modify`: whether the receivers were told.
+    /// The result of `Modify`: whether the receivers were notified.
     pub fn modified(self) -> Result<bool, Refusal>
         ensures { result ≡ modified self }
     {
@@ -49,7 +49,7 @@ impl<V: Copy> WReply<V> {
         }
     }
 
-    /// Of `Borrow` and `Update`: the value.
+    /// The result of `Borrow` and `Update`: the value.
     pub fn borrowed(self) -> Result<V, Refusal>
         ensures { result ≡ borrowed self }
     {
@@ -59,7 +59,7 @@ impl<V: Copy> WReply<V> {
         }
     }
 
-    /// Of `HasChanged`: whether the receiver has not seen the value.
+    /// The result of `HasChanged`: whether the receiver has not seen the value.
     pub fn has_changed(self) -> Result<bool, RecvError>
         ensures { result ≡ has_changed self }
     {
@@ -69,14 +69,14 @@ impl<V: Copy> WReply<V> {
         }
     }
 
-    /// Of `Changed`: that there was a change that the receiver had not seen.
+    /// The result of `Changed`: `Ok` where there was a value that the receiver had not seen.
     pub fn changed(self) -> Result<(), RecvError>
         ensures { result ≡ changed self }
     {
         self.done().map_err(|_| self.recv_error())
     }
 
-    /// Of `MarkChanged`, `MarkUnchanged` and `AwaitClosed`: that it is done.
+    /// The result of `MarkChanged`, `MarkUnchanged` and `AwaitClosed`: `Ok` where the call was done.
     pub fn done(self) -> Result<(), Refusal>
         ensures { result ≡ done self }
     {
@@ -86,7 +86,7 @@ impl<V: Copy> WReply<V> {
         }
     }
 
-    /// Of `IsClosed`: whether no receiver is alive.
+    /// The result of `IsClosed`: whether no receiver is alive.
     pub fn is_closed(self) -> Result<bool, Refusal>
         ensures { result ≡ is_closed self }
     {
@@ -96,7 +96,7 @@ impl<V: Copy> WReply<V> {
         }
     }
 
-    /// Of `Subscribe`, `CloneSender` and `CloneReceiver`: the number of the new handle.
+    /// The result of `Subscribe`, `CloneSender` and `CloneReceiver`: the number of the new handle.
     pub fn made(self) -> Result<u32, Refusal>
         ensures { result ≡ made self }
     {
@@ -106,7 +106,7 @@ impl<V: Copy> WReply<V> {
         }
     }
 
-    /// Of `DropHandle`: whether the handle was dropped.
+    /// The result of `DropHandle`: `Ok` where the handle was dropped.
     pub fn dropped(self) -> Result<(), Refusal>
         ensures { result ≡ dropped self }
     {
@@ -116,7 +116,7 @@ impl<V: Copy> WReply<V> {
         }
     }
 
-    /// Of `ReceiverCount`: what was asked for.
+    /// The result of `ReceiverCount`: the number of live receivers.
     pub fn count(self) -> Result<u64, Refusal>
         ensures { result ≡ count self }
     {
@@ -126,7 +126,7 @@ impl<V: Copy> WReply<V> {
         }
     }
 
-    /// Why a receiver isn't told of a change.
+    /// Returns why a call for changes failed.
     fn recv_error(self) -> RecvError
         ensures { result ≡ recv_error_of self }
     {
@@ -136,7 +136,7 @@ impl<V: Copy> WReply<V> {
         }
     }
 
-    /// Why the reply hasn't what its call asks for, where that call has no error of its own for it.
+    /// Returns why the reply has no result for its call, where that call has no error of its own for it.
     fn refusal(self) -> Refusal
         ensures { result ≡ refusal_of self }
     {

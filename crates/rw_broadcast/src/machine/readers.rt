@@ -11,42 +11,42 @@ use crate::least::least_position;
 use rw_handles::Kind;
 
 impl<V: Copy> Broadcast<V> {
-    /// How many values the channel retains.
+    /// Returns how many values the channel retains at most.
     pub fn capacity(&self) -> u64
         ensures { result ≡ self.now.shown.capacity }
     {
         self.values.capacity()
     }
 
-    /// How many values were ever sent.
+    /// Returns how many values were ever sent.
     pub fn sent(&self) -> u64
         ensures { result ≡ self.now.shown.sent }
     {
         self.values.count()
     }
 
-    /// The position of the oldest retained value.
+    /// Returns the position of the oldest retained value.
     pub(super) fn oldest(&self) -> u64
         ensures { result ≡ oldest (channel_of self.now.shown) }
     {
         self.values.oldest()
     }
 
-    /// The retained value with this many older ones, if there is one.
+    /// Returns the retained value that comes after this many older ones, if there is one.
     pub fn window(&self, i: u64) -> Option<V>
         ensures { result ≡ slice_get self.now.shown.window i }
     {
         self.values.at(self.values.oldest().checked_add(i)?)
     }
 
-    /// The position of a live receiver, which is how many values were sent before the one that it receives next.
+    /// Returns the position of a live receiver: how many values were sent before the one that it receives next.
     pub fn position(&self, id: u32) -> Option<u64>
         ensures { result ≡ position_at (slice_get self.now.shown.slots id) }
     {
         self.handles.receiver(id)
     }
 
-    /// How many values a live receiver has yet to receive.
+    /// Returns how many values a live receiver has yet to receive, including evicted ones.
     pub fn unread(&self, id: u32) -> Option<u64>
         ensures { result ≡ option_map (unread self.now.shown.sent) (position_at (slice_get self.now.shown.slots id)) }
     {
@@ -54,7 +54,7 @@ impl<V: Copy> Broadcast<V> {
         Some(self.values.count() - position)
     }
 
-    /// How many of these are retained no longer.
+    /// Returns how many values were evicted before a live receiver had received them.
     pub fn lag(&self, id: u32) -> Option<u64>
         ensures { result ≡ option_map (lag (oldest (channel_of self.now.shown))) (position_at (slice_get self.now.shown.slots id)) }
     {
@@ -62,7 +62,7 @@ impl<V: Copy> Broadcast<V> {
         Some(self.oldest().saturating_sub(position))
     }
 
-    /// How many values are retained for some live receiver. It looks at every handle.
+    /// Returns how many values are retained for some live receiver. It reads every handle.
     pub fn queued(&self) -> u64
         ensures { result ≡ queued (channel_of self.now.shown) }
     {
@@ -72,21 +72,21 @@ impl<V: Copy> Broadcast<V> {
         }
     }
 
-    /// How many handles were made.
+    /// Returns how many handles were made.
     pub fn made(&self) -> u32
         ensures { result ≡ length self.now.shown.slots }
     {
         self.handles.made()
     }
 
-    /// The kind of a live handle.
+    /// Returns the kind of this handle, if it is alive.
     pub fn kind(&self, id: u32) -> Option<Kind>
         ensures { result ≡ kind_at (slice_get self.now.shown.slots id) }
     {
         self.handles.kind(id)
     }
 
-    /// How many handles of this kind are alive. It reads a count and looks at no handle.
+    /// Returns how many handles of this kind are alive. It reads a count, and no handle.
     pub fn alive(&self, kind: Kind) -> u64
         ensures { result ≡ alive kind self.now.shown.slots }
     {

@@ -46,7 +46,7 @@ impl<V: Copy> Reversible for Broadcast<V> {
 
     ghost laws = { broadcast_laws };
 
-    /// How many values were sent and handles made.
+    /// Returns how many values were sent, plus how many handles were made.
     fn weight(&self) -> u64 {
         self.values.count() + u64::from(self.handles.made())
     }
@@ -55,8 +55,8 @@ impl<V: Copy> Reversible for Broadcast<V> {
         self.limit
     }
 
-    /// Makes room for n more handles; that for the values is there from the opening on. The table grows by doubling, so it
-    /// may well be called before each step.
+    /// Makes room for n more handles. Room for the values is there from the opening on. The table grows by doubling, so a
+    /// call before each step costs little.
     fn ready(&mut self, n: u64) -> Result<(), NoMemory> {
         let limit = self.weight() + n;
         if limit <= self.limit {
@@ -68,8 +68,8 @@ impl<V: Copy> Reversible for Broadcast<V> {
         Ok(())
     }
 
-    /// Makes a call, as documented: of every record that shows what this machine shows, the reply is that of the record's
-    /// step, and the machine then shows what the record after it shows.
+    /// Makes a call, as documented. For every record that shows what this machine shows, the reply is that of the record's
+    /// step, and the machine shows what the record shows after its step.
     fn apply(&mut self, call: &BCall<V>) -> (BReply<V>, BPatch<V>)
         requires { weight self.old.shown < self.old.limit }
         ensures view { self.new.shown ≡ next self.old.shown call.now }

@@ -15,14 +15,14 @@ use crate::calls::{BCall, BPatch, BReply};
 use rw_handles::{Found, Kind, MOST_HANDLES};
 
 impl<V: Copy> Broadcast<V> {
-    /// How many receivers are alive.
+    /// Returns how many receivers are alive.
     fn receivers(&self) -> u64
         ensures { result ≡ receivers (channel_of self.now.shown) }
     {
         self.handles.alive(Kind::Receiver)
     }
 
-    /// Keeps everything as it is.
+    /// Changes nothing, and returns this reply.
     fn keep(&self, reply: BReply<V>) -> (BReply<V>, BPatch<V>)
         ensures { Takes self.now self.now result (Keep, reply) }
     {
@@ -78,7 +78,7 @@ impl<V: Copy> Broadcast<V> {
         (BReply::Sent(receivers), BPatch::of_send(evicted))
     }
 
-    /// Gives a receiver the value at its position, if there is one.
+    /// Receives the value at a receiver's position, if there is one.
     fn read(&mut self, handle: u32, position: u64, nothing: BReply<V>) -> (BReply<V>, BPatch<V>)
         requires here { slice_get self.old.shown.slots handle ≡ Some (Live Receiver position) }
         requires retained { oldest (channel_of self.old.shown) ≤ position }
@@ -96,7 +96,7 @@ impl<V: Copy> Broadcast<V> {
         }
     }
 
-    /// Gives a receiver what it gets next; `nothing` is the reply where more may come.
+    /// Receives a receiver's next value, or reports its lag. `nothing` is the reply where there is no value yet.
     fn receive(&mut self, handle: u32, position: u64, nothing: BReply<V>) -> (BReply<V>, BPatch<V>)
         requires { slice_get self.old.shown.slots handle ≡ Some (Live Receiver position) }
         ensures { Takes self.old self.new result (receive (channel_of self.old.shown) handle position nothing) }
@@ -109,7 +109,7 @@ impl<V: Copy> Broadcast<V> {
         }
     }
 
-    /// Makes a sender out of a weak one, if there is a sender.
+    /// Upgrades a weak sender to a sender, if there is a sender.
     fn upgrade(&mut self) -> (BReply<V>, BPatch<V>)
         requires few { length self.old.shown.slots < MOST_HANDLES }
         requires room { weight self.old.shown < self.old.limit }
@@ -122,7 +122,7 @@ impl<V: Copy> Broadcast<V> {
         }
     }
 
-    /// Makes a call with the live handle that it found.
+    /// Makes a call with the live handle that was found.
     fn perform(&mut self, call: &BCall<V>, kind: Kind, position: u64) -> (BReply<V>, BPatch<V>)
         requires room { weight self.old.shown < self.old.limit }
         requires found { lookup (wanted_kind call.now) self.old.shown.slots (handle_of call.now) ≡ Handle kind position }
@@ -147,7 +147,7 @@ impl<V: Copy> Broadcast<V> {
         }
     }
 
-    /// Makes a call: looks for its handle, and then for the number of a new one.
+    /// Makes a call, after checks of its handle and of the number of handles.
     pub(super) fn step(&mut self, call: &BCall<V>) -> (BReply<V>, BPatch<V>)
         requires { weight self.old.shown < self.old.limit }
         ensures taken { Takes self.old self.new result (effect (channel_of self.old.shown) call.now) }
@@ -165,7 +165,7 @@ impl<V: Copy> Broadcast<V> {
         }
     }
 
-    /// Takes back the last send, given the value that was evicted for it.
+    /// Undoes the last send, given the value that it evicted.
     pub(super) fn unsend(&mut self, evicted: Option<V>)
         requires some { CanUnsend self.old.shown }
         requires evicted { is_some evicted ≡ nat_lt self.old.shown.capacity self.old.shown.sent }

@@ -8,21 +8,21 @@ use super::Watch;
 use rw_handles::Kind;
 
 impl<V: Copy> Watch<V> {
-    /// How many changes the receivers were told of.
+    /// Returns how many changes the receivers were notified of.
     pub fn version(&self) -> u64
         ensures { result ≡ self.now.shown.version }
     {
         self.version
     }
 
-    /// The most recent value.
+    /// Returns the most recent value.
     pub fn value(&self) -> V
         ensures { result ≡ self.now.shown.value }
     {
         self.value
     }
 
-    /// The mark of a live receiver: a version that it has seen, or none.
+    /// Returns the mark of a live receiver: a version that it has seen, or `None`.
     pub fn mark(&self, id: u32) -> Option<Option<u64>>
         ensures { result ≡ mark_at (slice_get self.now.shown.slots id) }
     {
@@ -37,14 +37,14 @@ impl<V: Copy> Watch<V> {
         Some(!self.is_unseen(mark))
     }
 
-    /// How many handles were made.
+    /// Returns how many handles were made.
     pub fn made(&self) -> u32
         ensures { result ≡ length self.now.shown.slots }
     {
         self.handles.made()
     }
 
-    /// The kind of a live handle. A watch has no weak sender.
+    /// Returns the kind of this handle, if it is alive. A watch has no weak sender.
     pub fn kind(&self, id: u32) -> Option<Kind>
         ensures kind { result ≡ kind_at (slice_get self.now.shown.slots id) }
         ensures strong { result ≢ Some Kind.Weak }
@@ -52,7 +52,7 @@ impl<V: Copy> Watch<V> {
         self.handles.kind(id)
     }
 
-    /// How many handles of this kind are alive.
+    /// Returns how many handles of this kind are alive.
     pub fn alive(&self, kind: Kind) -> u64
         ensures { result ≡ alive kind self.now.shown.slots }
     {

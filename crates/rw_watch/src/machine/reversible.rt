@@ -46,7 +46,7 @@ impl<V: Copy> Reversible for Watch<V> {
 
     ghost laws = { watch_laws };
 
-    /// How many changes were told and handles made.
+    /// Returns how many changes the receivers were notified of, plus how many handles were made.
     fn weight(&self) -> u64 {
         self.version + u64::from(self.handles.made())
     }
@@ -55,7 +55,7 @@ impl<V: Copy> Reversible for Watch<V> {
         self.limit
     }
 
-    /// Makes room for n more changes and handles. The table grows by doubling, so it may well be called before each step.
+    /// Makes room for n more changes and handles. The table grows by doubling, so a call before each step costs little.
     fn ready(&mut self, n: u64) -> Result<(), NoMemory> {
         let limit = self.weight() + n;
         if limit <= self.limit {
@@ -67,8 +67,8 @@ impl<V: Copy> Reversible for Watch<V> {
         Ok(())
     }
 
-    /// Makes a call, as documented: of every record that shows what this machine shows, the reply is that of the record's
-    /// step, and the machine then shows what the record after it shows.
+    /// Makes a call, as documented. For every record that shows what this machine shows, the reply is that of the record's
+    /// step, and the machine shows what the record shows after its step.
     fn apply(&mut self, call: &WCall<V>) -> (WReply<V>, WPatch<V>)
         requires { weight self.old.shown < self.old.limit }
         ensures view { self.new.shown ≡ next self.old.shown call.now }

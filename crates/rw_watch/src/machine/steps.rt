@@ -24,7 +24,7 @@ impl<V: Copy> Watch<V> {
         }
     }
 
-    /// How many receivers are alive.
+    /// Returns how many receivers are alive.
     fn receivers(&self) -> u64
         ensures { result ≡ receivers self.now.shown }
     {
@@ -38,14 +38,14 @@ impl<V: Copy> Watch<V> {
         self.receivers() == 0
     }
 
-    /// Keeps everything as it is.
+    /// Changes nothing, and returns this reply.
     fn keep(&self, reply: WReply<V>) -> (WReply<V>, WPatch<V>)
         ensures { Takes self.now self.now result (Keep, reply) }
     {
         (reply, WPatch::Same)
     }
 
-    /// Writes a value, of which the receivers are told or not.
+    /// Writes a value, and notifies the receivers if `told`.
     fn write(&mut self, value: V, told: bool, reply: WReply<V>) -> (WReply<V>, WPatch<V>)
         requires { weight self.old.shown < self.old.limit }
         ensures { Takes self.old self.new result (Write value told, reply) }
@@ -69,7 +69,7 @@ impl<V: Copy> Watch<V> {
         (WReply::New(made), WPatch::Made)
     }
 
-    /// Gives a receiver another mark.
+    /// Sets a receiver's mark.
     fn mark_as(
         &mut self,
         handle: u32,
@@ -85,7 +85,7 @@ impl<V: Copy> Watch<V> {
         (reply, WPatch::of_mark(from))
     }
 
-    /// Gives a receiver the mark of the value that there is.
+    /// Marks the current value as seen by a receiver.
     fn see(&mut self, handle: u32, from: Option<u64>, reply: WReply<V>) -> (WReply<V>, WPatch<V>)
         requires { slice_get self.old.shown.slots handle ≡ Some (Live Receiver from) }
         ensures { Takes self.old self.new result (see self.old.shown handle from, reply) }
@@ -113,7 +113,7 @@ impl<V: Copy> Watch<V> {
         self.write(value, true, WReply::Stored)
     }
 
-    /// Tells a receiver with this mark whether it has not seen the value.
+    /// Returns the reply to `HasChanged`, for a receiver with this mark.
     fn has_changed(&self, mark: Option<u64>) -> WReply<V>
         ensures { result ≡ has_changed self.now.shown mark }
     {
@@ -124,7 +124,7 @@ impl<V: Copy> Watch<V> {
         }
     }
 
-    /// Tells a receiver of a value that it has not seen, which it then has.
+    /// Makes a call of `Changed`: a value that the receiver has not seen is marked as seen.
     fn changed(&mut self, handle: u32, mark: Option<u64>) -> (WReply<V>, WPatch<V>)
         requires { slice_get self.old.shown.slots handle ≡ Some (Live Receiver mark) }
         ensures { Takes self.old self.new result (wait_effect self.old.shown handle mark) }
@@ -138,7 +138,7 @@ impl<V: Copy> Watch<V> {
         }
     }
 
-    /// Tells a sender that no receiver is alive, where none is.
+    /// Returns the reply to `AwaitClosed`.
     fn await_closed(&self) -> WReply<V>
         ensures { result ≡ await_closed self.now.shown }
     {
@@ -149,7 +149,7 @@ impl<V: Copy> Watch<V> {
         }
     }
 
-    /// Makes a call with the live handle that it found.
+    /// Makes a call with the live handle that was found.
     fn perform(&mut self, call: &WCall<V>, kind: Kind, mark: Option<u64>) -> (WReply<V>, WPatch<V>)
         requires room { weight self.old.shown < self.old.limit }
         requires found { lookup (wanted_kind call.now) self.old.shown.slots (handle_of call.now) ≡ Handle kind mark }
@@ -176,7 +176,7 @@ impl<V: Copy> Watch<V> {
         }
     }
 
-    /// Makes a call.
+    /// Makes a call, after checks of its handle and of the number of handles.
     pub(super) fn step(&mut self, call: &WCall<V>) -> (WReply<V>, WPatch<V>)
         requires { weight self.old.shown < self.old.limit }
         ensures { Takes self.old self.new result (effect self.old.shown call.now) }
@@ -193,7 +193,7 @@ impl<V: Copy> Watch<V> {
         }
     }
 
-    /// Takes back the last write, given the value from before it.
+    /// Undoes the last write, given the value before it.
     pub(super) fn unwrite(&mut self, before: V, told: bool)
         requires { IsTrue told → CanUntell self.old.shown }
         ensures shown { self.new.shown ≡ record self.old.shown { version = version_before self.old.shown.version told; value = before } }
