@@ -1,4 +1,4 @@
--- Reply words are found by their texts, and stand first in the texts of replies.
+-- Reply words are found by their texts, and come first in the texts of replies.
 use Rattle.std.proofs.Common.{◌≡◌, ℕ, Bool, true, false, cond, List, [], ◌∷◌, ◌++◌, Option, Some, None, refl}
 use Rattle.std.specs.Prelude.{IfSome, find, option_map}
 use Rattle.std.specs.Option.{option_or}
@@ -40,7 +40,7 @@ either_table token (Some b) w in_first in_second = in_first
 pub found : (token : List ℕ) → IfSome (reply_word_in token) (λ word. reply_word_text word ≡ token)
 found token = either_table token _ _ (found_in broadcast.reply_word_text token broadcast.reply_words) (found_in watch.reply_word_text token watch.reply_words)
 
--- ---- the word of a reply stands first in its text
+-- ---- the word of a reply comes first in its text
 
 broadcast_plain : (w : BroadcastReplyWord) → lacks 32 (broadcast.reply_word_text w) ≡ true
 broadcast_plain = elim [ broadcast_word.Sent ↦ refl | _ ↦ refl ]

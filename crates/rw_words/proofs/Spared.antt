@@ -1,4 +1,4 @@
--- Results in which one fault never comes.
+-- Results that never have one fault.
 use Rattle.std.proofs.Common.{◌≢◌, Bool, true, false, cond, Option, Some, None, Result, Ok, Err}
 use Rattle.rw_words.specs.Words.{◌>>=◌, map_ok, or_fault}
 

@@ -11,7 +11,7 @@ use Rattle.rw_words.specs.WatchWords as watch
 use Rattle.rw_words.specs.Words.{first_part}
 use Rattle.rw_words.specs.Texts.{ReplyOf}
 
--- what stands before the first space of a text
+-- what is before the first space of a text
 abbrev pub first_word : List ℕ → List ℕ
 first_word text = first_part text (cut 32 text)
 
@@ -19,7 +19,7 @@ abbrev pub reply_word_text : ReplyWord → List ℕ
 reply_word_text (Broadcast w) = broadcast.reply_word_text w
 reply_word_text (Watch w) = watch.reply_word_text w
 
--- the word that a token is, of a broadcast's replies or else of a watch's
+-- the word that has this text, of a broadcast's replies or else of a watch's
 abbrev pub reply_word_in : List ℕ → Option ReplyWord
 reply_word_in token = option_or
     (option_map Broadcast (find (λ w. bytes_eq (broadcast.reply_word_text w) token) broadcast.reply_words))

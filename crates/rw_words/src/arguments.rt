@@ -1,4 +1,4 @@
-//! What stands behind a word.
+//! What follows a word.
 
 ghost use Rattle.std.specs.Prelude.{◌≡◌, ⊤, option_map};
 ghost use Rattle.rw_lines.specs.Cut.{cut};
@@ -14,13 +14,13 @@ use thiserror::Error;
 /// Why a text isn't a call or a reply: the first that holds, in this order.
 #[derive(Clone, Copy, Debug, PartialEq, Eq, Error)]
 pub enum WordFault {
-    /// The first word isn't one of the channel's kind.
+    /// The first word isn't a word of the channel's kind.
     #[error("wrong word")]
     WrongWord,
-    /// What stands behind the word isn't what the word takes.
+    /// What follows the word isn't its arguments.
     #[error("bad arguments")]
     BadArguments,
-    /// All else reads, and the handle's number is above 4,294,967,295.
+    /// The handle's number is above 4,294,967,295. All else is valid.
     #[error("handle too large")]
     HandleTooLarge,
 }
@@ -47,7 +47,7 @@ impl<V: Copy> Clone for Args<V> {
     }
 }
 
-/// The word at the front, and what stands behind the space after it.
+/// Returns the first word, and what follows the space after it.
 pub fn first_word(text: &[u8]) -> (&[u8], Option<&[u8]>)
     ensures word { result.0.now ≡ first_part text.now (cut 32 text.now) }
     ensures rest { option_map (λ r. r.now) result.1 ≡ rest_of (cut 32 text.now) }
@@ -94,7 +94,7 @@ fn number_value_flag_named<V: Payload>(text: &[u8]) -> Option<(u64, (V, bool))>
     Some((number, (value_named(value)?, flag_named(flag)?)))
 }
 
-/// The thing that was named by its word alone.
+/// Returns the thing, where nothing follows its word.
 pub(crate) fn alone<T: Copy>(rest: Option<&[u8]>, thing: T) -> Result<T, WordFault>
     ensures { result ≡ when_alone (option_map (λ r. r.now) rest.entry) thing }
 {

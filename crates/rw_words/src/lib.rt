@@ -1,9 +1,9 @@
 //! The words of calls and replies, and the lines of journal entries.
 //!
-//! The one contract: what is read is what would be written. `read_call` and `read_reply` take exactly the spellings of calls and
-//! of replies, each giving what it spells, and name the first fault of any other text; `write_entry` puts those spellings.
-//! Start reading at `specs/Words.antt`, which says what a table of words is, and go on with `specs/BroadcastWords.antt` and
-//! `specs/WatchWords.antt`, the two tables, which say a word once for reading and for writing.
+//! The one contract: what is read is what would be written. `read_call` and `read_reply` accept exactly the spellings of calls
+//! and of replies, return what they spell, and report the first fault of any other text. `write_entry` writes those spellings.
+//! Start reading at `specs/Words.antt`, which defines what a table of words is. Continue with the two tables,
+//! `specs/BroadcastWords.antt` and `specs/WatchWords.antt`, which define each word once for reading and writing.
 #![tactic(auto)]
 
 mod arguments;

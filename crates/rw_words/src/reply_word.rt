@@ -10,14 +10,14 @@ use crate::watch::{self, WatchReplyWord};
 use rw_law::Payload;
 use rw_world::ChanReply;
 
-/// The first word of a reply. One that both tables have may stand here as either's: what counts is its text.
+/// The first word of a reply. A word of both tables may be of either variant, since only its text counts.
 #[derive(Clone, Copy, Debug)]
 pub enum ReplyWord {
     Broadcast(BroadcastReplyWord),
     Watch(WatchReplyWord),
 }
 
-/// The word that a token is, of the broadcast's table or else of the watch's.
+/// Returns the word that has this text, of the broadcast's table or else of the watch's.
 fn word_in(token: &[u8]) -> Option<ReplyWord>
     ensures { result ≡ reply_word_in token.now }
 {
@@ -27,7 +27,7 @@ fn word_in(token: &[u8]) -> Option<ReplyWord>
     }
 }
 
-/// The word of a reply, from the table of its kind.
+/// Returns the word of a reply, from the table of its kind.
 fn word_of<V: Copy>(reply: &ChanReply<V>) -> Option<ReplyWord>
     ensures { result ≡ reply_word_of reply.now }
 {
@@ -45,7 +45,7 @@ fn word_of<V: Copy>(reply: &ChanReply<V>) -> Option<ReplyWord>
 }
 
 impl ReplyWord {
-    /// The word that a token is, if some reply has it.
+    /// Returns the word that has this text, if a reply has it.
     pub fn of(token: &[u8]) -> Option<ReplyWord>
         ensures exact { result ≡ reply_word_in token.now }
         ensures found { IfSome result (λ word. reply_word_text word ≡ token.now) }
@@ -54,7 +54,7 @@ impl ReplyWord {
         word_in(token)
     }
 
-    /// The word of a reply. A reply that waits or strays has none.
+    /// Returns the word of a reply. A reply that waits or strays has none.
     pub fn of_reply<V: Payload>(reply: &ChanReply<V>) -> Option<ReplyWord>
         ensures exact { result ≡ reply_word_of reply.now }
         ensures first { IfSome result (λ word. first_word (reply_text V.Payload reply.now) ≡ reply_word_text word) }
@@ -62,7 +62,7 @@ impl ReplyWord {
         word_of(reply)
     }
 
-    /// The word as text.
+    /// Returns the word as text.
     pub fn text(self) -> &'static [u8]
         ensures { result.now ≡ reply_word_text self }
     {

@@ -1,4 +1,4 @@
-//! Arguments put behind a word.
+//! Arguments written after a word.
 
 ghost use Rattle.std.specs.Prelude.{◌≡◌, ◌++◌, ◌+◌, ◌≤◌, ◌∷◌, decimal, length, take};
 ghost use Rattle.rw_words.specs.Arguments.{HasWord, IsWritable, args_text, flag_text, longest, rest_text};
@@ -14,7 +14,7 @@ fn flag_text(flag: bool) -> &'static [u8]
     if flag { b"yes" } else { b"no" }
 }
 
-/// The word of a value, which gives the value back.
+/// Returns the word of a value, from which the value can be read.
 fn word_of<V: Payload>(value: V) -> u64
     ensures word { result ≡ V.word_of value }
     ensures known { HasWord V.Payload value }
@@ -22,7 +22,7 @@ fn word_of<V: Payload>(value: V) -> u64
     value.word()
 }
 
-/// Puts a number as an argument, after its space.
+/// Writes a number as an argument, after a space.
 fn put_number_argument(out: &mut [u8; 256], at: usize, number: u64) -> usize
     requires { at + 21 ≤ 256 }
     ensures within { result ≤ at + 21 }
@@ -32,7 +32,7 @@ fn put_number_argument(out: &mut [u8; 256], at: usize, number: u64) -> usize
     put_number(out, at, number)
 }
 
-/// Puts a handle as an argument, after its space.
+/// Writes a handle as an argument, after a space.
 fn put_handle_argument(out: &mut [u8; 256], at: usize, handle: u32) -> usize
     requires { at + 11 ≤ 256 }
     ensures within { result ≤ at + 11 }
@@ -42,7 +42,7 @@ fn put_handle_argument(out: &mut [u8; 256], at: usize, handle: u32) -> usize
     put_small_number(out, at, handle)
 }
 
-/// Puts a flag as an argument, after its space.
+/// Writes a flag as an argument, after a space.
 fn put_flag_argument(out: &mut [u8; 256], at: usize, flag: bool) -> usize
     requires { at + 4 ≤ 256 }
     ensures within { result ≤ at + 4 }
@@ -52,7 +52,7 @@ fn put_flag_argument(out: &mut [u8; 256], at: usize, flag: bool) -> usize
     put_bytes(out, at, flag_text(flag))
 }
 
-/// Puts the arguments at a place, each after a space, and answers where they end.
+/// Writes the arguments at an index, each after a space, and returns the index after them.
 pub(crate) fn put_args<V: Payload>(out: &mut [u8; 256], at: usize, args: &Args<V>) -> usize
     requires { at + longest args.now ≤ 256 }
     ensures within { result ≤ at + longest args.now }

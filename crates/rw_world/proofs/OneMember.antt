@@ -3,9 +3,9 @@ use Rattle.std.proofs.Common.{◌≡◌, ℕ, zero, suc, ◌+◌, ◌<◌, ◌�
 use Rattle.std.specs.Prelude.{slice_get, min}
 use Rattle.rw_world.specs.Lists.{map_at, greatest, least}
 
--- what the members show, where the member y takes the place i, or where there is no place i
+-- what the members show, where y replaces member i, or where there is no member i
 module _ {M V : Type 0} (shown : M → V) where
-  -- a member that now shows f of what the one in its place showed
+  -- where y shows f of what member i showed, the row shows that change at i
   pub view_at : (f : V → V) (xs : List M) (i : ℕ) (d y : M) → i < length xs → shown y ≡ f (shown (get_or xs i d)) → map shown (set xs i y) ≡ map_at f (map shown xs) i
   view_at f [] i d y within change = refl
   view_at f (x ∷ xs) zero d y within change = ap (λ v. v ∷ map shown xs) change
@@ -56,13 +56,13 @@ module _ {M : Type 0} (room : M → ℕ) where
   least_at (x ∷ xs) zero d within = omega arith
   least_at (x ∷ xs) (suc i) d within = let below : i < length xs = omega arith in omega (arith, least_at xs i d below)
 
-  -- a member with the same room in its place leaves that of the row
+  -- replacing a member by one with the same room doesn't change the room of the row
   pub least_set : (xs : List M) (i : ℕ) (d y : M) → i < length xs → room y ≡ room (get_or xs i d) → least room (set xs i y) ≡ least room xs
   least_set [] i d y within same = refl
   least_set (x ∷ xs) zero d y within same = ap (λ n. min n (least room xs)) same
   least_set (x ∷ xs) (suc i) d y within same = let below : i < length xs = omega arith in ap (min (room x)) (least_set xs i d y below same)
 
-  -- a member with no less room in its place takes none from the row
+  -- replacing a member by one with no less room makes the room of the row no less
   pub least_grows : (xs : List M) (i : ℕ) (d y : M) → i < length xs → room (get_or xs i d) ≤ room y → least room xs ≤ least room (set xs i y)
   least_grows [] i d y within more = omega arith
   least_grows (x ∷ xs) zero d y within more = omega arith

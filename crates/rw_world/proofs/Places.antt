@@ -12,7 +12,7 @@ use Rattle.rw_world.specs.RowLaws.{row_laws}
 use Rattle.rw_world.specs.Specified.{WorldEntry}
 use Rattle.rw_world.proofs.Documenting.{chan_laws, allowed_opened, shows_opened, shows_its_records, replies_by_records}
 
--- what is found at a number is read there, whatever stands for nothing
+-- what is found at an index is within the list, and is read there with any default
 read_at : {E : Type 0} (es : List E) (n : ℕ) (e : E) → slice_get es n ≡ Some e → (n < length es) × (get_or es n e ≡ e)
 read_at [] n e here = cc
 read_at (f ∷ es) zero e here = (omega arith, cc)

@@ -1,4 +1,4 @@
--- The shape of a row stays, and says which calls stray.
+-- The shape of a row doesn't change, and decides which calls stray.
 use Rattle.std.proofs.Common.{◌≡◌, ℕ, zero, suc, Bool, true, List, [], ◌∷◌, map, refl, ap, ◌∙◌}
 use Rattle.std.specs.Prelude.{slice_get}
 use Rattle.std.specs.Option.{option_map_or}

@@ -1,4 +1,4 @@
--- The steps of a channel of either kind: a call of its own kind goes to its machine, one of the other kind strays.
+-- The steps of a channel of either kind: a call of its own kind is made on its machine, one of the other kind strays.
 use Rattle.std.specs.Prelude.{ℕ, Bool, true, false}
 use Rattle.rw_law.specs.declared.machine.Reversible.{Ghosts}
 use Rattle.rw_world.specs.Kinds.{ChannelKind, broadcast, watch, Shown, broadcast_shown, watch_shown}
@@ -27,7 +27,7 @@ OfBroadcast V = Ghosts (BroadcastMachine V) (BCall V) (BReply V) (BPatch V)
 abbrev pub OfWatch : Type 0 → Type 1
 OfWatch V = Ghosts (WatchMachine V) (WCall V) (WReply V) (WPatch V)
 
--- what a call gets whose channel isn't there
+-- the reply and the patch of a call whose channel isn't there
 abbrev pub no_channel : {V : Type 0} → Missing (ChanReply V) (ChanPatch V)
 no_channel = record { reply = reply.NoChannel; patch = patch.NoChannel }
 
@@ -78,7 +78,7 @@ module _ {V : Type 0} (b : OfBroadcast V) (w : OfWatch V) where
   back (watch_shown y) (call.W d) (patch.W q) = watch_shown (w.back y d q)
   back x c p = x
 
-  -- a patch fits a call of the channel's kind where it fits its machine, and a call that strays has no patch
+  -- a patch fits a call of the channel's kind where it fits its machine; the one patch of a call that strays is NoChannel
   abbrev pub Fits : Shown b.View w.View → ChanCall V → ChanPatch V → Type 0
   Fits (broadcast_shown x) (call.B c) (patch.B p) = b.fits x c p
   Fits (broadcast_shown x) (call.W d) patch.NoChannel = Unit {0}

@@ -1,4 +1,4 @@
--- A channel of either kind keeps the laws that the machines of both kinds keep.
+-- A channel of either kind obeys the laws, if the machines of both kinds do.
 use Rattle.std.proofs.Common.{◌≡◌, ◌+◌, ◌≤◌, true, refl, ap, arith}
 use Rattle.rw_law.specs.Journal.{LawsOf}
 use Rattle.rw_law.specs.Laws.{Laws}

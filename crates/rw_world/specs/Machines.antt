@@ -1,4 +1,4 @@
--- The machines of this library, each as one: what it shows, its steps and their undoing, as it names them to `Reversible`.
+-- The machines of this library, each as one record: what it shows, its steps and how they are undone, as in its `Reversible`.
 use Rattle.rw_law.specs.declared.machine.Reversible.{Ghosts}
 use Rattle.rw_broadcast.specs.declared.calls.BCall.{BCall}
 use Rattle.rw_broadcast.specs.declared.calls.BReply.{BReply}

@@ -1,4 +1,4 @@
--- What a world shows at its opening, from what its channels are opened as.
+-- What a world shows at its opening, by its specs.
 use Rattle.std.specs.Prelude.{Bool, false, ◌||◌, nat_eq, nat_lt, if◌then◌else◌, List, length, map, position, Option, Some}
 use Rattle.std.specs.Option.{option_map}
 use Rattle.rw_ring.specs.declared.ring.TheConstants.{MOST_CAPACITY}

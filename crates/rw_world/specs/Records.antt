@@ -1,4 +1,4 @@
--- The documented world: each channel as all that ever happened to it, so with all that was ever sent.
+-- The documented world: each channel as the record of all that ever happened to it, so with all that was ever sent.
 use Rattle.std.specs.Prelude.{◌≡◌, ℕ, ◌+◌, true, List, map, take, slice_get, Some}
 use Rattle.std.specs.List.{fold}
 use Rattle.std.specs.Option.{option_map_or}
@@ -43,7 +43,7 @@ module _ {V : Type 0} where
   step_of (watch_record r) (call.B c) = (watch_record r, reply.NoChannel)
   step_of (watch_record r) (call.W d) = (watch_record (watch.step r d).0, reply.W (watch.step r d).1)
 
-  -- a world after a call: its channel makes the documented step, the others stay
+  -- a world after a call: its channel makes the documented step, and the others stay as they are
   abbrev pub next_records : List (ChannelRecord V) → RowCall (ChanCall V) → List (ChannelRecord V)
   next_records rs c = map_at (λ r. (step_of r c.call).0) rs c.channel
 

@@ -1,4 +1,4 @@
--- The steps of machines in a row: a call goes to the machine of its channel and leaves the others.
+-- The steps of machines in a row: a call is made on the machine of its channel, and leaves the others as they are.
 -- A call on a channel that isn't there changes nothing.
 use Rattle.std.specs.Prelude.{ℕ, List, map, slice_get, MatchOption}
 use Rattle.std.specs.Option.{option_map_or}
@@ -6,7 +6,7 @@ use Rattle.rw_law.specs.declared.machine.Reversible.{Ghosts}
 use Rattle.rw_world.specs.declared.rows.RowCall.{RowCall}
 use Rattle.rw_world.specs.Lists.{map_at, Each, greatest, least}
 
--- what a call gets whose channel isn't there
+-- the reply and the patch of a call whose channel isn't there
 pub record Missing (R P : Type 0) : Type 0 where
   pub reply : R
   pub patch : P
@@ -37,7 +37,7 @@ module _ {M C R P : Type 0} (m : Ghosts M C R P) (missing : Missing R P) where
   abbrev pub patch_of : List m.View → RowCall C → P
   patch_of xs c = option_map_or (λ x. m.patch_of x c.call) (slice_get xs c.channel) missing.patch
 
-  -- the row of such machines, as one machine: its replies say what its members' replies say
+  -- the row of such machines, as one machine: its replies mean what its members' replies mean
   abbrev pub of_row : Ghosts (List M) (RowCall C) R P
   of_row = record {
     View = List m.View;

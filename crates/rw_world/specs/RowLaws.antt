@@ -1,4 +1,4 @@
--- A row keeps the laws that its members keep.
+-- A row obeys the laws, if its members do.
 use Rattle.std.proofs.Common.{◌≡◌, ℕ, zero, suc, ◌+◌, ◌≤◌, true, List, [], ◌∷◌, refl, ap, arith}
 use Rattle.rw_law.specs.declared.machine.Reversible.{Ghosts}
 use Rattle.rw_law.specs.Journal.{LawsOf}

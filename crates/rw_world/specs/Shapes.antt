@@ -1,4 +1,4 @@
--- The shape of a row: which kind of machine stands at which number.
+-- The shape of a row: which kind of machine is under which number.
 use Rattle.std.specs.Prelude.{◌≡◌, Bool, true, List, map, slice_get}
 use Rattle.std.specs.Option.{option_map_or}
 use Rattle.rw_law.specs.declared.machine.Reversible.{Ghosts}
@@ -7,7 +7,7 @@ use Rattle.rw_world.specs.declared.rows.RowCall.{RowCall}
 use Rattle.rw_world.specs.Row.{Missing, next, reply_of, of_row}
 use Rattle.rw_world.specs.Parts.{RowEntry}
 
--- a call strays in a row of these kinds: there is no such channel, or its kind doesn't know the call
+-- whether a call strays in a row of these kinds: there is no such channel, or its kind has no such call
 abbrev pub stray_of : {K C : Type 0} → (K → C → Bool) → List K → RowCall C → Bool
 stray_of strays_at ks c = option_map_or (λ k. strays_at k c.call) (slice_get ks c.channel) true
 
@@ -16,7 +16,7 @@ module _ {M C R P : Type 0} (m : Ghosts M C R P) {K : Type 0} (kind : m.View →
   abbrev pub KeepsKind : Type 0
   KeepsKind = (x : m.View) (c : C) → kind (m.next x c) ≡ kind x
 
-  -- a call of one machine strays exactly by its kind
+  -- whether a call of one machine strays depends on its kind alone
   abbrev pub StraysByKind : Type 0
   StraysByKind = (x : m.View) (c : C) → m.is_straying (m.reply_of x c) ≡ strays_at (kind x) c
 
@@ -28,6 +28,6 @@ module _ {M C R P : Type 0} (m : Ghosts M C R P) {K : Type 0} (kind : m.View →
   abbrev pub KeepsShapeThroughout : Missing R P → Type 0
   KeepsShapeThroughout missing = (xs : List m.View) (es : List (RowEntry M C R P)) → map kind (after_all (of_row m missing) xs es) ≡ map kind xs
 
-  -- a call strays exactly by the shape of the row
+  -- whether a call strays depends on the shape of the row alone
   abbrev pub StraysByShape : Missing R P → Type 0
   StraysByShape missing = (xs : List m.View) (c : RowCall C) → m.is_straying (reply_of m missing xs c) ≡ stray_of strays_at (map kind xs) c

@@ -7,7 +7,7 @@ use rw_watch::{WCall, WPatch, WReply, Watch};
 
 /// A channel of this library: a broadcast or a watch.
 ///
-/// A call of its own kind goes to the machine. A call of the other kind answers `NoChannel` and changes nothing.
+/// A call of its own kind is made on its machine. A call of the other kind gets `NoChannel` and changes nothing.
 #[derive(Drop)]
 pub enum Chan<V: Copy> {
     Broadcast(Broadcast<V>),
@@ -21,7 +21,7 @@ pub enum ChanCall<V> {
     W(WCall<V>),
 }
 
-/// The answer of a channel's machine, or that the call was of the other kind, or on a channel that isn't there.
+/// The reply of a channel's machine, or `NoChannel` for a call of the other kind, or on a channel that isn't there.
 #[derive(Clone, Copy, Debug, PartialEq)]
 pub enum ChanReply<V> {
     B(BReply<V>),

@@ -25,30 +25,30 @@ pub fn legal_by_parts<M: Member>()
     ensures { IsLegalExactlyByParts M.Reversible M.missing }
 {}
 
-/// No step changes which kind of channel stands at which number, and a call gets `NoChannel` exactly by that.
+/// No step changes which kind of channel is under which number. Whether a call gets `NoChannel` depends on that alone.
 pub fn shape<V: Copy>()
     ensures keeps { KeepsShape ⟦<Chan<V> as Reversible>⟧ channel_kind strays_at }
     ensures throughout { KeepsShapeThroughout ⟦<Chan<V> as Reversible>⟧ channel_kind strays_at no_channel }
     ensures strays { StraysByShape ⟦<Chan<V> as Reversible>⟧ channel_kind strays_at no_channel }
 {}
 
-/// A world opens with the kinds of channels that its specs name. After any journal a call gets `NoChannel` exactly by the
-/// specs. A journal is legal from the opening exactly where each channel's part of it is legal from the channel's spec.
+/// A world opens with the kinds of channels in its specs. After any journal, whether a call gets `NoChannel` depends on the
+/// specs alone. A journal is legal from the opening exactly where each channel's part of it is legal from the channel's spec.
 pub fn specified<V: Copy>()
     ensures opens { OpensAsSpecified V }
     ensures strays { StraysBySpecs V }
     ensures legal { IsLegalExactlyBySpecs V }
 {}
 
-/// The channels and worlds that definitions speak of are the machines of this crate: the same journals are legal, and lead to
-/// the same.
+/// The channels and worlds of the definitions are the machines of this crate: the same journals are legal, and lead to the
+/// same states.
 pub fn machines<V: Copy>()
     ensures channels { AreLegalOfChannels (IsLegal ⟦<Chan<V> as Reversible>⟧) }
     ensures worlds { AreLegalOfWorlds (IsLegal ⟦<World<V> as Reversible>⟧) }
     ensures after { IsAfterOfWorlds (after_all ⟦<World<V> as Reversible>⟧) }
 {}
 
-/// The documented world: a world is what the records of its channels say, of all that was ever sent.
+/// The documented world: a world behaves as the records of its channels, which have all that was ever sent.
 pub fn documented<V: Copy>()
     // After any calls it shows what they show, and replies to a call as they do.
     ensures shows { ShowsItsRecords V }

@@ -1,9 +1,9 @@
 //! Worlds: channels of both kinds in a row, which are one machine whose steps can be undone.
 //!
-//! The one contract: whatever machines are put in a row, the row keeps the laws of `rw_law` that they keep (`Row` in
-//! `rows.rt`, `Member` in `members.rt`); so does a channel of either kind (`Chan` in `channels.rt`).
-//! Start reading at `specs/Row.antt`, which says what a call to a row does, and go on with `opening.rt`, which opens the worlds
-//! of this library, rows of broadcasts and watches. `laws.rt` has what the layers above build on: calls on two channels
+//! The one contract: a row of machines obeys the laws of `rw_law`, if its machines do (`Row` in `rows.rt`, `Member` in
+//! `members.rt`). So does a channel of either kind (`Chan` in `channels.rt`).
+//! Start reading at `specs/Row.antt`, which defines what a call to a row does. Continue with `opening.rt`, which opens the
+//! worlds of this library, rows of broadcasts and watches. `laws.rt` has what the layers above build on: calls on two channels
 //! commute, a journal is legal exactly where each channel's part of it is, and no step changes which channels there are.
 #![tactic(auto)]
 

@@ -1,4 +1,4 @@
-//! The machines in a row: what makes them one, their steps and their room.
+//! The machines in a row: their trait, their steps and their room.
 
 ghost use Rattle.std.specs.Prelude.{◌≡◌, ◌≤◌, ◌<◌, false, true, length, map, slice_get, Some, MatchOption, OnOk, IsOk};
 ghost use Rattle.std.specs.Option.{option_map};
@@ -8,24 +8,24 @@ ghost use Rattle.rw_world.specs.Row.{Missing};
 
 use rw_law::{MOST_WEIGHT, NoMemory, Reversible};
 
-/// A machine that can stand in a row. It names what a call gets whose channel isn't in the row, so that a row's replies and
-/// patches need no form of their own, and no memory for it.
+/// A machine that can be in a row. It has a reply and a patch for calls whose channel isn't in the row. So a row's replies
+/// and patches need no type of their own, and no more memory.
 pub trait Member: Reversible {
     ghost missing: { Missing Self.Reply Self.Patch };
 
-    /// The reply and the patch of a call whose channel isn't there.
+    /// Returns the reply and the patch of a call whose channel isn't there.
     fn missing() -> (Self::Reply, Self::Patch)
         ensures reply { result.0 ≡ missing.reply }
         ensures patch { result.1 ≡ missing.patch };
 
-    /// The reply says that there is no such channel.
+    /// The reply means that there is no such channel.
     ghost missing_strays: { Self.is_straying missing.reply ≡ true };
 
-    /// It doesn't say that the call would wait.
+    /// It doesn't mean that the call would wait.
     ghost missing_goes_on: { Self.is_waiting missing.reply ≡ false };
 }
 
-/// Makes a call of one member.
+/// Makes a call on one member.
 pub fn apply_at<M: Reversible>(members: &mut [M], i: usize, call: &M::Call) -> (M::Reply, M::Patch)
     requires within { i < length members.old }
     requires room { greatest M.weigh (map M.shown members.old) < least M.reserved members.old }
@@ -37,7 +37,7 @@ pub fn apply_at<M: Reversible>(members: &mut [M], i: usize, call: &M::Call) -> (
     members[i].apply(call)
 }
 
-/// Undoes a call of one member.
+/// Undoes a call on one member.
 pub fn undo_at<M: Reversible>(members: &mut [M], i: usize, call: &M::Call, patch: &M::Patch)
     requires within { i < length members.old }
     requires fits { MatchOption (slice_get (map M.shown members.old) i) (Unit {0}) (λ x. M.fits x call.now patch.now) }
@@ -47,7 +47,7 @@ pub fn undo_at<M: Reversible>(members: &mut [M], i: usize, call: &M::Call, patch
     members[i].undo(call, patch);
 }
 
-/// Makes room in a machine for a total weight.
+/// Makes room in a machine up to a total weight.
 fn ready_one<M: Reversible>(machine: &mut M, wanted: u64) -> Result<(), NoMemory>
     requires weight { M.weigh (M.shown machine.old) ≤ wanted }
     requires bound { wanted ≤ MOST_WEIGHT }
@@ -60,7 +60,7 @@ fn ready_one<M: Reversible>(machine: &mut M, wanted: u64) -> Result<(), NoMemory
     machine.ready(more)
 }
 
-/// Makes room in each member for a total weight.
+/// Makes room in each member up to a total weight.
 pub fn ready_all<M: Reversible>(members: &mut [M], wanted: u64) -> Result<(), NoMemory>
     requires weight { greatest M.weigh (map M.shown members.old) ≤ wanted }
     requires bound { wanted ≤ MOST_WEIGHT }
@@ -75,7 +75,7 @@ pub fn ready_all<M: Reversible>(members: &mut [M], wanted: u64) -> Result<(), No
     Ok(())
 }
 
-/// The greatest weight of a member, or 0 where there is none.
+/// Returns the greatest weight of a member, or 0 where there is none.
 pub fn greatest_weight<M: Reversible>(members: &[M]) -> u64
     ensures weight { result ≡ greatest M.weigh (map M.shown members.now) }
     ensures known { Each M.allowed (map M.shown members.now) }
@@ -87,7 +87,7 @@ pub fn greatest_weight<M: Reversible>(members: &[M]) -> u64
     greatest
 }
 
-/// The least limit of a member, or the greatest limit that a machine may have where there is none.
+/// Returns the least limit of a member, or the greatest limit that a machine can have where there is none.
 pub fn least_limit<M: Reversible>(members: &[M]) -> u64
     ensures limit { result ≡ least M.reserved members.now }
     ensures bound { result ≤ MOST_WEIGHT }

@@ -14,19 +14,19 @@ use thiserror::Error;
 /// Channels of both kinds, up to 64, each under its number.
 pub type World<V> = Row<Chan<V>>;
 
-/// The most channels of a world.
+/// The greatest number of channels in a world.
 pub const MOST_CHANNELS: usize = 64;
 
-/// What a channel is opened as.
+/// The kind of a channel, with the capacity or the first value that it opens with.
 #[derive(Clone, Copy, Debug, PartialEq, Eq)]
 pub enum Spec<V> {
-    /// A broadcast of this capacity. It retains as many values as the least power of two that isn't below it.
+    /// A broadcast of this capacity. It retains as many values as the least power of two that is at least this.
     Broadcast(u32),
-    /// A watch of this value.
+    /// A watch with this first value.
     Watch(V),
 }
 
-/// Why a world isn't opened: the first that holds, in this order.
+/// Why a world wasn't opened: the first that holds, in this order.
 #[derive(Clone, Copy, Debug, PartialEq, Eq, Error)]
 pub enum OpenFault {
     /// There is no spec.
@@ -38,7 +38,7 @@ pub enum OpenFault {
     /// The capacity of this channel is 0 or above 65,536. It is the first such channel.
     #[error("bad capacity of channel {0}")]
     BadCapacity(u32),
-    /// A growth was refused.
+    /// An allocation failed.
     #[error("no memory")]
     NoMemory,
 }
@@ -66,7 +66,7 @@ impl<V: Copy> Spec<V> {
     }
 }
 
-/// Opens one channel, with a sender, 0, and a receiver, 1.
+/// Opens one channel, with sender 0 and receiver 1.
 pub fn open_channel<V: Copy>(alloc: Global, spec: &Spec<V>) -> Result<Chan<V>, NoMemory>
     requires { has_bad_capacity spec.now ≡ false }
     ensures { IfOk result (λ channel. ⟦<Chan<V> as Reversible>⟧.shown channel ≡ opened_channel spec.now) }
@@ -80,7 +80,7 @@ pub fn open_channel<V: Copy>(alloc: Global, spec: &Spec<V>) -> Result<Chan<V>, N
     }
 }
 
-/// The first channel with a bad capacity.
+/// Returns the index of the first channel with a bad capacity.
 fn first_bad_capacity<V: Copy>(specs: &[Spec<V>]) -> Option<usize>
     ensures first { result ≡ position has_bad_capacity specs.now }
     ensures within { IfSome result (λ i. i < length specs.now) }
@@ -89,7 +89,7 @@ fn first_bad_capacity<V: Copy>(specs: &[Spec<V>]) -> Option<usize>
     specs.iter().position(|spec| spec.has_bad_capacity())
 }
 
-/// Why no world is opened from these specs, if there is such a cause. It takes no memory.
+/// Returns why no world can be opened from these specs, if there is a reason in them. It doesn't allocate.
 pub fn refusal_of<V: Copy>(specs: &[Spec<V>]) -> Option<OpenFault>
     ensures refusal { result ≡ refusal specs.now }
     ensures good { IsNone result → All (λ spec. has_bad_capacity spec ≡ false) specs.now }
@@ -115,7 +115,7 @@ fn open_all<V: Copy>(alloc: Global, specs: &[Spec<V>]) -> Result<World<V>, NoMem
     Ok(Row::of(channels))
 }
 
-/// Opens a world with a channel for each spec, under the numbers 0, 1, 2, .. . Each has a sender, 0, and a receiver, 1.
+/// Opens a world with a channel for each spec, under the numbers 0, 1, 2, .. . Each has sender 0 and receiver 1.
 pub fn open<V: Copy>(alloc: Global, specs: &[Spec<V>]) -> Result<World<V>, OpenFault>
     ensures refused { IfSome (refusal specs.now) (λ fault. result ≡ Err fault) }
     ensures opened { IfNone (refusal specs.now) (MatchResult result (λ world. ⟦<World<V> as Reversible>⟧.shown world ≡ opening_row specs.now) (λ fault. fault ≡ OpenFault.NoMemory)) }

@@ -16,8 +16,8 @@ pub struct RowCall<C> {
 
 /// Machines that are called one at a time, each by its number: 0, 1, 2, ..
 ///
-/// A row weighs as much as its heaviest member, and its limit is the least of theirs. `weight`, `limit` and `ready` ask each
-/// member; `apply` and `undo` touch the one that is called alone.
+/// A row weighs as much as its heaviest member, and its limit is the least of theirs. `weight`, `limit` and `ready` use each
+/// member; `apply` and `undo` use only the one that is called.
 #[derive(Drop)]
 pub struct Row<M: Reversible> {
     members: Vec<M>,
@@ -32,21 +32,21 @@ impl<M: Reversible> Model for Row<M> {
 }
 
 impl<M: Reversible> Row<M> {
-    /// These machines in a row. It takes no memory.
+    /// Puts these machines in a row. It doesn't allocate.
     pub fn of(members: Vec<M>) -> Row<M>
         ensures { result ≡ members.items }
     {
         Row { members }
     }
 
-    /// How many channels there are.
+    /// Returns how many channels there are.
     pub fn len(&self) -> usize
         ensures { result ≡ length self.now }
     {
         self.members.len()
     }
 
-    /// The machine of a channel.
+    /// Returns the machine of a channel, if it is there.
     pub fn channel(&self, i: usize) -> Option<&M>
         ensures { option_copied result ≡ slice_get self.now i }
     {
