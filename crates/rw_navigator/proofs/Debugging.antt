@@ -1,4 +1,4 @@
--- A debugger goes as its visit goes.
+-- A debugger moves as its visit does.
 use Rattle.std.proofs.Common.{◌≡◌, ◌+◌, ◌-◌, ℕ, zero, suc, List, [], ◌∷◌, Bool, true, false, Some, length, refl, sym, ap, ◌∙◌, subst}
 use Rattle.std.specs.Prelude.{slice_get, IfSome, OnOk, OnErr, Result, Ok, Err}
 use Rattle.std.proofs.Math.Seq.{take-length}
@@ -17,7 +17,7 @@ use Rattle.rw_navigator.specs.Navigator.{IsNavigator, MovedTo, start_of}
 use Rattle.rw_navigator.specs.Places.{last_place}
 use Rattle.rw_navigator.specs.Search.{hit, last_below, first_of_next, first_above}
 
--- the same tests find the same
+-- equal tests find the same number
 last_below-same : (t u : ℕ → Bool) → ((p : ℕ) → t p ≡ u p) → (n : ℕ) → last_below t n ≡ last_below u n
 last_below-same t u same zero = refl
 last_below-same t u same (suc p) = rw (same p, last_below-same t u same p) refl
@@ -35,7 +35,7 @@ module _ {V : Type 0} where
     documented = recorded specs visit.entries legal;
   }
 
-  -- a visit to a run's entries that stands at place p
+  -- a visit to a run's entries that is at place p
   pub stands : ShowsAtPlaces V → (specs : List (Spec V)) (visit : Visit V) (run : Run V) (p : ℕ) → specs ≡ run.specs → visit.entries ≡ run.entries → visit.place ≡ p
       → (of_world {V = V}).shown visit.machine.state ≡ after of_world (opening_row run.specs) run.entries p → visit.machine.turns ≡ 0 → StandsAt (debugger_at specs visit) run p
   stands shows specs visit run p same_specs same_entries place shown turns = record {
@@ -51,7 +51,7 @@ module _ {V : Type 0} where
   at_last_place run = ap (after_all of_world (opening_row run.specs)) (sym (take-length run.entries))
 
   module _ (specs : List (Spec V)) (v w : Visit V) (is : IsDebugger specs v) (p n : ℕ) where
-    -- it is a debugger still, and went where the visit went
+    -- it is still a debugger, and went where the visit went
     pub still : MovedTo of_world v w p n → IsDebugger specs w
     still moved = record {
       shows = λ i. rw (moved.start, moved.entries) (is.shows i);
@@ -66,7 +66,7 @@ module _ {V : Type 0} where
       turns = moved.turns;
     }
 
-    -- the same of a call that went there, or failed and left the visit
+    -- the same for a call that went there, or failed and left the visit unchanged
     module _ {A E : Type 0} where
       pub still_on : (r : Result A E) → OnOk r (MovedTo of_world v w p n) → OnErr r (w ≡ v) → IsDebugger specs w
       still_on (Ok a) moved left = still moved

@@ -1,4 +1,4 @@
--- The places that are hits as a list, and what is found there by halves.
+-- The places that are hits as a list, and what a binary search finds there.
 use Rattle.std.proofs.Common.{◌≡◌, ◌≢◌, ℕ, zero, suc, ◌+◌, ◌-◌, ◌<◌, ◌≤◌, Bool, true, false, cond, List, [], ◌∷◌, ◌++◌, length, get_or, Some, None, inl, inr, refl, sym, ◌∙◌, ap, subst, arith, add-one}
 use Rattle.std.specs.Prelude.{nat_lt, nat_le}
 use Rattle.std.specs.List.{All, Contains, filter, range_with_len}
@@ -67,7 +67,7 @@ module _ (test : ℕ → Bool) where
 
 -- ---- a list of all hits
 
--- what passes stays
+-- a filter retains each item that passes
 pub Contains-filter : {X : Type 0} (test : X → Bool) (xs : List X) (x : X) → test x ≡ true → Contains xs x → Contains (filter test xs) x
 Contains-filter test [] x passes c = absurd (omega (arith, c.1))
 Contains-filter test (y ∷ ys) x passes c =
@@ -89,7 +89,7 @@ pub record IsAllHits (hit : ℕ → Bool) (places : List ℕ) : Type 0 where
   pub passes : All (λ p. hit p ≡ true) places
   pub each : (p : ℕ) → hit p ≡ true → Contains places p
 
--- a list of all hits of which each is a place
+-- a list of all hits, each of them a place from 1 to the last
 module _ (hit : ℕ → Bool) (last : ℕ) (inside : (p : ℕ) → hit p ≡ true → (0 < p) × (p ≤ last)) where
   range_rises : IsNonDecreasingBy (λ p. p) (range_with_len 1 last)
   range_rises i j d order below =
@@ -107,12 +107,12 @@ module _ (hit : ℕ → Bool) (last : ℕ) (inside : (p : ℕ) → hit p ≡ tru
     each = λ p passes. let h = inside p passes in Contains-filter hit (range_with_len 1 last) p passes (in_range p h.0 h.1);
   }
 
-  -- where a list of them is cut by a test of numbers
+  -- a list of all hits that a test of numbers splits at index i
   module _ (places : List ℕ) (all : IsAllHits hit places) (i : ℕ) where
     passes_at : (j e : ℕ) → j < length places → e ≡ get_or places j e → hit e ≡ true
     passes_at j e left read = subst (λ q. hit q ≡ true) (sym read) (all.passes j e left)
 
-    -- the last hit before the cut is the greatest below p, where the cut is by `< p`
+    -- the last hit before the split is the greatest below p, where the test is `< p`
     module _ (p : ℕ) (cut : IsPartitionPoint (λ q. nat_lt q p ≡ true) (λ q. nat_lt q p ≡ false) places i) where
       none_from_cut : (k : ℕ) → k < p → ((j : ℕ) → j < i → get_or places j k < k) → hit k ≡ false
       none_from_cut k below front =
@@ -140,7 +140,7 @@ module _ (hit : ℕ → Bool) (last : ℕ) (inside : (p : ℕ) → hit p ≡ tru
       pub none_before : i ≡ 0 → last_below hit p ≡ None
       none_before first = last_below-none hit p (λ k below. none_from_cut k below (λ j left. absurd (omega (arith, left, first))))
 
-    -- the first hit behind the cut is the least above p, where the cut is by `<= p`
+    -- the first hit after the split is the least above p, where the test is `<= p`
     module _ (p : ℕ) (cut : IsPartitionPoint (λ q. nat_le q p ≡ true) (λ q. nat_le q p ≡ false) places i) where
       none_up_to_cut : (k : ℕ) → p < k → ((j : ℕ) → i ≤ j → j < length places → k < get_or places j k) → hit k ≡ false
       none_up_to_cut k above back =

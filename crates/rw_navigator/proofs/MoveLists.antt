@@ -1,4 +1,4 @@
--- One move more at the end of a list of moves.
+-- One more move at the end of a list of moves.
 use Rattle.std.proofs.Common.{◌≡◌, ℕ, ◌+◌, List, [], ◌∷◌, ◌++◌, refl, ap, arith}
 use Rattle.rw_navigator.specs.declared.moves.Move.{Move}
 use Rattle.rw_navigator.specs.Moves.{answer_to, landing, distance, answers_to, landing_all, distance_all}

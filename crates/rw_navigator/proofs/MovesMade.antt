@@ -1,4 +1,4 @@
--- A walk goes on by one move.
+-- A walk continues by one move.
 use Rattle.std.proofs.Common.{◌≡◌, ℕ, ◌+◌, ◌<◌, List, [], ◌∷◌, ◌++◌, length, take, get_or, sym, ◌∙◌, ap, subst}
 use Rattle.std.proofs.lemmas.List.{take_more}
 use Rattle.std.specs.Prelude.{Result}
@@ -17,7 +17,7 @@ answers_to-more len p q moves i d left there =
     ∙ (answers_to-push len p (take i moves) (get_or moves i d)
     ∙ ap (λ r. answers_to len p (take i moves) ++ answer_to len r (get_or moves i d) ∷ []) (sym there))
 
--- the answer to move i goes to the end of the answers to the moves before it
+-- the result of move i is appended to the results of the moves before it
 pub told_on : (len p n q : ℕ) (moves : List Move) (i : ℕ) (d : Move) (old new : List (Result (Unit {0}) OutOfRange)) (r : Result (Unit {0}) OutOfRange)
     → i < length moves → new ≡ old ++ r ∷ [] → r ≡ answer_to n q (get_or moves i d) → n ≡ len → q ≡ landing_all len p (take i moves)
     → old ≡ answers_to len p (take i moves) → new ≡ answers_to len p (take (i + 1) moves)

@@ -44,7 +44,7 @@ module _ (test : ℕ → Bool) where
   last_below-next : (p : ℕ) → last_below test (p + 1) ≡ cond (test p) (Some p) (last_below test p)
   last_below-next p = rw (add-one p)
 
-  -- where no number from n on passes below q, the answer r for the one before n, p, finds it or goes on
+  -- if no number from n on passes below q, then p, the one before n, is found if it passes, and else the search continues
   pub found_below : (p q n : ℕ) (b r : Bool) → n ≡ p + 1 → test p ≡ b → r ≡ b → r ≡ true → last_below test n ≡ last_below test q → Some p ≡ last_below test q
   found_below p q n b r next is answer passes rest =
       sym (ap (λ t. cond t (Some p) (last_below test p)) (is ∙ (sym answer ∙ passes)))
@@ -63,7 +63,7 @@ module _ (test : ℕ → Bool) where
       let more : len - p ≡ (len - (p + 1)) + 1 = omega arith in
       ap (first_of_next test p) more ∙ first_of_next-next p (len - (p + 1))
 
-  -- where no number up to p passes above q, the answer r for the one after p finds it or goes on
+  -- if no number above q up to p passes, then p + 1 is found if it passes, and else the search continues
   pub found_above : (p q len : ℕ) (b r : Bool) → p < len → test (p + 1) ≡ b → r ≡ b → r ≡ true → first_above test p len ≡ first_above test q len
       → Some (p + 1) ≡ first_above test q len
   found_above p q len b r left is answer passes rest =

@@ -1,4 +1,4 @@
--- What a visit knows of its machine, and how one step of the machine carries it on.
+-- What is known of a visit's machine, and how one step of the machine moves the visit.
 use Rattle.std.proofs.Common.{◌≡◌, ℕ, ◌+◌, ◌-◌, ◌^◌, ◌<◌, ◌≤◌, List, length, take, get_or, refl, sym, ◌∙◌, ap, subst, arith}
 use Rattle.std.proofs.Math.Seq.{take-length}
 use Rattle.rw_law.specs.declared.machine.Reversible.{Ghosts}
@@ -14,7 +14,7 @@ module _ {M C R P : Type 0} (m : Ghosts M C R P) where
   abbrev pub visit : Counted M → List (Entry M C R P) → ℕ → Navigator M C R P
   visit k es p = record { machine = k; entries = es; place = p }
 
-  -- a visit that stays has moved by nothing
+  -- a visit that stays has moved by 0 calls
   pub unmoved : (v : Navigator M C R P) → IsNavigator m v → MovedTo m v v v.place 0
   unmoved v i =
       let small : v.machine.turns ≤ 2 ^ 64 - 1 = i.counted in
@@ -53,7 +53,7 @@ module _ {M C R P : Type 0} (m : Ghosts M C R P) where
     start_at : (o : m.View) (v : Navigator M C R P) → m.allowed o → IsLegal m o v.entries → m.shown v.machine.state ≡ after m o v.entries v.place → start_of m v ≡ o
     start_at o v a l h = ap (λ x. before_all m x (take v.place v.entries)) h ∙ before_all-after m laws o v.entries v.place a l
 
-    -- a machine that shows the start of a journal, with room ahead, visits its first place
+    -- a machine that shows the start of a journal, with room for its calls, visits its first place
     pub at_first : (k : Counted M) (es : List (Entry M C R P)) (x : m.View) → m.shown k.state ≡ x → m.allowed x → IsLegal m x es → m.weigh x + length es ≤ m.reserved k.state → k.turns ≡ 0 → IsNavigator m (visit k es 0)
     at_first k es x shows allowed legal room turns = record {
       allowed = subst m.allowed (sym shows) allowed;
@@ -82,7 +82,7 @@ module _ {M C R P : Type 0} (m : Ghosts M C R P) where
         room = subst (λ y. HasRoom m y es (m.reserved k.state)) (sym start_at_last) made.room;
       }
 
-    -- one call of the machine that leads to the state of place q carries the visit there
+    -- one call of the machine that leads to the state of place q moves the visit there
     module _ (k k' : Counted M) (es : List (Entry M C R P)) (p q : ℕ) (old : IsNavigator m (visit k es p)) (inside : q ≤ length es)
         (shows : m.shown k'.state ≡ after m (start_of m (visit k es p)) es q)
         (turns : k'.turns ≡ count_after k.turns 1) (room : m.reserved k'.state ≡ m.reserved k.state) where

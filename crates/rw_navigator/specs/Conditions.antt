@@ -17,7 +17,7 @@ use Rattle.rw_words.specs.ReplyWords.{reply_word_of, reply_word_text}
 use Rattle.rw_navigator.specs.declared.worlds.condition.Cond.{Cond}
 use Rattle.rw_navigator.specs.declared.worlds.condition.Cond.TheVariants.{Actor, Channel, ReplyKind, UnreadAtLeast, Lagging, Unseen, VersionAtLeast, Closed, QueueAtLeast}
 
--- there is one, and it passes
+-- there is a value, and it passes the test
 abbrev pub has : {A : Type 0} → (A → Bool) → Option A → Bool
 has test o = option_map_or test o false
 
@@ -72,7 +72,7 @@ watch_at xs c = option_and_then as_watch (slice_get xs c)
 abbrev pub unread_at : {V : Type 0} → List (ChanShown V) → (c h : ℕ) → Option ℕ
 unread_at xs c h = option_and_then (λ x. option_map (unread x.sent) (position_at (slice_get x.slots h))) (broadcast_at xs c)
 
--- how many of them are retained no longer
+-- how many of them are no longer retained
 abbrev pub lag_at : {V : Type 0} → List (ChanShown V) → (c h : ℕ) → Option ℕ
 lag_at xs c h = option_and_then (λ x. option_map (lag (broadcast.oldest (channel_of x))) (position_at (slice_get x.slots h))) (broadcast_at xs c)
 
@@ -97,8 +97,8 @@ is_closed (watch_shown y) = watch.is_closed y
 abbrev pub closed_at : {V : Type 0} → List (ChanShown V) → ℕ → Option Bool
 closed_at xs c = option_map is_closed (slice_get xs c)
 
--- the test of what a world shows. A condition that names no such channel, a channel of the other kind, or no live receiver
--- is false.
+-- the test of what a world shows. A condition is false if it names a channel that isn't there or is of the other kind, or a
+-- receiver that isn't alive.
 abbrev pub holds_of_shown : {V : Type 0} → Cond → List (ChanShown V) → Bool
 holds_of_shown (Actor a) xs = false
 holds_of_shown (Channel c) xs = false

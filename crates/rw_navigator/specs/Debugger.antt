@@ -1,4 +1,4 @@
--- A debugger: a machine that stands at a place of a run.
+-- A debugger: a machine at a place of a run.
 use Rattle.std.specs.Prelude.{◌≡◌, ℕ, ◌≤◌, List, Option, unwrap_or}
 use Rattle.rw_journal.specs.Run.{Run}
 use Rattle.rw_law.specs.Journal.{after}
@@ -33,7 +33,7 @@ module _ {V : Type 0} where
   abbrev pub as_run : List (Spec V) → List (WorldEntry V) → Run V
   as_run specs es = record { specs = specs; entries = es }
 
-  -- the debugger stands at place p of the run and shows what is documented there; its machine has had no call yet
+  -- the debugger is at place p of the run and shows what is documented there; its machine has had no call yet
   pub record StandsAt (d : Debugger V) (run : Run V) (p : ℕ) : Type 0 where
     pub run_is : d.run ≡ run
     pub place : d.place ≡ p
@@ -53,13 +53,13 @@ module _ {V : Type 0} where
       let last = last_place old.run in
       WentTo old new (landing last old.place move) (distance last old.place move)
 
-  -- the same of a list of moves
+  -- the same for a list of moves
   abbrev pub WentAlong : (old new : Debugger V) → List Move → Type 0
   WentAlong old new moves =
       let last = last_place old.run in
       WentTo old new (landing_all last old.place moves) (distance_all last old.place moves)
 
-  -- it went to the place that was found, or where none was, stayed at its place, after at most so many calls
+  -- it went to the place that was found, or stayed at its place if none was, after at most this many calls
   abbrev pub FoundAt : (old new : Debugger V) → Option ℕ → ℕ → Type 0
   FoundAt old new found most = (n : ℕ) × (n ≤ most) × WentTo old new (unwrap_or found old.place) n
 
@@ -74,7 +74,7 @@ module _ {V : Type 0} where
     turns = visit.machine.turns;
   }
 
-  -- at each place of the visited journal its records are what is shown, and each reply is documented
+  -- at each place of the visited journal the documented state is shown, and each reply is the documented one
   pub record IsDebugger (specs : List (Spec V)) (visit : Visit V) : Type 0 where
     pub shows : (n : ℕ) → after of_world (start_of of_world visit) visit.entries n ≡ documented_at specs visit.entries n
     pub documented : IsDocumented specs visit.entries

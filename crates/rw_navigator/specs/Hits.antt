@@ -13,7 +13,7 @@ module _ {V : Type 0} (run : Run V) where
 
   -- a condition: whether it is one on entries, and the test of an entry and of what is shown
   module _ (on_step : Bool) (step : WorldEntry V → Bool) (state : List (ChanShown V) → Bool) where
-    -- the place is a hit: of a condition on entries, whose entry leads there, or of one on states, which comes true there
+    -- the place is a hit: its entry meets the condition on entries, or the condition on states becomes true there
     abbrev pub is_hit : ℕ → Bool
     is_hit place = if on_step then step_hit step run.entries place else comes_true_at state place
 
@@ -21,6 +21,6 @@ module _ {V : Type 0} (run : Run V) where
     abbrev pub hit_below : ℕ → Option ℕ
     hit_below place = last_below is_hit place
 
-    -- the least hit above it
+    -- the least hit above a place
     abbrev pub hit_above : ℕ → Option ℕ
     hit_above place = first_above is_hit place (last_place run)

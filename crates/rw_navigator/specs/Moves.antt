@@ -18,7 +18,7 @@ place_after len p (Goto n) = place_at len n
 place_after len p Start = Some 0
 place_after len p End = Some len
 
--- the answer to a move: refused where it leads to no place
+-- the result of a move: it is refused if it leads to no place
 abbrev pub answer_of : Option ℕ → Result (Unit {0}) OutOfRange
 answer_of (Some p) = Ok tt
 answer_of None = Err (record {})
@@ -26,11 +26,11 @@ answer_of None = Err (record {})
 abbrev pub answer_to : ℕ → ℕ → Move → Result (Unit {0}) OutOfRange
 answer_to len p move = answer_of (place_after len p move)
 
--- the place after a move: a refused one leaves it
+-- the place after a move, which a refused move doesn't change
 abbrev pub landing : ℕ → ℕ → Move → ℕ
 landing len p move = unwrap_or (place_after len p move) p
 
--- how many entries lie between two places
+-- the number of entries between two places
 abbrev pub distance_between : ℕ → ℕ → ℕ
 distance_between p q = (p - q) + (q - p)
 
@@ -38,7 +38,7 @@ distance_between p q = (p - q) + (q - p)
 abbrev pub distance : ℕ → ℕ → Move → ℕ
 distance len p move = distance_between p (landing len p move)
 
--- the answer to each move, in order
+-- the result of each move, in order
 abbrev pub answers_to : ℕ → ℕ → List Move → List (Result (Unit {0}) OutOfRange)
 answers_to len p [] = []
 answers_to len p (move ∷ moves) = answer_to len p move ∷ answers_to len (landing len p move) moves
@@ -60,7 +60,7 @@ module _ {M C R P : Type 0} (m : Ghosts M C R P) where
       let len = length old.entries in
       MovedTo m old new (landing len old.place move) (distance len old.place move)
 
-  -- the same of a list of moves
+  -- the same for a list of moves
   abbrev pub WalkedBy : (old new : Navigator M C R P) → List Move → Type 0
   WalkedBy old new moves =
       let len = length old.entries in

@@ -1,4 +1,4 @@
--- A visit to a journal: a machine that stands at one of its places.
+-- A visit to a journal: a machine at one of its places.
 use Rattle.std.specs.Prelude.{◌≡◌, ℕ, ◌≤◌, ◌-◌, ◌^◌, List, length, take}
 use Rattle.rw_law.specs.declared.machine.Reversible.{Ghosts}
 use Rattle.rw_law.specs.declared.journal.Entry.{Entry}

@@ -9,8 +9,7 @@ module _ {V : Type 0} where
   abbrev pub last_place : Run V → ℕ
   last_place run = length run.entries
 
-  -- what the channels show at a place: what their records show, of all that was ever sent, after the calls of the entries that
-  -- lead there
+  -- what the channels show at a place: what the records of all that was ever sent show after the entries that lead there
   abbrev pub shown_at : Run V → ℕ → List (ChanShown V)
   shown_at run place = documented_at run.specs run.entries place
 

@@ -15,15 +15,15 @@ module _ {M C R P : Type 0} (m : Ghosts M C R P) where
   abbrev pub state_hit : (m.View → Bool) → m.View → List (Entry M C R P) → ℕ → Bool
   state_hit holds start es p = nat_lt 0 p && (holds (after m start es p) && not (holds (after m start es (p - 1))))
 
-  -- place p of the visited journal is a hit of a condition: of one on entries, or of one on states
+  -- place p of the visited journal is a hit of a condition on entries, or of one on states
   abbrev pub hit : Bool → (Entry M C R P → Bool) → (m.View → Bool) → Navigator M C R P → ℕ → Bool
   hit on_step step state v p = if on_step then step_hit step v.entries p else state_hit state (start_of m v) v.entries p
 
-  -- the test of machines is the test f of what they show
+  -- the test of a machine is the test f of what it shows
   abbrev pub TestsView : (m.View → Bool) → (M → Bool) → Type 0
   TestsView f holds = (x : M) → holds x ≡ f (m.shown x)
 
-  -- the new visit is at the place that was found, or where none was, at the old place, after at most so many calls
+  -- the new visit is at the place that was found, or at the old place if none was, after at most this many calls
   abbrev pub SearchedTo : (old new : Navigator M C R P) → Option ℕ → ℕ → Type 0
   SearchedTo old new found most = (n : ℕ) × (n ≤ most) × MovedTo m old new (unwrap_or found old.place) n
 

@@ -7,16 +7,16 @@ use rw_law::{Entry, Reversible};
 
 /// A condition on the entries of a journal, or on its states.
 ///
-/// A condition on states should be decided by what a machine shows. Of one that reads the reserved room the searches do not
-/// promise which place they find.
+/// A condition on states should depend only on what a machine shows. If it reads the reserved room, the searches don't promise
+/// which place they find.
 pub trait Probe<R: Reversible> {
-    /// It is a condition on entries.
+    /// Whether it is a condition on entries.
     ghost asks_step: { Self → Bool };
 
-    /// The entry meets it.
+    /// Whether an entry meets it.
     ghost holds_of_step: { Self → EntryOf R R.Call R.Reply R.Patch → Bool };
 
-    /// The machine meets it.
+    /// Whether a machine meets it.
     ghost holds_of_state: { Self → R → Bool };
 
     /// Whether it is a condition on entries. If not, it is one on states.
@@ -32,7 +32,7 @@ pub trait Probe<R: Reversible> {
         ensures { result ≡ holds_of_state self.now state.now };
 }
 
-/// A condition that failed before holds now.
+/// Returns `true` if a condition holds now and didn't before.
 pub(crate) fn comes_true(before: bool, now: bool) -> bool
     ensures { result ≡ now && not before }
 {

@@ -6,7 +6,7 @@ ghost use Rattle.rw_navigator.specs.Counted.{count_after};
 use rw_law::Reversible;
 use std::marker::Model;
 
-/// A machine, and the number of its calls. It never gives the machine out, so no call goes uncounted.
+/// A machine with a count of its calls. Only shared references to the machine are given out, so no call goes uncounted.
 #[derive(Drop)]
 pub struct Counted<R> {
     machine: R,
@@ -22,7 +22,7 @@ impl<R> Model for Counted<R> {
 }
 
 impl<R> Counted<R> {
-    /// Takes a machine, with no call counted yet.
+    /// Wraps a machine, with no call counted yet.
     pub fn new(machine: R) -> Counted<R>
         ensures machine { result.state ≡ machine }
         ensures turns { result.turns ≡ 0 }
@@ -30,14 +30,14 @@ impl<R> Counted<R> {
         Counted { machine, count: 0 }
     }
 
-    /// The machine as it is now.
+    /// Returns the machine as it is now.
     pub fn state(&self) -> &R
         ensures { result.now ≡ self.now.state }
     {
         &self.machine
     }
 
-    /// How many calls of `apply` and `undo` there were. The count stops at the greatest `u64`.
+    /// Returns the number of calls of `apply` and `undo`. The count stops at the greatest `u64`.
     pub fn turns(&self) -> u64
         ensures { result ≡ self.now.turns }
     {
@@ -46,7 +46,7 @@ impl<R> Counted<R> {
 }
 
 impl<R: Reversible> Counted<R> {
-    /// The machine's own `apply`, counted as one call.
+    /// Calls the machine's `apply`, and counts it.
     pub fn apply(&mut self, call: &R::Call) -> (R::Reply, R::Patch)
         requires { R.weigh (R.shown self.old.state) < R.reserved self.old.state }
         ensures view { R.shown self.new.state ≡ R.next (R.shown self.old.state) call.now }
@@ -59,7 +59,7 @@ impl<R: Reversible> Counted<R> {
         self.machine.apply(call)
     }
 
-    /// The machine's own `undo`, counted as one call.
+    /// Calls the machine's `undo`, and counts it.
     pub fn undo(&mut self, call: &R::Call, patch: &R::Patch)
         requires { R.fits (R.shown self.old.state) call.now patch.now }
         ensures view { R.shown self.new.state ≡ R.back (R.shown self.old.state) call.now patch.now }

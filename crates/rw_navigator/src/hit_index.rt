@@ -11,10 +11,10 @@ use std::alloc::Global;
 use std::marker::Model;
 use std::snapshot::Snapshot;
 
-/// The places of the entries that meet a condition, in order. It finds by halves what a search finds entry by entry.
+/// The places of the entries that meet a condition, in order. A lookup is a binary search, where a search tests entry by entry.
 #[derive(Drop)]
 pub struct HitIndex<R: Reversible, P: Probe<R>> {
-    // Both are of no bytes: contracts see the condition and the journal.
+    // Both have no bytes at run time: they show the condition and the journal to contracts.
     probe: Snapshot<P>,
     entries: Snapshot<Vec<Entry<R>>>,
     places: Vec<u64>,
@@ -32,8 +32,8 @@ impl<R: Reversible, P: Probe<R>> Model for HitIndex<R, P> {
 }
 
 impl<R: Reversible, P: Probe<R>> HitIndex<R, P> {
-    /// The index of a condition on entries over a navigator's journal. The hits are counted first, so that it takes 8 bytes for
-    /// each hit, and never more.
+    /// Builds the index of a condition on entries over a navigator's journal. The hits are counted first, so that exactly 8
+    /// bytes are allocated for each.
     pub fn build(
         alloc: Global,
         navigator: &Navigator<R>,
@@ -51,7 +51,7 @@ impl<R: Reversible, P: Probe<R>> HitIndex<R, P> {
         })
     }
 
-    /// The greatest place below this one whose entry meets the condition.
+    /// Returns the greatest place below this one whose entry meets the condition.
     pub fn before(&self, place: u64) -> Option<u64>
         ensures found { result ≡ last_below (step_hit (P.holds_of_step self.now.probe) self.now.entries) place }
         ensures below { IfSome result (λ hit. (0 < hit) × (hit < place) × (hit ≤ length self.now.entries)) }
@@ -63,7 +63,7 @@ impl<R: Reversible, P: Probe<R>> HitIndex<R, P> {
         Some(self.places[below - 1])
     }
 
-    /// The least place above this one whose entry meets the condition.
+    /// Returns the least place above this one whose entry meets the condition.
     pub fn after(&self, place: u64) -> Option<u64>
         ensures found { result ≡ first_above (step_hit (P.holds_of_step self.now.probe) self.now.entries) place (length self.now.entries) }
         ensures above { IfSome result (λ hit. (place < hit) × (hit ≤ length self.now.entries)) }
@@ -77,7 +77,7 @@ impl<R: Reversible, P: Probe<R>> HitIndex<R, P> {
 }
 
 impl<R: Reversible> Navigator<R> {
-    /// How many entries meet a condition.
+    /// Counts the entries that meet a condition.
     fn count_step_hits<P: Probe<R>>(&self, probe: &P) -> usize
         ensures { result ≡ length (hits_of (P.holds_of_step probe.now) self.now.entries) }
     {
@@ -90,7 +90,7 @@ impl<R: Reversible> Navigator<R> {
         count
     }
 
-    /// The places of these entries, in room for no more.
+    /// Returns the places of these entries, in a list with room for no more.
     fn step_hits<P: Probe<R>>(&self, alloc: Global, probe: &P) -> Result<Vec<u64>, NoMemory>
         ensures hits { IfOk result (λ places. places.items ≡ hits_of (P.holds_of_step probe.now) self.now.entries) }
         ensures exact { IfOk result (λ places. vec_capacity places ≡ length places.items) }

@@ -2,12 +2,12 @@
 //!
 //! Place n of a journal is where its first n entries lead. A `Navigator` holds the entries and one machine, and goes from
 //! place to place by undoing or redoing one entry per place: it never starts again from the opening.
-//! The one contract is the record `MovedTo` of `specs/Navigator.antt`, which every move ensures: the machine shows the state of
-//! its new place, and has made as many calls more as there are places in between.
-//! Start reading at `places.rt`, the Navigator and its single steps, and go on with `walks.rt`. The searches, which stop where a
-//! condition is met, are in `search_back.rt` and `search_forward.rt`; `hit_index.rt` has the hits of a condition on entries as a
-//! list, for many searches. `worlds.rt` stands on it: a `Debugger` walks over the run of a world, and its contract says the
-//! documented state at each place.
+//! Every move ensures the record `MovedTo` of `specs/Navigator.antt`: the machine shows the state of its new place, and has
+//! made one more call for each place passed.
+//! Start reading at `places.rt`, the Navigator and its single steps, and continue with `walks.rt`. The searches, which stop
+//! where a condition is met, are in `search_back.rt` and `search_forward.rt`. `hit_index.rt` lists the hits of a condition on
+//! entries, for many searches. `worlds.rt` builds on this: a `Debugger` walks over the run of a world, and its contract states
+//! the documented state at each place.
 #![tactic(auto)]
 
 mod conditions;

@@ -8,9 +8,9 @@ use thiserror::Error;
 /// Where to go from a place.
 #[derive(Clone, Copy, Debug, PartialEq, Eq)]
 pub enum Move {
-    /// So many places towards the start.
+    /// This many places towards the start.
     Back(u64),
-    /// So many places towards the end.
+    /// This many places towards the end.
     Forward(u64),
     /// To the place of this number.
     Goto(u64),
@@ -26,7 +26,7 @@ pub enum Move {
 pub struct OutOfRange;
 
 impl Move {
-    /// Where the move leads from a place, on the places 0 to `len`.
+    /// Returns where the move leads from a place, or `None` if to none of the places 0 to `len`.
     pub(crate) fn destination(self, place: u64, len: u64) -> Option<u64>
         requires { place ≤ len }
         ensures { result ≡ place_after len place self }

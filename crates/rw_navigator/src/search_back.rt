@@ -10,15 +10,15 @@ use crate::places::Navigator;
 use rw_law::Reversible;
 
 impl<R: Reversible> Navigator<R> {
-    /// Goes to the nearest hit below the place, and answers it: a place whose entry meets the condition, or whose state
-    /// does where the state before it does not. With no hit there the place stays.
+    /// Goes to the nearest hit below the place, and returns it. A hit is a place whose entry meets the condition, or whose
+    /// state does while the state before it doesn't. Without such a hit, the place stays the same.
     pub fn back_to<P: Probe<R>>(&mut self, probe: &P) -> Option<u64>
         ensures found { (f : R.View → Bool) → TestsView R.Reversible f (P.holds_of_state probe.now) →
             result ≡ last_below (hit R.Reversible (P.asks_step probe.now) (P.holds_of_step probe.now) f self.old) self.old.place }
         ensures moved { SearchedTo R.Reversible self.old self.new result (most_below self.old.place result) }
         ensures below { IfSome result (λ place. (0 < place) × (place < self.old.place)) }
 
-        // A condition on entries needs no premise, and no call but those of the way.
+        // For a condition on entries, no premise is needed, and only the calls on the way are made.
         ensures found_step { IsTrue (P.asks_step probe.now) →
             result ≡ last_below (step_hit (P.holds_of_step probe.now) self.old.entries) self.old.place }
         ensures moved_step { IsTrue (P.asks_step probe.now) →
@@ -45,7 +45,7 @@ impl<R: Reversible> Navigator<R> {
         found
     }
 
-    /// The nearest place below whose entry meets the condition.
+    /// Returns the nearest place below whose entry meets the condition.
     fn last_step_below<P: Probe<R>>(&self, probe: &P) -> Option<u64>
         ensures found { result ≡ last_below (step_hit (P.holds_of_step probe.now) self.now.entries) self.now.place }
         ensures below { IfSome result (λ place. (0 < place) × (place < self.now.place)) }
@@ -59,7 +59,7 @@ impl<R: Reversible> Navigator<R> {
         None
     }
 
-    /// Goes back to the nearest place where the state comes to meet the condition.
+    /// Goes back to the nearest place where the condition on states becomes true.
     fn back_to_state<P: Probe<R>>(&mut self, probe: &P) -> Option<u64>
         ensures found { (f : R.View → Bool) → TestsView R.Reversible f (P.holds_of_state probe.now) →
             result ≡ last_below (state_hit R.Reversible f (start_of R.Reversible self.old) self.old.entries) self.old.place }

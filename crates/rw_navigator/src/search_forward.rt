@@ -10,8 +10,8 @@ use crate::places::Navigator;
 use rw_law::Reversible;
 
 impl<R: Reversible> Navigator<R> {
-    /// Goes to the nearest hit above the place, and answers it: a place whose entry meets the condition, or whose state
-    /// does where the state before it does not. With no hit there the place stays.
+    /// Goes to the nearest hit above the place, and returns it. A hit is a place whose entry meets the condition, or whose
+    /// state does while the state before it doesn't. Without such a hit, the place stays the same.
     pub fn forward_to<P: Probe<R>>(&mut self, probe: &P) -> Option<u64>
         ensures found { (f : R.View → Bool) → TestsView R.Reversible f (P.holds_of_state probe.now) →
             result ≡ first_above (hit R.Reversible (P.asks_step probe.now) (P.holds_of_step probe.now) f self.old)
@@ -19,7 +19,7 @@ impl<R: Reversible> Navigator<R> {
         ensures moved { SearchedTo R.Reversible self.old self.new result (most_above self.old.place (length self.old.entries) result) }
         ensures above { IfSome result (λ place. (self.old.place < place) × (place ≤ length self.old.entries)) }
 
-        // A condition on entries needs no premise, and no call but those of the way.
+        // For a condition on entries, no premise is needed, and only the calls on the way are made.
         ensures found_step { IsTrue (P.asks_step probe.now) →
             result ≡ first_above (step_hit (P.holds_of_step probe.now) self.old.entries)
             self.old.place (length self.old.entries) }
@@ -34,7 +34,7 @@ impl<R: Reversible> Navigator<R> {
         }
     }
 
-    /// Goes on to the nearest entry that meets the condition.
+    /// Goes forward to the nearest entry that meets the condition.
     fn forward_to_step<P: Probe<R>>(&mut self, probe: &P) -> Option<u64>
         ensures found { result ≡ first_above (step_hit (P.holds_of_step probe.now) self.old.entries)
             self.old.place (length self.old.entries) }
@@ -49,7 +49,7 @@ impl<R: Reversible> Navigator<R> {
         found
     }
 
-    /// The nearest place above whose entry meets the condition.
+    /// Returns the nearest place above whose entry meets the condition.
     fn first_step_above<P: Probe<R>>(&self, probe: &P) -> Option<u64>
         ensures found { result ≡ first_above (step_hit (P.holds_of_step probe.now) self.now.entries)
             self.now.place (length self.now.entries) }
@@ -63,7 +63,7 @@ impl<R: Reversible> Navigator<R> {
         None
     }
 
-    /// Goes on to the nearest place where the state comes to meet the condition.
+    /// Goes forward to the nearest place where the condition on states becomes true.
     fn forward_to_state<P: Probe<R>>(&mut self, probe: &P) -> Option<u64>
         ensures found { (f : R.View → Bool) → TestsView R.Reversible f (P.holds_of_state probe.now) →
             result ≡ first_above (state_hit R.Reversible f (start_of R.Reversible self.old) self.old.entries)

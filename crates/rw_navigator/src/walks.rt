@@ -10,7 +10,7 @@ use rw_law::{NoMemory, Reversible};
 use std::alloc::Global;
 
 impl<R: Reversible> Navigator<R> {
-    /// Makes a move, by one undone or redone entry per place. A move that leads to no place is refused, and changes nothing.
+    /// Makes a move, by undoing or redoing one entry per place. A move that leads to no place is refused, and changes nothing.
     pub fn step(&mut self, to: Move) -> Result<(), OutOfRange>
         ensures answer { result ≡ answer_to (length self.old.entries) self.old.place to }
         ensures moved { MovedBy R.Reversible self.old self.new to }
@@ -25,7 +25,8 @@ impl<R: Reversible> Navigator<R> {
         }
     }
 
-    /// Makes the moves in order, and answers each as `step` does. The list of answers is grown before the first move.
+    /// Makes the moves in order, and returns the result of each as `step` does. The list of results is allocated before the
+    /// first move.
     pub fn walk(
         &mut self,
         alloc: Global,
@@ -37,7 +38,7 @@ impl<R: Reversible> Navigator<R> {
         ensures refused { OnErr result (self.new ≡ self.old) }
     {
         let mut answers = Vec::with_capacity(alloc, moves.len())?;
-        // The proof takes from here that the machine shows the state of the place, also where there is no move.
+        // The proof needs this call: it ensures that the machine shows the state of the place, even if there is no move.
         let _place = self.place();
         for to in moves {
             let answer = self.step(*to);
@@ -46,7 +47,7 @@ impl<R: Reversible> Navigator<R> {
         Ok(answers)
     }
 
-    /// To a place, in either direction.
+    /// Goes to a place, in either direction.
     fn go_to(&mut self, place: u64)
         requires { place ≤ length self.old.entries }
         ensures { MovedTo R.Reversible self.old self.new place (distance_between self.old.place place) }
@@ -58,7 +59,7 @@ impl<R: Reversible> Navigator<R> {
         }
     }
 
-    /// Back to a place.
+    /// Goes back to a place.
     pub(crate) fn go_back(&mut self, place: u64)
         requires { place ≤ self.old.place }
         ensures { MovedTo R.Reversible self.old self.new place (self.old.place - place) }
@@ -68,7 +69,7 @@ impl<R: Reversible> Navigator<R> {
         }
     }
 
-    /// On to a place.
+    /// Goes forward to a place.
     pub(crate) fn go_on(&mut self, place: u64)
         requires from { self.old.place ≤ place }
         requires inside { place ≤ length self.old.entries }

@@ -13,7 +13,7 @@ use rw_world::{Chan, ChanReply, World};
 
 /// A condition to search a world's run for: the first three are on its entries, the others on its states.
 ///
-/// Channels, handles and counts are numbers of any size; one that names nothing makes the condition false.
+/// Channels, handles and counts may be any number. A condition with a number that names nothing is false.
 #[derive(Clone, Copy, Debug)]
 pub enum Cond {
     /// The entry is that actor's.
@@ -22,13 +22,13 @@ pub enum Cond {
     Channel(u64),
     /// This is the first word of the entry's reply.
     ReplyKind(ReplyWord),
-    /// The receiver of this broadcast has at least so many values to receive.
+    /// The receiver of this broadcast has at least this many values to receive.
     UnreadAtLeast {
         channel: u64,
         handle: u64,
         count: u64,
     },
-    /// The receiver of this broadcast has lost a value.
+    /// The receiver of this broadcast lags.
     Lagging {
         channel: u64,
         handle: u64,
@@ -45,7 +45,7 @@ pub enum Cond {
     },
     /// No sender of this channel is alive.
     Closed(u64),
-    /// At least so many values are queued in this broadcast.
+    /// At least this many values are queued in this broadcast.
     QueueAtLeast {
         channel: u64,
         count: u64,
@@ -59,7 +59,7 @@ impl<V: Payload> Probe<World<V>> for Cond {
 
     ghost holds_of_step = { holds_of_step };
 
-    // It is decided by what the world shows.
+    // It depends only on what the world shows.
     ghost holds_of_state = { λ cond world. holds_of_shown cond (⟦<World<V> as Reversible>⟧.shown world) };
 
     fn on_step(&self) -> bool {
@@ -134,7 +134,7 @@ fn watch_at<V: Copy>(world: &World<V>, channel: u64) -> Option<&Watch<V>>
     }
 }
 
-/// The handle of this number, if so many were made that there is one.
+/// Returns the handle of this number, if it was made.
 fn handle_below(made: u32, handle: u64) -> Option<u32>
     ensures { result ≡ (if nat_lt handle made then Some handle else None) }
 {

@@ -21,8 +21,8 @@ use rw_world::{Spec, World, documented, machines};
 use std::alloc::Global;
 use std::marker::Model;
 
-/// A run, and a world that stands at one of its places, 0 to `len`. At place n it shows what the documentation says of the
-/// run's first n calls: what the records of all that was ever sent show after them.
+/// A run, and a world at one of its places, 0 to `len`. At place n it shows what is documented after the run's first n calls:
+/// what the records of all that was ever sent show then.
 #[derive(Drop)]
 pub struct Debugger<V: Copy> {
     specs: Vec<Spec<V>>,
@@ -40,7 +40,7 @@ impl<V: Copy> Model for Debugger<V> {
 }
 
 impl<V: Copy> Debugger<V> {
-    /// Stands at place 0 of a run, with a copy of it. All memory that the moves will need is taken here.
+    /// Opens a run at place 0, with a copy of it. All memory that the moves will need is allocated here.
     pub fn open(alloc: Global, run: &Run<V>) -> Result<Debugger<V>, NoMemory>
         ensures { IfOk result (λ debugger. StandsAt debugger run.now 0) }
     {
@@ -54,8 +54,8 @@ impl<V: Copy> Debugger<V> {
         Ok(Debugger { specs, visit })
     }
 
-    /// Stands at the last place of the run of a book that was opened from these specs, with the book's machine and entries: no
-    /// call is made again. It takes no memory.
+    /// Opens the run of a book at its last place, with the book's machine and entries: no call is made again. The book was
+    /// opened from these specs. It allocates nothing.
     pub fn of_book(specs: Vec<Spec<V>>, book: Book<World<V>>) -> Debugger<V>
         requires opens { refusal specs.items ≡ None }
         requires opened { opening_of ⟦<World<V> as Reversible>⟧ book ≡ opening_row specs.items }
@@ -68,14 +68,14 @@ impl<V: Copy> Debugger<V> {
         Debugger { specs, visit }
     }
 
-    /// What the channels are opened as.
+    /// Returns what the channels are opened as.
     pub fn specs(&self) -> &[Spec<V>]
         ensures { result.now ≡ self.now.run.specs }
     {
         self.specs.as_slice()
     }
 
-    /// The number of entries, which is the last place.
+    /// Returns the number of entries, which is the last place.
     pub fn len(&self) -> u64
         ensures { result ≡ last_place self.now.run }
     {
@@ -89,7 +89,7 @@ impl<V: Copy> Debugger<V> {
         self.visit.entries.is_empty()
     }
 
-    /// The entry that leads from place i to the next, or `None` where there is none. Its reply is the documented one.
+    /// Returns the entry that leads from place i to the next, or `None` if there is none. Its reply is the documented one.
     pub fn entry(&self, i: u64) -> Option<Entry<World<V>>>
         ensures entry { result ≡ slice_get self.now.run.entries i }
         ensures documented { IsDocumented self.now.run.specs self.now.run.entries }
@@ -106,7 +106,7 @@ impl<V: Copy> Debugger<V> {
         })
     }
 
-    /// The place where it stands.
+    /// Returns the place that it is at.
     pub fn place(&self) -> u64
         ensures place { result ≡ self.now.place }
         ensures inside { result ≤ last_place self.now.run }
@@ -114,14 +114,14 @@ impl<V: Copy> Debugger<V> {
         self.visit.place
     }
 
-    /// How many calls of `apply` and `undo` the machine has had. The count stops at the greatest `u64`.
+    /// Returns how many calls of `apply` and `undo` the machine has had. The count stops at the greatest `u64`.
     pub fn turns(&self) -> u64
         ensures { result ≡ self.now.turns }
     {
         self.visit.machine.turns()
     }
 
-    /// The world at the place.
+    /// Returns the world at the place.
     pub fn state(&self) -> &World<V>
         ensures state { ⟦<World<V> as Reversible>⟧.shown result.now ≡ self.now.shown }
         ensures documented { ⟦<World<V> as Reversible>⟧.shown result.now ≡ shown_at self.now.run self.now.place }
@@ -129,7 +129,7 @@ impl<V: Copy> Debugger<V> {
         self.visit.machine.state()
     }
 
-    /// Makes a move, by one undone or redone entry per place. A move that leads to no place is refused, and changes nothing.
+    /// Makes a move, by undoing or redoing one entry per place. A move that leads to no place is refused, and changes nothing.
     pub fn step(&mut self, to: Move) -> Result<(), OutOfRange>
         ensures answer { result ≡ answer_to (last_place self.old.run) self.old.place to }
         ensures moved { WentBy self.old self.new to }
@@ -138,9 +138,9 @@ impl<V: Copy> Debugger<V> {
         self.visit.step(to)
     }
 
-    /// Time travel is exact: makes the moves in order, answers each by the place that it names, and ends at the place that they
-    /// name, n, showing what is documented after the first n calls. Each recorded reply is the documented one, and an entry
-    /// whose reply refuses changes nothing in either direction. The list of answers is grown before the first move.
+    /// Makes the moves in order, and returns the result of each. Time travel is exact: it ends at the place n that the moves
+    /// lead to, and shows what is documented after the first n calls. Each recorded reply is the documented one, and an entry
+    /// whose reply refuses changes nothing in either direction. The list of results is allocated before the first move.
     pub fn walk(
         &mut self,
         alloc: Global,
@@ -154,15 +154,15 @@ impl<V: Copy> Debugger<V> {
         self.visit.walk(alloc, moves)
     }
 
-    /// Goes to the nearest hit below the place, and answers it: a place whose entry meets the condition, or where what is
-    /// documented does, and didn't at the place before. With no hit there the place stays.
+    /// Goes to the nearest hit below the place, and returns it. A hit is a place whose entry meets the condition, or where what
+    /// is documented meets it and didn't at the place before. Without such a hit, the place stays the same.
     pub fn back_to<P: Probe<World<V>>>(&mut self, probe: &P) -> Option<u64>
         ensures found { (f : List (ChanShown V) → Bool) → TestsView ⟦<World<V> as Reversible>⟧ f (P.holds_of_state probe.now) →
             result ≡ hit_below self.old.run (P.asks_step probe.now) (P.holds_of_step probe.now) f self.old.place }
         ensures moved { FoundAt self.old self.new result (most_below self.old.place result) }
         ensures below { IfSome result (λ place. (0 < place) × (place < self.old.place)) }
 
-        // A condition on entries needs no premise, and no call but those of the way.
+        // For a condition on entries, no premise is needed, and only the calls on the way are made.
         ensures found_step { IsTrue (P.asks_step probe.now) →
             result ≡ last_below (step_hit (P.holds_of_step probe.now) self.old.run.entries) self.old.place }
         ensures moved_step { IsTrue (P.asks_step probe.now) →
@@ -171,14 +171,15 @@ impl<V: Copy> Debugger<V> {
         self.visit.back_to(probe)
     }
 
-    /// Goes to the nearest hit above the place, and answers it, as `back_to` does. With no hit there the place stays.
+    /// Goes to the nearest hit above the place, and returns it, as `back_to` does. Without such a hit, the place stays the
+    /// same.
     pub fn forward_to<P: Probe<World<V>>>(&mut self, probe: &P) -> Option<u64>
         ensures found { (f : List (ChanShown V) → Bool) → TestsView ⟦<World<V> as Reversible>⟧ f (P.holds_of_state probe.now) →
             result ≡ hit_above self.old.run (P.asks_step probe.now) (P.holds_of_step probe.now) f self.old.place }
         ensures moved { FoundAt self.old self.new result (most_above self.old.place (last_place self.old.run) result) }
         ensures above { IfSome result (λ place. (self.old.place < place) × (place ≤ last_place self.old.run)) }
 
-        // A condition on entries needs no premise, and no call but those of the way.
+        // For a condition on entries, no premise is needed, and only the calls on the way are made.
         ensures found_step { IsTrue (P.asks_step probe.now) →
             result ≡ first_above (step_hit (P.holds_of_step probe.now) self.old.run.entries) self.old.place (last_place self.old.run) }
         ensures moved_step { IsTrue (P.asks_step probe.now) →
@@ -187,7 +188,7 @@ impl<V: Copy> Debugger<V> {
         self.visit.forward_to(probe)
     }
 
-    /// The index of a condition on entries over the run.
+    /// Builds the index of a condition on entries over the run.
     pub fn hit_index<P: Probe<World<V>>>(
         &self,
         alloc: Global,

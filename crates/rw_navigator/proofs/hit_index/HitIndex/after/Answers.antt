@@ -18,7 +18,7 @@ returns-then-passed-len-clause-found g c =
     rw (← c.self.view_is)
     (sym (none_behind _ _ (step_hit-inside holds es) xs all c.partition_point-passed.result c.args.place cut (omega (arith, c.if-passed-len.true, c.len.ensures, c.as_slice.ensures.len))))
 
--- the first hit behind the cut
+-- the first hit after the split
 found : (g : given.Over) (c : goal.After-row_known-1 g)
     → (first_above (step_hit (g.P.Probe.holds_of_step c.self.inside.probe.value) c.self.inside.entries.value.items) c.args.place (length c.self.inside.entries.value.items) ≡ Some c.index.result.now)
     × (c.args.place < c.index.result.now) × (c.index.result.now ≤ length c.self.inside.entries.value.items)

@@ -17,7 +17,7 @@ returns-then-below-eq0-clause-found g c =
     (IsPartitionedBy-ltb (λ q. q) xs c.args.place all.rising) (λ a r f k. search (rules, of_calls)) in
     rw (← c.self.view_is) (sym (none_before _ _ (step_hit-inside holds es) xs all c.partition_point-below.result c.args.place cut c.if-below-eq0.true))
 
--- the last hit before the cut
+-- the last hit before the split
 found : (g : given.Over) (c : goal.After-row_known-1 g)
     → (last_below (step_hit (g.P.Probe.holds_of_step c.self.inside.probe.value) c.self.inside.entries.value.items) c.args.place ≡ Some c.index.result.now)
     × (0 < c.index.result.now) × (c.index.result.now < c.args.place) × (c.index.result.now ≤ length c.self.inside.entries.value.items)

@@ -5,7 +5,7 @@ use Rattle.rw_navigator.specs.Navigator.{MovedTo}
 use Rattle.rw_navigator.specs.Search.{hit, last_below, most_below}
 use Rattle.rw_navigator.proofs.places.Navigator.back_to.Goals as goal
 
--- the way to what was found, and none to nothing, is within the most calls
+-- the distance to what was found, 0 if nothing was, is within the most calls
 way_within : (place : ℕ) (found : Option ℕ) → place - unwrap_or found place ≤ most_below place found
 way_within place None = omega arith
 way_within place (Some q) = omega arith

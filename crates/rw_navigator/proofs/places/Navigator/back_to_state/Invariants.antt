@@ -3,7 +3,7 @@ use Rattle.rw_navigator.specs.Search.{state_hit, last_below, TestsView}
 use Rattle.rw_navigator.specs.Navigator.{MovedTo, start_of}
 use Rattle.rw_navigator.proofs.places.Navigator.back_to_state.Given as goal
 
--- the machine stands one place before the counter, and no place from the counter on is a hit
+-- the machine is one place before the counter, and no place from the counter on is a hit
 abbrev pub invariant-loop-place : goal.invariant-loop-place
 invariant-loop-place g l =
     let m = g.R.Reversible in

@@ -5,7 +5,7 @@ use Rattle.rw_navigator.specs.Navigator.{MovedTo}
 use Rattle.rw_navigator.specs.Search.{hit, first_above, most_above}
 use Rattle.rw_navigator.proofs.places.Navigator.forward_to.Goals as goal
 
--- the way to what was found, and none to nothing, is within the most calls
+-- the distance to what was found, 0 if nothing was, is within the most calls
 way_within : (place len : ℕ) (found : Option ℕ) → unwrap_or found place - place ≤ most_above place len found
 way_within place len None = omega arith
 way_within place len (Some q) = omega arith

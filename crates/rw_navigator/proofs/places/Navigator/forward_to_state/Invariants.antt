@@ -3,7 +3,7 @@ use Rattle.rw_navigator.specs.Search.{state_hit, first_above, TestsView}
 use Rattle.rw_navigator.specs.Navigator.{MovedTo, start_of}
 use Rattle.rw_navigator.proofs.places.Navigator.forward_to_state.Given as goal
 
--- the machine stands at the counter, and no place up to it is a hit
+-- the machine is at the counter, and no place up to it is a hit
 abbrev pub invariant-loop-place : goal.invariant-loop-place
 invariant-loop-place g l =
     let m = g.R.Reversible in

@@ -3,7 +3,7 @@ use Rattle.rw_navigator.specs.Navigator.{MovedTo}
 use Rattle.rw_navigator.specs.Moves.{answers_to, landing_all, distance_all}
 use Rattle.rw_navigator.proofs.places.Navigator.walk.Given as goal
 
--- the answers, the place and the distance are those of the moves so far
+-- the results, the place and the distance are those of the moves so far
 abbrev pub invariant-loop-to : goal.invariant-loop-to
 invariant-loop-to g l =
     let len = length l.fn.self.entries in
