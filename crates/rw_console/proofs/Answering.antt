@@ -1,4 +1,4 @@
--- Commands of which some lines were answered.
+-- Commands, after some of their lines were run.
 use Rattle.std.proofs.Common.{◌≡◌, ◌++◌, ◌∷◌, [], ◌+◌, ◌≤◌, ℕ, true, false, List, Option, refl, sym, ap, subst, ◌∙◌, length, All, arith, append_assoc, inl, inr}
 use Rattle.std.specs.Io.KnownBytes.{Consumes, Appends}
 use Rattle.std.proofs.lemmas.Bool.{cases_Bool, cond-true, cond-false}
@@ -41,7 +41,7 @@ begins r w before start first = record {
 
 -- ---- what lines write
 
--- what the lines behind a command's line write
+-- what the lines after a command's line write
 abbrev rest_of : Run ℕ → ℕ → List ℕ → List (List ℕ) → List ℕ
 rest_of run place l ls = outputs run (place_of run place (command_in l)) ls
 

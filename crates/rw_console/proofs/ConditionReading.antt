@@ -17,7 +17,7 @@ use Rattle.rw_console.specs.declared.condition_words.ConditionWord.{ConditionWor
 use Rattle.rw_console.specs.declared.condition_words.ConditionWord.TheVariants as word
 use Rattle.rw_console.specs.ConditionWords.{◌>>=◌, condition_in, condition_of_word, condition_text, condition_word_text, condition_words, two_numbers_in, three_numbers_in, HasNumerals}
 
--- ---- steps that gave something
+-- ---- steps that returned a value
 
 bind_some : {A B : Type 0} (o : Option A) (f : A → Option B) (y : B) → (o >>= f) ≡ Some y → (x : A) × (o ≡ Some x) × (f x ≡ Some y)
 bind_some None f y e = absurd cc
@@ -69,9 +69,9 @@ three_again : (a b c : ℕ) → a < 2 ^ 64 → b < 2 ^ 64 → c < 2 ^ 64 → thr
 three_again a b c small_a small_b small_c =
     rw (cut_joined 32 (decimal a) (decimal b ++ 32 ∷ decimal c) (lacks-decimal 32 a refl small_a), only (decimal a) a small_a refl, two_again b c small_b small_c) refl
 
--- ---- what a word and what stands behind it make
+-- ---- the condition of a word and of what follows it
 
--- the condition's text is the word and what stands behind it
+-- the condition's text is the word and what follows it
 abbrev IsMade : ConditionWord → List ℕ → Cond → Type 0
 IsMade w rest c = (condition_text c ≡ condition_word_text w ++ 32 ∷ rest) × HasNumerals c
 

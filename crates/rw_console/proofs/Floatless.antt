@@ -1,4 +1,4 @@
--- The JSON of a world has no number with a fraction, so serde_json says exactly what its text is.
+-- The JSON of a world has no number with a fraction, so serde_json specifies its text exactly.
 use Rattle.std.proofs.Common.{◌≡◌, ℕ, Bool, true, false, cond, eqb, List, [], ◌∷◌, Option, Some, None, refl, map}
 use Rattle.std.specs.Prelude.{option_map, slice_get}
 use Rattle.std.specs.List.{cons_option, filter_map}

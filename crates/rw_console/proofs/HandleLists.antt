@@ -1,4 +1,4 @@
--- What there is of the first handles, one handle more at a time.
+-- The lists of the first handles, extended by one handle at a time.
 use Rattle.std.proofs.Common.{◌≡◌, ◌++◌, ◌∷◌, [], ◌+◌, ℕ, zero, suc, List, Option, Some, None, refl, ap, ◌∙◌, add-one, arith}
 use Rattle.std.specs.Prelude.{option_map, option_to_list, slice_get}
 use Rattle.std.specs.List.{filter_map, range_with_len}

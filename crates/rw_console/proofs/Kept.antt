@@ -1,4 +1,4 @@
--- What is kept of a line says as much as the line.
+-- The part of a line that is stored is read as the whole line is.
 use Rattle.std.proofs.Common.{◌≡◌, ◌∷◌, [], ◌+◌, ℕ, List, refl, ap, length, inl, inr}
 use Rattle.std.proofs.lemmas.Bool.{cases_lt, lt-ltb}
 use Rattle.rw_lines.specs.Reading.{kept_part}

@@ -22,7 +22,7 @@ pub record Listing (w w' : Option (List ℕ)) (run : Run ℕ) (i : ℕ) : Type 0
 pub begins : (w : Option (List ℕ)) (run : Run ℕ) → Listing w w run 0
 begins w run = record { text = []; written = Appends-none w; rest = refl }
 
--- the entry behind the first i ones
+-- the entry after the first i ones
 behind_first : (es : List (WorldEntry ℕ)) (i : ℕ) → i < length es → (e : WorldEntry ℕ) × (slice_get es i ≡ Some e) × (drop i es ≡ e ∷ drop (suc i) es)
 behind_first [] i lt = absurd (omega (arith, lt))
 behind_first (e ∷ es) zero lt = (e, refl, refl)

@@ -1,4 +1,4 @@
--- A script of which some lines were read.
+-- A script whose first lines were read.
 use Rattle.std.proofs.Common.{◌≡◌, ◌++◌, ◌∷◌, [], ◌+◌, ◌<◌, ◌≤◌, ℕ, true, false, List, Option, Result, Ok, Err, refl, sym, ap, ◌∙◌, length, All, arith, append_assoc, inl, inr}
 use Rattle.std.specs.List.{list_any}
 use Rattle.std.specs.Io.KnownBytes.{Consumes}
@@ -130,7 +130,7 @@ ends_at_last_mark {r0 = r0} {r = r} {r' = r'} {reading = reading} s l mark =
       omega (arith, s.lines_fit),
     )
 
--- behind the last line
+-- after the last line
 pub ends_at_last_line : {r0 r r' : Option (List ℕ)} {before allowed allowed' : ℕ} {reading : ScriptReader} {line : List ℕ} → (s : Scripting r0 r before allowed reading) (l : GivesLast r r' allowed allowed' line)
     (plain : is_mark line ≡ false) (reading' : ScriptReader) (taken : (after_line reading line ≡ Ok reading') × (reading'.lines ≡ reading.lines + 1)) → GivesAll r0 r' before (script_at_end reading') × (reading'.lines ≤ before)
 ends_at_last_line {r0 = r0} {r = r} {r' = r'} {reading = reading} s l plain reading' taken =
@@ -148,7 +148,7 @@ ends_at_last_line {r0 = r0} {r = r} {r' = r'} {reading = reading} s l plain read
       omega (arith, s.lines_fit, l.count, l.some, taken.1),
     )
 
--- at a line that is at fault
+-- at a line with a fault
 pub fault_last : {r0 r r' : Option (List ℕ)} {before allowed allowed' : ℕ} {reading : ScriptReader} {line : List ℕ} → (s : Scripting r0 r before allowed reading) (l : GivesLast r r' allowed allowed' line)
     (plain : is_mark line ≡ false) (f : ScriptFault) (refused : after_line reading line ≡ Err f) → GivesFault r0 r' before f
 fault_last {r0 = r0} {r = r} {r' = r'} {reading = reading} s l plain f refused =
@@ -197,7 +197,7 @@ stops_reading {r0 = r0} {r = r} {r' = r'} s e p = record {
   why = explains s p.text e p.why;
 }
 
--- for want of memory
+-- where memory runs out
 pub stops_line : {r0 r r' : Option (List ℕ)} {before allowed allowed' : ℕ} {reading : ScriptReader} {line : List ℕ} → (s : Scripting r0 r before allowed reading) (l : GivesLine r r' allowed allowed' line)
     → StopsInScript r0 r' before NoMemory
 stops_line {r0 = r0} {r = r} {r' = r'} s l = record {

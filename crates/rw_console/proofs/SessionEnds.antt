@@ -25,7 +25,7 @@ use Rattle.rw_lines.specs.Writing.{IsOfWriting, StopsWriting}
 unlines-append : (a b : List (List ℕ)) → unlines (a ++ b) ≡ unlines a ++ unlines b
 unlines-append a b = flat_map-append (λ (l : List ℕ). l ++ 10 ∷ []) a b
 
--- ---- from what the lines say
+-- ---- from what the lines mean
 
 script_at : {r0 r1 : Option (List ℕ)} {before after : ℕ} {said : Result Script ScriptFault} → (h : GivesScript r0 r1 before after said) (bs : List ℕ) → script_in (lines (unlines h.ls ++ bs)) ≡ said
 script_at h bs = ap script_in (lines_unlines h.ls bs h.each) ∙ h.script (lines bs)
@@ -42,7 +42,7 @@ fault_at_mark said f e h = record {
 
 -- ---- a script, then commands
 
--- what a script's run says first
+-- what a script's run writes first
 abbrev said : Script → List ℕ
 said s = waiting_line (run_of s).waits
 

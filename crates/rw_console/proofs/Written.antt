@@ -49,7 +49,7 @@ first_more n =
     let e : 0 + n ≡ n = omega arith in
     ap (range_with_len 0) (add-one n) ∙ range_more 0 n ∙ ap (λ (x : ℕ). range_with_len 0 n ++ x ∷ []) e
 
--- what is written of each number, in order
+-- what is written for each number, in order
 numbers_more : (f : ℕ → List ℕ) (n : ℕ) → flat_map f (range_with_len 0 (n + 1)) ≡ flat_map f (range_with_len 0 n) ++ f n
 numbers_more f n = ap (flat_map f) (first_more n) ∙ sym (flat_map_more f [] (range_with_len 0 n) n)
 
@@ -100,7 +100,7 @@ blocks_end f cs i start out so all = so ∙ ap (λ (n : ℕ). start ++ first_blo
 
 pub ruleset by_number = (handle_words-more, handle_words-none, broadcast_lines-more, broadcast_lines-none, watch_lines-more, watch_lines-none, common_steps)
 
--- ---- four and five pieces, one behind the other
+-- ---- four and five pieces, one after the other
 
 pub four_written : (o0 a b c d : List ℕ) {o1 o2 o3 o4 : List ℕ} → o1 ≡ o0 ++ a → o2 ≡ o1 ++ b → o3 ≡ o2 ++ c → o4 ≡ o3 ++ d → o4 ≡ o0 ++ (a ++ b ++ c ++ d)
 four_written o0 a b c d p q r s =

@@ -40,7 +40,7 @@ abbrev pub search_command : (Cond → Command) → Option Cond → Command
 search_command search None = Bad
 search_command search (Some cond) = search cond
 
--- a word, and what stands behind the space after it
+-- a word, and what follows the space after it
 abbrev pub word_with : List ℕ → List ℕ → Command
 word_with word rest =
     if bytes_eq word (codes "rback") then search_command SearchBack (condition_in rest)
@@ -52,7 +52,7 @@ abbrev pub command_words : List ℕ → Option (List ℕ × List ℕ) → Comman
 command_words line None = word_alone line
 command_words line (Some p) = word_with p.0 p.1
 
--- what a line asks for
+-- the command of a line
 unfoldable pub command_in : List ℕ → Command
 command_in line =
     if nat_lt LONGEST_LINE (length line) then Bad

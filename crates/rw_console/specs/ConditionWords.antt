@@ -23,7 +23,7 @@ condition_text (VersionAtLeast c n) = codes "version " ++ (decimal c ++ 32 ∷ d
 condition_text (Closed c) = codes "closed " ++ decimal c
 condition_text (QueueAtLeast c n) = codes "queue " ++ (decimal c ++ 32 ∷ decimal n)
 
--- its numbers are those of numerals
+-- its numbers are those that a numeral can have
 abbrev pub HasNumerals : Cond → Type 0
 HasNumerals (Actor a) = a < 2 ^ 64
 HasNumerals (Channel c) = c < 2 ^ 64
@@ -70,7 +70,7 @@ three_numbers_in text = do
   q ← two_numbers_in p.1
   Some (a, q.0, q.1)
 
--- the condition of a word and of what stands behind it
+-- the condition of a word and of what follows it
 abbrev pub condition_of_word : ConditionWord → List ℕ → Option Cond
 condition_of_word word.Actor rest = option_map Actor (numeral_in rest)
 condition_of_word word.Channel rest = option_map Channel (numeral_in rest)
@@ -82,7 +82,7 @@ condition_of_word word.Version rest = option_map (λ p. VersionAtLeast p.0 p.1) 
 condition_of_word word.Closed rest = option_map Closed (numeral_in rest)
 condition_of_word word.Queue rest = option_map (λ p. QueueAtLeast p.0 p.1) (two_numbers_in rest)
 
--- the condition that a text spells, if it is one
+-- the condition that has this text, if there is one
 unfoldable pub condition_in : List ℕ → Option Cond
 condition_in text = do
   p ← cut 32 text

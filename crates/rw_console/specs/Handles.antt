@@ -24,6 +24,6 @@ module _ {X : Type 0} where
   abbrev pub senders_line : List (Slot X) → List ℕ
   senders_line slots = handles_line (codes "senders") Sender slots
 
-  -- there is a line for weak senders only where there are any
+  -- the line for weak senders, only if there are any
   abbrev pub weak_line : List (Slot X) → List ℕ
   weak_line slots = if alive Weak slots == 0 then [] else handles_line (codes "weak") Weak slots

@@ -9,6 +9,6 @@ use Rattle.rw_navigator.specs.Hits as nearest
 abbrev pub hit_below : Run ℕ → Cond → ℕ → Option ℕ
 hit_below run cond place = nearest.hit_below run (asks_step cond) (holds_of_step cond) (holds_of_shown cond) place
 
--- the least hit above it
+-- the least hit above a place
 abbrev pub hit_above : Run ℕ → Cond → ℕ → Option ℕ
 hit_above run cond place = nearest.hit_above run (asks_step cond) (holds_of_step cond) (holds_of_shown cond) place

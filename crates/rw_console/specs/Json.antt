@@ -1,5 +1,5 @@
--- The state of a world as JSON. A value is serde_json's `Data`, and its text is serde_json's `compact_text`: with no space, and with the members of an
--- object in the order of the list that stands here, which is that of their keys' bytes.
+-- The state of a world as JSON. A value is serde_json's `Data`, and its text is serde_json's `compact_text`: without spaces,
+-- and with the members of an object in the order of the lists below, which is that of their keys' bytes.
 use Rattle.std.specs.Prelude.{ℕ, List, [], ◌∷◌, ◌++◌, ◌==◌, not, map, length, Option, None, Some, option_map, codes, slice_get, if◌then◌else◌}
 use Rattle.std.specs.List.{filter_map, range_with_len}
 use Rattle.serde_json.specs.Data.{Data, Members, null, boolean, number, string, array, object, unsigned, member, no_members}
@@ -35,7 +35,7 @@ members_in (m ∷ ms) = member m.0 m.1 (members_in ms)
 abbrev pub object_of : List (List ℕ × Data) → Data
 object_of ms = object (members_in ms)
 
--- what there is of the handles 0 to n - 1, in order
+-- the values that f has for the handles 0 to n - 1, in order
 abbrev pub of_handles : (ℕ → Option Data) → ℕ → List Data
 of_handles f n = filter_map f (range_with_len 0 n)
 
@@ -65,7 +65,7 @@ receiver_json x h position = object_of (
 unfoldable pub receivers_json : Broadcast ℕ → ℕ → List Data
 receivers_json x n = of_handles (λ h. option_map (receiver_json x h) (position_at (slice_get x.slots h))) n
 
--- a broadcast, with these members behind `sent`
+-- a broadcast, with these members after `sent`
 abbrev pub broadcast_with : Broadcast ℕ → List (List ℕ × Data) → Data
 broadcast_with x weak = object_of (
     (codes "capacity", natural x.capacity)
@@ -81,7 +81,7 @@ broadcast_with x weak = object_of (
 abbrev pub weak_member : Broadcast ℕ → List ℕ × Data
 weak_member x = (codes "weak", array_of (handles_json Weak x.slots (length x.slots)))
 
--- there is a member for weak senders only where there are any
+-- the member for weak senders, only if there are any
 abbrev pub weak_json : Broadcast ℕ → List (List ℕ × Data)
 weak_json x = if alive Weak x.slots == 0 then [] else weak_member x ∷ []
 
@@ -124,7 +124,7 @@ abbrev pub channel_json : ChanShown ℕ → Data
 channel_json (broadcast_shown x) = broadcast_json x
 channel_json (watch_shown x) = watch_json x
 
--- the state that is shown at a place of a run of so many entries
+-- the state that is shown at a place of a run of len entries
 unfoldable pub world_json : List (ChanShown ℕ) → (len place : ℕ) → Data
 world_json xs len place = object_of (
     (codes "channels", array_of (map channel_json xs))

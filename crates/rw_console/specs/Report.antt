@@ -46,12 +46,12 @@ place_of run place ListEntries = place
 place_of run place Quit = place
 place_of run place Bad = place
 
--- what the lines of the console write, from a place on, up to the one that quits
+-- what the lines of the console write, starting at a place, up to the line that quits
 abbrev pub outputs : Run ℕ → ℕ → List (List ℕ) → List ℕ
 outputs run place [] = []
 outputs run place (line ∷ ls) = output_of run place (command_in line)
     ++ (if is_quit (command_in line) then [] else outputs run (place_of run place (command_in line)) ls)
 
--- the same of bytes
+-- the same for bytes
 abbrev pub commands_report : Run ℕ → ℕ → List ℕ → List ℕ
 commands_report run place bytes = outputs run place (lines bytes)

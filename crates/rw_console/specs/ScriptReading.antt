@@ -1,4 +1,4 @@
--- What the reading of a session's script gives.
+-- What reading a session's script returns.
 use Rattle.std.specs.Prelude.{◌≡◌, ◌⊎◌, ◌+◌, ◌≤◌, ℕ, List, [], ◌++◌, Option, Result, Ok, Err, length, All, true}
 use Rattle.std.specs.List.{list_any}
 use Rattle.std.specs.Io.KnownBytes.{Consumes, IsAtEnd}
@@ -16,7 +16,7 @@ use Rattle.rw_console.specs.declared.reading.SessionScript.TheVariants as heads
 abbrev pub HasMark : List (List ℕ) → Type 0
 HasMark ls = list_any is_mark ls ≡ true
 
--- Lines were read, the last one being the mark. What they say is known, whatever follows, and what follows is for the console.
+-- Lines were read, and the last one is the mark. They mean `said`, whatever follows, and what follows is for the console.
 pub record GivesScript (reader reader' : Option (List ℕ)) (before after : ℕ) (said : Result Script ScriptFault) : Type 0 where
   pub ls : List (List ℕ)
   pub each : All IsUnbroken ls
@@ -25,7 +25,7 @@ pub record GivesScript (reader reader' : Option (List ℕ)) (before after : ℕ)
   pub script : (more : List (List ℕ)) → script_in (ls ++ more) ≡ said
   pub rest : (more : List (List ℕ)) → after_mark (ls ++ more) ≡ more
 
--- All bytes were read, no more than are allowed. They say this, and have nothing for the console.
+-- All bytes were read, no more than are allowed. They mean `said`, and nothing is left for the console.
 pub record GivesAll (reader reader' : Option (List ℕ)) (limit : ℕ) (said : Result Script ScriptFault) : Type 0 where
   pub bytes : List ℕ
   pub few : length bytes ≤ limit
@@ -34,7 +34,8 @@ pub record GivesAll (reader reader' : Option (List ℕ)) (limit : ℕ) (said : R
   pub script : script_in (lines bytes) ≡ said
   pub rest : after_mark (lines bytes) ≡ []
 
--- The bytes, no more than are allowed, begin with a script's fault, whatever follows them, or all bytes were read.
+-- Bytes were read, no more than are allowed, and their script has this fault. They are all bytes, or the fault is the same
+-- whatever follows.
 pub record GivesFault (reader reader' : Option (List ℕ)) (limit : ℕ) (fault : ScriptFault) : Type 0 where
   pub bytes : List ℕ
   pub few : length bytes ≤ limit
@@ -54,13 +55,13 @@ pub record StopsInScript (reader reader' : Option (List ℕ)) (limit : ℕ) (fau
   pub read : Consumes reader reader' bytes
   pub why : ExplainsScript limit bytes fault
 
--- the lines say what was read of them, or they begin with a fault
+-- the lines mean what r has read, or they have a fault
 abbrev pub GivesLines : Option (List ℕ) → Option (List ℕ) → ℕ → ℕ → ScriptReader → ScriptEnd → Type 0
 GivesLines reader reader' before after r Mark = GivesScript reader reader' before after (script_at_end r) × (r.lines ≤ before)
 GivesLines reader reader' before after r Reader = GivesAll reader reader' before (script_at_end r) × (r.lines ≤ before)
 GivesLines reader reader' before after r (Fault f) = GivesFault reader reader' before f
 
--- the bytes begin with a script, are one, or begin with a fault
+-- the bytes begin with a script, are a script, or begin with a fault
 abbrev pub GivesSessionScript : Option (List ℕ) → Option (List ℕ) → ℕ → ℕ → SessionScript → Type 0
 GivesSessionScript reader reader' before after (heads.Script script) = GivesScript reader reader' before after (Ok script)
 GivesSessionScript reader reader' before after (heads.Ended script) = GivesAll reader reader' before (Ok script)

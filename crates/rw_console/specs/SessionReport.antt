@@ -23,7 +23,7 @@ recording_of s = record { specs = s.specs; entries = journal_of of_world (openin
 abbrev pub fault_line : ScriptFault → List ℕ
 fault_line f = fault_text f ++ codes "\n"
 
--- where a line would wait, its number
+-- which line would wait, if there is one
 abbrev pub waiting_line : Option ℕ → List ℕ
 waiting_line None = []
 waiting_line (Some line) = codes "would wait " ++ decimal line ++ codes "\n"
@@ -34,7 +34,7 @@ abbrev pub answer : Result Script ScriptFault → List (List ℕ) → List ℕ
 answer (Err f) ls = fault_line f
 answer (Ok s) ls = waiting_line (run_of s).waits ++ outputs (recording_of s) (last_place (recording_of s)) ls
 
--- the script's fault alone, or else whether a line would wait, and what each command writes, from the last place on
+-- the script's fault alone, or else which line would wait, and what each command writes, starting at the last place
 abbrev pub report : List ℕ → List ℕ
 report bytes = answer (script_in (lines bytes)) (after_mark (lines bytes))
 

@@ -1,4 +1,4 @@
--- The lines that a session writes of places.
+-- The lines that a session writes about places.
 use Rattle.std.specs.Prelude.{ℕ, List, [], ◌++◌, Bool, true, false, Option, None, Some, Result, Ok, Err, codes, decimal}
 use Rattle.rw_navigator.specs.declared.moves.OutOfRange.{OutOfRange}
 
@@ -11,14 +11,14 @@ with_number label n = label ++ decimal n
 abbrev pub place_line : ℕ → ℕ → List ℕ
 place_line len place = codes "place " ++ decimal place ++ codes " of " ++ decimal len ++ codes "\n"
 
--- what a move says first, by its answer
+-- how the line of a move begins, by its result
 abbrev pub refusal : Result (Unit {0}) OutOfRange → List ℕ
 refusal (Ok done) = []
 refusal (Err out) = codes "out of range, "
 
 -- ---- searches
 
--- the hit that was found, or that none was, from this place
+-- the hit that was found from this place, or that there was none
 abbrev pub hit_line : ℕ → ℕ → Option ℕ → List ℕ
 hit_line len place None = codes "no hit, " ++ place_line len place
 hit_line len place (Some hit) = codes "hit " ++ decimal hit ++ codes " of " ++ decimal len ++ codes "\n"

@@ -10,7 +10,7 @@ use rw_law::Reversible;
 use rw_world::{Chan, World};
 use std::alloc::AllocError;
 
-/// Appends the lines of a channel that has number i.
+/// Appends the lines of channel i.
 fn push_channel(out: &mut Vec<u8>, i: u64, channel: &Chan<u64>) -> Result<(), AllocError>
     ensures { OnOk result (out.new.items ≡ out.old.items ++ channel_block i (⟦<Chan<u64> as Reversible>⟧.shown channel.now)) }
 {

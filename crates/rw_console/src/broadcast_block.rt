@@ -12,7 +12,7 @@ use rw_handles::Kind;
 use rw_law::Reversible;
 use std::alloc::AllocError;
 
-/// Appends the lines of a channel that has number i.
+/// Appends the lines of channel i.
 pub fn push_broadcast(out: &mut Vec<u8>, i: u64, channel: &Broadcast<u64>) -> Result<(), AllocError>
     ensures { OnOk result (out.new.items ≡ out.old.items ++ broadcast_block i channel.now.shown) }
 {
@@ -34,7 +34,7 @@ fn push_numbers(out: &mut Vec<u8>, i: u64, channel: &Broadcast<u64>) -> Result<(
     push_with_number(out, b" made ", u64::from(channel.made()))
 }
 
-/// The first line: the channel's numbers, and whether it is open.
+/// Appends the first line: the channel's numbers, and whether it is open.
 #[tactic(auto, unfolding(crate::specs::BroadcastBlock::channel_line))]
 fn push_summary(out: &mut Vec<u8>, i: u64, channel: &Broadcast<u64>) -> Result<(), AllocError>
     ensures { OnOk result (out.new.items ≡ out.old.items ++ channel_line i channel.now.shown) }
@@ -43,11 +43,11 @@ fn push_summary(out: &mut Vec<u8>, i: u64, channel: &Broadcast<u64>) -> Result<(
     out.extend_from_slice(open_or_closed(channel.closed()).as_bytes())
 }
 
-/// The retained values.
+/// Appends the retained values.
 fn push_window(out: &mut Vec<u8>, channel: &Broadcast<u64>) -> Result<(), AllocError>
     ensures { OnOk result (out.new.items ≡ out.old.items ++ window_line channel.now.shown) }
 {
-    // The proof takes from here that there are few of them.
+    // The proof needs this call: it bounds their number.
     let _weight = channel.weight();
     out.extend_from_slice(b"window")?;
     let mut i = 0;
@@ -58,7 +58,7 @@ fn push_window(out: &mut Vec<u8>, channel: &Broadcast<u64>) -> Result<(), AllocE
     out.extend_from_slice(b"\n")
 }
 
-/// A line of a word and the live handles of a kind.
+/// Appends a line of a word and the live handles of a kind.
 #[tactic(auto, using(crate::proofs::Written::by_number), unfolding(crate::specs::Handles::handles_line))]
 fn push_handles(
     out: &mut Vec<u8>,
@@ -75,7 +75,7 @@ fn push_handles(
     out.extend_from_slice(b"\n")
 }
 
-/// The live weak senders, if there are any.
+/// Appends the live weak senders, if there are any.
 fn push_weak(out: &mut Vec<u8>, channel: &Broadcast<u64>) -> Result<(), AllocError>
     ensures { OnOk result (out.new.items ≡ out.old.items ++ weak_line channel.now.shown.slots) }
 {
@@ -99,7 +99,7 @@ fn push_receiver(out: &mut Vec<u8>, channel: &Broadcast<u64>, h: u32) -> Result<
     out.extend_from_slice(b"\n")
 }
 
-/// The live receivers, a line each.
+/// Appends the live receivers, a line each.
 #[tactic(auto, using(crate::proofs::Written::by_number))]
 fn push_receivers(out: &mut Vec<u8>, channel: &Broadcast<u64>) -> Result<(), AllocError>
     ensures { OnOk result (out.new.items ≡ out.old.items ++ receiver_lines channel.now.shown (length channel.now.shown.slots)) }

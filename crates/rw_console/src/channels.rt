@@ -5,7 +5,7 @@ ghost use Rattle.std.specs.Option.{option_copied};
 
 use rw_world::{Chan, World};
 
-/// The channel of this number, if there is one.
+/// Returns the channel of this number, if there is one.
 pub fn channel_at(world: &World<u64>, i: usize) -> Option<&Chan<u64>>
     ensures { option_copied result ≡ slice_get world.now i }
 {

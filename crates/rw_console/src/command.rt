@@ -7,30 +7,30 @@ use crate::condition_words::condition_of;
 use rw_lines::{LONGEST_LINE, cut, is_skipped, numeral};
 use rw_navigator::{Cond, Move};
 
-/// What a line of the console asks for.
+/// A line of the console, as a command.
 #[derive(Clone, Copy)]
 pub enum Command {
     /// Nothing: the line is empty or a comment.
     Skip,
     Move(Move),
-    /// What the channels show.
+    /// Prints what the channels show.
     State,
-    /// The same as JSON.
+    /// Prints the same as JSON.
     StateJson,
-    /// The entry that led to the place.
+    /// Prints the entry that led to the place.
     Step,
-    /// Every entry.
+    /// Prints every entry.
     List,
-    /// The nearest hit below the place.
+    /// Goes to the nearest hit below the place.
     SearchBack(Cond),
-    /// The nearest hit above the place.
+    /// Goes to the nearest hit above the place.
     SearchForward(Cond),
     Quit,
-    /// It is no command.
+    /// The line is no command.
     Bad,
 }
 
-/// The command of a word that stands alone.
+/// Returns the command of a line of one word.
 fn word_alone(word: &[u8]) -> Command
     ensures { result ≡ word_alone word.now }
 {
@@ -55,7 +55,7 @@ fn word_alone(word: &[u8]) -> Command
     }
 }
 
-/// The command of a word and a number.
+/// Returns the command of a word and a number.
 fn word_and_number(word: &[u8], n: u64) -> Command
     ensures { result ≡ word_and_number word.now n }
 {
@@ -70,7 +70,7 @@ fn word_and_number(word: &[u8], n: u64) -> Command
     }
 }
 
-/// The command of a word and of what stands behind the space after it.
+/// Returns the command of a word and what follows the space after it.
 fn word_with(word: &[u8], rest: &[u8]) -> Command
     ensures { result ≡ word_with word.now rest.now }
 {
@@ -98,7 +98,7 @@ fn word_with(word: &[u8], rest: &[u8]) -> Command
     }
 }
 
-/// What a line asks for.
+/// Parses a line of the console.
 #[tactic(auto, unfolding(crate::specs::Commands::command_in))]
 pub fn command_of(line: &[u8]) -> Command
     ensures { result ≡ command_in line.now }

@@ -40,14 +40,14 @@ impl ConditionWord {
         }
     }
 
-    /// The first of these words that a token is.
+    /// Returns the word that a token is, if it is one of these.
     fn among(words: &[ConditionWord], token: &[u8]) -> Option<ConditionWord>
         ensures { result ≡ find (λ w. bytes_eq (condition_word_text w) token.now) words.now }
     {
         words.iter().copied().find(|word| word.text() == token)
     }
 
-    /// The word that a token is.
+    /// Returns the word that a token is, if it is one.
     fn of(token: &[u8]) -> Option<ConditionWord>
         ensures { result ≡ find (λ w. bytes_eq (condition_word_text w) token.now) condition_words }
     {
@@ -65,7 +65,7 @@ impl ConditionWord {
         ConditionWord::among(&words, token)
     }
 
-    /// The condition of this word and of what stands behind it.
+    /// Parses the arguments of this word, and returns the condition.
     fn read(self, rest: &[u8]) -> Option<Cond>
         ensures { result ≡ condition_of_word self rest.now }
     {
@@ -126,11 +126,11 @@ fn condition_from(text: &[u8]) -> Option<Cond>
     ConditionWord::of(word)?.read(rest)
 }
 
-/// The condition that a text spells: its word and its arguments, one space between them.
+/// Parses a condition: its word and its arguments, with one space between them.
 pub fn condition_of(text: &[u8]) -> Option<Cond>
-    // What is read is spelled so.
+    // If a condition is returned, the text is exactly that condition's text.
     ensures found { IfSome result (λ cond. (text.now ≡ condition_text cond) × HasNumerals cond) }
-    // What is spelled so is read.
+    // The text of any condition is accepted.
     ensures only { (cond : Cond) → HasNumerals cond → text.now ≡ condition_text cond → IsSome result }
     ensures exact { result ≡ condition_in text.now }
 {

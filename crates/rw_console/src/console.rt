@@ -13,7 +13,7 @@ use rw_lines::{Next, StreamFault, flush, next_line, put_out};
 use std::alloc::Global;
 use std::io::{Read, Write};
 
-/// Writes the entry that leads to a place. At an `Err` a prefix of its line was written.
+/// Writes the entry that leads to a place. On an error, a prefix of its line was written.
 fn write_step<W: Write>(
     walk: &Walk,
     place: u64,
@@ -30,7 +30,7 @@ fn write_step<W: Write>(
     put_out(writer, out)
 }
 
-/// Writes the run's entries, one by one. At an `Err` a prefix of them was written.
+/// Writes the run's entries, one by one. On an error, a prefix of them was written.
 fn write_entries<W: Write>(
     walk: &Walk,
     writer: &mut W,
@@ -45,7 +45,7 @@ fn write_entries<W: Write>(
     Ok(())
 }
 
-/// Writes what a command says, and does what it asks for. At an `Err` a prefix of its output was written.
+/// Runs a command, and writes its output. On an error, a prefix of the output was written.
 fn write_answer<W: Write>(
     walk: &mut Walk,
     command: Command,
@@ -67,7 +67,7 @@ fn write_answer<W: Write>(
     put_out(writer, out)
 }
 
-/// Does what a line asks for, and answers whether that was to quit. At an `Err` a prefix of its output was written.
+/// Runs the command of a line, and returns whether it was `quit`. On an error, a prefix of its output was written.
 fn answer_line<W: Write>(
     walk: &mut Walk,
     writer: &mut W,
@@ -86,9 +86,9 @@ fn answer_line<W: Write>(
     Ok(matches!(command, Command::Quit))
 }
 
-/// Does what the lines ask for, to the reader's end or to a `quit`.
+/// Runs the commands of the reader's lines, up to its end or to a `quit`.
 ///
-/// `allowed` is how many bytes the reader may still give, and counts down.
+/// `allowed` is how many more bytes may be read, and counts down.
 pub fn commands<R: Read, W: Write>(
     alloc: Global,
     walk: &mut Walk,

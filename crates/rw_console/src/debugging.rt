@@ -1,4 +1,4 @@
-//! Commands over a run that is there already.
+//! Commands over a run that exists already.
 
 ghost use Rattle.std.specs.Prelude.{IfErr, OnOk};
 ghost use Rattle.rw_navigator.specs.Places.{last_place};
@@ -12,8 +12,8 @@ use rw_journal::Run;
 use std::alloc::Global;
 use std::io::{Read, Write};
 
-/// Reads commands, and writes what they ask for at the places of a run, from its last place on. A `quit` or the reader's end
-/// ends it; no byte behind a `quit` is read.
+/// Reads commands and writes their output, starting at the last place of a run. It ends at a `quit` or at the reader's end. No
+/// byte after a `quit` is read.
 pub fn debug<R: Read, W: Write>(
     alloc: Global,
     run: &Run<u64>,

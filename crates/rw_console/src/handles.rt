@@ -7,7 +7,7 @@ use crate::text::push_with_number;
 use rw_handles::Kind;
 use std::alloc::AllocError;
 
-/// Appends the number of a live handle of its own kind, if that is the wanted one.
+/// Appends the number of a handle if it is alive and of the wanted kind. `own` is its kind, if it is alive.
 pub fn push_handle(
     out: &mut Vec<u8>,
     wanted: Kind,

@@ -1,4 +1,4 @@
-//! The index of the last condition on entries that was asked for.
+//! The index of the condition on entries that was searched for last.
 
 ghost use Rattle.std.specs.Prelude.{◌≡◌, ℕ, IfSome, IsTrue};
 ghost use Rattle.rw_navigator.specs.Conditions.{asks_step, holds_of_step};
@@ -17,7 +17,7 @@ pub struct LastIndex {
 }
 
 impl LastIndex {
-    /// The index of a condition on entries, or `None` where memory for it is refused.
+    /// Builds the index of a condition on entries, or returns `None` if memory runs out.
     pub fn build(alloc: Global, debugger: &Debugger<u64>, cond: Cond) -> Option<LastIndex>
         requires { IsTrue (asks_step cond) }
         ensures cond { IfSome result (λ last. last.cond ≡ cond) }
@@ -28,7 +28,7 @@ impl LastIndex {
     }
 }
 
-/// Whether both are the same condition on entries. It is found that one is the same as itself, so a search that is asked for again
+/// Whether both are the same condition on entries. A condition on entries compares equal to itself, so repeating a search
 /// builds no second index.
 pub fn asks_the_same(cond: Cond, other: Cond) -> bool
     ensures step { IsTrue result → IsTrue (asks_step cond) }

@@ -81,7 +81,7 @@ fn push_some(list: &mut Vec<Value>, value: Option<Value>) -> Result<(), AllocErr
     Ok(())
 }
 
-/// The number of a live handle of its own kind, if that is the wanted one.
+/// Returns the number of a handle if it is alive and of the wanted kind. `own` is its kind, if it is alive.
 fn handle_value(wanted: Kind, h: u32, own: Option<Kind>) -> Option<Value>
     ensures { option_map view result ≡ handle_json wanted h own }
 {
@@ -103,7 +103,7 @@ fn broadcast_value(alloc: Global, channel: &Broadcast<u64>) -> Result<Value, All
     Ok(Value::Object(members))
 }
 
-/// Puts into an object with no members those of a broadcast, except the one for weak senders.
+/// Adds the members of a broadcast to an empty object, except the one for weak senders.
 fn put_members(
     alloc: Global,
     members: &mut Map<String, Value>,
@@ -127,11 +127,11 @@ fn put_members(
     put(members, alloc, "window", Value::from(window))
 }
 
-/// The retained values.
+/// Returns the retained values.
 fn window_values(alloc: Global, channel: &Broadcast<u64>) -> Result<Vec<Value>, AllocError>
     ensures { IfOk result (λ list. map view list.items ≡ map natural channel.now.shown.window) }
 {
-    // The proof takes from here that there are few of them.
+    // The proof needs this call: it bounds their number.
     let _weight = channel.weight();
     let mut list = Vec::new(alloc);
     let mut i = 0;
@@ -157,7 +157,7 @@ fn broadcast_handles(
     Ok(list)
 }
 
-/// A live receiver of a broadcast.
+/// Returns a receiver of a broadcast, if it is alive.
 fn receiver_value(
     alloc: Global,
     channel: &Broadcast<u64>,
@@ -210,7 +210,7 @@ fn watch_senders(alloc: Global, channel: &Watch<u64>) -> Result<Vec<Value>, Allo
     Ok(list)
 }
 
-/// A live receiver of a watch.
+/// Returns a receiver of a watch, if it is alive.
 fn watcher_value(alloc: Global, channel: &Watch<u64>, h: u32) -> Result<Option<Value>, AllocError>
     ensures { IfOk result (λ value. option_map view value ≡ option_map (watcher_json channel.now.shown h) (mark_at (slice_get channel.now.shown.slots h))) }
 {

@@ -1,9 +1,10 @@
 //! Sessions: a script is run, and commands walk over the places of its run.
 //!
-//! The one contract is that of `session`: what it writes is the report of the bytes that it reads, whose states are those of the
-//! records of all that was ever sent. Start reading at `specs/SessionReport.antt`, which says what is written first, and at
-//! `specs/Report.antt`, which says what commands write at the places of a run. Go on with `sessions.rt`, `reading.rt` (the
-//! script), `console.rt` (the commands) and `walk.rt` (the run at a place).
+//! The main contract is that of `session`: it writes the report of the bytes that it reads. The states in the report are those
+//! of the records of all that was ever sent.
+//! Start reading at `specs/SessionReport.antt`, which defines what is written first, and at `specs/Report.antt`, which defines
+//! what commands write at the places of a run. Continue with `sessions.rt`, `reading.rt` (the script), `console.rt` (the
+//! commands) and `walk.rt` (the run at a place).
 #![tactic(auto)]
 
 mod blocks;

@@ -9,29 +9,29 @@ use rw_script::{Script, ScriptFault, ScriptFaultKind, ScriptReader, is_mark};
 use std::alloc::Global;
 use std::io::Read;
 
-/// Where the reading of a script stops.
+/// Where reading a script stopped.
 #[derive(Clone, Copy)]
 pub enum ScriptEnd {
-    /// Behind the line `---`.
+    /// After the line `---`.
     Mark,
     /// At the reader's end.
     Reader,
-    /// Behind the first line that is at fault.
+    /// After the first line with a fault.
     Fault(ScriptFault),
 }
 
-/// What the beginning of a session's bytes is.
+/// What a session's bytes begin with.
 #[derive(Drop)]
 pub enum SessionScript {
     /// A script; commands follow.
     Script(Script),
-    /// A script, and nothing behind it.
+    /// A script, and nothing after it.
     Ended(Script),
     /// A script with a fault.
     Refused(ScriptFault),
 }
 
-/// Takes a line of the script, and answers its fault.
+/// Reads a line of the script, and returns its fault, if it has one.
 fn take_line(script: &mut ScriptReader, line: &[u8]) -> Result<Option<ScriptFault>, StreamFault>
     requires { script.old.lines < 2 ^ 64 - 1 }
     ensures ok { IfOk result (λ o. MatchOption o

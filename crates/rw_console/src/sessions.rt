@@ -21,18 +21,18 @@ use std::io::{Read, Write};
 /// How a session ended.
 #[derive(Clone, Copy, Debug, PartialEq, Eq)]
 pub enum Outcome {
-    /// Each command was answered.
+    /// Each command was run.
     Done,
     /// The script has a fault, and no command was read.
     Refused(ScriptFault),
-    /// Each command was answered, over the calls before the line of this number, which would wait.
+    /// Each command was run, over the calls before the line of this number, which would wait.
     Waited(u64),
 }
 
-/// The most bytes that a session reads.
+/// The greatest number of bytes that a session reads.
 pub const MOST_BYTES: u64 = 268_435_456;
 
-/// Writes a script's fault. At an `Err` a prefix of it was written.
+/// Writes a script's fault. On an error, a prefix of it was written.
 fn refuse<W: Write>(alloc: Global, writer: &mut W, fault: ScriptFault) -> Result<(), SessionFault>
     ensures ok { OnOk result (Appends (W.contents writer.old) (W.contents writer.new) (fault_line fault)) }
     ensures err { IfErr result (StopsWriting (W.contents writer.old) (W.contents writer.new) (fault_line fault)) }
@@ -43,7 +43,7 @@ fn refuse<W: Write>(alloc: Global, writer: &mut W, fault: ScriptFault) -> Result
     put_whole(writer, line.as_bytes())
 }
 
-/// Writes which line would wait, if one would. At an `Err` a prefix of it was written.
+/// Writes which line would wait, if there is one. On an error, a prefix of that was written.
 fn say_waiting<W: Write>(
     alloc: Global,
     writer: &mut W,
@@ -61,8 +61,8 @@ fn say_waiting<W: Write>(
     put_whole(writer, line.as_bytes())
 }
 
-/// Runs a script, and writes which line would wait, if one would. At an `Err` a prefix of that was written. At `Ok` it gives the
-/// walk at the last place of the script's run, and that line's number.
+/// Runs a script, and writes which line would wait, if there is one. Returns a walk at the last place of the script's run, and
+/// that line's number. On an error, a prefix of the text was written.
 fn begin<W: Write>(
     alloc: Global,
     script: Script,
@@ -88,7 +88,7 @@ fn begin<W: Write>(
     }
 }
 
-/// How the session of a script ends.
+/// Returns how the session of a script ends, given the line that would wait.
 fn outcome_at(waits: Option<u64>) -> Outcome
     ensures { result ≡ outcome_at waits }
 {
@@ -98,8 +98,8 @@ fn outcome_at(waits: Option<u64>) -> Outcome
     }
 }
 
-/// Reads a script and then commands, runs the script, and writes what the commands ask for. A `quit` or the reader's end ends
-/// it; no byte behind a `quit`, or behind a line of the script that is at fault, is read.
+/// Reads a script and runs it, then reads commands and writes their output. It ends at a `quit` or at the reader's end. No byte
+/// after a `quit`, or after a line of the script with a fault, is read.
 pub fn session<R: Read, W: Write>(
     alloc: Global,
     reader: &mut R,

@@ -1,4 +1,4 @@
-//! The lines that a session writes of places: each function appends to a buffer.
+//! The lines that a session writes about places. Each function appends to a buffer.
 
 ghost use Rattle.std.specs.Prelude.{◌≡◌, ◌++◌, OnOk};
 ghost use Rattle.rw_console.specs.Texts.{hit_line, with_number, open_or_closed, place_line, refusal};
@@ -25,7 +25,7 @@ pub fn push_place(out: &mut Vec<u8>, len: u64, place: u64) -> Result<(), AllocEr
     out.extend_from_slice(b"\n")
 }
 
-/// What a move says first.
+/// Appends `out of range, ` if a move was refused.
 pub fn push_refusal(out: &mut Vec<u8>, answer: Result<(), OutOfRange>) -> Result<(), AllocError>
     ensures { OnOk result (out.new.items ≡ out.old.items ++ refusal answer) }
 {
@@ -35,7 +35,7 @@ pub fn push_refusal(out: &mut Vec<u8>, answer: Result<(), OutOfRange>) -> Result
     }
 }
 
-/// Appends what a search says that found this, or nothing, from a place.
+/// Appends the line of a search from a place: the hit, or that there is none.
 pub fn push_hit(
     out: &mut Vec<u8>,
     len: u64,
@@ -59,7 +59,7 @@ pub fn push_hit(
     }
 }
 
-/// The last word of a channel's first line.
+/// Returns the last word of a channel's first line.
 pub fn open_or_closed(is_closed: bool) -> &'static str
     ensures { result.now ≡ open_or_closed is_closed }
 {

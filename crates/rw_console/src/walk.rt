@@ -23,12 +23,12 @@ use rw_world::World;
 use std::alloc::{AllocError, Global};
 use std::marker::Model;
 
-/// A debugger that writes what commands ask for.
+/// A debugger that runs commands and writes their output.
 #[derive(Drop)]
 pub struct Walk {
     alloc: Global,
     debugger: Debugger<u64>,
-    // Of the last condition on entries that was asked for, if there was memory for it.
+    // Of the condition on entries that was searched for last, if there was memory for it.
     index: Option<LastIndex>,
 }
 
@@ -44,7 +44,7 @@ impl Model for Walk {
 }
 
 impl Walk {
-    /// Begins at the last place of a run, with a copy of it.
+    /// Opens a walk at the last place of a run, with a copy of it.
     pub fn open(alloc: Global, run: &Run<u64>) -> Result<Walk, NoMemory>
         ensures run { IfOk result (λ walk. walk.run ≡ run.now) }
         ensures place { IfOk result (λ walk. walk.place ≡ last_place run.now) }
@@ -58,8 +58,8 @@ impl Walk {
         })
     }
 
-    /// Runs a script, and begins at the last place of its run, with the machine and the entries of its book. Beside the walk stands
-    /// the line that would wait, if one would.
+    /// Runs a script, and opens a walk at the last place of its run, with the machine and the entries of its book. Also returns
+    /// the line that would wait, if there is one.
     pub fn of_script(alloc: Global, script: &Script) -> Result<(Walk, Option<u64>), NoMemory>
         ensures run { IfOk result (λ p. p.0.run ≡ recording_of script.now) }
         ensures place { IfOk result (λ p. p.0.place ≡ last_place p.0.run) }
@@ -78,14 +78,14 @@ impl Walk {
         Ok((walk, waits))
     }
 
-    /// How many entries the run has.
+    /// Returns how many entries the run has.
     pub fn len(&self) -> u64
         ensures { result ≡ last_place self.now.run }
     {
         self.debugger.len()
     }
 
-    /// The entry that leads to a place.
+    /// Returns the entry that leads to a place.
     fn entry_to(&self, place: u64) -> Option<Entry<World<u64>>>
         ensures entry { result ≡ entry_to self.now.run place }
         ensures recorded { IfSome result (λ e. ⟦<World<u64> as Reversible>⟧.is_waiting e.reply ≡ false) }
@@ -97,7 +97,7 @@ impl Walk {
         self.debugger.entry(place - 1)
     }
 
-    /// Makes a move, and appends what it says.
+    /// Makes a move, and appends its output.
     fn make_move(&mut self, to: Move, out: &mut Vec<u8>) -> Result<(), AllocError>
         ensures output { OnOk result (out.new.items ≡ out.old.items ++ output_of self.old.run self.old.place (Command.Move to)) }
         ensures place { OnOk result (self.new.place ≡ place_of self.old.run self.old.place (Command.Move to)) }
@@ -116,7 +116,7 @@ impl Walk {
         push_world(out, self.debugger.state())
     }
 
-    /// Appends the same as JSON.
+    /// Appends the state of the place as JSON.
     fn push_json(&self, out: &mut Vec<u8>) -> Result<(), AllocError>
         ensures { OnOk result (out.new.items ≡ out.old.items ++ output_of self.now.run self.now.place Command.StateJson) }
     {
@@ -130,7 +130,7 @@ impl Walk {
         )
     }
 
-    /// The index, if it is that of the condition.
+    /// Returns the index, if it is that of the condition.
     fn index_of(&self, cond: Cond) -> Option<&HitIndex<World<u64>, Cond>>
         ensures run { IfSome result (λ index. index.now.entries ≡ self.now.run.entries) }
         ensures step { IsSome result → IsTrue (asks_step cond) }
@@ -142,19 +142,19 @@ impl Walk {
         }
     }
 
-    /// Indexes a condition on entries, unless it is the one that is indexed.
+    /// Indexes a condition on entries, unless it is indexed already.
     fn keep_index(&mut self, cond: Cond)
         ensures { self.new ≡ self.old }
     {
         if self.index_of(cond).is_some() || !<Cond as Probe<World<u64>>>::on_step(&cond) {
             return;
         }
-        // The memory of the last index is given back before more is asked for.
+        // The last index is freed before memory for the new one is allocated.
         self.index = None;
         self.index = LastIndex::build(self.alloc, &self.debugger, cond);
     }
 
-    /// Goes to a hit by one move. With none the place stays.
+    /// Goes to a hit by one move. Without a hit, the place stays the same.
     fn go_to(&mut self, found: Option<u64>)
         requires { IfSome found (λ hit. hit ≤ last_place self.old.run) }
         ensures place { self.new.place ≡ unwrap_or found self.old.place }
@@ -165,7 +165,7 @@ impl Walk {
         }
     }
 
-    /// Goes to the nearest hit below the place.
+    /// Goes to the nearest hit below the place, and returns it.
     fn back_to(&mut self, cond: Cond) -> Option<u64>
         ensures found { result ≡ hit_below self.old.run cond self.old.place }
         ensures place { self.new.place ≡ unwrap_or result self.old.place }
@@ -180,7 +180,7 @@ impl Walk {
         found
     }
 
-    /// Goes to the nearest hit above the place.
+    /// Goes to the nearest hit above the place, and returns it.
     fn forward_to(&mut self, cond: Cond) -> Option<u64>
         ensures found { result ≡ hit_above self.old.run cond self.old.place }
         ensures place { self.new.place ≡ unwrap_or result self.old.place }
@@ -195,7 +195,7 @@ impl Walk {
         found
     }
 
-    /// Goes to the nearest hit below the place, and appends what that says.
+    /// Goes to the nearest hit below the place, and appends the output.
     fn search_back(&mut self, cond: Cond, out: &mut Vec<u8>) -> Result<(), AllocError>
         ensures output { OnOk result (out.new.items ≡ out.old.items ++ output_of self.old.run self.old.place (Command.SearchBack cond)) }
         ensures place { OnOk result (self.new.place ≡ place_of self.old.run self.old.place (Command.SearchBack cond)) }
@@ -206,7 +206,7 @@ impl Walk {
         push_hit(out, self.debugger.len(), from, found)
     }
 
-    /// Goes to the nearest hit above the place, and appends what that says.
+    /// Goes to the nearest hit above the place, and appends the output.
     fn search_forward(&mut self, cond: Cond, out: &mut Vec<u8>) -> Result<(), AllocError>
         ensures output { OnOk result (out.new.items ≡ out.old.items ++ output_of self.old.run self.old.place (Command.SearchForward cond)) }
         ensures place { OnOk result (self.new.place ≡ place_of self.old.run self.old.place (Command.SearchForward cond)) }
@@ -227,8 +227,8 @@ impl Walk {
         }
     }
 
-    /// Does what a command asks for, and appends its output. The entries of `list` are many: `push_step`
-    /// gives them one by one.
+    /// Runs a command, and appends its output. `list` isn't run here: it has many entries, so they are written one by one with
+    /// `push_step`.
     pub fn answer(&mut self, command: Command, out: &mut Vec<u8>) -> Result<(), AllocError>
         requires short { command ≢ Command.List }
         ensures output { OnOk result (out.new.items ≡ out.old.items ++ output_of self.old.run self.old.place command) }

@@ -12,7 +12,7 @@ use rw_lines::push_number;
 use rw_watch::Watch;
 use std::alloc::AllocError;
 
-/// Appends the lines of a channel that has number i.
+/// Appends the lines of channel i.
 pub fn push_watch(out: &mut Vec<u8>, i: u64, channel: &Watch<u64>) -> Result<(), AllocError>
     ensures { OnOk result (out.new.items ≡ out.old.items ++ watch_block i channel.now.shown) }
 {
@@ -31,7 +31,7 @@ fn push_numbers(out: &mut Vec<u8>, i: u64, channel: &Watch<u64>) -> Result<(), A
     push_with_number(out, b" made ", u64::from(channel.made()))
 }
 
-/// The first line: the channel's numbers, and whether it is open.
+/// Appends the first line: the channel's numbers, and whether it is open.
 #[tactic(auto, unfolding(crate::specs::WatchBlock::channel_line))]
 fn push_summary(out: &mut Vec<u8>, i: u64, channel: &Watch<u64>) -> Result<(), AllocError>
     ensures { OnOk result (out.new.items ≡ out.old.items ++ channel_line i channel.now.shown) }
@@ -40,7 +40,7 @@ fn push_summary(out: &mut Vec<u8>, i: u64, channel: &Watch<u64>) -> Result<(), A
     out.extend_from_slice(open_or_closed(channel.closed()).as_bytes())
 }
 
-/// The live senders.
+/// Appends the live senders.
 #[tactic(auto, using(crate::proofs::Written::by_number), unfolding(crate::specs::Handles::handles_line))]
 fn push_senders(out: &mut Vec<u8>, channel: &Watch<u64>) -> Result<(), AllocError>
     ensures { OnOk result (out.new.items ≡ out.old.items ++ senders_line channel.now.shown.slots) }
@@ -80,7 +80,7 @@ fn push_receiver(out: &mut Vec<u8>, channel: &Watch<u64>, h: u32) -> Result<(), 
     out.extend_from_slice(seen_or_unseen(channel.is_seen(h).unwrap()).as_bytes())
 }
 
-/// The live receivers, a line each.
+/// Appends the live receivers, a line each.
 #[tactic(auto, using(crate::proofs::Written::by_number))]
 fn push_receivers(out: &mut Vec<u8>, channel: &Watch<u64>) -> Result<(), AllocError>
     ensures { OnOk result (out.new.items ≡ out.old.items ++ receiver_lines channel.now.shown (length channel.now.shown.slots)) }

@@ -1,4 +1,4 @@
--- The receipts of passes beside the lines of a script, and both beside a run.
+-- The receipts of passes compared with the lines of a script, and both with a run.
 use Rattle.std.proofs.Common.{◌≡◌, ◌≢◌, ℕ, suc, ◌+◌, ◌<◌, ◌≤◌, cond, List, [], ◌∷◌, ◌++◌, map, length, take, drop, get_or, refl, sym, ap, subst, ◌∙◌, inl, inr, arith, All, append_assoc}
 use Rattle.std.specs.Prelude.{nat_eq}
 use Rattle.std.proofs.lemmas.Bool.{cases_lt, cond-true, cond-false}
@@ -24,7 +24,7 @@ use Rattle.rw_script.specs.Running.{call_of, made_after, made_by}
 use Rattle.rw_script.specs.Threads.{IsFollowed, IsPlayed, Moves, call_kept, calls_by, calls_kept, first, others, replies_kept}
 use Rattle.rw_script.proofs.PlayLaws.{made_is}
 
--- ---- one step more
+-- ---- one more step
 
 abbrev Calls : Type 0
 Calls = List (RowCall (ChanCall ℕ))
@@ -106,7 +106,7 @@ follows_at p steps index d lt place made so_far to moves made' names =
 pub follows_none : (p : Pass ℕ) (steps : List ScriptStep) (made : List ℕ) → made ≡ [] → Follows p steps 0 0 made
 follows_none p steps made none = rw none (record { within = omega arith; rest = refl })
 
--- behind the last one
+-- after the last step
 pub follows_whole : (p : Pass ℕ) (steps : List ScriptStep) (index place : ℕ) (made : List ℕ) → Follows p steps index place made → length steps ≤ index → length p.kept ≤ place → IsFollowed steps p
 follows_whole p steps index place made f all whole =
     sym (

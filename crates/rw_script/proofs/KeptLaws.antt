@@ -1,4 +1,4 @@
--- What a reader keeps is what its script keeps.
+-- The invariant of a reader implies that of its script.
 use Rattle.std.proofs.Common.{◌≡◌, ◌<◌, ◌≤◌, ℕ, Bool, zero, suc, false, true, cond, ◌∙◌, List, [], ◌∷◌, length, map, All, Option, Some, None, refl, ap, arith, ltb, eqb}
 use Rattle.std.specs.Prelude.{position, slice_get, ◌==◌}
 use Rattle.std.specs.Option.{option_map, option_map_or}
@@ -41,7 +41,7 @@ pub some_of : (n : ℕ) → (n == 0) ≡ false → 0 < n
 some_of zero e = absurd cc
 some_of (suc n) e = omega arith
 
--- a step whose actor and channel are there, where the channel's kind is that of its call
+-- a step whose actor and channel exist, and whose channel is of its call's kind
 pub step_kept : (specs : List (Spec ℕ)) (actors line actor channel : ℕ) (c : ChanCall ℕ) (target : Option ℕ) (binds : Bool) (k : ChannelKind) → actor < actors → slice_get (map spec_kind specs) channel ≡ Some k → strays_at k c ≡ false
     → IsScriptStep specs actors (record { line = line; actor = actor; channel = channel; call = c; target = target; binds = binds })
 step_kept specs actors line actor channel c target binds k known there fits = record {

@@ -1,4 +1,4 @@
--- Names by which a map finds what was bound, and names in order of binding.
+-- Names as keys of a map, and names in the order of binding.
 use Rattle.std.proofs.Common.{◌≡◌, ℕ, ◌<◌, Bool, true, false, cond, ◌&&◌, ◌||◌, List, [], ◌∷◌, ◌++◌, map, length, get_or, Option, Some, None, refl, ap, ◌∙◌, arith, ltb, eqb, inl, inr}
 use Rattle.std.specs.Prelude.{position, is_some, slice_get}
 use Rattle.std.specs.List.{position_or_len, IsDistinct}
@@ -55,7 +55,7 @@ or_false false b h = (refl, h)
 
 -- ---- names
 
--- K: keys, whose bytes are `items`; X: by whom and where a key was bound
+-- K: keys, whose bytes are `items`; X: the actor that bound a key, and the channel
 module _ {K X : Type 0} (items : K → List ℕ) (by at : X → ℕ) where
   abbrev pub bound : K × X → Bound
   bound e = record { name = items e.0; actor = by e.1; channel = at e.1 }
@@ -74,7 +74,7 @@ module _ {K X : Type 0} (items : K → List ℕ) (by at : X → ℕ) where
   abbrev same : K → K → Bool
   same a b = bytes_eq (items a) (items b)
 
-  -- a name that no line bound goes last
+  -- a name that no line has bound is added at the end
   pub bound_last : (es : List (K × X)) (name : List ℕ) (key : K) (x : X) → items key ≡ name → is_taken (map bound es) name ≡ false
       → map bound (insert_entry same es key x) ≡ map bound es ++ record { name = name; actor = by x; channel = at x } ∷ []
   bound_last [] name key x is free = rw is refl

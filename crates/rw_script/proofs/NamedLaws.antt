@@ -13,7 +13,7 @@ use Rattle.rw_words.proofs.WordLaws.{joined}
 pub whole_text : (text : List ℕ) (p : List ℕ × List ℕ) → cut 32 text ≡ Some p → text ≡ p.0 ++ 32 ∷ (first_part p.1 (cut 32 p.1) ++ rest_text (rest_of (cut 32 p.1)))
 whole_text text p e = (cut_parts 32 text p e).1 ∙ ap (λ (x : List ℕ). p.0 ++ 32 ∷ x) (joined p.1 (cut 32 p.1) refl)
 
--- where there are no names, the text stays
+-- without names the text stays the same
 pub plain_text : (word handle : List ℕ) (more : Option (List ℕ)) → is_name handle ≡ false → is_some (bound_in more) ≡ false → (named_call word handle more).text ≡ word ++ 32 ∷ (handle ++ rest_text more)
 plain_text word handle more h b = rw (h, b) refl
 

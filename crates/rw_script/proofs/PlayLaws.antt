@@ -1,4 +1,4 @@
--- A script of which some steps were made on a book.
+-- A script whose first steps were made on a book.
 use Rattle.std.proofs.Common.{◌≡◌, ◌+◌, ◌<◌, ◌≤◌, ℕ, Bool, true, false, cond, List, [], ◌∷◌, ◌++◌, map, length, drop, get_or, Option, Some, None, refl, sym, ap, subst, ◌∙◌, arith, append_assoc, drop-cons, add-one, All}
 use Rattle.std.specs.Prelude.{fold, slice_get}
 use Rattle.std.specs.Option.{option_map_or}
@@ -26,7 +26,7 @@ use Rattle.rw_script.specs.Kept.{IsScriptStep}
 use Rattle.rw_script.specs.Running.{Ran, IsMade, PlaysFrom, call_of, with_made_handle, made_after, made_by, onto, run_from, run_of, with_handle}
 use Rattle.rw_script.specs.Script.{Script}
 
--- ---- calls keep their kind
+-- ---- a call with another handle is of the same kind
 
 strays_with : (k : ChannelKind) (c : ChanCall ℕ) (h : ℕ) → strays_at k (with_handle c h) ≡ strays_at k c
 strays_with broadcast (call.B c) h = refl
@@ -114,7 +114,7 @@ module _ {M P : Type 0} (m : Ghosts M (RowCall (ChanCall ℕ)) (ChanReply ℕ) P
     never_strays book made index p step ok =
         ap (λ y. m.is_straying (m.reply_of (after_all m y book.entries) (call_of step made).1)) p.opened ∙ (plays.strays book.entries (call_of step made).1 ∙ (stray_filled (slice_get (map spec_kind script.specs) step.channel) step.call step.target made ∙ ok.kind))
 
-    -- at a call that would wait the run is what was made
+    -- at a call that would wait, the run is the calls that were made
     pub stops : (book : Book M (RowCall (ChanCall ℕ)) (ChanReply ℕ) P) (made : List ℕ) (index : ℕ) (step : ScriptStep) (steps : List ScriptStep) → Played script x book made index → drop index script.steps ≡ step ∷ steps
         → m.is_waiting (reply_to m book (call_of step made).1) ≡ true → run_of script ≡ record { calls = interleaving_of book.entries; waits = Some step.line }
     stops book made index step steps p at waits =
@@ -124,13 +124,13 @@ module _ {M P : Type 0} (m : Ghosts M (RowCall (ChanCall ℕ)) (ChanReply ℕ) P
         p.rest ∙ ap (λ steps. put_before (interleaving_of book.entries) (run_from world made steps)) at ∙ ap (put_before (interleaving_of book.entries)) (run_waits world made step steps waits')
         ∙ ap (λ cs. record { calls = cs; waits = Some step.line }) (append-nil (interleaving_of book.entries))
 
-    -- behind the last step too
+    -- after the last step too
     pub ends : (book : Book M (RowCall (ChanCall ℕ)) (ChanReply ℕ) P) (made : List ℕ) (index : ℕ) → Played script x book made index → length script.steps ≤ index → run_of script ≡ record { calls = interleaving_of book.entries; waits = None }
     ends book made index p all =
         let world : List (ChannelRecord ℕ) = records_after (opened_records script.specs) (calls_of book.entries) in
         p.rest ∙ ap (λ steps. put_before (interleaving_of book.entries) (run_from world made steps)) (drop_all index script.steps all) ∙ ap (λ cs. record { calls = cs; waits = None }) (append-nil (interleaving_of book.entries))
 
-    -- one step more
+    -- one more step
     pub goes_on : (old new : Book M (RowCall (ChanCall ℕ)) (ChanReply ℕ) P) (made made' : List ℕ) (index : ℕ) (step : ScriptStep) (handle : ℕ) → Played script x old made index
         → drop index script.steps ≡ step ∷ drop (index + 1) script.steps → IsMade m old new (call_of step made) handle → made' ≡ cond step.binds (made ++ handle ∷ []) made → Played script x new made' (index + 1)
     goes_on old new made made' index step handle p at done names =

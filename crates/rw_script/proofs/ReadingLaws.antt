@@ -1,4 +1,4 @@
--- A script of which some lines were read.
+-- A script whose first lines were read.
 use Rattle.std.proofs.Common.{◌≡◌, ◌≢◌, ◌+◌, ◌<◌, ◌≤◌, ◌⊎◌, ℕ, Bool, true, false, cond, List, [], ◌∷◌, ◌++◌, length, Result, Ok, Err, inl, inr, refl, sym, ap, ◌∙◌, arith, eqb, append_assoc, length-append}
 use Rattle.std.specs.Prelude.{IfErr}
 use Rattle.std.proofs.lemmas.Bool.{cond-true, cond-false}
@@ -15,14 +15,14 @@ use Rattle.rw_script.proofs.Spared.{spared}
 pub at_mark : (r : ScriptReader) (line : List ℕ) (more : List (List ℕ)) → is_mark line ≡ true → script_from r (line ∷ more) ≡ script_at_end r
 at_mark r line more e = cond-true (is_mark line) (script_at_end r) (after_line r line >>= λ s. script_from s more) e
 
--- and goes on at any other line
+-- and continues at any other line
 pub at_other : (r : ScriptReader) (line : List ℕ) (more : List (List ℕ)) (said : Result ScriptReader ScriptFault) → is_mark line ≡ false → after_line r line ≡ said → script_from r (line ∷ more) ≡ (said >>= λ s. script_from s more)
 at_other r line more said e a = cond-false (is_mark line) (script_at_end r) (after_line r line >>= λ s. script_from s more) e ∙ ap (λ (x : Result ScriptReader ScriptFault). x >>= λ s. script_from s more) a
 
 abbrev ended_as : Bool → ℕ → Script → Result Script ScriptFault
 ended_as b n script = cond b (Err (record { line = n; kind = NoChannels })) (Ok script)
 
--- what was read leads on to the whole, and counts its lines, which were taken
+-- reading on from here gives the whole script; the lines so far were counted and accepted
 pub record HasRead (bytes rest : List ℕ) (r : ScriptReader) : Type 0 where
   pub whole : script_from r (lines rest) ≡ script_in (lines bytes)
   pub count : r.lines + length rest ≤ length bytes
@@ -41,7 +41,7 @@ next_lines : (ls before after more : List (List ℕ)) (line : List ℕ) → ls �
 next_lines ls before after more line e h = e ∙ ap (λ (x : List (List ℕ)). before ++ x) h
 
 module _ (bytes rest line next : List ℕ) (r : ScriptReader) (h : HasRead bytes rest r) (first : lines rest ≡ line ∷ lines next) where
-  -- one line more was taken
+  -- one more line was accepted
   pub read_more : (s : ScriptReader) → is_mark line ≡ false → after_line r line ≡ Ok s → s.lines ≡ r.lines + 1 → length next < length rest → HasRead bytes next s
   read_more s plain said counted shorter = record {
     whole = sym (at_other r line (lines next) (Ok s) plain said) ∙ (ap (script_from r) (sym first) ∙ h.whole);
@@ -70,7 +70,7 @@ ended_at : (b : Bool) (n : ℕ) (script : Script) (fault : ScriptFault) → ende
 ended_at true n script fault h = λ want. cc
 ended_at false n script fault h = absurd cc
 
--- at its end a script has no want of memory
+-- ending a script never runs out of memory
 pub ended_spares : (r : ScriptReader) (result : Result Script ScriptFault) → result ≡ script_at_end r → (X : ScriptFault → Type 0) → IfErr result (λ fault. fault.kind ≡ NoMemory → X fault)
 ended_spares r (Ok script) e X = tt
 ended_spares r (Err fault) e X = λ want. absurd (ended_at (eqb (length r.specs) 0) (r.lines + 1) (record { specs = r.specs; actors = actors_of r; steps = r.steps }) fault (sym e) want)

@@ -1,4 +1,4 @@
--- Of no line of a script is want of memory said.
+-- As specified, no line of a script has the fault `NoMemory`.
 use Rattle.std.proofs.Common.{◌≡◌, ◌≢◌, ◌+◌, ℕ, Bool, cond, List, [], ◌∷◌, ◌++◌, length, Option, Some, None, Result, Ok, Err, ltb, leb}
 use Rattle.std.specs.Prelude.{◌&&◌, is_some, not, slice_get}
 use Rattle.rw_law.specs.Numbers.{numbers}

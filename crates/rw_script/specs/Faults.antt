@@ -6,7 +6,7 @@ use Rattle.rw_script.specs.declared.faults.ScriptFaultKind.{ScriptFaultKind}
 use Rattle.rw_script.specs.declared.faults.ScriptFaultKind.TheVariants.{TooLong, Syntax, BadCapacity, TooManyChannels, BadActors, UnknownActor, UnknownChannel, WrongWord, BadArguments, UnknownName, NameTaken, TooManySteps, NoChannels, NoMemory}
 use Rattle.rw_script.specs.declared.faults.ScriptFault.{ScriptFault}
 
--- the word that a fault line has for a fault
+-- the word for a fault in a fault line
 abbrev pub fault_word : ScriptFaultKind → List ℕ
 fault_word TooLong = codes "too-long"
 fault_word Syntax = codes "syntax"
@@ -33,9 +33,9 @@ kind_of_words words.WrongWord = WrongWord
 kind_of_words words.BadArguments = BadArguments
 kind_of_words words.HandleTooLarge = BadArguments
 
--- ---- what may also be refused for want of memory
+-- ---- what may also fail because memory runs out
 
--- what is given is what is said, or memory ran out
+-- the result is the specified one, or memory ran out
 abbrev pub Gives : {S : Type 0} → Result S ScriptFault → Result S ScriptFault → Type 0
 Gives (Ok s) said = said ≡ Ok s
 Gives (Err fault) said = (said ≡ Err fault) ⊎ (fault.kind ≡ NoMemory)

@@ -9,7 +9,7 @@ use Rattle.rw_words.specs.Words.{first_part, rest_of}
 
 -- ---- the fields
 
--- a numeral with the space behind it, and the rest
+-- a numeral that a space follows, and the rest
 unfoldable pub number_field : List ℕ → Option (ℕ × List ℕ)
 number_field text = do
   p ← cut 32 text
@@ -28,7 +28,7 @@ fields_in line = do
 
 -- ---- the names
 
--- the name that a token is
+-- the token, if it is a name
 abbrev pub name_in : List ℕ → Option (List ℕ)
 name_in token = if is_name token then Some token else None
 
@@ -36,14 +36,14 @@ abbrev pub name_behind_as : Option (List ℕ × List ℕ) → Option (List ℕ)
 name_behind_as None = None
 name_behind_as (Some p) = if bytes_eq p.0 (codes "as") then name_in p.1 else None
 
--- the name that is bound, where `as NAME` and nothing else follows the handle
+-- the name that is bound, if just `as NAME` follows the handle
 abbrev pub bound_in : Option (List ℕ) → Option (List ℕ)
 bound_in None = None
 bound_in (Some more) = name_behind_as (cut 32 more)
 
--- the text of a call with its names taken out
+-- the text of a call without its names
 pub record Named : Type 0 where
-  -- `0` stands in a name's place, and ` as NAME` is gone
+  -- with `0` in a name's place, and without ` as NAME`
   pub text : List ℕ
   -- the name in the handle's place
   pub target : Option (List ℕ)
@@ -58,7 +58,7 @@ handle_text handle = if is_name handle then codes "0" else handle
 abbrev pub without_binding : Option (List ℕ) → Option (List ℕ)
 without_binding more = if is_some (bound_in more) then None else more
 
--- of a word, a handle and what follows
+-- from a word, a handle and what follows
 abbrev pub named_call : List ℕ → List ℕ → Option (List ℕ) → Named
 named_call word handle more = record {
   text = word ++ 32 ∷ (handle_text handle ++ rest_text (without_binding more));
@@ -70,6 +70,6 @@ abbrev pub named_parts : List ℕ → Option (List ℕ × List ℕ) → Named
 named_parts text None = record { text = text; target = None; bound = None }
 named_parts text (Some p) = named_call p.0 (first_part p.1 (cut 32 p.1)) (rest_of (cut 32 p.1))
 
--- what stands before the first space is the word, what stands before the next one the handle
+-- the part before the first space is the word, and the part before the next one is the handle
 unfoldable pub named_in : List ℕ → Named
 named_in text = named_parts text (cut 32 text)

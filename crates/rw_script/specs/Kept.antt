@@ -1,4 +1,4 @@
--- What scripts keep, and what their readers keep on the way.
+-- The invariants of scripts, and of their readers.
 use Rattle.std.specs.Prelude.{◌≡◌, ◌≤◌, ◌<◌, ℕ, List, All, length, map, false, None}
 use Rattle.rw_world.specs.declared.opening.Spec.{Spec}
 use Rattle.rw_world.specs.Channel.{strays_at}
@@ -10,7 +10,7 @@ use Rattle.rw_script.specs.declared.reader.TheConstants.{MOST_STEPS}
 use Rattle.rw_script.specs.declared.steps.ScriptStep.{ScriptStep}
 use Rattle.rw_script.specs.Script.{Script, ScriptReader, actors_of}
 
--- the actor is there, and the channel is there and of the call's kind
+-- the actor and the channel exist, and the channel is of the call's kind
 pub record IsScriptStep (specs : List (Spec ℕ)) (actors : ℕ) (step : ScriptStep) : Type 0 where
   pub actor : step.actor < actors
   pub channel : step.channel < length specs
@@ -24,7 +24,7 @@ pub record IsScript (s : Script) : Type 0 where
   pub few_steps : length s.steps ≤ MOST_STEPS
   pub steps : All (IsScriptStep s.specs s.actors) s.steps
 
--- the same on the way, where there may be no channel yet; no step binds two names
+-- the same while the script is read, when there may be no channel yet; no step binds two names
 pub record IsReading (r : ScriptReader) : Type 0 where
   pub good_channels : All (λ s. has_bad_capacity s ≡ false) r.specs
   pub few_channels : length r.specs ≤ MOST_CHANNELS

@@ -1,4 +1,4 @@
--- Lines that are taken or refused, and where the reading of a script asks for memory.
+-- Lines that are accepted or refused, and where reading a script allocates.
 use Rattle.std.specs.Prelude.{◌≡◌, ◌⊎◌, ◌<◌, ◌+◌, ◌++◌, ◌∷◌, ℕ, List, [], length, Result, Ok, Err}
 use Rattle.rw_words.specs.Words.{◌>>=◌}
 use Rattle.rw_script.specs.declared.faults.ScriptFaultKind.{ScriptFaultKind}
@@ -6,12 +6,13 @@ use Rattle.rw_script.specs.declared.faults.ScriptFaultKind.TheVariants.{NoMemory
 use Rattle.rw_script.specs.declared.faults.ScriptFault.{ScriptFault}
 use Rattle.rw_script.specs.Script.{ScriptReader, after_line, opening}
 
--- memory is asked for at a line that adds a channel or a step; its faults are found before
+-- a line allocates if it adds a channel or a step; its other faults are found first
 abbrev pub Adds : {E : Type 0} → ScriptReader → Result ScriptReader E → Type 0
 Adds old (Ok new) = length old.specs + length old.steps < length new.specs + length new.steps
 Adds old (Err fault) = ⊥
 
--- a line was taken as said, or refused as said, or memory ran out where it was asked for; old, new: what was said before it and after it
+-- a line was accepted or refused as specified, or memory ran out where the line allocates; old, new: the reader before and
+-- after it
 abbrev pub TakesLine : {X : Type 0} → Result X ScriptFaultKind → ScriptReader → ScriptReader → Result ScriptReader ScriptFaultKind → Type 0
 TakesLine (Ok x) old new said = said ≡ Ok new
 TakesLine (Err kind) old new said = (said ≡ Err kind) ⊎ ((kind ≡ NoMemory) × Adds old said)
@@ -23,12 +24,12 @@ Takes (Err fault) old new said = (said ≡ Err fault) ⊎ ((fault.kind ≡ NoMem
 
 -- ---- a whole script
 
--- what lines say that follow those which say r, or the first fault
+-- the reader r after some more lines, or the first fault
 abbrev pub after_lines : ScriptReader → List (List ℕ) → Result ScriptReader ScriptFault
 after_lines r [] = Ok r
 after_lines r (line ∷ more) = after_line r line >>= λ s. after_lines s more
 
--- memory is asked for at the line of this number, after all lines before it were taken
+-- the line of this number allocates, after all lines before it were accepted
 pub record AsksMemory (ls : List (List ℕ)) (number : ℕ) : Type 0 where
   pub before : List (List ℕ)
   pub line : List ℕ

@@ -24,7 +24,7 @@ use Rattle.rw_world.specs.Shapes.{stray_of}
 use Rattle.rw_script.specs.declared.steps.ScriptStep.{ScriptStep}
 use Rattle.rw_script.specs.Script.{Script}
 
--- the actors and calls that are made, and the line of the first call that would wait, if one would
+-- the calls that are made, with their actors, and the line of the first call that would wait, if one would
 pub record Ran : Type 0 where
   pub calls : List (ℕ × RowCall (ChanCall ℕ))
   pub waits : Option ℕ
@@ -40,7 +40,7 @@ abbrev pub with_handle : {V : Type 0} → ChanCall V → ℕ → ChanCall V
 with_handle (call.B c) h = call.B (broadcast.with_handle c h)
 with_handle (call.W c) h = call.W (watch.with_handle c h)
 
--- the step's call, with the handle that its name stands for; made: the handles that the names so far stand for
+-- the step's call, with the handle that its name stands for; made: the handles of the names so far
 abbrev pub with_made_handle : ChanCall ℕ → Option ℕ → List ℕ → ChanCall ℕ
 with_made_handle c None made = c
 with_made_handle c (Some name) made = with_handle c (get_or made name NEVER_MADE)
@@ -73,7 +73,7 @@ made_after true r made = made ++ made_by r ∷ []
 abbrev pub onto : ℕ × RowCall (ChanCall ℕ) → Ran → Ran
 onto c ran = record { calls = c ∷ ran.calls; waits = ran.waits }
 
--- the steps from here, in a world with these records
+-- the run of the steps from here, in a world with these records
 abbrev pub run_from : List (ChannelRecord ℕ) → List ℕ → List ScriptStep → Ran
 run_from world made [] = record { calls = []; waits = None }
 run_from world made (step ∷ steps) =
@@ -88,15 +88,16 @@ run_of s = run_from (opened_records s.specs) [] s.steps
 
 -- ---- a step of the run on a book
 
--- the call was taken with the reply that it has, and this is the handle that it made
+-- the call was recorded with its reply, and this is the handle that it made
 pub record IsMade {M P : Type 0} (m : Ghosts M (RowCall (ChanCall ℕ)) (ChanReply ℕ) P) (old new : Book M (RowCall (ChanCall ℕ)) (ChanReply ℕ) P) (c : ℕ × RowCall (ChanCall ℕ)) (handle : ℕ) : Type 0 where
   pub stamp : ℕ
   pub taken : IsTaken m old new c.0 0 c.1 stamp (reply_to m old c.1)
   pub handle_is : handle ≡ made_by (reply_to m old c.1)
 
--- ---- machines that answer as a script's channels do
+-- ---- machines that reply as a script's channels do
 
--- after any calls a machine that shows x replies as the records of the specs do; the same replies wait as on a channel, and calls stray by the specs
+-- after any calls a machine that shows x replies as the records of the specs do; the same replies wait as on a channel, and
+-- calls stray by the specs
 pub record PlaysFrom {M P : Type 0} (m : Ghosts M (RowCall (ChanCall ℕ)) (ChanReply ℕ) P) (specs : List (Spec ℕ)) (x : m.View) : Type 0 where
   pub replies : (calls : List (RowCall (ChanCall ℕ))) (c : RowCall (ChanCall ℕ)) → m.reply_of (fold m.next x calls) c ≡ reply_from (records_after (opened_records specs) calls) c
   pub waits : (r : ChanReply ℕ) → m.is_waiting r ≡ (of_chan {V = ℕ}).is_waiting r

@@ -1,4 +1,4 @@
--- What a script says: channels, actors, and their calls in order.
+-- What a script describes: channels, actors, and their calls in order.
 use Rattle.std.specs.Prelude.{ℕ, ◌+◌, List, [], ◌∷◌, ◌++◌, length, slice_get, Bool, true, false, Option, None, Some, is_some, is_none, Result, Ok, Err, ◌&&◌, nat_eq, nat_lt, nat_le, if◌then◌else◌, codes}
 use Rattle.std.specs.Option.{unwrap_or}
 use Rattle.std.specs.Str.{bytes_eq}
@@ -29,12 +29,12 @@ pub record Script : Type 0 where
   pub actors : ℕ
   pub steps : List ScriptStep
 
--- what the lines of a script say so far
+-- what the lines of a script describe so far
 pub record ScriptReader : Type 0 where
-  -- how many lines were read, skipped ones counted
+  -- how many lines were read, including skipped ones
   pub lines : ℕ
   pub specs : List (Spec ℕ)
-  -- what the actors line says, once there was one
+  -- the number of actors, once the actors line was read
   pub actors : Option ℕ
   pub steps : List ScriptStep
   -- the names that the steps bind, in order
@@ -44,7 +44,7 @@ pub record ScriptReader : Type 0 where
 abbrev pub opening : ScriptReader
 opening = record { lines = 0; specs = []; actors = None; steps = []; names = [] }
 
--- there is one actor where no line says how many there are
+-- there is one actor if no line has the number of actors
 abbrev pub actors_of : ScriptReader → ℕ
 actors_of r = unwrap_or r.actors 1
 
@@ -65,7 +65,7 @@ head_after (Some p) = option.◌>>=◌ (numeral_in p.1) (head_with p.0)
 unfoldable pub head_in : List ℕ → Option HeadLine
 head_in line = head_after (cut 32 line)
 
--- channel lines, and the actors line behind them, have their place before the actors line and the first step
+-- channel lines and the actors line may come only while there is no actors line and no step
 abbrev pub is_in_head : ScriptReader → Bool
 is_in_head r = is_none r.actors && nat_eq (length r.steps) 0
 
@@ -83,11 +83,11 @@ abbrev pub is_broadcast : Spec ℕ → Bool
 is_broadcast (spec.Broadcast n) = true
 is_broadcast (spec.Watch v) = false
 
--- what the channel is opened as that an actor calls
+-- what the channel is opened as, if the actor exists
 abbrev pub spec_for : ScriptReader → ℕ → ℕ → Result (Spec ℕ) ScriptFaultKind
 spec_for r actor channel = if nat_lt actor (actors_of r) then or_fault UnknownChannel (slice_get r.specs channel) else Err UnknownActor
 
--- one step more, on the line that was read last, with the name that it binds
+-- one more step, on the line that was read last, with the name that it binds
 abbrev pub with_said : ScriptReader → ℕ → ℕ → Said → Option ℕ → Result ScriptReader ScriptFaultKind
 with_said r actor channel said target =
     if is_bound_again r.names said.bound then Err NameTaken
@@ -114,7 +114,7 @@ with_words r None line = with_step r line
 abbrev pub head_of_line : ScriptReader → List ℕ → Option HeadLine
 head_of_line r line = if is_in_head r then head_in line else None
 
--- what is said with the line that was read last, or what is wrong with it
+-- what is described with the line that was read last, or what is wrong with that line
 unfoldable pub with_line : ScriptReader → List ℕ → Result ScriptReader ScriptFaultKind
 with_line r line =
     if nat_lt LONGEST_LINE (length line) then Err TooLong
@@ -127,7 +127,7 @@ abbrev pub at_line : ℕ → Result ScriptReader ScriptFaultKind → Result Scri
 at_line n (Ok r) = Ok r
 at_line n (Err kind) = Err (record { line = n; kind = kind })
 
--- one line more, or its fault
+-- one more line, or its fault
 abbrev pub after_line : ScriptReader → List ℕ → Result ScriptReader ScriptFault
 after_line r line = at_line (r.lines + 1) (with_line (record r { lines = r.lines + 1 }) line)
 
@@ -149,7 +149,7 @@ script_from r (line ∷ ls) = if is_mark line then script_at_end r else (after_l
 abbrev pub script_in : List (List ℕ) → Result Script ScriptFault
 script_in ls = script_from opening ls
 
--- the lines behind the mark
+-- the lines after the mark
 abbrev pub after_mark : List (List ℕ) → List (List ℕ)
 after_mark [] = []
 after_mark (line ∷ ls) = if is_mark line then ls else after_mark ls

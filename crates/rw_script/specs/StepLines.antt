@@ -1,5 +1,5 @@
--- ScriptStep lines: `ACTOR CHANNEL WORD HANDLE ARGS`, where a name may stand for the handle, and ` as NAME` may follow a call
--- that makes a handle.
+-- Step lines: `ACTOR CHANNEL WORD HANDLE ARGS`, where a name may stand for the handle, and ` as NAME` may follow a call that
+-- makes a handle.
 use Rattle.std.specs.Prelude.{ℕ, Bool, true, false, not, ◌&&◌, ◌==◌, is_some, if◌then◌else◌, List, [], ◌∷◌, ◌++◌, Option, None, Some, Result, Ok, Err, position}
 use Rattle.std.specs.Option.{option_map}
 use Rattle.std.specs.List.{list_any}
@@ -24,19 +24,19 @@ use Rattle.rw_words.specs.Words.{◌>>=◌, or_fault, map_ok}
 
 -- a call that may name its handle, and may bind a name
 pub record Said : Type 0 where
-  -- with handle 0 where a name stands for it
+  -- its handle is 0 if a name stands for it
   pub call : ChanCall ℕ
   -- the name in the handle's place
   pub target : Option (List ℕ)
   -- the name that the line binds
   pub bound : Option (List ℕ)
 
--- whether the call makes a handle, where it isn't refused
+-- whether the call makes a handle if it isn't refused
 abbrev pub makes : {V : Type 0} → ChanCall V → Bool
 makes (call.B c) = broadcast.makes c
 makes (call.W c) = watch.makes c
 
--- what such a call is in the program
+-- such a call, from the type that the program has for it
 abbrev pub said_of : SaidCall → Said
 said_of s = record { call = s.call; target = option_map (λ n. n.now) s.target; bound = option_map (λ n. n.now) s.bound }
 
@@ -44,11 +44,11 @@ abbrev pub in_script : {A : Type 0} → Result A WordFault → Result A ScriptFa
 in_script (Ok x) = Ok x
 in_script (Err fault) = Err (kind_of_words fault)
 
--- a name is bound by a call that makes a handle
+-- the call with its names; only a call that makes a handle may bind one
 abbrev pub said_by : Option (List ℕ) → Option (List ℕ) → ChanCall ℕ → Result Said ScriptFaultKind
 said_by target bound c = if is_some bound && not (makes c) then Err BadArguments else Ok (record { call = c; target = target; bound = bound })
 
--- what the text of a call says, in the words of a broadcast or else of a watch
+-- the call of a text, in the words of a broadcast or else of a watch
 unfoldable pub said_in : Bool → List ℕ → Result Said ScriptFaultKind
 said_in broadcast text = in_script (call_in numbers broadcast (named_in text).text) >>= said_by (named_in text).target (named_in text).bound
 
@@ -59,7 +59,7 @@ kind_if false = kinds.watch
 
 -- ---- names
 
--- a name, and by whom and where it was bound
+-- a name, with the actor that bound it and the channel
 pub record Bound : Type 0 where
   pub name : List ℕ
   pub actor : ℕ
@@ -73,7 +73,7 @@ number_of names name actor channel = position (λ b. bytes_eq name b.name && (b.
 abbrev pub is_taken : List Bound → List ℕ → Bool
 is_taken names name = list_any (λ b. bytes_eq name b.name) names
 
--- the number of the name that stands for a handle, if there is one
+-- the number of the name in the handle's place, if there is one
 abbrev pub target_in : List Bound → ℕ → ℕ → Option (List ℕ) → Result (Option ℕ) ScriptFaultKind
 target_in names actor channel None = Ok None
 target_in names actor channel (Some name) = map_ok (λ i. Some i) (or_fault UnknownName (number_of names name actor channel))
@@ -83,7 +83,7 @@ abbrev pub is_bound_again : List Bound → Option (List ℕ) → Bool
 is_bound_again names None = false
 is_bound_again names (Some name) = is_taken names name
 
--- the names with that of a line behind them
+-- the names with that of a line added at the end
 abbrev pub with_bound : List Bound → ℕ → ℕ → Option (List ℕ) → List Bound
 with_bound names actor channel None = names
 with_bound names actor channel (Some name) = names ++ record { name = name; actor = actor; channel = channel } ∷ []

@@ -12,7 +12,7 @@ use Rattle.rw_script.specs.declared.steps.ScriptStep.{ScriptStep}
 use Rattle.rw_script.specs.Script.{Script}
 use Rattle.rw_script.specs.Running.{NEVER_MADE, call_of, made_after, made_by}
 
--- the first of some replies, and those behind it
+-- the first of some replies, and the others
 abbrev pub first : List (ChanReply ℕ) → ChanReply ℕ
 first [] = reply.NoChannel
 first (r ∷ rs) = r
@@ -21,7 +21,8 @@ abbrev pub others : List (ChanReply ℕ) → List (ChanReply ℕ)
 others [] = []
 others (r ∷ rs) = rs
 
--- the calls of an actor's lines, where these are the replies to them; made: the handles that the names so far stand for, of which those that another actor bound stand for none
+-- the calls of an actor's lines, if these are their replies; made: the handles of the names so far, none for a name that
+-- another actor bound
 abbrev pub calls_by : ℕ → List ℕ → List ScriptStep → List (ChanReply ℕ) → List (RowCall (ChanCall ℕ))
 calls_by actor made [] replies = []
 calls_by actor made (step ∷ steps) replies =
@@ -38,7 +39,7 @@ pub record IsRunOf (script : Script) (run : Run ℕ) : Type 0 where
   pub specs : run.specs ≡ script.specs
   pub played : IsPlayed script.steps run.entries
 
--- ---- the same of receipts
+-- ---- the same for receipts
 
 -- the calls and the replies of receipts
 abbrev pub call_kept : Kept ℕ → RowCall (ChanCall ℕ)
@@ -56,7 +57,7 @@ IsFollowed steps p = calls_kept p.kept ≡ calls_by p.actor [] steps (replies_ke
 
 -- ---- the walk over an actor's lines and its receipts
 
--- the receipt at a place is that of a step's call; to: the place behind it, and the handle that the call made
+-- the receipt at a place is that of a step's call; to: the next place, and the handle that the call made
 pub record IsNext (p : Pass ℕ) (place : ℕ) (step : ScriptStep) (made : List ℕ) (to : ℕ × ℕ) : Type 0 where
   pub receipt : Kept ℕ
   pub at : slice_get p.kept place ≡ Some receipt

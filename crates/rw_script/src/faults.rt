@@ -7,12 +7,12 @@ use rw_words::WordFault;
 use std::error::Error;
 use std::fmt;
 
-/// What is wrong with a line of a script. Within a line the first of these that holds is answered.
+/// What is wrong with a line of a script. If several of these apply to a line, the first in this order is reported.
 #[derive(Clone, Copy, Debug, PartialEq, Eq)]
 pub enum ScriptFaultKind {
     /// The line has more than 256 bytes.
     TooLong,
-    /// It is no channel or actors line in its place, and doesn't begin with two numerals and a word.
+    /// The line isn't a channel or actors line in its place, and doesn't begin with two numerals and a word.
     Syntax,
     /// The capacity is 0 or above 65,536.
     BadCapacity,
@@ -26,7 +26,7 @@ pub enum ScriptFaultKind {
     UnknownChannel,
     /// No call of the channel's kind has this word.
     WrongWord,
-    /// What follows the word isn't what it takes.
+    /// What follows the word isn't what the word requires.
     BadArguments,
     /// The name wasn't bound by an earlier line of this actor on this channel.
     UnknownName,
@@ -36,12 +36,12 @@ pub enum ScriptFaultKind {
     TooManySteps,
     /// The script ends here, and there was no channel line.
     NoChannels,
-    /// A growth was refused.
+    /// An allocation failed.
     NoMemory,
 }
 
 impl ScriptFaultKind {
-    /// The word that a fault line has for it.
+    /// Returns the word for it in a fault line.
     pub fn word(self) -> &'static str
         ensures { result.now ≡ fault_word self }
     {

@@ -6,7 +6,7 @@ ghost use Rattle.rw_script.specs.Fields.{fields_in, number_field};
 use rw_lines::{cut, is_word, numeral};
 use rw_words::first_word;
 
-/// A numeral with the space behind it, and the rest.
+/// Reads a numeral that a space follows, and returns its number and the rest.
 #[tactic(auto, unfolding(crate::specs::Fields::number_field))]
 fn number_field(text: &[u8]) -> Option<(u64, &[u8])>
     ensures field { option_map (λ p. (p.0, p.1.now)) result ≡ number_field text.now }
@@ -16,7 +16,7 @@ fn number_field(text: &[u8]) -> Option<(u64, &[u8])>
     Some((numeral(token)?, rest))
 }
 
-/// The actor and the channel of a step line, and the text of its call, which begins with a word.
+/// Returns the actor and the channel of a step line, and the text of its call, which begins with a word.
 #[tactic(auto, unfolding(crate::specs::Fields::fields_in))]
 pub(crate) fn fields_of(line: &[u8]) -> Option<(u64, u64, &[u8])>
     ensures fields { option_map (λ p. (p.0, p.1, p.2.now)) result ≡ fields_in line.now }

@@ -1,4 +1,4 @@
-//! The receipts of passes beside the lines of a script.
+//! Compares the receipts of passes with the lines of a script.
 
 ghost use Rattle.std.specs.Prelude.{◌≡◌, OnOk, IfSome, IsTrue};
 ghost use Rattle.rw_world.specs.Lists.{Each};
@@ -10,15 +10,15 @@ use crate::steps::ScriptStep;
 use rw_desk::{Kept, Pass};
 use std::alloc::Global;
 
-/// Whether a receipt is of the call of a step.
+/// Whether a receipt is for the call of a step.
 fn is_call(receipt: &Kept<u64>, step: &ScriptStep, made: &[u32]) -> bool
     ensures { IsTrue result → call_kept receipt.now ≡ (call_of step.now made.now).1 }
 {
     receipt.channel == step.channel && receipt.call == filled(step, made)
 }
 
-/// Moves on over a step: where it is the actor's, over the receipt of its call. Gives the place behind that and the handle that
-/// the call made. `made` has the handles that the names so far stand for.
+/// Moves past a step, and past its receipt if the step is the actor's. Returns the place of the next receipt, and the handle
+/// that the call made, or `None` if the receipt isn't for the call. `made` has the handles of the names so far.
 fn moved(pass: &Pass<u64>, place: usize, step: &ScriptStep, made: &[u32]) -> Option<(usize, u32)>
     ensures { IfSome result (λ to. Moves pass.now place step.now made.now to) }
 {
@@ -33,7 +33,7 @@ fn moved(pass: &Pass<u64>, place: usize, step: &ScriptStep, made: &[u32]) -> Opt
     }
 }
 
-/// Refuses a pass whose receipts aren't those of its actor's lines, all and in order.
+/// Returns an error unless the receipts of a pass are those of all its actor's lines, in order.
 fn follow(alloc: Global, steps: &[ScriptStep], pass: &Pass<u64>) -> Result<(), RunFault>
     ensures { OnOk result (IsFollowed steps.now pass.now) }
 {
@@ -52,7 +52,7 @@ fn follow(alloc: Global, steps: &[ScriptStep], pass: &Pass<u64>) -> Result<(), R
     Ok(())
 }
 
-/// Refuses passes whose receipts aren't those of their actors' lines.
+/// Returns an error unless the receipts of each pass are those of its actor's lines.
 pub(crate) fn follow_all(
     alloc: Global,
     steps: &[ScriptStep],

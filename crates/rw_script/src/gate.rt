@@ -1,15 +1,15 @@
-//! Gates: what stands between the calls of a script that threads play.
+//! Gates, which are notified of the calls of a script that threads play.
 
-/// What is told of each call that the threads of a script make. Neither call is made under a lock.
+/// What is notified of each call that the threads of a script make. No lock is held while a gate is called.
 pub trait Gate {
-    /// Comes right before an actor's call. `i` counts the actor's calls from 0.
+    /// Is called right before an actor's call. `i` counts the actor's calls from 0.
     fn before(&self, actor: u32, i: u64);
 
-    /// Comes right behind it, whatever its answer.
+    /// Is called right after it, even if it failed.
     fn after(&self, actor: u32, i: u64);
 }
 
-/// Holds no call.
+/// Holds no call back.
 impl Gate for () {
     fn before(&self, _actor: u32, _i: u64) {}
 

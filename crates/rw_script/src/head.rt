@@ -12,7 +12,7 @@ pub(crate) enum HeadLine {
     Broadcast(u64),
     /// A channel line: a watch of this value.
     Watch(u64),
-    /// The line that says how many actors there are.
+    /// The line with the number of actors.
     Actors(u64),
 }
 
@@ -31,7 +31,7 @@ impl HeadLine {
         }
     }
 
-    /// What a line at the head says.
+    /// Parses a line at the head.
     #[tactic(auto, unfolding(crate::specs::Script::head_in))]
     pub(crate) fn of(line: &[u8]) -> Option<HeadLine>
         ensures { result ≡ head_in line.now }

@@ -1,9 +1,9 @@
 //! Scripts: channels, actors and their calls as text; and the run of a script.
 //!
-//! The one contract: `Script::read` gives the script that its lines say, or its first fault, and `run_one` the run of the calls
-//! before the first that would wait, with that line's number.
-//! Start reading at `specs/Script.antt`, which says what the lines of a script say, and at `specs/Running.antt`, which says
-//! what its run is. A script that comes line by line is read by `ScriptReader`. The words of calls are those of `rw_words`.
+//! The main contracts: `Script::read` returns the script that the lines describe, or its first fault. `run_one` returns the run
+//! of the calls before the first that would wait, with that line's number.
+//! Start reading at `specs/Script.antt`, which defines what the lines of a script mean, and at `specs/Running.antt`, which
+//! defines its run. `ScriptReader` reads a script line by line. The words of calls are those of `rw_words`.
 #![tactic(auto)]
 
 mod faults;

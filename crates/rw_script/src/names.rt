@@ -8,7 +8,7 @@ use rw_law::NoMemory;
 use std::alloc::Global;
 use std::marker::Model;
 
-/// By whom and where a name was bound.
+/// The actor that bound a name, and the channel.
 #[derive(Clone, Copy)]
 struct Binding {
     actor: u32,
@@ -16,7 +16,7 @@ struct Binding {
 }
 
 impl Binding {
-    /// Whether it was by this actor on this channel.
+    /// Whether the name was bound by this actor on this channel.
     fn is_by(&self, actor: u32, channel: u32) -> bool
         ensures { result ≡ (self.now.actor == actor && self.now.channel == channel) }
     {
@@ -24,7 +24,7 @@ impl Binding {
     }
 }
 
-/// The names that a script binds, in order of binding, each under its number: 0, 1, 2, .. .
+/// The names that a script binds, numbered 0, 1, 2, .. in the order in which they are bound.
 #[derive(Drop)]
 pub(crate) struct Names {
     bindings: IndexMap<Vec<u8>, Binding>,
@@ -48,7 +48,7 @@ impl Names {
         }
     }
 
-    /// The number of a name that this actor bound on this channel.
+    /// Returns the number of a name that this actor bound on this channel.
     pub(crate) fn number(&self, name: &[u8], actor: u32, channel: u32) -> Option<usize>
         ensures number { result ≡ number_of self.now name.now actor channel }
         ensures within { IfSome result (λ i. i < length self.now) }
@@ -89,7 +89,7 @@ impl Names {
         Ok(())
     }
 
-    /// Binds the name of a line, if it binds one, which isn't taken. Where memory is refused, nothing has changed.
+    /// Binds the name of a line, if the line binds one. The name isn't taken. On an error nothing has changed.
     pub(crate) fn bind(
         &mut self,
         alloc: Global,

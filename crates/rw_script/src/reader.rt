@@ -24,14 +24,14 @@ use rw_world::{MOST_CAPACITY, MOST_CHANNELS, Spec};
 use std::alloc::Global;
 use std::marker::Model;
 
-/// The most step lines of a script.
+/// The greatest number of step lines in a script.
 pub const MOST_STEPS: usize = 1_048_576;
 
-/// What the lines of a script so far say.
+/// A reader of a script, with what it has read so far.
 #[derive(Drop)]
 pub struct ScriptReader {
     alloc: Global,
-    /// How many lines were read, skipped ones counted.
+    /// How many lines were read, including skipped ones.
     lines: u64,
     specs: Vec<Spec<u64>>,
     /// `None` before the actors line.
@@ -52,7 +52,7 @@ impl Model for ScriptReader {
 }
 
 impl ScriptReader {
-    /// A reader that has read no line.
+    /// Creates a reader that has read no line.
     pub fn new(alloc: Global) -> ScriptReader
         ensures { result ≡ opening }
     {
@@ -66,15 +66,15 @@ impl ScriptReader {
         }
     }
 
-    /// How many lines were read, skipped ones counted.
+    /// Returns how many lines were read, including skipped ones.
     pub fn lines(&self) -> u64
         ensures { result ≡ self.now.lines }
     {
         self.lines
     }
 
-    /// Takes one line more, without its LF. At an `Err` nothing has changed, and the fault is that of this line; memory is asked
-    /// for only by a channel line or a step line that has no other fault.
+    /// Reads the next line, which is given without its LF. On an error nothing has changed, and the fault is that of this line.
+    /// Only a channel line or a step line allocates, once it has no other fault.
     pub fn take(&mut self, line: &[u8]) -> Result<(), ScriptFault>
         requires { self.old.lines < 2 ^ 64 - 1 }
         ensures taken { Takes result self.old self.new (after_line self.old line.now) }
@@ -93,7 +93,7 @@ impl ScriptReader {
         }
     }
 
-    /// The script that ends here. It takes no memory.
+    /// Ends the script, and returns it. It allocates nothing.
     pub fn finish(self) -> Result<Script, ScriptFault>
         requires { self.lines < 2 ^ 64 - 1 }
         ensures { result ≡ script_at_end self }
@@ -118,7 +118,7 @@ impl ScriptReader {
         Ok(Script::of(specs, actors.unwrap_or(1), steps))
     }
 
-    /// Takes the words of a line that was counted.
+    /// Reads a line that was already counted.
     #[tactic(auto, unfolding(crate::specs::Script::with_line))]
     fn take_line(&mut self, line: &[u8]) -> Result<(), ScriptFaultKind>
         ensures taken { TakesLine result self.old self.new (with_line self.old line.now) }
@@ -148,7 +148,7 @@ impl ScriptReader {
         self.actors.is_none() && self.steps.is_empty()
     }
 
-    /// Takes a channel line or the actors line.
+    /// Adds a channel line or the actors line.
     fn take_head(&mut self, head: HeadLine) -> Result<(), ScriptFaultKind>
         requires { is_in_head self.old ≡ true }
         ensures taken { TakesLine result self.old self.new (with_head self.old head) }
@@ -173,7 +173,7 @@ impl ScriptReader {
         }
     }
 
-    /// Takes one channel more.
+    /// Adds a channel.
     fn take_spec(&mut self, spec: Spec<u64>) -> Result<(), ScriptFaultKind>
         requires head { is_in_head self.old ≡ true }
         requires good { has_bad_capacity spec ≡ false }
@@ -190,7 +190,7 @@ impl ScriptReader {
         Ok(())
     }
 
-    /// Takes a step line.
+    /// Reads a step line.
     #[tactic(auto, unfolding(crate::specs::Script::with_step))]
     fn take_step(&mut self, line: &[u8]) -> Result<(), ScriptFaultKind>
         requires { length line.now ≤ LONGEST_LINE }
@@ -224,7 +224,7 @@ impl ScriptReader {
         }
     }
 
-    /// The number of the name that stands for a handle, if there is one.
+    /// Returns the number of the name in the handle's place, if there is one.
     fn target_of(
         &self,
         actor: u32,
@@ -242,7 +242,7 @@ impl ScriptReader {
         }
     }
 
-    /// Takes one step more, with the name that it binds.
+    /// Adds a step, with the name that it binds.
     fn take_said(
         &mut self,
         actor: u32,

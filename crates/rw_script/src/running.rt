@@ -20,20 +20,20 @@ use rw_world::{ChanCall, ChanReply, OpenFault, RowCall, Spec, World, documented,
 use std::alloc::Global;
 use thiserror::Error;
 
-/// A number that no handle ever has. A name stands for it where its line made no handle.
+/// The number for a name whose line made no handle. No handle ever has it.
 pub(crate) const NEVER_MADE: u32 = u32::MAX;
 
-/// Why a script isn't run. The first that holds is answered, in this order.
+/// Why a script isn't run. If several apply, the first in this order is reported.
 #[derive(Clone, Copy, Debug, PartialEq, Eq, Error)]
 pub enum RunFault {
-    /// A growth was refused.
+    /// An allocation failed.
     #[error("no memory")]
     NoMemory,
-    /// Not all threads could be started, and no call was made. `run_threads` alone answers this.
+    /// Not all threads could be started, and no call was made. Only `run_threads` returns this.
     #[error("no thread")]
     NoThread,
-    /// No growth was refused, and a call of a desk was, or the desk's journals and receipts don't give the run of the script.
-    /// `run_threads` alone answers this.
+    /// A call of a desk failed, though no allocation did, or the desk's journals and receipts aren't a run of the script. Only
+    /// `run_threads` returns this.
     #[error("strayed")]
     Strayed,
 }
@@ -49,7 +49,7 @@ impl From<NoMemory> for RunFault {
     }
 }
 
-/// The same call, made with another handle.
+/// Returns the same call, made with another handle.
 fn with_handle(call: ChanCall<u64>, handle: u32) -> ChanCall<u64>
     ensures { result ≡ with_handle call handle }
 {
@@ -59,7 +59,7 @@ fn with_handle(call: ChanCall<u64>, handle: u32) -> ChanCall<u64>
     }
 }
 
-/// The step's call, with the handle that its name stands for.
+/// Returns the step's call, with the handle that its name stands for.
 pub(crate) fn filled(step: &ScriptStep, made: &[u32]) -> ChanCall<u64>
     ensures { result ≡ with_made_handle step.now.call step.now.target made.now }
 {
@@ -72,7 +72,7 @@ pub(crate) fn filled(step: &ScriptStep, made: &[u32]) -> ChanCall<u64>
     }
 }
 
-/// The handle that a call made, by its reply.
+/// Returns the handle that a call made, by its reply.
 pub(crate) fn made_by(reply: &ChanReply<u64>) -> u32
     ensures { result ≡ made_by reply.now }
 {
@@ -83,7 +83,8 @@ pub(crate) fn made_by(reply: &ChanReply<u64>) -> u32
     }
 }
 
-/// Makes the call of a step, and gives the handle that it made. A call that would wait isn't made, and gives none.
+/// Makes the call of a step, and returns the handle that it made, or `NEVER_MADE`. A call that would wait isn't made: the
+/// result is `None`.
 fn run_step<M: Reversible<Call = RowCall<ChanCall<u64>>, Reply = ChanReply<u64>>>(
     book: &mut Book<M>,
     step: &ScriptStep,
@@ -107,7 +108,7 @@ fn run_step<M: Reversible<Call = RowCall<ChanCall<u64>>, Reply = ChanReply<u64>>
     }
 }
 
-/// Keeps the handle that a name stands for, where the step binds one.
+/// Stores the handle that a name stands for, if the step binds one.
 pub(crate) fn keep_handle(made: &mut Vec<u32>, binds: bool, handle: u32) -> Result<(), NoMemory>
     ensures { OnOk result (made.new.items ≡ (if binds then made.old.items ++ handle ∷ [] else made.old.items)) }
 {
@@ -117,7 +118,7 @@ pub(crate) fn keep_handle(made: &mut Vec<u32>, binds: bool, handle: u32) -> Resu
     Ok(())
 }
 
-/// Makes the calls of a script in order, up to the first that would wait, and gives the number of that line.
+/// Makes the calls of a script in order, up to the first that would wait, and returns the number of that line.
 fn run_steps<M: Reversible<Call = RowCall<ChanCall<u64>>, Reply = ChanReply<u64>>>(
     alloc: Global,
     book: &mut Book<M>,
@@ -140,7 +141,7 @@ fn run_steps<M: Reversible<Call = RowCall<ChanCall<u64>>, Reply = ChanReply<u64>
     Ok(None)
 }
 
-/// A book with the calls of a script before the first that would wait, and the number of that line.
+/// Returns a book with the calls of a script before the first that would wait, and the number of that line.
 fn run_book<M: Reversible<Call = RowCall<ChanCall<u64>>, Reply = ChanReply<u64>> + Drop>(
     alloc: Global,
     start: M,
@@ -165,7 +166,7 @@ fn run_book<M: Reversible<Call = RowCall<ChanCall<u64>>, Reply = ChanReply<u64>>
     Ok((book, waits))
 }
 
-/// The same on the world that the script opens.
+/// Like `run_book`, on the world that the script opens.
 fn run_world(alloc: Global, script: &Script) -> Result<(Book<World<u64>>, Option<u64>), NoMemory>
     ensures opened { IfOk result (λ ran. opening_of of_world ran.0 ≡ opening_row script.now.specs) }
     ensures entries { IfOk result (λ ran. ran.0.entries ≡ journal_of of_world (opening_row script.now.specs) 0 (run_of script.now).calls) }
@@ -180,7 +181,8 @@ fn run_world(alloc: Global, script: &Script) -> Result<(Book<World<u64>>, Option
     }
 }
 
-/// A script that was run: the specs of its channels, the book that has its calls, and the line that would wait, if one would.
+/// A script that was run: the specs of its channels, the book with its calls, and the line of the call that would wait, if one
+/// would.
 #[derive(Drop)]
 pub struct Played {
     pub specs: Vec<Spec<u64>>,
@@ -189,7 +191,7 @@ pub struct Played {
 }
 
 /// Runs a script on a book: its calls in the order of its lines, with the stamps 1, 2, 3, .. . It stops at the first call that
-/// would wait, and gives the number of that line.
+/// would wait, and returns the number of that line.
 pub fn play(alloc: Global, script: &Script) -> Result<Played, RunFault>
     ensures specs { IfOk result (λ played. played.specs.items ≡ script.now.specs) }
     ensures opens { IfOk result (λ played. refusal played.specs.items ≡ None) }
@@ -210,7 +212,7 @@ pub fn play(alloc: Global, script: &Script) -> Result<Played, RunFault>
     }
 }
 
-/// The same as a run.
+/// Like `play`, but returns a run instead of a book.
 pub fn run_one(alloc: Global, script: &Script) -> Result<(Run<u64>, Option<u64>), RunFault>
     ensures specs { IfOk result (λ ran. ran.0.specs ≡ script.now.specs) }
     ensures entries { IfOk result (λ ran. ran.0.entries ≡ journal_of of_world (opening_row script.now.specs) 0 (run_of script.now).calls) }

@@ -1,4 +1,4 @@
-//! What the text of a call says in a script, where names may stand for handles.
+//! The text of a call in a script, where names may stand for handles.
 
 ghost use Rattle.std.specs.Prelude.{◌≡◌, ◌≤◌, ◌+◌, ◌++◌, ◌∷◌, length, option_map, take, false, IfOk};
 ghost use Rattle.rw_world.specs.Channel.{strays_at};
@@ -18,7 +18,7 @@ use rw_world::ChanCall;
 /// A call that may name its handle, and may bind a name.
 #[derive(Clone, Copy)]
 pub(crate) struct SaidCall<'a> {
-    /// The call; its handle is 0 where a name stands for it.
+    /// The call. Its handle is 0 if a name stands for it.
     pub(crate) call: ChanCall<u64>,
     /// The name in the handle's place.
     pub(crate) target: Option<&'a [u8]>,
@@ -26,7 +26,7 @@ pub(crate) struct SaidCall<'a> {
     pub(crate) bound: Option<&'a [u8]>,
 }
 
-/// Whether a call makes a handle, where it isn't refused.
+/// Whether a call makes a handle if it isn't refused.
 fn makes(call: &ChanCall<u64>) -> bool
     ensures { result ≡ makes call.now }
 {
@@ -36,14 +36,14 @@ fn makes(call: &ChanCall<u64>) -> bool
     }
 }
 
-/// The name that a token is.
+/// Returns the token if it is a name.
 fn name_of(token: &[u8]) -> Option<&[u8]>
     ensures { option_map (λ n. n.now) result ≡ name_in token.now }
 {
     if is_name(token) { Some(token) } else { None }
 }
 
-/// The name that is bound, where `as NAME` and nothing else follows the handle.
+/// Returns the name that is bound, if just `as NAME` follows the handle.
 fn bound_of(more: Option<&[u8]>) -> Option<&[u8]>
     ensures { option_map (λ n. n.now) result ≡ bound_in (option_map (λ m. m.now) more.entry) }
 {
@@ -55,7 +55,7 @@ fn bound_of(more: Option<&[u8]>) -> Option<&[u8]>
     }
 }
 
-/// The handle's token, or `0` in a name's place.
+/// Returns the handle's token, or `0` if it is a name.
 fn handle_text(handle: &[u8]) -> &[u8]
     ensures text { result.now ≡ handle_text handle.now }
     ensures short { length result.now ≤ length handle.now }
@@ -63,7 +63,7 @@ fn handle_text(handle: &[u8]) -> &[u8]
     if is_name(handle) { b"0" } else { handle }
 }
 
-/// What follows the handle, with one space in front of it, put at a place. It answers where that ends.
+/// Writes a space and what follows the handle at a place, or nothing if nothing follows. Returns where that ends.
 fn put_rest(out: &mut [u8; 256], at: usize, more: Option<&[u8]>) -> usize
     requires { at + length (rest_text (option_map (λ m. m.now) more)) ≤ 256 }
     ensures end { result ≡ at + length (rest_text (option_map (λ m. m.now) more.entry)) }
@@ -78,7 +78,7 @@ fn put_rest(out: &mut [u8; 256], at: usize, more: Option<&[u8]>) -> usize
     }
 }
 
-/// The call of a text in parts, with its names taken out.
+/// Parses the call of a text that is given in parts, without its names.
 fn call_of_parts(
     broadcast: bool,
     text: &[u8],
@@ -103,7 +103,7 @@ fn call_of_parts(
     read_call(broadcast, &out[..at])
 }
 
-/// A name is bound by a call that makes a handle.
+/// Returns a call with its names. Only a call that makes a handle may bind one.
 fn said_by<'a>(
     target: Option<&'a [u8]>,
     bound: Option<&'a [u8]>,
@@ -122,7 +122,7 @@ fn said_by<'a>(
     })
 }
 
-/// What the text of a call says, in the words of a broadcast or else of a watch.
+/// Parses the text of a call, in the words of a broadcast or else of a watch.
 #[tactic(auto, unfolding(crate::specs::StepLines::said_in, crate::specs::Fields::named_in))]
 pub(crate) fn read_said(broadcast: bool, text: &[u8]) -> Result<SaidCall<'_>, ScriptFaultKind>
     requires { length text.now ≤ LONGEST_LINE }

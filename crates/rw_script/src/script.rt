@@ -38,10 +38,10 @@ impl Model for Script {
 }
 
 impl Script {
-    /// The script of these bytes, up to the line `---` or their end, or its first fault.
+    /// Reads a script from these bytes, up to the line `---` or their end. Returns it, or its first fault.
     pub fn read(alloc: Global, bytes: &[u8]) -> Result<Script, ScriptFault>
         ensures given { Gives result (script_in (lines bytes.now)) }
-        // Memory may be wanting only where a line asks for it, and the lines before it were taken.
+        // An allocation can only fail at a line that allocates, after the lines before it were accepted.
         ensures memory { IfErr result (λ fault. fault.kind ≡ ScriptFaultKind.NoMemory → AsksMemory (lines bytes.now) fault.line) }
     {
         let mut reader = ScriptReader::new(alloc);
@@ -71,7 +71,7 @@ impl Script {
         }
     }
 
-    /// What the channels are opened as.
+    /// Returns what the channels are opened as.
     pub fn specs(&self) -> &[Spec<u64>]
         ensures specs { result.now ≡ self.now.specs }
         ensures opens { refusal result.now ≡ None }
@@ -79,7 +79,7 @@ impl Script {
         self.specs.as_slice()
     }
 
-    /// How many actors there are.
+    /// Returns the number of actors.
     pub fn actors(&self) -> u32
         ensures actors { result ≡ self.now.actors }
         ensures some { 1 ≤ result }
@@ -88,19 +88,19 @@ impl Script {
         self.actors
     }
 
-    /// The calls, in the order of their lines.
+    /// Returns the calls, in the order of their lines.
     pub fn steps(&self) -> &[ScriptStep]
         ensures steps { result.now ≡ self.now.steps }
         ensures few { length result.now ≤ MOST_STEPS }
         ensures each { All (IsScriptStep self.now.specs self.now.actors) result.now }
-        // What every script keeps.
+        // The invariant of every script.
         ensures script { IsScript self.now }
     {
         self.steps.as_slice()
     }
 }
 
-/// The first line, without its LF, and what stands behind it.
+/// Returns the first line, without its LF, and what follows it.
 fn first_line(bytes: &[u8]) -> (&[u8], &[u8])
     requires { 0 < length bytes.now }
     ensures lines { lines bytes.now ≡ result.0.now ∷ lines result.1.now }

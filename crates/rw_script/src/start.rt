@@ -1,11 +1,11 @@
-//! The signal that the threads of a script begin by.
+//! The signal at which the threads of a script begin.
 
 use std::sync::{Condvar, Mutex, Wait};
 
 /// A signal that threads wait for.
 #[derive(Drop)]
 pub(crate) struct Start {
-    /// Whether to go, or `None` before that was told.
+    /// Whether to go, or `None` before the signal.
     go: Mutex<Option<bool>>,
     told: Condvar,
 }
@@ -18,7 +18,7 @@ impl Start {
         }
     }
 
-    /// Waits for the signal, and says whether it was to go.
+    /// Waits for the signal, and returns whether it was to go.
     pub(crate) fn wait(&self, rt: &impl Wait) -> bool {
         let mut guard = self.go.lock(rt);
         for _ in rt.forever() {
@@ -31,7 +31,7 @@ impl Start {
         unreachable!()
     }
 
-    /// Tells all threads to go, or else to stop.
+    /// Signals all threads to go, or else to stop.
     pub(crate) fn tell(&self, rt: &impl Wait, go: bool) {
         *self.go.lock(rt) = Some(go);
         self.told.notify_all();

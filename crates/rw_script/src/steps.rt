@@ -9,7 +9,7 @@ pub struct ScriptStep {
     pub line: u64,
     pub actor: u32,
     pub channel: u32,
-    /// The call; its handle is 0 where a name stands for it.
+    /// The call. Its handle is 0 if a name stands for it.
     pub call: ChanCall<u64>,
     /// The number of the name that stands for the handle, in order of binding.
     pub target: Option<u32>,

@@ -19,9 +19,9 @@ use std::sync::Wait;
 use std::thread;
 use std::thread::{JoinHandle, Threads};
 
-/// What an actor's calls are made on. Threads share it as a parameter, so that their proof needn't look into a desk.
+/// What an actor's calls are made on. Threads share it as a type parameter, so that their proof needn't look into a desk.
 trait Calls {
-    /// One call, which waits where it has to.
+    /// Makes one call, and waits if it has to.
     fn make<R: Wait>(
         &self,
         rt: &R,
@@ -31,7 +31,7 @@ trait Calls {
     ) -> Result<ChanReply<u64>, DeskFault>;
 }
 
-/// A desk that the threads of a script share. As a type of its own it is proved once that threads may share it.
+/// A desk that the threads of a script share. It is a separate type so that it is proved only once that threads may share it.
 #[derive(Drop)]
 struct Shared {
     desk: Desk<u64>,
@@ -49,8 +49,8 @@ impl Calls for Shared {
     }
 }
 
-/// Makes the call of a step, between the gate's two, and gives the handle that it made. `made` has the handles that the names so
-/// far stand for.
+/// Makes the call of a step, between the two calls of the gate, and returns the handle that it made. `made` has the handles of
+/// the names so far.
 fn make_call<D: Calls, G: Gate, R: Wait>(
     rt: &R,
     desk: &D,
@@ -71,8 +71,8 @@ fn make_call<D: Calls, G: Gate, R: Wait>(
     }
 }
 
-/// Makes the calls of an actor's lines in order, up to the first that is refused. `made` is empty, and gets the handles that the
-/// names stand for.
+/// Makes the calls of an actor's lines in order, up to the first that fails. `made` is empty at first, and the handles of the
+/// names are added to it.
 fn make_calls<D: Calls, G: Gate, R: Wait>(
     rt: &R,
     desk: &D,
@@ -92,7 +92,7 @@ fn make_calls<D: Calls, G: Gate, R: Wait>(
     Ok(())
 }
 
-/// What an actor's thread does once it is told to go. It gives back the pass, beside the fault that it met.
+/// Waits for the signal, and makes an actor's calls if it is to go. Returns the pass, with the fault if there was one.
 fn play_actor<D: Calls, G: Gate, R: Wait>(
     rt: &R,
     start: &Start,
@@ -109,7 +109,7 @@ fn play_actor<D: Calls, G: Gate, R: Wait>(
     (pass, played)
 }
 
-/// The first in the order of faults.
+/// Returns the fault that is first in the order of faults, if there is one.
 fn first_fault(one: Result<(), RunFault>, other: Result<(), RunFault>) -> Result<(), RunFault> {
     match one {
         Ok(()) | Err(RunFault::Strayed) if other.is_err() => other,
@@ -117,7 +117,7 @@ fn first_fault(one: Result<(), RunFault>, other: Result<(), RunFault>) -> Result
     }
 }
 
-/// Keeps a thread for which there is room, and says whether it was started.
+/// Stores a thread, for which there is room, and returns whether it was started.
 fn keep_started<T: Drop, E: Drop>(threads: &mut Vec<T>, thread: Result<T, E>) -> bool {
     match thread {
         Ok(thread) => threads.push(thread).is_ok(),
@@ -125,7 +125,7 @@ fn keep_started<T: Drop, E: Drop>(threads: &mut Vec<T>, thread: Result<T, E>) ->
     }
 }
 
-/// Waits for the ends of threads. `back` gets the passes, for which there is room.
+/// Joins the threads. Their passes are added to `back`, which has room for them.
 fn join_all<P: Drop, R: Threads>(
     rt: &R,
     threads: Vec<JoinHandle<(P, Result<(), RunFault>)>>,
@@ -140,7 +140,7 @@ fn join_all<P: Drop, R: Threads>(
     played
 }
 
-/// Plays each actor's lines in a thread of its own, and gives the passes back. No call is made unless all threads were started.
+/// Plays each actor's lines in its own thread, and returns the passes. No call is made unless all threads were started.
 fn play_all<D: Calls + Sync, G: Gate + Sync, R: Threads + Wait + Sync>(
     rt: &R,
     alloc: Global,
@@ -160,7 +160,7 @@ fn play_all<D: Calls + Sync, G: Gate + Sync, R: Threads + Wait + Sync>(
     };
     let start = Start::new();
     let signal = &start;
-    // It stays so unless all threads are started.
+    // This remains the result unless all threads are started.
     let mut played = Err(RunFault::NoThread);
     thread::scope(thread::scope_env(), rt, |scope| {
         let mut started = true;
@@ -184,7 +184,7 @@ fn play_all<D: Calls + Sync, G: Gate + Sync, R: Threads + Wait + Sync>(
     }
 }
 
-/// What a fault of the desk's end says of the script.
+/// Returns the script's fault for a fault of closing the desk.
 fn fault_of(fault: CloseFault) -> RunFault {
     match fault {
         CloseFault::NoMemory => RunFault::NoMemory,
@@ -192,7 +192,7 @@ fn fault_of(fault: CloseFault) -> RunFault {
     }
 }
 
-/// Ends the desk.
+/// Closes the desk, and returns its run.
 fn close(alloc: Global, desk: Desk<u64>, passes: Vec<Pass<u64>>) -> Result<Run<u64>, RunFault>
     ensures here { IfOk result (λ run. AreAllHere desk.actors passes.items) }
     ensures specs { IfOk result (λ run. run.specs ≡ desk.specs) }
@@ -208,7 +208,7 @@ fn close(alloc: Global, desk: Desk<u64>, passes: Vec<Pass<u64>>) -> Result<Run<u
     }
 }
 
-/// Whether all entries are of so many actors.
+/// Whether each entry's actor is below this number.
 fn are_of(entries: &[Entry<World<u64>>], actors: u32) -> bool
     ensures { IsTrue result → All (λ e. e.actor < actors) entries.now }
 {
@@ -220,7 +220,7 @@ fn are_of(entries: &[Entry<World<u64>>], actors: u32) -> bool
     true
 }
 
-/// The run of the desk, if each actor's calls are those of its lines.
+/// Returns the run of the desk, if each actor's calls are those of its lines.
 fn played(
     alloc: Global,
     script: &Script,
@@ -244,11 +244,12 @@ fn played(
     Ok(run)
 }
 
-/// Plays a script: each actor's lines in a thread of its own, which waits where a call would wait, and makes no more calls once
-/// one of them is refused. The gate hears of each call.
+/// Plays a script: each actor's lines in its own thread, which waits where a call would wait, and stops at its first error. The
+/// gate is notified of each call.
 ///
-/// At `Ok` each actor's calls are those of its lines, all and in order; names stand for the handles that its own lines made.
-/// No call is made unless all threads were started. It may wait forever, as where a call waits for one that no line makes.
+/// On success, each actor's calls are those of all its lines, in order. Names stand for the handles that the actor's own lines
+/// made. No call is made unless all threads were started. It may wait forever, such as where a call waits for one that no line
+/// makes.
 pub fn run_threads<G: Gate + Sync, R: Threads + Wait + Sync>(
     rt: &R,
     alloc: Global,
@@ -257,7 +258,7 @@ pub fn run_threads<G: Gate + Sync, R: Threads + Wait + Sync>(
 ) -> Result<Run<u64>, RunFault>
     ensures { IfOk result (IsRunOf script.now) }
 {
-    // A script's specs open and its actors are 1 to 64, so memory alone can be wanting.
+    // A script's specs open and its actors are 1 to 64, so only an allocation can fail.
     let Ok((desk, passes, ends)) = Desk::open(alloc, script.specs(), script.actors()) else {
         return Err(RunFault::NoMemory);
     };
