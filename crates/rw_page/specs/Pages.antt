@@ -1,4 +1,4 @@
--- What a page is shown.
+-- The output that a page gets.
 use Rattle.std.specs.Prelude.{◌≡◌, ◌≤◌, ◌<◌, ℕ, List, ◌++◌, Result, Ok, Err, codes, length, take}
 use Rattle.rw_console.specs.Report.{commands_report}
 use Rattle.rw_journal.specs.Run.{Run}
@@ -17,7 +17,7 @@ page_report (Err fault) commands = codes "journal fault " ++ fault_text fault ++
 abbrev pub page_of : List ℕ → List ℕ → List ℕ
 page_of journal commands = page_report (reading_of numbers journal) commands
 
--- this text stands at the front of a buffer
+-- this text is at the start of a buffer
 abbrev pub Holds : List ℕ → ℕ → List ℕ → Type 0
 Holds buffer count text = (count ≤ length buffer) × (take count buffer ≡ text)
 

@@ -1,7 +1,7 @@
-//! What a page calls: the debugger over bytes in memory.
+//! The functions that a page calls: the debugger over bytes in memory.
 //!
-//! The one contract: what an export leaves in its buffer is what the program would write of the same bytes. No state lives from
-//! one call to the next. Start reading at `specs/Pages.antt`. The tests of the page (`page/test`) run both exports in a browser.
+//! The main contract: an export writes to its buffer what the program would write for the same bytes. No state remains from one
+//! call to the next. Start reading at `specs/Pages.antt`. The tests of the page (`page/test`) run both exports in a browser.
 #![tactic(auto)]
 
 mod pages;
@@ -13,10 +13,10 @@ ghost use Rattle.rw_page.specs.Pages.{Holds, Lacks, page_of};
 use crate::pages::{NO_ANSWER, debug_page, hand_over, session_page};
 use std::alloc::Global;
 
-/// Reads a journal text and then commands, and leaves what they write at the front of `out`.
+/// Reads a journal text and then commands, and writes their output to the start of `out`.
 ///
-/// 0: `count` bytes of `out` are the answer. 1: `out` is too small for the answer, which has `count` bytes. 2: there is no
-/// answer, for want of memory or for input above the limit.
+/// Returns 0 if the first `count` bytes of `out` are the output, and 1 if `out` is too small for the output, which has `count`
+/// bytes. Returns 2 if there is no output, because memory ran out or the input is above the limit.
 #[unsafe(no_mangle)]
 pub extern "C" fn ttd_debug(
     alloc: Global,
@@ -35,8 +35,8 @@ pub extern "C" fn ttd_debug(
     }
 }
 
-/// Reads a script, a line `---` and commands, and leaves what the session writes at the front of `out`. Its numbers are those
-/// of `ttd_debug`.
+/// Reads a script, a line `---` and commands, and writes the session's output to the start of `out`. Its return values are
+/// those of `ttd_debug`.
 #[unsafe(no_mangle)]
 pub extern "C" fn ttd_session(alloc: Global, input: &[u8], out: &mut [u8], count: &mut u64) -> u8
     ensures known { result ≤ 2 }

@@ -8,7 +8,7 @@ use rw_console::{SessionFault, debug, session};
 use rw_text::TextFault;
 use std::alloc::Global;
 
-/// What the commands write over the run of a journal text, or that text's first fault.
+/// Returns what the commands write over the run of a journal text, or that text's first fault.
 pub fn debug_page(alloc: Global, journal: &[u8], commands: &[u8]) -> Result<Vec<u8>, SessionFault>
     ensures { IfOk result (λ text. text.items ≡ page_of journal.now commands.now) }
 {
@@ -28,7 +28,7 @@ pub fn debug_page(alloc: Global, journal: &[u8], commands: &[u8]) -> Result<Vec<
     Ok(text)
 }
 
-/// What a session writes.
+/// Returns what a session writes.
 pub fn session_page(alloc: Global, bytes: &[u8]) -> Result<Vec<u8>, SessionFault>
     ensures { IfOk result (λ text. text.items ≡ report bytes.now) }
 {
@@ -38,7 +38,7 @@ pub fn session_page(alloc: Global, bytes: &[u8]) -> Result<Vec<u8>, SessionFault
     Ok(text)
 }
 
-/// The text stands in the buffer.
+/// The text is in the buffer.
 const ANSWERED: u8 = 0;
 
 /// The buffer is too small for the text.
@@ -47,7 +47,7 @@ const TOO_SMALL: u8 = 1;
 /// There is no text.
 pub const NO_ANSWER: u8 = 2;
 
-/// Copies a text to the front of a buffer, where it has room, and answers whether it had.
+/// Copies a text to the start of a buffer if it fits, and returns `ANSWERED` or `TOO_SMALL`. `count` becomes the text's length.
 pub fn hand_over(text: &Vec<u8>, out: &mut [u8], count: &mut u64) -> u8
     ensures known { result ≤ 1 }
     ensures answer { result ≡ 0 → Holds out.new count.new text.now.items }

@@ -1,7 +1,7 @@
-//! A box as its address, for what has to cross a boundary where a box can't.
+//! A box as its address, for crossing a boundary where a box can't.
 //!
-//! The one contract: `Parts` owns what the box owned, and gives the box back with the same value. Both functions have a proof by
-//! hand, since a raw pointer is all that the parts show. Start reading at `Parts`.
+//! The main contract: `Parts` owns what the box owned, and can be made into a box with the same value again. Both functions are
+//! proved by hand, since the parts show only a raw pointer. Start reading at `Parts`.
 #![tactic(auto)]
 
 ghost use Rattle.std.specs.Prelude.{◌≡◌};
@@ -32,7 +32,7 @@ impl<T, A: Allocator> Parts<T, A> {
         Parts { ptr, alloc }
     }
 
-    /// The box again.
+    /// Makes the box again.
     pub fn into_box(self) -> Box<T, A>
         ensures { result.value ≡ self.value }
     {

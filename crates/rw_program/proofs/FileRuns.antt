@@ -24,7 +24,7 @@ use Rattle.rw_program.specs.Verbs.{Salvages}
 
 -- ---- what is read
 
--- what is made of bytes that were read whole is made of their file
+-- if bytes that were read whole are refused, so is their file, for the same reason
 pub no_script : (file file' : Option (List ℕ)) (bytes : List ℕ) → Consumes file file' bytes → length bytes ≤ MOST_BYTES → (why : Refusal)
     → ((Said : List ℕ → Type 0) → Said bytes → ReadsWhole file file' Said) → IsNoScript bytes why → HasNoScript file file' why
 no_script file file' bytes read few (refusal.Stream fault) whole same = (bytes, read, subst (λ (e : StreamFault). ExplainsReading (length bytes) e) (sym same) few)
@@ -37,7 +37,7 @@ no_text text_of file file' bytes read few (refusal.Stream fault) whole same = (b
 no_text text_of file file' bytes read few (refusal.Script fault) whole said = absurd said
 no_text text_of file file' bytes read few (refusal.Text fault) whole said = whole _ said
 
--- what was made of the bytes that were read whole
+-- a run over a file whose bytes were read whole
 pub over : {file file' : Option (List ℕ)} {Said Made : List ℕ → Type 0} (Unmade : StreamFault → Type 0) → ReadsWhole file file' Said → ((bytes : List ℕ) → Said bytes → Made bytes)
     → OverFile file file' Made Unmade
 over Unmade (bytes, read, ended, few, said) make = record { bytes = bytes; read = read; made = inl (ended, few, make bytes said) }
@@ -52,7 +52,7 @@ no_prefix out text = record { text = []; rest = text; written = Appends-none out
 pub ran_out : {out : Option (List ℕ)} {line : List ℕ} {status : ℕ} (text : List ℕ) → Tells line status (Err NoMemory) → Fails out out line status text
 ran_out {out = out} text told = record { fault = NoMemory; why = tt; prefix = no_prefix out text; told = told }
 
--- a line was told when a text was written, or memory ran out
+-- a line was reported after a text was written, or memory ran out
 pub told_after : {out out' : Option (List ℕ)} {line : List ℕ} {status : ℕ} (text told : List ℕ) (answered : ℕ) → Appends out out' text → TellsLine line status told answered
     → Closes out out' line status (record { written = text; told = told; status = answered })
 told_after text told answered written (inl said) = inl (record { written = written; told = said.0; answered = said.1 })
@@ -72,7 +72,7 @@ some_text : (run : Run ℕ) → 0 < length (text numbers run)
 unfolding text_of
 some_text run = some_prefix (codes "ttd-journal 2\n") _ (lit< tt)
 
--- the writer failed when a prefix of a journal was written
+-- the writer failed after a prefix of a journal was written
 pub unwritten : {out out' : Option (List ℕ)} {line : List ℕ} {status : ℕ} (run : Run ℕ) (told : List ℕ) (answered : ℕ) (fault : StreamFault) → fault ≡ Write → WritesPrefix out out' (text numbers run) → Tells line status (Err fault)
     → Closes out out' line status (record { written = text numbers run; told = told; status = answered })
 unwritten {line = line} {status = status} run told answered fault write prefix said = inr (record { fault = Write; why = some_text run; prefix = prefix; told = subst (λ (e : StreamFault). Tells line status (Err e)) write said })
@@ -89,7 +89,7 @@ keeps_self : (out : Option (List ℕ)) → Keeps out out
 keeps_self None = tt
 keeps_self (Some bytes) = refl
 
--- nothing is written of a text that holds no run
+-- nothing is written for a text from which no run is salvaged
 pub unsalvaged : {file file' : Option (List ℕ)} (out : Option (List ℕ)) {line : List ℕ} {status : ℕ} (why : Refusal) → HasNoText (salvage_of numbers) file file' why → TellsWhy line status why → Salvages file file' out out line status
 unsalvaged out (refusal.Stream fault) (bytes, read, explained) told = record { bytes = bytes; read = read; made = inr (fault, explained, (keeps_self out, told)) }
 unsalvaged out (refusal.Script fault) none told = absurd none

@@ -59,7 +59,7 @@ done_any Check f f' r r' w w' line status d = (tt, over_any (λ bytes m. closes_
 done_any Salvage f f' r r' w w' line status d = (tt, over_any (λ bytes m. closes_any w w' line status _ m) (λ fault u. (tt, u.1)) d.1)
 done_any Debug f f' r r' w w' line status d = over_any (λ bytes m. debugs_any r r' w w' line status (reading_of numbers bytes) m) (λ fault u. (tt, (tt, u.1.1))) d
 
--- what a verb makes of a file that was opened, or that couldn't be
+-- a verb over a file that was opened, or that couldn't be
 pub opened_any : {F X : Type 0} (remaining : F → Option (List ℕ)) (file : Result F X) (verb : Verb) (r r' w w' : Option (List ℕ)) (line : List ℕ) (status : ℕ)
     → IfErr file (λ _. Keeps r r' × TellsOnly w w' line status Read) → IfOk file (λ f. (rest : Option (List ℕ)) × DoneBy verb (remaining f) rest r r' w w' line status)
     → Tells line status (Err Read) ⊎ DoneBy verb None None None None None None line status

@@ -18,7 +18,7 @@ plays_any w w' line status (Err fault) p = closes_any w w' line status _ p
 threads_any : (f f' w w' : Option (List ℕ)) (line : List ℕ) (status : ℕ) → RecordsThreads f f' w w' line status → RecordsThreads None None None None line status
 threads_any f f' w w' line status d = over_any (λ bytes m. plays_any w w' line status (script_in (lines bytes)) m) (λ fault u. (tt, u.1)) d
 
--- what threads make of a file that was opened, or that couldn't be
+-- threads over a file that was opened, or that couldn't be
 pub opened_threads_any : {F X : Type 0} (remaining : F → Option (List ℕ)) (file : Result F X) (w w' : Option (List ℕ)) (line : List ℕ) (status : ℕ)
     → IfErr file (λ _. TellsOnly w w' line status Read) → IfOk file (λ f. (rest : Option (List ℕ)) × RecordsThreads (remaining f) rest w w' line status)
     → Tells line status (Err Read) ⊎ RecordsThreads None None None None line status

@@ -1,4 +1,4 @@
--- The telling of an end.
+-- Reporting an end.
 use Rattle.std.proofs.Common.{◌≡◌, ℕ, List, Option, Result, Ok, Err, inl, inr, length, take}
 use Rattle.std.specs.Prelude.{IfOk, IfErr, OnOk, ◌<◌}
 use Rattle.std.specs.Io.KnownBytes.{Appends}
@@ -10,7 +10,7 @@ use Rattle.rw_console.specs.Streams.{Answers, Stops}
 use Rattle.rw_program.specs.Statuses.{Says, Tells}
 use Rattle.rw_program.specs.Runs.{Ends, Runs}
 
--- a line was written to its end, or its first bytes, fewer than all
+-- a line was written whole, or only its first bytes
 pub says : {X : Type 0} (e0 e1 : Option (List ℕ)) (line : List ℕ) (put : Result X ShortWrite) → OnOk put (Appends e0 e1 line) → IfErr put (λ e. e.written < length line)
     → IfErr put (λ e. Appends e0 e1 (take e.written line)) → Says e0 e1 line
 says e0 e1 line (Ok x) ok short err = inl ok

@@ -10,13 +10,13 @@ use Rattle.rw_program.specs.declared.reading.Refusal.{Refusal}
 use Rattle.rw_program.specs.declared.reading.Refusal.TheVariants as refusal
 use Rattle.rw_program.specs.Files.{StopsReading}
 
--- why no script is made of bytes: memory ran out, or this is their first fault
+-- why bytes aren't read as a script: memory ran out, or this is their first fault
 abbrev pub IsNoScript : List ℕ → Refusal → Type 0
 IsNoScript bytes (refusal.Stream fault) = fault ≡ NoMemory
 IsNoScript bytes (refusal.Script fault) = script_in (lines bytes) ≡ Err fault
 IsNoScript bytes (refusal.Text fault) = ⊥
 
--- the same of a journal text, by what is said of its bytes
+-- the same for a journal text, by how its bytes are read
 abbrev pub IsNoText : {X : Type 0} → (List ℕ → Result X TextFault) → List ℕ → Refusal → Type 0
 IsNoText said bytes (refusal.Stream fault) = fault ≡ NoMemory
 IsNoText said bytes (refusal.Script fault) = ⊥
@@ -30,7 +30,7 @@ ReadsWhole file file' Said = (bytes : List ℕ) × Consumes file file' bytes × 
 abbrev pub HasScript : Option (List ℕ) → Option (List ℕ) → Script → Type 0
 HasScript file file' script = ReadsWhole file file' (λ bytes. script_in (lines bytes) ≡ Ok script)
 
--- this is said of a file as a journal text
+-- a file is read as x, by how the bytes of a journal text are read
 abbrev pub HasText : {X : Type 0} → (List ℕ → Result X TextFault) → Option (List ℕ) → Option (List ℕ) → X → Type 0
 HasText said file file' x = ReadsWhole file file' (λ bytes. said bytes ≡ Ok x)
 

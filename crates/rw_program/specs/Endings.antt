@@ -1,4 +1,4 @@
--- What a run over a file comes to.
+-- How a run over a file ends.
 use Rattle.std.specs.Prelude.{ℕ, List, [], ◌++◌, length, Result, Ok, Err, codes, decimal}
 use Rattle.rw_console.specs.SessionReport.{fault_line, outcome_at, recording_of, waiting_line}
 use Rattle.rw_journal.specs.Run.{Run}
@@ -14,24 +14,24 @@ use Rattle.rw_text.specs.Salvaging.{salvage_of}
 use Rattle.rw_text.specs.Texts.{text}
 use Rattle.rw_program.specs.Statuses.{status_of}
 
--- a text on standard output, a line on the stream for errors, and an exit status
+-- a text on standard output, a line on standard error, and an exit status
 pub record Ending : Type 0 where
   pub written : List ℕ
   pub told : List ℕ
   pub status : ℕ
 
--- a script's fault is told on the stream for errors
+-- a script's fault is written to standard error
 abbrev pub refused_script : ScriptFault → Ending
 refused_script fault = record { written = []; told = fault_line fault; status = 1 }
 
 abbrev pub text_fault_line : TextFault → List ℕ
 text_fault_line fault = codes "journal fault " ++ fault_text fault ++ codes "\n"
 
--- a journal text's fault is written where its entries would be counted or shown
+-- a journal text's fault is written to standard output, where its entries would be counted or shown
 abbrev pub refused_text : TextFault → Ending
 refused_text fault = record { written = text_fault_line fault; told = []; status = 1 }
 
--- ---- `record`: the journal text of a script's run; which line would wait is told behind it
+-- ---- `record`: the journal text of a script's run, and then on standard error which line would wait
 
 abbrev pub end_of_record : Result Script ScriptFault → Ending
 end_of_record (Ok script) = record { written = text numbers (recording_of script); told = waiting_line (run_of script).waits; status = status_of (Ok (outcome_at (run_of script).waits)) }
@@ -49,12 +49,12 @@ end_of_check (Err fault) = refused_text fault
 abbrev pub check_of : List ℕ → Ending
 check_of bytes = end_of_check (reading_of numbers bytes)
 
--- ---- `salvage`: the journal text of what a text holds that was cut off; how many of its bytes say that is told
+-- ---- `salvage`: the journal text of the salvaged run, and then on standard error how many bytes were salvaged
 
 abbrev pub kept_line : ℕ → List ℕ
 kept_line count = codes "kept " ++ decimal count ++ codes " bytes\n"
 
--- a fault is told, since a journal would be written
+-- a fault is written to standard error, since standard output would have a journal
 abbrev pub end_of_salvage : Result (Run ℕ × ℕ) TextFault → Ending
 end_of_salvage (Ok p) = record { written = text numbers p.0; told = kept_line p.1; status = 0 }
 end_of_salvage (Err fault) = record { written = []; told = text_fault_line fault; status = 1 }

@@ -1,4 +1,4 @@
--- The line that a run tells on the stream for errors.
+-- The line that a run writes to standard error.
 use Rattle.std.specs.Prelude.{ℕ, List, string_bytes}
 use Rattle.rw_program.specs.declared.endings.Ended.{Ended}
 use Rattle.rw_program.specs.declared.endings.Line.{Line}

@@ -1,4 +1,4 @@
--- What an end is told by: an exit status, and a line on the stream for errors.
+-- How an end is reported: by an exit status, and a line on standard error.
 use Rattle.std.specs.Prelude.{◌≡◌, ◌⊎◌, ◌<◌, ℕ, List, [], Option, Result, Ok, Err, codes, length, take}
 use Rattle.std.specs.Io.KnownBytes.{Appends}
 use Rattle.rw_lines.specs.declared.streams.StreamFault.{StreamFault}
@@ -18,7 +18,7 @@ status_of (Err Write) = 4
 status_of (Err TooMuch) = 4
 status_of (Err NoMemory) = 5
 
--- the line on the stream for errors; a session that came to its end has none there, whatever its script
+-- the line on standard error; a session that reached its end has none there, whatever its script
 abbrev pub said_of : Result Outcome StreamFault → List ℕ
 said_of (Ok outcome) = []
 said_of (Err Read) = codes "read fault\n"
@@ -26,16 +26,16 @@ said_of (Err Write) = codes "write fault\n"
 said_of (Err TooMuch) = codes "read fault\n"
 said_of (Err NoMemory) = codes "no memory\n"
 
--- the line where the threads of a script give no run; the status is then 5
+-- the line if the threads of a script return no run; the status is then 5
 abbrev pub said_of_threads : RunFault → List ℕ
 said_of_threads run.NoMemory = codes "no memory\n"
 said_of_threads run.NoThread = codes "no thread\n"
 said_of_threads run.Strayed = codes "strayed\n"
 
--- this line and this status tell an end
+-- this line and this status report an end
 abbrev pub Tells : List ℕ → ℕ → Result Outcome StreamFault → Type 0
 Tells line status ended = (line ≡ said_of ended) × (status ≡ status_of ended)
 
--- a line was written whole, or else its first bytes, fewer than all
+-- a line was written whole, or only its first bytes
 abbrev pub Says : Option (List ℕ) → Option (List ℕ) → List ℕ → Type 0
 Says err err' line = Appends err err' line ⊎ ((n : ℕ) × (n < length line) × Appends err err' (take n line))

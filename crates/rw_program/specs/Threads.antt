@@ -1,4 +1,4 @@
--- What `record` makes of a script that a thread for each actor plays.
+-- How `record` ends for a script that a thread for each actor plays.
 use Rattle.std.specs.Prelude.{◌≡◌, ◌⊎◌, ℕ, List, [], Option, Result, Ok, Err, Bool, true, false}
 use Rattle.std.specs.Io.KnownBytes.{Keeps}
 use Rattle.rw_journal.specs.Run.{Run}
@@ -14,14 +14,15 @@ use Rattle.rw_program.specs.Files.{Closes, OverFile, TellsOnly}
 use Rattle.rw_program.specs.Statuses.{said_of_threads}
 use Rattle.rw_program.specs.Verbs.{Records}
 
--- the journal of some run is written in which each actor's calls are those of its lines, or it is told why the threads gave none
+-- the journal of a run is written in which each actor's calls are those of its lines, or it is reported why the threads
+-- returned none
 abbrev pub Plays : Option (List ℕ) → Option (List ℕ) → List ℕ → ℕ → Result Script ScriptFault → Type 0
 Plays out out' line status (Ok script) =
     ((run : Run ℕ) × IsRunOf script run × Closes out out' line status (record { written = text numbers run; told = []; status = 0 }))
     ⊎ ((fault : RunFault) × Keeps out out' × (line ≡ said_of_threads fault) × (status ≡ 5))
 Plays out out' line status (Err fault) = Closes out out' line status (refused_script fault)
 
--- `record` with threads has the file's script played by a thread for each actor
+-- `record` with threads plays the file's script with a thread for each actor
 abbrev pub RecordsThreads : Option (List ℕ) → Option (List ℕ) → Option (List ℕ) → Option (List ℕ) → List ℕ → ℕ → Type 0
 RecordsThreads file file' out out' line status = OverFile file file' (λ bytes. Plays out out' line status (script_in (lines bytes))) (TellsOnly out out' line status)
 

@@ -1,4 +1,4 @@
--- What each verb makes of a file.
+-- What each verb does with a file.
 use Rattle.std.specs.Prelude.{ℕ, List, Option}
 use Rattle.std.specs.Io.KnownBytes.{Keeps}
 use Rattle.rw_law.specs.Numbers.{numbers}
@@ -12,15 +12,15 @@ use Rattle.rw_program.specs.Files.{Closes, Debugs, OverFile, TellsOnly}
 abbrev pub Records : Option (List ℕ) → Option (List ℕ) → Option (List ℕ) → Option (List ℕ) → List ℕ → ℕ → Type 0
 Records file file' out out' line status = OverFile file file' (λ bytes. Closes out out' line status (record_of bytes)) (TellsOnly out out' line status)
 
--- `check` judges the file's journal
+-- `check` reports how many entries the file's journal has, or its first fault
 abbrev pub Checks : Option (List ℕ) → Option (List ℕ) → Option (List ℕ) → Option (List ℕ) → List ℕ → ℕ → Type 0
 Checks file file' out out' line status = OverFile file file' (λ bytes. Closes out out' line status (check_of bytes)) (TellsOnly out out' line status)
 
--- `salvage` writes the journal of what the file's text holds, which may have been cut off
+-- `salvage` writes the journal that it recovers from the file's text, which may have been cut off
 abbrev pub Salvages : Option (List ℕ) → Option (List ℕ) → Option (List ℕ) → Option (List ℕ) → List ℕ → ℕ → Type 0
 Salvages file file' out out' line status = OverFile file file' (λ bytes. Closes out out' line status (salvaging_of bytes)) (TellsOnly out out' line status)
 
--- `debug` answers the commands of the input over the file's journal
+-- `debug` runs the commands of the input over the file's journal
 abbrev pub Walks : Option (List ℕ) → Option (List ℕ) → Option (List ℕ) → Option (List ℕ) → Option (List ℕ) → Option (List ℕ) → List ℕ → ℕ → Type 0
 Walks file file' input input' out out' line status =
     OverFile file file' (λ bytes. Debugs input input' out out' line status (reading_of numbers bytes)) (λ fault. Keeps input input' × TellsOnly out out' line status fault)

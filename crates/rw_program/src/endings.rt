@@ -1,4 +1,4 @@
-//! What a run comes to: a line for the stream for errors, and the exit status.
+//! How a run ends: a line for standard error, and the exit status.
 
 ghost use Rattle.std.specs.Prelude.{◌≡◌, ◌≤◌, ◌<◌, [], take, length, string_bytes, OnOk, IfErr};
 ghost use Rattle.std.specs.Io.KnownBytes.{Appends};
@@ -10,7 +10,7 @@ use rw_lines::{ShortWrite, put};
 use rw_script::RunFault;
 use std::io::Write;
 
-/// A line that is told, or nothing.
+/// A line for standard error, which may be empty.
 #[derive(Drop)]
 enum Line {
     Fixed(&'static str),
@@ -20,7 +20,7 @@ enum Line {
 impl Line {
     ghost use Rattle.rw_program.specs.Lines.{text_of};
 
-    /// Its text.
+    /// Returns its text.
     fn text(&self) -> &str
         ensures { result.now ≡ text_of self.now }
     {
@@ -31,7 +31,7 @@ impl Line {
     }
 }
 
-/// What a run came to: the line that tells it on the stream for errors, and the exit status.
+/// How a run ended: the line for standard error, and the exit status.
 #[derive(Drop)]
 pub struct Ended {
     line: Line,
@@ -42,7 +42,7 @@ pub struct Ended {
 impl Ended {
     ghost use Rattle.rw_program.specs.Lines.{line_of};
 
-    /// The end of a session, of commands over a run, or at a fault.
+    /// Returns the end of a session or of commands over a run, given their result.
     pub fn of(ended: Result<Outcome, SessionFault>) -> Ended
         ensures line { line_of result ≡ said_of ended }
         ensures status { result.status ≡ status_of ended }
@@ -53,7 +53,7 @@ impl Ended {
         }
     }
 
-    /// The end where the threads of a script give no run.
+    /// Returns the end of a script whose threads returned no run.
     pub fn of_threads(fault: RunFault) -> Ended
         ensures line { line_of result ≡ said_of_threads fault }
         ensures status { result.status ≡ 5 }
@@ -64,7 +64,7 @@ impl Ended {
         }
     }
 
-    /// An end with this status that nothing is told of.
+    /// Returns an end with this status and no line.
     pub fn silent(status: u8) -> Ended
         requires { status ≤ 5 }
         ensures line { line_of result ≡ [] }
@@ -76,7 +76,7 @@ impl Ended {
         }
     }
 
-    /// An end that this line tells.
+    /// Returns an end with this line and status.
     pub fn told_by(line: String, status: u8) -> Ended
         requires { status ≤ 5 }
         ensures line { line_of result ≡ string_bytes line }
@@ -88,14 +88,14 @@ impl Ended {
         }
     }
 
-    /// The line that tells it, which may be empty.
+    /// Returns the line, which may be empty.
     pub fn line(&self) -> &str
         ensures { result.now ≡ line_of self.now }
     {
         self.line.text()
     }
 
-    /// The exit status.
+    /// Returns the exit status.
     pub fn status(&self) -> u8
         ensures known { result ≤ 5 }
         ensures status { result ≡ self.now.status }
@@ -103,7 +103,7 @@ impl Ended {
         self.status
     }
 
-    /// Tells it on `err`. At an `Err` the stream holds exactly the first bytes of the line, as many as it says.
+    /// Writes the line to `err`. On an error exactly the first bytes of the line were written, as many as the error reports.
     pub fn tell<E: Write>(&self, err: &mut E) -> Result<(), ShortWrite>
         ensures ok { OnOk result (Appends (E.contents err.old) (E.contents err.new) (line_of self.now)) }
         ensures short { IfErr result (λ e. e.written < length (line_of self.now)) }
@@ -113,7 +113,7 @@ impl Ended {
         put(err, self.line().as_bytes())
     }
 
-    /// Tells it, and answers the exit status. A failure of `err` itself changes no status.
+    /// Writes the line to `err`, and returns the exit status. A failure of `err` itself doesn't change the status.
     pub fn finish<E: Write>(&self, err: &mut E) -> u8
         ensures known { result ≤ 5 }
         ensures status { result ≡ self.now.status }

@@ -1,4 +1,4 @@
-//! What is made of a script or a journal text in a file.
+//! Runs over a script or a journal text in a file.
 
 ghost use Rattle.std.specs.Prelude.{◌≡◌, ◌≤◌, ◌<◌, ℕ, List, [], length, IfErr, OnOk};
 ghost use Rattle.std.specs.Io.KnownBytes.{Appends, Keeps};
@@ -39,7 +39,7 @@ fn end_with<W: Write>(out: &mut W, line: &str, status: u8) -> Ended
     }
 }
 
-/// Tells why nothing is made of a file.
+/// Returns the end for a file that is refused. Its line has the reason.
 fn tell(alloc: Global, why: Refusal) -> Ended
     ensures { TellsWhy (line_of result) result.status why }
 {
@@ -56,7 +56,7 @@ fn tell(alloc: Global, why: Refusal) -> Ended
     }
 }
 
-/// Says why nothing is made of a file. A journal text's fault is written on `out`.
+/// Returns the end for a file that is refused. A journal text's fault is written to `out`.
 pub(crate) fn refuse<W: Write>(alloc: Global, out: &mut W, why: Refusal) -> Ended
     ensures { Refuses (W.contents out.old) (W.contents out.new) (line_of result) result.status why }
 {
@@ -69,7 +69,7 @@ pub(crate) fn refuse<W: Write>(alloc: Global, out: &mut W, why: Refusal) -> Ende
     }
 }
 
-/// Says which line would wait, if one would.
+/// Returns the end of a script's run. Its line says which line would wait, if there is one.
 fn say_waiting(alloc: Global, waits: Option<u64>) -> Ended
     ensures { SaysWaiting (line_of result) result.status waits }
 {
@@ -82,7 +82,7 @@ fn say_waiting(alloc: Global, waits: Option<u64>) -> Ended
     }
 }
 
-/// Writes a run's journal text, and hands it on. At an `Err` the writer failed, when a prefix of it was written.
+/// Writes a run's journal text, and flushes. On an error the writer failed, after a prefix of the text was written.
 pub(crate) fn write_journal<W: Write>(run: &Run<u64>, out: &mut W) -> Result<(), SessionFault>
     ensures ok { OnOk result (Appends (W.contents out.old) (W.contents out.new) (text numbers run.now)) }
     ensures fault { IfErr result (λ fault. fault ≡ SessionFault.Write) }
@@ -115,7 +115,7 @@ pub(crate) fn record<F: Read, W: Write>(alloc: Global, file: &mut F, out: &mut W
     }
 }
 
-/// Judges the journal text in a file: writes `ok N`, N being the number of its entries, or its first fault.
+/// Checks the journal text in a file: writes `ok N`, where N is the number of its entries, or its first fault.
 fn check<F: Read, W: Write>(alloc: Global, file: &mut F, out: &mut W) -> Ended
     ensures { Checks (F.remaining file.old) (F.remaining file.new) (W.contents out.old) (W.contents out.new) (line_of result) result.status }
 {
@@ -131,7 +131,7 @@ fn check<F: Read, W: Write>(alloc: Global, file: &mut F, out: &mut W) -> Ended
     }
 }
 
-/// Says how many bytes of a text were kept.
+/// Returns the end for a salvaged text. Its line has how many bytes of the text were salvaged.
 fn say_kept(alloc: Global, count: u64) -> Ended
     ensures { TellsLine (line_of result) result.status (kept_line count) 0 }
 {
@@ -141,7 +141,7 @@ fn say_kept(alloc: Global, count: u64) -> Ended
     }
 }
 
-/// Writes the journal text of the whole lines of a file, a journal text that may have been cut off.
+/// Writes the journal text of the whole lines of a file, which is a journal text that may have been cut off.
 fn salvage<F: Read, W: Write>(alloc: Global, file: &mut F, out: &mut W) -> Ended
     ensures { Salvages (F.remaining file.old) (F.remaining file.new) (W.contents out.old) (W.contents out.new) (line_of result) result.status }
 {
@@ -157,7 +157,7 @@ fn salvage<F: Read, W: Write>(alloc: Global, file: &mut F, out: &mut W) -> Ended
     }
 }
 
-/// Reads the journal text in a file, and then commands over its run, and writes what they ask for.
+/// Reads the journal text in a file, then reads commands over its run and writes their output.
 fn walk<F: Read, R: Read, W: Write>(
     alloc: Global,
     file: &mut F,
@@ -179,7 +179,7 @@ fn walk<F: Read, R: Read, W: Write>(
     }
 }
 
-/// Does with an opened file what a verb says. Only `debug` reads the input.
+/// Runs a verb over an open file. Only `debug` reads the input.
 pub fn over_file<F: Read, R: Read, W: Write>(
     alloc: Global,
     verb: Verb,
@@ -198,9 +198,9 @@ pub fn over_file<F: Read, R: Read, W: Write>(
     }
 }
 
-/// Runs the script in a file, and writes the journal text of the calls before the first that would wait. That line, or the
-/// script's fault, is told on `err`. With `threads` each actor has a thread, which waits where a call would wait, and it is told
-/// where the threads give no run.
+/// Runs the script in a file, and writes the journal text of the calls before the first that would wait. Which line would wait,
+/// or the script's fault, is written to `err`. With `threads` each actor has a thread, which waits where a call would wait. If
+/// the threads return no run, the reason is written to `err`.
 pub fn record_file<F: Read, W: Write, E: Write, R: Threads + Wait + Sync>(
     rt: &R,
     alloc: Global,
@@ -217,7 +217,7 @@ pub fn record_file<F: Read, W: Write, E: Write, R: Threads + Wait + Sync>(
     ended.finish(err)
 }
 
-/// Judges the journal text in a file: writes `ok N`, N being the number of its entries, or its first fault.
+/// Checks the journal text in a file: writes `ok N`, where N is the number of its entries, or its first fault.
 pub fn check_file<F: Read, W: Write, E: Write>(
     alloc: Global,
     file: &mut F,
@@ -232,7 +232,7 @@ pub fn check_file<F: Read, W: Write, E: Write>(
     ended.finish(err)
 }
 
-/// Reads the journal text in a file, and then commands over its run, and writes what they ask for.
+/// Reads the journal text in a file, then reads commands over its run and writes their output.
 pub fn debug_file<F: Read, R: Read, W: Write, E: Write>(
     alloc: Global,
     file: &mut F,
@@ -249,8 +249,8 @@ pub fn debug_file<F: Read, R: Read, W: Write, E: Write>(
     ended.finish(err)
 }
 
-/// Writes the journal text of the whole lines of a file, a journal text that may have been cut off. How many bytes those have,
-/// or the text's fault, is told on `err`.
+/// Writes the journal text of the whole lines of a file, which is a journal text that may have been cut off. How many bytes
+/// those have, or the text's fault, is written to `err`.
 pub fn salvage_file<F: Read, W: Write, E: Write>(
     alloc: Global,
     file: &mut F,

@@ -8,10 +8,10 @@ use rw_console::{MOST_BYTES, SessionFault};
 use std::alloc::Global;
 use std::io::Read;
 
-/// How many bytes are asked for at once.
+/// How many bytes are read at a time.
 const PIECE: usize = 65_536;
 
-/// All bytes of a reader. More than 268,435,456 are too much.
+/// Reads all bytes of a reader. More than 268,435,456 are an error.
 pub fn read_whole<R: Read>(alloc: Global, reader: &mut R) -> Result<Vec<u8>, SessionFault>
     ensures read { IfOk result (λ bytes. Consumes (R.remaining reader.old) (R.remaining reader.new) bytes.items) }
     ensures few { IfOk result (λ bytes. length bytes.items ≤ MOST_BYTES) }

@@ -1,12 +1,12 @@
-//! The program `ttd` but for its `main`: sessions with the time-travel debugger of channels.
+//! The program `ttd`, except its `main`: sessions with the time-travel debugger of channels.
 //!
-//! `ttd session` runs a session on standard input and output, `ttd record FILE` writes the journal of a script, with `--threads`
-//! of one that a thread for each actor plays, `ttd check FILE` judges a journal, `ttd debug FILE` takes commands over one, and
-//! `ttd salvage FILE` writes what one that was cut off still holds. The one contract is that of `session_on` and of the four
-//! functions over files: what they write, what they tell on the stream for errors and the exit status are those of the bytes
-//! that they read; of a script's threads, those of some run of the script. For a session `rw_console`'s
-//! `specs/SessionReport.antt` says which, for a file `specs/Endings.antt` and `specs/Threads.antt`.
-//! Start reading at `program.rt`, and go on with `files.rt`.
+//! `ttd session` runs a session on standard input and output. `ttd record FILE` writes the journal of a script, and with
+//! `--threads` that of a script that a thread for each actor plays. `ttd check FILE` checks a journal, `ttd debug FILE` runs
+//! commands over one, and `ttd salvage FILE` recovers what is left of one that was cut off.
+//! The main contracts are those of `session_on` and of the four functions over files. What they write, their line on standard
+//! error and the exit status are determined by the bytes that they read; with threads, by some run of the script. For a session
+//! `rw_console`'s `specs/SessionReport.antt` defines them, and for a file `specs/Endings.antt` and `specs/Threads.antt`.
+//! Start reading at `program.rt`, and continue with `files.rt`.
 #![tactic(auto)]
 
 mod endings;

@@ -26,7 +26,7 @@ use std::rt::{Env, Files};
 use std::sync::Wait;
 use std::thread::Threads;
 
-/// How many bytes of output are kept before they are handed on.
+/// How many bytes of output are buffered.
 const OUTPUT_BUFFER: usize = 65_536;
 
 /// Runs a session on these streams.
@@ -37,7 +37,7 @@ pub fn session_end<R: Read, W: Write>(alloc: Global, input: &mut R, out: &mut W)
     Ended::of(session(alloc, input, out))
 }
 
-/// Runs a session on these streams, tells its end, and answers the exit status.
+/// Runs a session on these streams, reports its end on `err`, and returns the exit status.
 pub fn session_on<R: Read, W: Write, E: Write>(
     alloc: Global,
     input: &mut R,
@@ -52,7 +52,7 @@ pub fn session_on<R: Read, W: Write, E: Write>(
     ended.finish(err)
 }
 
-/// Does with a file what a verb says. A file that couldn't be opened is a failed read.
+/// Runs a verb over a file. A file that couldn't be opened is a failed read.
 pub fn over_opened<F: Read + Drop, R: Read, W: Write>(
     alloc: Global,
     verb: Verb,
@@ -72,7 +72,7 @@ pub fn over_opened<F: Read + Drop, R: Read, W: Write>(
     }
 }
 
-/// Plays the script in a file by a thread for each actor. A file that couldn't be opened is a failed read.
+/// Plays the script in a file with a thread for each actor. A file that couldn't be opened is a failed read.
 pub fn threads_over_opened<F: Read + Drop, W: Write, R: Threads + Wait + Sync>(
     rt: &R,
     alloc: Global,
@@ -89,7 +89,7 @@ pub fn threads_over_opened<F: Read + Drop, W: Write, R: Threads + Wait + Sync>(
     }
 }
 
-/// Does what the words ask for.
+/// Runs the command of the command line.
 fn answer<R: Files + Input + Print + AllocGlobal + Threads + Wait + Sync>(
     rt: &R,
     asked: Asked<'_>,
@@ -97,7 +97,7 @@ fn answer<R: Files + Input + Print + AllocGlobal + Threads + Wait + Sync>(
     ensures { EndsAs asked.entry (line_of result) result.status }
 {
     let alloc = rt.alloc();
-    // A session flushes once per command, and a long list goes out in large pieces.
+    // A session flushes once per command, and a long list is written in large pieces.
     let Ok(mut out) = BufWriter::with_capacity(alloc, OUTPUT_BUFFER, io::writer(rt)) else {
         return Ended::of(Err(SessionFault::NoMemory));
     };
@@ -113,7 +113,7 @@ fn answer<R: Files + Input + Print + AllocGlobal + Threads + Wait + Sync>(
     }
 }
 
-/// How the program ends where its words can't be read: refused, with nothing told, or for want of memory.
+/// Returns the end if the words can't be read: they are refused without a line, or memory ran out.
 fn unread_words(error: &io::Error) -> Ended
     ensures memory { error_kind error.now ≡ ErrorKind.OutOfMemory → Tells (line_of result) result.status (Err SessionFault.NoMemory) }
     ensures words { error_kind error.now ≢ ErrorKind.OutOfMemory → (line_of result ≡ []) × (result.status ≡ 2) }
@@ -124,7 +124,7 @@ fn unread_words(error: &io::Error) -> Ended
     }
 }
 
-/// The words of the command line.
+/// Returns the words of the command line.
 fn words_of<R: Env + AllocGlobal>(rt: &R) -> Result<Vec<String>, Ended>
     ensures { IfErr result (λ ended. ((line_of ended ≡ []) × (ended.status ≡ 2))
         ⊎ Tells (line_of ended) ended.status (Err SessionFault.NoMemory)) }
@@ -137,7 +137,7 @@ fn words_of<R: Env + AllocGlobal>(rt: &R) -> Result<Vec<String>, Ended>
     }
 }
 
-/// Does what the words of the command line ask for.
+/// Reads the command line, and runs its command.
 fn perform<R: Env + Files + Input + Print + AllocGlobal + Threads + Wait + Sync>(rt: &R) -> Ended
     ensures { IsEnd (line_of result) result.status }
 {
@@ -151,7 +151,7 @@ fn perform<R: Env + Files + Input + Print + AllocGlobal + Threads + Wait + Sync>
     }
 }
 
-/// Runs the program on the real words, files and streams, and answers its exit status.
+/// Runs the program on the real words, files and streams, and returns its exit status.
 pub fn run<R: Env + Files + Input + Print + AllocGlobal + Threads + Wait + Sync, E: Write>(
     rt: &R,
     err: &mut E,

@@ -1,4 +1,4 @@
-//! The script or the journal text that a file is.
+//! Reads a file as a script or as a journal text.
 
 ghost use Rattle.std.specs.Prelude.{IfOk, IfErr, ◌≡◌, Ok};
 ghost use Rattle.rw_law.specs.Numbers.{numbers};
@@ -16,18 +16,18 @@ use rw_text::TextFault;
 use std::alloc::Global;
 use std::io::Read;
 
-/// Why nothing is made of a file.
+/// Why a file is refused.
 #[derive(Clone, Copy)]
 pub enum Refusal {
     /// It can't be read whole, or memory ran out.
     Stream(SessionFault),
-    /// It is no script.
+    /// It isn't a script.
     Script(ScriptFault),
-    /// It is no run's journal text.
+    /// It isn't a run's journal text.
     Text(TextFault),
 }
 
-/// The script that these bytes are.
+/// Reads these bytes as a script.
 fn script_of(alloc: Global, bytes: &[u8]) -> Result<Script, Refusal>
     ensures script { IfOk result (λ script. script_in (lines bytes.now) ≡ Ok script) }
     ensures refused { IfErr result (λ why. IsNoScript bytes.now why) }
@@ -41,7 +41,7 @@ fn script_of(alloc: Global, bytes: &[u8]) -> Result<Script, Refusal>
     }
 }
 
-/// The run whose journal text these bytes are.
+/// Returns the run whose journal text these bytes are.
 fn run_of(alloc: Global, bytes: &[u8]) -> Result<Run<u64>, Refusal>
     ensures run { IfOk result (λ run. reading_of numbers bytes.now ≡ Ok run) }
     ensures refused { IfErr result (λ why. IsNoText (reading_of numbers) bytes.now why) }
@@ -53,7 +53,7 @@ fn run_of(alloc: Global, bytes: &[u8]) -> Result<Run<u64>, Refusal>
     }
 }
 
-/// The run of the whole lines of these bytes, and how many bytes those have.
+/// Returns the run of the whole lines of these bytes, and how many bytes those have.
 fn salvage_of(alloc: Global, bytes: &[u8]) -> Result<(Run<u64>, u64), Refusal>
     ensures held { IfOk result (λ p. salvage_of numbers bytes.now ≡ Ok p) }
     ensures refused { IfErr result (λ why. IsNoText (salvage_of numbers) bytes.now why) }
@@ -65,7 +65,7 @@ fn salvage_of(alloc: Global, bytes: &[u8]) -> Result<(Run<u64>, u64), Refusal>
     }
 }
 
-/// The script that a file is.
+/// Reads a file as a script.
 pub fn read_script<F: Read>(alloc: Global, file: &mut F) -> Result<Script, Refusal>
     ensures script { IfOk result (λ script. HasScript (F.remaining file.old) (F.remaining file.new) script) }
     ensures refused { IfErr result (λ why. HasNoScript (F.remaining file.old) (F.remaining file.new) why) }
@@ -76,7 +76,7 @@ pub fn read_script<F: Read>(alloc: Global, file: &mut F) -> Result<Script, Refus
     }
 }
 
-/// The run whose journal text a file is.
+/// Returns the run whose journal text a file is.
 pub fn read_run<F: Read>(alloc: Global, file: &mut F) -> Result<Run<u64>, Refusal>
     ensures run { IfOk result (λ run. HasText (reading_of numbers) (F.remaining file.old) (F.remaining file.new) run) }
     ensures refused { IfErr result (λ why. HasNoText (reading_of numbers) (F.remaining file.old) (F.remaining file.new) why) }
@@ -87,7 +87,7 @@ pub fn read_run<F: Read>(alloc: Global, file: &mut F) -> Result<Run<u64>, Refusa
     }
 }
 
-/// The run of the whole lines of a file, a journal text that may have been cut off, and how many bytes those have.
+/// Returns the run of the whole lines of a file, a journal text that may have been cut off, and how many bytes those have.
 pub fn read_salvage<F: Read>(alloc: Global, file: &mut F) -> Result<(Run<u64>, u64), Refusal>
     ensures held { IfOk result (λ p. HasText (salvage_of numbers) (F.remaining file.old) (F.remaining file.new) p) }
     ensures refused { IfErr result (λ why. HasNoText (salvage_of numbers) (F.remaining file.old) (F.remaining file.new) why) }

@@ -1,4 +1,4 @@
-//! What a session's end is told by: an exit status, and a line on the stream for errors.
+//! How a session's end is reported: by an exit status, and a line on standard error.
 
 ghost use Rattle.std.specs.Prelude.{◌≡◌, ◌≤◌};
 ghost use Rattle.rw_program.specs.Statuses.{said_of, said_of_threads, status_of};
@@ -15,10 +15,10 @@ pub const REFUSED_WORDS: u8 = 2;
 /// A call of the script would wait.
 pub const WOULD_WAIT: u8 = 3;
 
-/// Memory ran out, or there was no thread, or the threads strayed.
+/// Memory ran out, a thread couldn't be started, or the threads strayed.
 pub const NO_RUN: u8 = 5;
 
-/// The exit status of a session that ended so.
+/// Returns the exit status of a session with this result.
 pub fn status(ended: Result<Outcome, SessionFault>) -> u8
     ensures status { result ≡ status_of ended }
     ensures known { result ≤ 5 }
@@ -32,7 +32,7 @@ pub fn status(ended: Result<Outcome, SessionFault>) -> u8
     }
 }
 
-/// The line on the stream for errors. A session that came to its end has none there, whatever its script.
+/// Returns the line for standard error. A session that reached its end has none there, whatever its script.
 pub fn said(ended: Result<Outcome, SessionFault>) -> &'static str
     ensures { result.now ≡ said_of ended }
 {
@@ -44,7 +44,7 @@ pub fn said(ended: Result<Outcome, SessionFault>) -> &'static str
     }
 }
 
-/// The line on the stream for errors where the threads of a script give no run.
+/// Returns the line for standard error if the threads of a script return no run.
 pub fn said_of_threads(fault: RunFault) -> &'static str
     ensures { result.now ≡ said_of_threads fault }
 {

@@ -1,4 +1,4 @@
-//! What is made of a script in a file that a thread for each actor plays.
+//! Runs over a script in a file that a thread for each actor plays.
 
 ghost use Rattle.rw_program.specs.Lines.{line_of};
 ghost use Rattle.rw_program.specs.Threads.{RecordsBy, RecordsThreads};
@@ -13,7 +13,7 @@ use std::io::{Read, Write};
 use std::sync::Wait;
 use std::thread::Threads;
 
-/// Plays the script in a file by a thread for each actor, and writes the journal text of its run.
+/// Plays the script in a file with a thread for each actor, and writes the journal text of its run.
 pub(crate) fn record_threads<F: Read, W: Write, R: Threads + Wait + Sync>(
     rt: &R,
     alloc: Global,
@@ -40,7 +40,7 @@ pub(crate) fn record_threads<F: Read, W: Write, R: Threads + Wait + Sync>(
     }
 }
 
-/// Runs the script in a file with threads or without them.
+/// Runs the script in a file, with threads or without them.
 pub(crate) fn record_by<F: Read, W: Write, R: Threads + Wait + Sync>(
     rt: &R,
     alloc: Global,

@@ -12,7 +12,7 @@ use clap::{Arg, ArgAction, ArgMatches, Command};
 use rw_console::SessionFault;
 use std::alloc::Global;
 
-/// What is done with a file.
+/// What to do with a file.
 #[derive(Clone, Copy, Debug, PartialEq, Eq)]
 pub enum Verb {
     Record,
@@ -21,7 +21,7 @@ pub enum Verb {
     Salvage,
 }
 
-/// What the words of the command line ask for.
+/// A command of the command line.
 #[derive(Clone, Copy, Debug, PartialEq, Eq)]
 pub enum Asked<'a> {
     Session,
@@ -30,10 +30,10 @@ pub enum Asked<'a> {
     Threads(&'a str),
 }
 
-/// The name of the flag that has a script played by threads.
+/// The name of the flag that lets threads play a script.
 const THREADS: &str = "threads";
 
-/// A subcommand that takes a path.
+/// Returns a subcommand that takes a path.
 fn with_file<'a>(alloc: Global, name: &'a str, about: &'a str) -> Result<Command<'a>, clap::Error> {
     let file = Arg::new(alloc, "FILE")
         .required(true)
@@ -41,7 +41,7 @@ fn with_file<'a>(alloc: Global, name: &'a str, about: &'a str) -> Result<Command
     Ok(Command::new(alloc, name).about(about).arg(file)?)
 }
 
-/// The subcommand that runs a script. The flag may stand on either side of the path.
+/// Returns the subcommand that runs a script. The flag may be on either side of the path.
 fn record_words<'a>(alloc: Global) -> Result<Command<'a>, clap::Error> {
     let threads = Arg::new(alloc, THREADS)
         .long(THREADS)
@@ -55,7 +55,7 @@ fn record_words<'a>(alloc: Global) -> Result<Command<'a>, clap::Error> {
     Ok(record.arg(threads)?)
 }
 
-/// A program's words with a subcommand more that takes a path.
+/// Adds a subcommand that takes a path.
 fn with_verb<'a>(
     alloc: Global,
     program: Command<'a>,
@@ -66,7 +66,7 @@ fn with_verb<'a>(
     Ok(program.subcommand(verb)?)
 }
 
-/// The words that run a script: the program's own, `session` and `record`.
+/// Returns the words for scripts: the program's name, `session` and `record`.
 fn script_words<'a>(alloc: Global) -> Result<Command<'a>, clap::Error> {
     let session = Command::new(alloc, "session").about(
         "Read a script and then commands over its run, from standard input",
@@ -80,7 +80,7 @@ fn script_words<'a>(alloc: Global) -> Result<Command<'a>, clap::Error> {
     Ok(program.subcommand(record)?)
 }
 
-/// The words that the program takes.
+/// Returns the words that the program accepts.
 fn command_line<'a>(alloc: Global) -> Result<Command<'a>, clap::Error> {
     let program = script_words(alloc)?;
     let program = with_verb(alloc, program, "check", "Judge the journal in FILE")?;
@@ -98,7 +98,7 @@ fn command_line<'a>(alloc: Global) -> Result<Command<'a>, clap::Error> {
     )
 }
 
-/// What a subcommand asks for, by its name and what follows it.
+/// Returns the command of a subcommand, given its name and its arguments.
 fn asked_by<'a>(name: &str, inner: &ArgMatches<'a>) -> Option<Asked<'a>> {
     match (name, inner.get_str("FILE")) {
         ("session", _) => Some(Asked::Session),
@@ -111,7 +111,7 @@ fn asked_by<'a>(name: &str, inner: &ArgMatches<'a>) -> Option<Asked<'a>> {
     }
 }
 
-/// Reads the words of the command line, the program's own name first.
+/// Parses the words of the command line. The first is the program's name.
 pub fn read_words<'a>(alloc: Global, words: &'a [String]) -> Result<Asked<'a>, clap::Error> {
     let matches = command_line(alloc)?.try_get_matches_from(words)?;
     let asked = match matches.subcommand() {
@@ -121,7 +121,7 @@ pub fn read_words<'a>(alloc: Global, words: &'a [String]) -> Result<Asked<'a>, c
     drop(matches);
     match asked {
         Some(asked) => Ok(asked),
-        // A subcommand is required and each has its arm, so this isn't met; no contract says so.
+        // A subcommand is required and each has its arm, so this isn't reached, though no contract ensures it.
         None => {
             let mut program = command_line(alloc)?;
             Err(program.error(ErrorKind::MissingSubcommand, "a subcommand is missing")?)
@@ -129,7 +129,7 @@ pub fn read_words<'a>(alloc: Global, words: &'a [String]) -> Result<Asked<'a>, c
     }
 }
 
-/// How the program ends where its words aren't taken: the text that tells why, or want of memory.
+/// Returns the end if the words are refused: the text that says why, or that memory ran out.
 pub fn refuse_words(alloc: Global, error: &clap::Error) -> Ended
     ensures memory { kind_of error.now ≡ ErrorKind.OutOfMemory → Tells (line_of result) result.status (Err SessionFault.NoMemory) }
     ensures words { kind_of error.now ≢ ErrorKind.OutOfMemory → (result.status ≡ 2)

@@ -1,5 +1,5 @@
-//! The program `ttd`: it hands its words, files and streams on to `rw_program`, which says what it does, and ends with the
-//! status that is answered there.
+//! The program `ttd`: it runs `rw_program`, whose contracts state what it does, on its words, files and streams, and exits with
+//! the status that is returned there.
 #![tactic(auto)]
 
 use std::process::ExitCode;
