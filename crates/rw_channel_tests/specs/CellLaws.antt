@@ -1,4 +1,4 @@
--- A cell keeps the laws of a machine whose steps can be undone.
+-- A cell obeys the laws of a machine whose steps can be undone.
 use Rattle.std.proofs.Common.{◌≡◌, ◌+◌, ◌-◌, ◌≤◌, true, refl, ap, arith}
 use Rattle.rw_law.specs.Laws.{Laws}
 use Rattle.rw_channel_tests.specs.Cell.{Shown, next, reply_of, patch_of, back, Fits, waits, strays, refuses}

@@ -20,7 +20,7 @@ pub enum Reply {
     NoChannel,
 }
 
-/// A value that can be set so often, and not more.
+/// A value that can be set a limited number of times.
 #[derive(Drop)]
 pub struct Cell {
     value: u64,

@@ -28,7 +28,7 @@ fn a_short_life(rt: HostRuntime) -> Result<(), Fail> {
     Ok(())
 }
 
-/// How many senders, receivers and weak senders are alive.
+/// Returns how many senders, receivers and weak senders are alive.
 fn alive(table: &Table<u64>) -> [u64; 3] {
     [
         table.alive(Kind::Sender),

@@ -1,4 +1,4 @@
-//! A small ring, and rings beside a plain list of the last values.
+//! A small ring, and rings compared with a plain list of the last values.
 ghost use Rattle.std.specs.Prelude.{◌<◌};
 
 use rw_law::NoMemory;
@@ -25,7 +25,7 @@ fn ring_of_two(rt: HostRuntime) -> Result<(), Fail> {
     Ok(())
 }
 
-/// The plain body: the values in a list, all of which move by one place where one is evicted.
+/// A plain implementation: the values in a list, all of which move by one place when one is evicted.
 #[derive(Drop)]
 struct Plain {
     values: Vec<u64>,
@@ -69,7 +69,7 @@ fn agree(ring: &Ring<u64>, plain: &Plain) -> bool {
     ring.count() == plain.count && (0..14).all(|position| ring.at(position) == plain.at(position))
 }
 
-// Two puts and one taken back, again and again, and then all taken back.
+// Two puts and one undone, again and again, and then all undone.
 #[test]
 fn rings_keep_what_a_plain_list_keeps(rt: HostRuntime) -> Result<(), Fail> {
     for capacity in [1, 2, 4] {
@@ -90,7 +90,7 @@ fn rings_keep_what_a_plain_list_keeps(rt: HostRuntime) -> Result<(), Fail> {
     Ok(())
 }
 
-/// Two of three steps put a value, and the third takes back the last that was put, as all do from the 18th on.
+/// Two of three steps put a value, and the third undoes the last put. From step 18 on, all steps undo.
 fn take(
     rt: &impl Abort,
     ring: &mut Ring<u64>,

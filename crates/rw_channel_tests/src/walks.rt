@@ -25,7 +25,7 @@ const ONE_TO_SEVEN: [(u32, u64, u64); 7] = [
     (0, 7, 7),
 ];
 
-/// A navigator at the opening of an adder that makes these calls.
+/// Returns a navigator at the opening of an adder that makes these calls.
 fn at_opening(alloc: Global) -> Result<Navigator<Adder>, NoMemory> {
     let mut played = Adder::new();
     let entries = record(alloc, &mut played, &ONE_TO_SEVEN)?;
@@ -48,7 +48,7 @@ fn the_machine_had_as_many_calls_as_places_were_passed(rt: HostRuntime) -> Resul
     Ok(())
 }
 
-/// Each move is answered, and the machine had as many calls as the navigator turned.
+/// Each move has this result, and the machine had as many calls as the navigator counts.
 fn counts_its_turns(rt: &impl Abort, navigator: &mut Navigator<Metered<Adder>>) {
     for (to, answer, place, turns) in [
         (Move::End, Ok(()), 3, 3),
@@ -91,7 +91,7 @@ fn walks_by_moves_and_refuses_those_out_of_range(rt: HostRuntime) -> Result<(), 
     Ok(())
 }
 
-/// Moves out of the range of seven entries, after which it stands as before.
+/// Moves out of the range of seven entries are refused, and change nothing.
 fn refuses(rt: &impl Abort, navigator: &mut Navigator<Adder>) {
     assert_eq!(rt; (navigator.place(), navigator.turns()), (7, 15));
     for to in [
@@ -149,7 +149,7 @@ fn finds_the_nearest_hit_in_each_direction(rt: HostRuntime) -> Result<(), Fail> 
     Ok(())
 }
 
-/// The nearest hits of a condition, searched from a place in each direction: it then stands there, or where it stood.
+/// Searches for a condition from a place, in each direction. The navigator is then at the hit, or where it was.
 fn finds(
     rt: &impl Abort,
     navigator: &mut Navigator<Adder>,

@@ -2,14 +2,14 @@
 use Rattle.std.specs.Prelude.{ℕ, List, Option}
 use Rattle.rw_devices.specs.declared.readers.FailingReader.{FailingReader}
 
--- the bytes that it will give
+-- the bytes that weren't read yet
 abbrev pub unread : FailingReader → List ℕ
 unread r = r.rest.now
 
--- how many it gives at a call
+-- how many it reads at most per call
 abbrev pub most_of : FailingReader → ℕ
 most_of r = r.most
 
--- how many calls go well before the one that fails
+-- how many calls succeed before the one that fails
 abbrev pub calls_of : FailingReader → Option ℕ
 calls_of r = r.calls

@@ -2,22 +2,22 @@
 use Rattle.std.specs.Prelude.{ℕ, List, Option, take}
 use Rattle.rw_devices.specs.declared.writers.FailingWriter.{FailingWriter}
 
--- the bytes that it took
+-- the bytes that were written
 abbrev pub bytes_written : FailingWriter → List ℕ
 bytes_written w = w.kept.items
 
--- the first so many of them, that it handed on
+-- the first of them, which it passed on
 abbrev pub handed_on : FailingWriter → List ℕ
 handed_on w = take w.handed w.kept.items
 
--- how many it takes at a call
+-- how many it writes at most per call
 abbrev pub most_of : FailingWriter → ℕ
 most_of w = w.most
 
--- how many calls go well before the one that fails
+-- how many calls succeed before the one that fails
 abbrev pub calls_of : FailingWriter → Option ℕ
 calls_of w = w.calls
 
--- how many flushes went well
+-- how many flushes succeeded
 abbrev pub flushes_of : FailingWriter → ℕ
 flushes_of w = w.flushes

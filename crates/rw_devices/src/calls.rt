@@ -3,7 +3,7 @@
 ghost use Rattle.std.specs.Prelude.{◌≡◌};
 ghost use Rattle.rw_devices.specs.Calls.{is_due, after_call};
 
-/// Counts a call, and says whether it is the one that fails. `calls` is how many go well before it.
+/// Counts a call, and returns whether it is the one that fails. `calls` is how many succeed before it.
 pub(crate) fn fails(calls: &mut Option<u64>) -> bool
     ensures due { result ≡ is_due calls.old }
     ensures left { calls.new ≡ after_call calls.old }

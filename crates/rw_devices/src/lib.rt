@@ -1,7 +1,7 @@
-//! A reader and a writer in memory that work in small pieces and fail at a call, for tests of what stands on streams.
+//! A reader and a writer in memory that work in small pieces and fail at a call, for tests of code that uses streams.
 //!
-//! The one contract is that they are honest: they tell which bytes are left and which were taken, and fail at the call
-//! that they were told to fail at. Start reading at `readers.rt`.
+//! The main contract is that they report which bytes are left and which were written, and fail exactly at the call that they
+//! are set to fail at. Start reading at `readers.rt`.
 #![tactic(auto)]
 
 mod calls;

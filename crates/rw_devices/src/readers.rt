@@ -8,9 +8,9 @@ ghost use Rattle.rw_devices.specs.Calls.{is_due, after_call};
 use crate::calls::fails;
 use std::io::{Error, ErrorKind, Read, Result};
 
-/// Gives the bytes of a slice, a few at a call, and fails at one call, which takes nothing.
+/// Reads the bytes of a slice, a few per call, and fails at one call, which reads nothing.
 ///
-/// It fails by an interruption and goes well afterwards, so that a caller who tries again is found out.
+/// It fails with an interruption and succeeds afterwards, so that a caller that retries is noticed.
 #[derive(Drop)]
 pub struct FailingReader<'a> {
     rest: &'a [u8],
@@ -22,7 +22,8 @@ pub struct FailingReader<'a> {
 impl<'a> FailingReader<'a> {
     ghost use Rattle.rw_devices.specs.Readers.{unread, most_of, calls_of};
 
-    /// Gives these bytes, at most `most` at a call. So many calls go well before the one that fails, or all do.
+    /// Creates a reader of these bytes that reads at most `most` per call. `calls` is how many calls succeed before the one
+    /// that fails. With `None` all succeed.
     pub fn new(bytes: &'a [u8], most: usize, calls: Option<u64>) -> FailingReader<'a>
         requires { 0 < most }
         ensures unread { unread result ≡ bytes.now }
@@ -36,7 +37,7 @@ impl<'a> FailingReader<'a> {
         }
     }
 
-    /// The bytes that weren't read yet.
+    /// Returns the bytes that weren't read yet.
     pub fn unread(&self) -> &[u8]
         ensures { result.now ≡ unread self.now }
     {

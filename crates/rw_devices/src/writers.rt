@@ -9,10 +9,10 @@ use crate::calls::fails;
 use std::alloc::Global;
 use std::io::{Error, ErrorKind, Result, Write};
 
-/// Keeps what is written, a few bytes at a call, and fails at one call, which takes nothing.
+/// Stores what is written, a few bytes per call, and fails at one call, which writes nothing.
 ///
-/// It hands on what it holds at a flush alone, as a buffer does, so that a caller who forgets one is found out.
-/// It fails by an interruption and goes well afterwards, so that a caller who tries again is found out.
+/// Like a buffer, it passes on what it holds only at a flush, so that a caller that forgets to flush is noticed. It fails with
+/// an interruption and succeeds afterwards, so that a caller that retries is noticed.
 #[derive(Drop)]
 pub struct FailingWriter {
     kept: Vec<u8>,
@@ -26,8 +26,8 @@ pub struct FailingWriter {
 impl FailingWriter {
     ghost use Rattle.rw_devices.specs.Writers.{bytes_written, handed_on, most_of, calls_of, flushes_of};
 
-    /// Takes at most `most` bytes at a call, which may be none. So many calls, flushes among them, go well before the one
-    /// that fails, or all do.
+    /// Creates a writer that writes at most `most` bytes per call, which may be 0. `calls` is how many calls, including
+    /// flushes, succeed before the one that fails. With `None` all succeed.
     pub fn new(alloc: Global, most: usize, calls: Option<u64>) -> FailingWriter
         ensures written { bytes_written result ≡ [] }
         ensures handed { handed_on result ≡ [] }
@@ -44,21 +44,21 @@ impl FailingWriter {
         }
     }
 
-    /// The bytes that were written.
+    /// Returns the bytes that were written.
     pub fn written(&self) -> &[u8]
         ensures { result.now ≡ bytes_written self.now }
     {
         self.kept.as_slice()
     }
 
-    /// Those of them that were handed on, by the last flush that went well.
+    /// Returns those of them that were passed on, by the last flush that succeeded.
     pub fn handed_on(&self) -> &[u8]
         ensures { result.now ≡ handed_on self.now }
     {
         &self.kept.as_slice()[..self.handed]
     }
 
-    /// How many flushes went well.
+    /// Returns how many flushes succeeded.
     pub fn flushes(&self) -> u64
         ensures { result ≡ flushes_of self.now }
     {
@@ -72,7 +72,7 @@ impl Write for FailingWriter {
     ghost contents = { λ w. Some (bytes_written w) };
 
     fn write(&mut self, buf: &[u8]) -> Result<usize>
-        // It fails at that call, and for want of memory.
+        // It fails at that call, and if memory runs out.
         ensures fails { IsTrue (is_due (calls_of self.old)) → IsErr result }
         ensures count { IfOk result (λ n. n ≡ min (length buf.now) (most_of self.old)) }
         ensures bound { WritesAtMost result buf.now }

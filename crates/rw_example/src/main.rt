@@ -1,5 +1,5 @@
-//! A ticker: prices go over a broadcast, and the last one stands in a watch. One receiver is slow and lags, and the debugger
-//! goes back to the call that left it behind.
+//! A ticker: prices are sent over a broadcast, and a watch has the last one. One receiver is slow and lags, and the debugger
+//! goes back to the call that made it lag.
 //! Start reading at `main`.
 #![tactic(auto)]
 
@@ -29,7 +29,7 @@ fn prices(ticker: &mut Ticker, call: BCall<u64>) -> Result<BReply<u64>>
     }
 }
 
-/// The same on channel 1, the watch.
+/// Makes a call on channel 1, the watch, and records it as actor 0's.
 fn last(ticker: &mut Ticker, call: WCall<u64>) -> Result<WReply<u64>>
     ensures { ticker.new.opening ≡ ticker.old.opening }
 {
@@ -64,7 +64,7 @@ fn read_rest(rt: &impl Print, ticker: &mut Ticker, receiver: u32) -> Result<()>
     Ok(())
 }
 
-/// Prints the call that led to the debugger's place, and how the channels stand there.
+/// Prints the call that led to the debugger's place, and the channels as they are there.
 fn show(rt: &impl Print, debugger: &Debugger<u64>, receiver: u32) -> Result<()> {
     let place = debugger.place();
     if let Some(entry) = debugger.entry(place.saturating_sub(1)) {
@@ -81,12 +81,12 @@ fn show(rt: &impl Print, debugger: &Debugger<u64>, receiver: u32) -> Result<()> 
     Ok(())
 }
 
-/// Sends three prices to two receivers, of which one reads each at once; the other, whose number this is, doesn't. Then the sender
-/// is dropped.
+/// Sends three prices to two receivers, and then drops the sender. One receiver receives each price at once. The other receives
+/// none here, and its number is returned.
 fn trade(rt: &impl Print, ticker: &mut Ticker) -> Result<u32>
     ensures { ticker.new.opening ≡ ticker.old.opening }
 {
-    // Sender 0 and receiver 1 come with each channel.
+    // Each channel is opened with sender 0 and receiver 1.
     let slow = prices(ticker, BCall::Subscribe(0))?.made()?;
     for price in [101, 102, 103] {
         let receivers = prices(ticker, BCall::Send(0, price))?.sent()?;

@@ -1,9 +1,10 @@
-//! Mutated scripts and journals, which no answer may lose, and no call may fault at.
+//! Tries mutated scripts and journals: no call may fail, and an accepted journal has to be written again without loss.
 //!
-//! `rw_fuzz SEEDS COUNT` makes COUNT texts for each of the seeds 0, 1, .., and hands each to `session` and `debug`, or to `read` and `salvage`.
-//! A journal that is accepted has to be written again as its own bytes, but for the number of its version. Standard output has a line for
-//! each seed; standard error tells how often each answer came.
-//! Start reading at `trials.rt`, which says what is asked of a text, and go on with `mutations.rt`, which says how texts are made.
+//! `rw_fuzz SEEDS COUNT` makes COUNT texts for each of the seeds 0, 1, .., and passes each to `session`, or to `read` and
+//! `salvage`. A journal that is accepted has to be written again as its own bytes, except for the number of its version, and
+//! `debug` runs commands over it. Standard output has a line for each seed, and standard error has how often each result
+//! occurred.
+//! Start reading at `trials.rt`, which has the checks of a text, and continue with `mutations.rt`, which makes the texts.
 #![tactic(auto)]
 
 ghost use Rattle.std.specs.Prelude.{◌≡◌};
@@ -20,13 +21,13 @@ use std::env::{self, Env};
 use tally::Tally;
 use trials::{try_text, try_unchanged};
 
-/// How many seeds are taken where no number is given.
+/// How many seeds are used if no number is given.
 const DEFAULT_SEEDS: u64 = 2;
 
-/// How many texts are made for each seed where no number is given.
+/// How many texts are made for each seed if no number is given.
 const DEFAULT_COUNT: u64 = 300;
 
-/// The number at this place of the command line, or else the default.
+/// Returns the number at this place of the command line, or the default.
 fn asked(rt: &(impl Env + Alloc), place: usize, default: u64) -> Result<u64> {
     match env::args(rt)?.nth(place) {
         Some(number) => number
@@ -36,7 +37,7 @@ fn asked(rt: &(impl Env + Alloc), place: usize, default: u64) -> Result<u64> {
     }
 }
 
-/// Tries so many texts of a seed.
+/// Tries this many texts of a seed.
 fn try_seed(alloc: Global, seed: u64, count: u64) -> Result<Tally> {
     let mut mutator = Mutator::new(seed);
     let mut tally = Tally::new();

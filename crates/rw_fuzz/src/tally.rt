@@ -1,6 +1,6 @@
-//! How often each answer came.
+//! How often each result occurred.
 
-/// Answers of each name.
+/// The number of results of each kind.
 #[derive(Clone, Copy, Debug, PartialEq, Eq)]
 pub struct Tally {
     pub sessions_done: u64,
@@ -17,7 +17,7 @@ pub struct Tally {
 }
 
 impl Tally {
-    /// No answer so far.
+    /// Creates a tally without results.
     pub fn new() -> Tally {
         Tally {
             sessions_done: 0,
@@ -35,7 +35,7 @@ impl Tally {
     }
 }
 
-/// One answer more.
+/// Counts one more result.
 pub fn count(number: &mut u64) {
     *number = number.saturating_add(1);
 }

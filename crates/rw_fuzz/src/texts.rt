@@ -1,17 +1,17 @@
-//! The texts that mutations begin with, and the pieces that they put in.
+//! The texts that mutations begin with, and the pieces that they insert.
 
-/// A session in which each call of both channels stands, with commands.
+/// A session with each call of both channels, and with commands.
 const WHOLE_SESSION: &[u8] =
     b"broadcast 2\nwatch 5\nactors 2\n0 0 subscribe 0 as slow\n0 0 send 0 1\n0 0 send 0 2\n0 0 send 0 3\n0 0 try-recv slow\n0 0 recv slow\n0 0 clone-sender 0 as more\n0 0 downgrade 0 as weak\n0 0 upgrade weak as up\n0 0 clone-weak weak\n0 0 resubscribe 1\n0 0 sender-len 0\n0 0 receiver-len 1\n0 0 receiver-count 0\n0 0 drop more\n1 1 send 0 6\n1 1 send-replace 0 7\n1 1 modify 0 8 no\n1 1 modify 0 9 yes\n1 1 subscribe 0 as late\n1 1 clone-sender 0 as twin\n1 1 clone-receiver 1 as other\n1 1 changed 1\n1 1 update other\n1 1 has-changed 1\n1 1 mark-changed 1\n1 1 mark-unchanged 1\n1 1 borrow 1\n1 1 is-closed 0\n1 1 receiver-count 0\n1 1 drop late\n1 1 drop other\n1 1 drop 1\n1 1 closed 0\n---\nlist\nstate\nstate json\nstart\nforward 3\nstep\nrforward reply value\nrback actor 0\nrforward lagging 0 1\nrforward closed 0\nback 2\ngoto 4\nend\nquit\n";
 
-/// A short one, over a channel that closes.
+/// A short session, over a channel that closes.
 const SHORT_SESSION: &[u8] =
     b"broadcast 1\n0 0 send 0 1\n0 0 send 0 2\n0 0 drop 0\n0 0 try-recv 1\n0 0 recv 1\n0 0 recv 1\n---\nrback lagging 0 1\nstate\n";
 
-/// One that waits.
+/// A session that waits.
 const WAITING_SESSION: &[u8] = b"watch 5\n0 0 changed 1\n---\nstate\n";
 
-/// A journal of one channel, in the first version.
+/// A journal of one channel, in version 1.
 const OLD_JOURNAL: &[u8] =
     b"ttd-journal 1\nbroadcast 4\nsteps\n1 0 0 send 0 7 = sent 1\n2 0 0 try-recv 1 = value 7\n3 0 0 drop 0 = dropped\nend\n";
 
@@ -25,7 +25,7 @@ pub const SESSIONS: [&[u8]; 3] = [WHOLE_SESSION, SHORT_SESSION, WAITING_SESSION]
 /// Journals that are mutated.
 pub const JOURNALS: [&[u8]; 2] = [OLD_JOURNAL, JOURNAL];
 
-/// What is put in.
+/// The pieces that are inserted.
 pub const PIECES: [&[u8]; 32] = [
     b"",
     b"\n",

@@ -1,4 +1,4 @@
-//! What is asked of a text.
+//! The checks of a text.
 
 ghost use Rattle.std.specs.Prelude.{◌≡◌};
 
@@ -13,20 +13,20 @@ use rw_law::Payload;
 use rw_text::{TextFault, read, salvage, write};
 use std::alloc::Global;
 
-/// How many bytes a text has up to the number of its version. The first line of what is written has another one where the text is of
-/// version 1, and as many bytes.
+/// How many bytes a text has up to the number of its version, which is the last of them. A text of version 1 is written again
+/// with another number, of as many bytes.
 const VERSION_AT: usize = 13;
 
 /// The last line of a text.
 const LAST: &[u8] = b"end\n";
 
-/// A text from behind the number of its version.
+/// Returns a text from after the number of its version.
 fn behind_version(text: &[u8]) -> &[u8] {
     let (_, rest) = text.split_at(VERSION_AT.min(text.len()));
     rest
 }
 
-/// The text of a run, if it is written.
+/// Returns the text of a run, if it can be written.
 fn text_of<V: Payload>(alloc: Global, run: &Run<V>) -> Option<Vec<u8>> {
     let mut text = Vec::new(alloc);
     match write(run, &mut text) {
@@ -35,7 +35,7 @@ fn text_of<V: Payload>(alloc: Global, run: &Run<V>) -> Option<Vec<u8>> {
     }
 }
 
-/// Tries a session, with the bytes at most so many at a time.
+/// Tries a session, reading at most 64 bytes at a time.
 fn try_session(alloc: Global, text: &[u8], tally: &mut Tally) -> Result<()> {
     let mut reader = FailingReader::new(text, 64, None);
     let mut writer = Vec::new(alloc);
@@ -48,7 +48,7 @@ fn try_session(alloc: Global, text: &[u8], tally: &mut Tally) -> Result<()> {
     Ok(())
 }
 
-/// Counts a fault of a journal. Memory isn't wanting.
+/// Counts a fault of a journal. Running out of memory is an error.
 fn count_fault(tally: &mut Tally, fault: TextFault) -> Result<()> {
     match fault {
         TextFault::Malformed(_) => count(&mut tally.malformed),
@@ -61,7 +61,7 @@ fn count_fault(tally: &mut Tally, fault: TextFault) -> Result<()> {
     Ok(())
 }
 
-/// Walks over a run by the commands of a text.
+/// Runs the commands of a text over a run.
 fn try_commands(alloc: Global, run: &Run<u64>, commands: &[u8]) -> Result<()> {
     let mut reader = FailingReader::new(commands, 64, None);
     let mut writer = Vec::new(alloc);
@@ -71,7 +71,7 @@ fn try_commands(alloc: Global, run: &Run<u64>, commands: &[u8]) -> Result<()> {
     }
 }
 
-/// Tries to read a journal. Whether it is written again as its own bytes, if it is accepted.
+/// Tries to read a journal. Returns `false` if it is accepted but isn't written again as its own bytes.
 fn try_journal(alloc: Global, text: &[u8], commands: &[u8], tally: &mut Tally) -> Result<bool> {
     match read(alloc, text) {
         Ok(run) => {
@@ -89,7 +89,7 @@ fn try_journal(alloc: Global, text: &[u8], commands: &[u8], tally: &mut Tally) -
     }
 }
 
-/// Whether a run is written as these whole lines, with its last line behind them or among them.
+/// Whether a run is written as these whole lines, with its last line after them or among them.
 fn is_written_as(alloc: Global, run: &Run<u64>, lines: &[u8]) -> bool {
     let Some(again) = text_of(alloc, run) else {
         return false;
@@ -100,7 +100,7 @@ fn is_written_as(alloc: Global, run: &Run<u64>, lines: &[u8]) -> bool {
     rest.is_empty() || rest == LAST
 }
 
-/// Tries to salvage a journal. Whether what is salvaged is written again as the bytes that it was read from.
+/// Tries to salvage a journal. Returns `false` if what is salvaged isn't written again as the bytes that it was read from.
 fn try_salvage(alloc: Global, text: &[u8], tally: &mut Tally) -> Result<bool> {
     match salvage(alloc, text) {
         Ok((run, bytes)) => {
@@ -116,7 +116,7 @@ fn try_salvage(alloc: Global, text: &[u8], tally: &mut Tally) -> Result<bool> {
     }
 }
 
-/// Tries the texts that mutations begin with as they stand: journals that are refused would say little when mutated.
+/// Checks that the journals that mutations begin with are accepted: refused ones would test little when mutated.
 pub fn try_unchanged(alloc: Global) -> Result<()> {
     for text in JOURNALS {
         let read: std::result::Result<Run<u64>, TextFault> = read(alloc, text);
@@ -127,7 +127,7 @@ pub fn try_unchanged(alloc: Global) -> Result<()> {
     Ok(())
 }
 
-/// Tries one text more, a session or a journal. Whether all that was accepted is written again as its own bytes.
+/// Tries one more text, a session or a journal. Returns whether all that was accepted is written again as its own bytes.
 pub fn try_text(alloc: Global, mutator: &mut Mutator, tally: &mut Tally) -> Result<bool> {
     let commands = mutator.session(alloc)?;
     if mutator.flips() {

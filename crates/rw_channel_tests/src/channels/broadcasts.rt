@@ -246,7 +246,7 @@ fn weak_senders_refused(rt: HostRuntime) -> Result<(), Fail> {
     play_at(&rt, rt.alloc(), 2, steps)
 }
 
-/// That too many handles were made is seen before it is that there is no sender.
+/// The limit of handles is checked before whether there is a sender.
 #[test]
 fn upgrade_at_the_handle_limit(rt: HostRuntime) -> Result<(), Fail> {
     let mut steps: Vec<Wanted> = Vec::new(rt.alloc());

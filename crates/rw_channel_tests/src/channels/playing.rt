@@ -1,5 +1,5 @@
-//! How a row is played: its calls are made and undone one by one, and then recorded in a book, whose journal a navigator
-//! walks back and on again.
+//! How a row is played: its calls are made and undone one by one, and then recorded in a book, whose journal a navigator walks
+//! back and forward again.
 ghost use Rattle.std.specs.Prelude.{◌≡◌, ◌+◌, ◌<◌, ◌≤◌, ◌^◌, IfOk, length};
 
 use rw_fixtures::Shows;
@@ -11,7 +11,7 @@ use std::fmt::Debug;
 use std::process::Abort;
 use std::test::Fail;
 
-/// A call, its reply, and what is shown after it, where the row says so.
+/// A call, its reply, and what is shown after it, if the row has that.
 #[derive(Clone, Copy)]
 pub struct Expected<C, R, P> {
     pub call: C,
@@ -59,7 +59,7 @@ where
     }
 }
 
-/// Records the calls of a row by actor 0, and compares the replies. A call that would wait is no entry.
+/// Records the calls of a row by actor 0, and compares the replies. A call that would wait isn't recorded.
 fn record<M: Reversible + Drop + Shows>(
     rt: &impl Abort,
     alloc: Global,
@@ -78,7 +78,7 @@ where
     Ok(book)
 }
 
-/// Takes the call of a step, and compares the replies. A call that would wait is no entry.
+/// Records the call of a step, and compares the replies. A call that would wait isn't recorded.
 fn take<M: Reversible + Shows>(
     rt: &impl Abort,
     book: &mut Book<M>,
@@ -102,7 +102,7 @@ where
     Ok(())
 }
 
-/// Plays a row on one machine and records it there, and walks it back and on again on another in the same state.
+/// Plays and records a row on one machine, and walks it back and forward again on another in the same state.
 pub fn play<M: Reversible + Drop + Shows>(
     rt: &impl Abort,
     alloc: Global,
@@ -123,7 +123,7 @@ where
     record_and_walk(rt, alloc, recorded, walked, steps)
 }
 
-/// Records a row, of any length, on one machine, and walks it back and on again on another in the same state.
+/// Records a row, of any length, on one machine, and walks it back and forward again on another in the same state.
 pub fn record_and_walk<M: Reversible + Drop + Shows>(
     rt: &impl Abort,
     alloc: Global,
@@ -146,7 +146,7 @@ where
     Ok(())
 }
 
-/// Walks from the opening to the end, back, and on again.
+/// Walks from the opening to the end, back, and forward again.
 fn walk<M: Reversible + Shows>(
     rt: &impl Abort,
     navigator: &mut Navigator<M>,
@@ -178,7 +178,7 @@ fn walk_back<M: Reversible + Shows>(
     }
 }
 
-/// Walks on over each recorded step, to its place.
+/// Walks forward over each recorded step, to its place.
 fn walk_on<M: Reversible + Shows>(
     rt: &impl Abort,
     navigator: &mut Navigator<M>,
@@ -192,7 +192,7 @@ fn walk_on<M: Reversible + Shows>(
     }
 }
 
-/// Whether the machine shows what the row says of the place after a step.
+/// Asserts that the machine shows what the row has for the place after a step.
 fn is_at<M: Reversible + Shows>(
     rt: &impl Abort,
     machine: &M,

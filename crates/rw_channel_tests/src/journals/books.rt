@@ -6,7 +6,8 @@ use rw_law::Entry;
 use std::process::Abort;
 use std::test::Fail;
 
-/// A call by actor 63: the stamp of its receipt, and the value before it. Without a contract the tests' proofs stay short.
+/// Makes a call by actor 63, and returns the stamp of its receipt and the value before it. Without a contract the tests' proofs
+/// stay short.
 fn take(book: &mut Book<Cell>, clock: u64, call: Call) -> Result<(u64, u64), TakeFault> {
     let receipt = book.take(63, clock, call)?;
     match receipt.reply {
@@ -15,7 +16,7 @@ fn take(book: &mut Book<Cell>, clock: u64, call: Call) -> Result<(u64, u64), Tak
     }
 }
 
-/// The stamp of the entry that is taken back, and the value that is left.
+/// Rewinds the last entry, and returns its stamp and the value that is left.
 fn rewind(book: &mut Book<Cell>) -> Option<(u64, u64)> {
     let entry = book.rewind()?;
     Some((entry.stamp, book.machine().value()))
@@ -66,7 +67,7 @@ fn runs_up_to_a_fault(rt: HostRuntime) -> Result<(), Fail> {
     Ok(())
 }
 
-/// The entries have these actors and stamps.
+/// Asserts that the entries have these actors and stamps.
 fn has_entries(rt: &impl Abort, entries: &[Entry<Cell>], wanted: &[(u32, u64)]) {
     assert_eq!(rt; entries.len(), wanted.len());
     for (entry, wanted) in entries.iter().zip(wanted) {
@@ -82,7 +83,7 @@ fn stamps_end_at_two_to_the_62(rt: HostRuntime) -> Result<(), Fail> {
     Ok(())
 }
 
-/// The last stamp is given, and then none.
+/// The last stamp is used, and no call is recorded after it.
 fn ends_its_stamps(rt: &impl Abort, book: &mut Book<Cell>) {
     let last = 1 << 62;
     let full = Err(TakeFault::JournalFull);
@@ -110,7 +111,7 @@ fn a_machine_without_room_refuses(rt: HostRuntime) -> Result<(), Fail> {
     Ok(())
 }
 
-/// Twenty values are set, no more, and again where one is taken back.
+/// Twenty values can be set. After that, one can be set only if one is rewound first.
 fn runs_out_of_room(rt: &impl Abort, book: &mut Book<Cell>) {
     for i in 0..20 {
         assert!(rt; take(book, 0, Call::Set(i)).is_ok());

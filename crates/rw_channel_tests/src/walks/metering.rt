@@ -1,4 +1,4 @@
-//! A machine that counts its own calls, to compare with what its driver counts.
+//! A machine that counts its calls, to compare with what its navigator counts.
 
 ghost use Rattle.std.specs.Prelude.{◌≡◌};
 
