@@ -9,7 +9,7 @@ use std::sync::Arc;
 use std::task::{Context, Poll};
 use std::thread;
 
-/// The actor who calls now, as one recorder numbers it. The recorder 0 is none.
+/// The number of a recorder, and the current actor as that recorder numbers it. No recorder has the number 0.
 type Known = (u64, Actor);
 
 const NOBODY: Known = (0, Actor::FIRST);
@@ -26,7 +26,7 @@ pub(crate) struct Actors {
     numbers: HashMap<String, Actor>,
 }
 
-/// The actor who calls now, for the recorder of this number; `find` numbers it on its first call.
+/// Returns the current actor for the recorder with this number. `find` looks it up, unless it is known from the last call.
 #[inline]
 pub(crate) fn current(recorder: u64, find: impl FnOnce() -> Actor) -> Actor {
     let (known, actor) = KNOWN.get();
@@ -39,7 +39,7 @@ pub(crate) fn current(recorder: u64, find: impl FnOnce() -> Actor) -> Actor {
 }
 
 fn current_name() -> String {
-    // Where a thread ends, what is dropped then finds no name any more.
+    // At the end of a thread, `NAME` may be destroyed before other values are dropped.
     if let Some(name) = NAME.try_with(|name| name.borrow().clone()).ok().flatten() {
         return name.to_string();
     }
@@ -51,7 +51,7 @@ fn current_name() -> String {
 }
 
 impl Actors {
-    /// Numbers who calls now. Who comes after the 64th shares its number; the first time that this is so is told by `true`.
+    /// Returns the number of the current actor. Actors after the 64th share its number, and `true` marks the first of them.
     pub(crate) fn find(&mut self) -> (Actor, bool) {
         let name = current_name();
         if let Some(actor) = self.numbers.get(&name) {
@@ -68,7 +68,7 @@ impl Actors {
         (actor, is_first)
     }
 
-    /// The names by number; that of the last one says where it stands for others too.
+    /// Returns the names by number. If others share the last number, its name says how many.
     pub(crate) fn names(&self) -> Vec<String> {
         let mut names = self.names.clone();
         let others = self.numbers.len() - names.len();
@@ -128,17 +128,17 @@ pub fn named<F: Future>(name: &str, future: F) -> Named<F> {
 pub struct Named<F> {
     name: Option<Arc<str>>,
     known: Known,
-    // None where this is dropped.
+    // `None` once this is dropped.
     future: Option<Pin<Box<F>>>,
 }
 
-/// Swaps a future's name with that of who calls now. Where a thread ends there is none any more.
+/// Swaps a future's name and actor with those of the thread. At the end of a thread its name may be gone.
 fn swap<F>(future: &mut Named<F>) {
     future.known = KNOWN.replace(future.known);
     let _ = NAME.try_with(|name| std::mem::swap(&mut *name.borrow_mut(), &mut future.name));
 }
 
-/// A future under whose name this thread calls, until this is dropped, also by a panic.
+/// Gives this thread's calls the name of a future, until this is dropped, also by a panic.
 struct Under<'a, F>(&'a mut Named<F>);
 
 impl<'a, F> Under<'a, F> {
@@ -165,7 +165,7 @@ impl<F: Future> Future for Named<F> {
 }
 
 impl<F> Drop for Named<F> {
-    /// What the future holds is dropped by the actor too, also where it is cancelled.
+    /// Drops the future under its name, so that the drop's calls are recorded for its actor, also if it is cancelled.
     fn drop(&mut self) {
         let under = Under::name_of(self);
         under.0.future = None;

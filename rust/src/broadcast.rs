@@ -11,7 +11,7 @@
 //!
 //! # Lagging
 //!
-//! The channel retains as many values as its capacity says, rounded up to a power of two. A send never waits for a receiver: if the channel
+//! The channel retains as many values as its capacity, rounded up to a power of two. A send never waits for a receiver: if the channel
 //! is full, it overwrites the oldest value. A receiver that had not received that value *lags*. Its next receive returns
 //! [`Lagged`](error::RecvError::Lagged) with the number of values that it lost. The receive after that returns the oldest value that is
 //! still retained.
@@ -77,7 +77,7 @@ const MOST_CAPACITY: usize = 65_536;
 
 struct Channel<T> {
     tap: Tap,
-    // Under the tap's lock.
+    // Guarded by the tap's lock.
     values: Beside<Inner, Values<T>>,
     show: OnceLock<Show<T>>,
 }
@@ -137,7 +137,7 @@ fn open<T>(capacity: usize) -> Arc<Channel<T>> {
     })
 }
 
-/// The number of a call that makes a handle.
+/// Returns the number of the handle that a call has created.
 fn made(reply: Reply) -> u32 {
     match reply {
         Reply::New(handle) => handle,

@@ -1,4 +1,4 @@
-//! A channel as its recorder sees it, with no value of it: the core's channel and who waits for it, under one lock.
+//! A channel without its values, as its recorder shares it: the core's channel and the futures that wait for it, under one lock.
 
 use crate::proved::{Actor, Beside, Caller, Channel, Cut, CutFault, Reply};
 use crate::recorder::Shared;
@@ -7,16 +7,16 @@ use std::collections::BTreeMap;
 use std::sync::{Arc, Mutex, MutexGuard};
 use std::task::{Context, Poll};
 
-/// What is kept of a channel beside its values.
+/// All of a channel but its values.
 pub(crate) struct Line(Mutex<Inner>);
 
-/// What the lock of a channel keeps.
+/// What the lock of a channel guards.
 pub(crate) struct Inner {
     channel: Channel,
     is_recorded: bool,
-    // How many values were handed to the core: the number that stands for the next one.
+    // How many values were passed to the core, which is the number of the next one.
     values: u64,
-    // Who waits for a value, and who until no receiver is alive.
+    // The futures that wait for a value, and those that wait until no receiver is alive.
     receivers: Queue,
     senders: Queue,
     name: Option<String>,
@@ -24,7 +24,7 @@ pub(crate) struct Inner {
 }
 
 impl Line {
-    /// The channel of the core, which was handed so many values at its opening.
+    /// Wraps a channel of the core that was opened with this many values.
     pub(crate) fn new(channel: Channel, values: u64) -> Line {
         Line(Mutex::new(Inner {
             channel,
@@ -37,13 +37,13 @@ impl Line {
         }))
     }
 
-    /// Does something while no call of the channel is under way.
+    /// Runs `act` under the channel's lock, while no call is under way.
     pub(crate) fn locked(&self, act: impl FnOnce()) {
         let _inner = lock(&self.0);
         act();
     }
 
-    /// Leaves no entry from now on.
+    /// Ends recording: later calls leave no entry.
     pub(crate) fn end(&self) {
         lock(&self.0).end();
     }
@@ -66,7 +66,7 @@ impl Line {
         lock(&self.0).name.clone()
     }
 
-    /// Keeps the text of the value that a channel was opened with, as long as no other was handed to the core.
+    /// Stores the text of the value that the channel was opened with, if no other was passed to the core yet.
     pub(crate) fn keep_first_text(&self, text: String) {
         let mut inner = lock(&self.0);
         if inner.values == 1 {
@@ -91,7 +91,7 @@ impl Inner {
     }
 }
 
-/// A channel with its recorder: where all its calls are made.
+/// A channel with its recorder. All calls are made through it.
 pub struct Tap {
     pub(crate) recorder: Arc<Shared>,
     pub(crate) line: Arc<Line>,
@@ -105,7 +105,7 @@ pub(crate) struct Turn<'a> {
 }
 
 impl Tap {
-    /// Takes the channel's lock.
+    /// Locks the channel.
     #[inline]
     pub(crate) fn turn(&self) -> Turn<'_> {
         let actor = self.recorder.actor();
@@ -122,14 +122,14 @@ impl Tap {
         self.turn().call(call)
     }
 
-    /// Asks what leaves no entry.
+    /// Reads from the channel, which leaves no entry.
     #[inline]
     pub(crate) fn ask<R>(&self, question: impl FnOnce(&mut Channel) -> R) -> R {
         question(&mut lock(&self.line.0).channel)
     }
 }
 
-/// The reply of a call that was made. The core refuses a call with nothing changed where memory or handles are at an end.
+/// Returns the reply of a call that was made. Panics if the core had no memory or handle for it. Nothing has changed then.
 #[inline]
 fn made(reply: Reply) -> Reply {
     match reply {
@@ -142,8 +142,8 @@ fn made(reply: Reply) -> Reply {
 }
 
 impl Turn<'_> {
-    /// Makes a call. It takes the recorder's next number under the channel's lock, so stamps differ, and stand in the order in which the
-    /// calls were made, on each channel and wherever one call returned before another began.
+    /// Makes a call. It takes the recorder's next number under the channel's lock, so stamps differ and are in the order of the calls: on
+    /// each channel, and on several channels if one call returned before the other began.
     #[inline]
     pub(crate) fn call(&mut self, call: impl Fn(&mut Channel, Caller) -> Reply) -> Reply {
         if self.inner.is_recorded && self.recorder.has_ended() {
@@ -159,7 +159,7 @@ impl Turn<'_> {
         }
     }
 
-    /// The journal has no room for the call: recording ends, of all channels at this call.
+    /// Makes a call for which the journal has no room. The recording of all channels ends at this call.
     #[cold]
     fn call_unrecorded(
         &mut self,
@@ -171,19 +171,19 @@ impl Turn<'_> {
         made(call(&mut self.inner.channel, caller))
     }
 
-    /// Asks what leaves no entry.
+    /// Reads from the channel, which leaves no entry.
     #[inline]
     pub(crate) fn ask<R>(&mut self, question: impl FnOnce(&mut Channel) -> R) -> R {
         question(&mut self.inner.channel)
     }
 
-    /// A value under the channel's lock.
+    /// Returns a value that the channel's lock guards.
     #[inline]
     pub(crate) fn reach<'b, T>(&'b mut self, value: &'b Beside<Inner, T>) -> &'b mut T {
         value.reach(&mut self.inner)
     }
 
-    /// The number that stands for the next value.
+    /// Returns the number of the next value, and counts that value.
     #[inline]
     pub(crate) fn next_value(&mut self) -> u64 {
         let value = self.inner.values;
@@ -191,7 +191,7 @@ impl Turn<'_> {
         value
     }
 
-    /// Keeps the text of a value that was handed to the core, if there is one, as long as calls are recorded.
+    /// Stores the text of a value that was passed to the core, if there is a text and calls are recorded.
     #[inline]
     pub(crate) fn keep_text(&mut self, value: u64, text: Option<String>) {
         if let Some(text) = text.filter(|_| self.inner.is_recorded) {
@@ -199,22 +199,22 @@ impl Turn<'_> {
         }
     }
 
-    /// Those who wait for a value.
+    /// Removes the futures that wait for a value, and returns them.
     #[inline]
     pub(crate) fn waiting_receivers(&mut self) -> Woken {
         self.inner.receivers.take()
     }
 
-    /// Those who wait until no receiver is alive.
+    /// Removes the futures that wait until no receiver is alive, and returns them.
     pub(crate) fn waiting_senders(&mut self) -> Woken {
         self.inner.senders.take()
     }
 }
 
-/// For what a future waits.
+/// What a future waits for.
 #[derive(Clone, Copy)]
 pub(crate) enum For {
-    /// A value, or the end.
+    /// A value, or that the channel is closed.
     Value,
     /// That no receiver is alive.
     NoReceiver,
@@ -229,7 +229,7 @@ impl Inner {
     }
 }
 
-/// A call that waits. Where it is dropped before it is answered, nothing was done and nothing recorded, and nobody is woken for it.
+/// A call that waits. If it is dropped before it completes, it has changed nothing, isn't recorded, and is no longer woken.
 pub(crate) struct Waiting<'a> {
     tap: &'a Tap,
     what: For,
@@ -245,8 +245,8 @@ impl<'a> Waiting<'a> {
         }
     }
 
-    /// Tries, and waits where there is no answer yet. It is tried and put into the queue under one lock, so no call between the two is
-    /// missed; the waker is cloned and dropped where no lock is held.
+    /// Makes an attempt. If it returns `None`, the future is put into the queue under the same lock, so no call in between is missed.
+    /// Wakers are cloned and dropped while no lock is held.
     pub(crate) fn poll<R>(
         &mut self,
         context: &Context<'_>,

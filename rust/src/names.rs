@@ -2,7 +2,7 @@
 
 use std::fmt::Write;
 
-/// A string of JSON.
+/// Appends a text as a JSON string.
 fn push_string(out: &mut String, text: &str) {
     out.push('"');
     for c in text.chars() {
@@ -12,7 +12,7 @@ fn push_string(out: &mut String, text: &str) {
             '\n' => out.push_str("\\n"),
             '\r' => out.push_str("\\r"),
             '\t' => out.push_str("\\t"),
-            // A line of JSON keeps to one line also where these two end one.
+            // Some readers end a line at these two, so they are escaped as well.
             c if c < ' ' || c == '\u{2028}' || c == '\u{2029}' => {
                 let _ = write!(out, "\\u{:04x}", c as u32);
             }
@@ -22,7 +22,7 @@ fn push_string(out: &mut String, text: &str) {
     out.push('"');
 }
 
-/// An object of JSON whose keys are numbers.
+/// Returns a JSON object whose keys are numbers.
 pub(crate) fn object<V>(
     items: impl IntoIterator<Item = (u64, V)>,
     mut push: impl FnMut(&mut String, V),
@@ -37,12 +37,12 @@ pub(crate) fn object<V>(
     out
 }
 
-/// An object of texts by number.
+/// Returns a JSON object of texts by number.
 pub(crate) fn texts<S: AsRef<str>>(items: impl IntoIterator<Item = (u64, S)>) -> String {
     object(items, |out, text| push_string(out, text.as_ref()))
 }
 
-/// The whole, from its three objects.
+/// Returns the whole document, made of its three objects.
 pub(crate) fn document(actors: &str, channels: &str, values: &str) -> String {
     format!(
         "{{\n  \"actors\": {actors},\n  \"channels\": {channels},\n  \"values\": {values}\n}}\n"

@@ -1,8 +1,8 @@
-//! The proved core behind its C functions. All `unsafe` of this crate stands here and in the files of `proved/`.
+//! The proved core behind its C functions. All `unsafe` of this crate is here and in the files of `proved/`.
 //!
-//! The declarations below are those of exports of `crates/rw_ffi` of the repository, name by name; nothing compares the two but the tests.
-//! What the exports require is kept by the types here: a [`Channel`] always holds a channel and a [`Cut`] a cut, each is given to one call
-//! at a time (`&mut`), and the number of an actor is an [`Actor`], which is below 64.
+//! The declarations below are those of the exports of `crates/rw_ffi` in the repository. Only the tests compare the two. The types here
+//! uphold what the exports require: a [`Channel`] always holds a channel and a [`Cut`] a cut, each is passed to one call at a time
+//! (`&mut`), and the number of an actor is an [`Actor`], which is below 64.
 #![allow(unsafe_code)]
 
 mod beside;
@@ -30,7 +30,7 @@ struct Answer {
     number: u64,
 }
 
-/// `Found` of the core: a number that there may be.
+/// `Found` of the core: an optional number.
 #[repr(C)]
 #[derive(Clone, Copy)]
 struct Found {
@@ -78,20 +78,20 @@ impl Actor {
     /// How many actors there can be.
     pub(crate) const MOST: usize = 64;
 
-    /// The actor of this number, the last one of all where the number is too great.
+    /// Returns the actor with this number, or the last one if the number is too great.
     pub(crate) fn of(number: usize) -> Actor {
         Actor(number.min(Actor::MOST - 1) as u32)
     }
 }
 
-/// Who makes a call, and its recorder's clock: the call's stamp is one more, if it is recorded.
+/// The actor of a call, and the clock of its recorder. If the call is recorded, its stamp is one more than the clock.
 #[derive(Clone, Copy)]
 pub(crate) struct Caller {
     pub(crate) actor: Actor,
     pub(crate) clock: u64,
 }
 
-/// What a call answers.
+/// What a call returns.
 #[derive(Clone, Copy, Debug, PartialEq, Eq)]
 pub(crate) enum Reply {
     Sent(u64),
@@ -139,8 +139,8 @@ impl Answer {
             20 => Reply::JournalFull,
             21 => Reply::NoMemory,
             22 => Reply::NoSender,
-            // 10 to 12 are of a handle that isn't there, was dropped or is of another kind, 19 is of a call to a channel of the other
-            // kind: the types of this crate make no such call.
+            // 10 to 12 mean that the handle was never made, was dropped or is of another kind, and 19 that the call is of the other kind
+            // of channel. The types of this crate make no such call.
             kind => unreachable!("the core answered {kind}"),
         }
     }
@@ -149,10 +149,10 @@ impl Answer {
 /// A channel of the core with its journal.
 pub(crate) struct Channel(Held);
 
-// SAFETY: that what a `Held` owns may go from thread to thread is proved of it in `crates/rw_ffi`.
+// SAFETY: it is proved in `crates/rw_ffi` that what a `Held` owns may be sent to another thread.
 unsafe impl Send for Channel {}
 
-/// Why no channel is opened.
+/// Why a channel isn't opened.
 #[derive(Clone, Copy, Debug, PartialEq, Eq)]
 pub(crate) enum OpenFault {
     BadCapacity,
@@ -160,7 +160,7 @@ pub(crate) enum OpenFault {
 }
 
 impl Channel {
-    /// A broadcast with a sender, 0, and a receiver, 1.
+    /// Opens a broadcast with sender 0 and receiver 1.
     pub(crate) fn broadcast(capacity: u32) -> Result<Channel, OpenFault> {
         let mut held = Held(ptr::null_mut());
         // SAFETY: nothing is held.
@@ -168,7 +168,7 @@ impl Channel {
         Channel::opened(held, code)
     }
 
-    /// A watch with a sender, 0, and a receiver, 1.
+    /// Opens a watch with sender 0 and receiver 1.
     pub(crate) fn watch(value: u64) -> Result<Channel, OpenFault> {
         let mut held = Held(ptr::null_mut());
         // SAFETY: nothing is held.
@@ -184,7 +184,7 @@ impl Channel {
         }
     }
 
-    /// Ends recording: calls are made as before, and leave no entry any more.
+    /// Ends recording: later calls are made as before, and leave no entry.
     pub(crate) fn end(&mut self) {
         // SAFETY: a channel is held.
         unsafe { yovanelum_end(&mut self.0) }
@@ -297,7 +297,7 @@ calls! {
 pub(crate) enum CutFault {
     NoMemory,
     NoChannels,
-    /// The stamps don't put the entries into one order. No recorder of this crate leads there.
+    /// The stamps don't put the entries into one order. No recorder of this crate causes it.
     OutOfOrder,
 }
 
@@ -324,20 +324,20 @@ impl Cut {
         }
     }
 
-    /// Adds a channel, with its entries up to the first that is stamped above `last`.
+    /// Adds a channel, with its entries before the first that is stamped above `last`.
     pub(crate) fn add(&mut self, channel: &mut Channel, last: u64) -> Result<(), CutFault> {
-        // SAFETY: both hold something.
+        // SAFETY: a cut and a channel are held.
         fault_of(unsafe { yovanelum_cut_add(&mut self.0, &mut channel.0, last) })
     }
 
-    /// The text of the run of all channels that were added.
+    /// Returns the journal text of the run of all added channels.
     pub(crate) fn text(mut self) -> Result<Vec<u8>, CutFault> {
         // SAFETY: a cut is held.
         fault_of(unsafe { yovanelum_cut_merge(&mut self.0) })?;
         // SAFETY: a cut is held.
         let len = unsafe { yovanelum_cut_text_len(&mut self.0) } as usize;
         let mut text = vec![0; len];
-        // SAFETY: a cut is held, and the room is borrowed for the call.
+        // SAFETY: a cut is held, and `text` has `len` bytes, which are borrowed for the call.
         let copied = unsafe { yovanelum_cut_text(&mut self.0, text.as_mut_ptr(), len) };
         assert!(copied, "the room has the text's length");
         Ok(text)

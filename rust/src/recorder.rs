@@ -1,4 +1,4 @@
-//! Recorders: whose channels make one run, and its journal.
+//! Recorders. The channels of a recorder make one run, with one journal.
 
 mod for_test;
 mod shared;
@@ -20,7 +20,7 @@ use std::{fmt, fs};
 static INSTALLED: Mutex<Option<Recorder>> = Mutex::new(None);
 
 thread_local! {
-    // Those that are entered, each with the number of its guard, which rise.
+    // The recorders that are entered, each with the number of its guard. The numbers rise.
     static ENTERED: RefCell<Vec<(u64, Recorder)>> = const { RefCell::new(Vec::new()) };
 }
 
@@ -34,15 +34,15 @@ thread_local! {
 /// 3. else to one of its own ([`of`](Recorder::of) returns it).
 ///
 /// The journal has an entry for each call: which channel, who called, what the call was and what it returned. The drop of a sender or a
-/// receiver is a call too. Who called is a thread, or a future that was wrapped by [`named`](crate::named). A call that waits is recorded
-/// when it completes, and not at all if its future is dropped before. On one channel, entries are in the order of the calls; on several
-/// they are wherever one call returned before the other began.
+/// receiver is a call too. The caller is a thread, or a future that was wrapped by [`named`](crate::named). A call that waits is recorded
+/// when it completes, and not at all if its future is dropped before. On one channel, entries are in the order of the calls. On several
+/// channels they are if one call returned before the other began.
 ///
 /// A recorder is a handle: its clones record the same run.
 ///
 /// # Limits
 ///
-/// Nothing fails at these limits, and the first time that one is reached a line on standard error says so.
+/// Nothing fails at these limits. The first time that one is reached, a line on standard error reports it.
 ///
 /// - The 65th channel of a recorder and later ones can be used, and are not recorded.
 /// - When a channel has 1,048,576 entries, recording ends for all channels of the recorder.
@@ -215,7 +215,7 @@ impl Recorder {
         Recorder(handle.tap().recorder.clone())
     }
 
-    /// The recorder to which channels belong that are made here now.
+    /// Returns the recorder of the channels that this thread creates now.
     pub(crate) fn current() -> Recorder {
         let entered = ENTERED
             .try_with(|entered| {
@@ -281,7 +281,7 @@ impl Recorder {
     /// Records a text of each value that is sent on the channel from now on. Returns the recorder, for the next call.
     ///
     /// In the journal values are numbers: 0, 1, 2, … in the order in which they were sent on the channel, and on a watch channel 0 is the
-    /// value that it was created with. The texts say what the values were, also after they have been dropped. The first value of a watch
+    /// value that it was created with. The texts show what the values were, also after they have been dropped. The first value of a watch
     /// channel has its text too, if no other was sent before this call. If a channel has a function already, the new one is not used.
     ///
     /// The function runs before the channel is locked, and a panic in it is one of the call that sends. Only for a value that is in a watch
@@ -312,7 +312,7 @@ impl Recorder {
 
     /// Returns the text of the journal so far: all calls up to one moment, and none after it.
     ///
-    /// `ttd check`, `ttd debug` and the page read it. An entry has a stamp, which increases from entry to entry, the number of who called
+    /// `ttd check`, `ttd debug` and the page read it. An entry has a stamp, which increases from entry to entry, the number of the caller
     /// and the number of the channel, then the call with the number of its sender or receiver, and what it returned. This can be called at
     /// any time, also while other threads use the channels.
     ///
@@ -338,7 +338,7 @@ impl Recorder {
     /// assert_eq!(entries[2..], ["3 0 0 send 0 2 = sent 1", "4 0 0 try-recv 1 = lagged 1"]);
     /// ```
     pub fn journal(&self) -> io::Result<String> {
-        // Each call takes its number under its channel's lock. So once that lock is had, each call before the cut is recorded.
+        // Each call takes its number under its channel's lock. So once `cut` has locked a channel, its calls before the cut are recorded.
         let text = self
             .cut(self.0.last())
             .map_err(|fault| io::Error::other(fault.to_string()))?;
@@ -505,11 +505,11 @@ pub trait Handle: sealed::Tapped {
     fn show(&self, text: Show<Self::Value>);
 }
 
-/// A value's text.
+/// The function that returns the text of a value.
 pub(crate) type Show<T> = Box<dyn Fn(&T) -> String + Send + Sync>;
 
 pub(crate) mod sealed {
-    /// What only this crate's handles are.
+    /// Only this crate's handles implement it.
     pub trait Tapped {
         #[doc(hidden)]
         fn tap(&self) -> &super::Tap;
@@ -540,7 +540,7 @@ pub(crate) mod sealed {
 #[derive(Debug)]
 pub struct Entered {
     guard: u64,
-    // It belongs to its thread.
+    // Not `Send`: a guard belongs to its thread.
     _stays: std::marker::PhantomData<*const ()>,
 }
 
@@ -550,7 +550,7 @@ impl Drop for Entered {
             let place = entered.iter().position(|(guard, _)| *guard == self.guard)?;
             Some(entered.remove(place))
         });
-        // It may be the last handle of its recorder, with whatever wakers wait there.
+        // It may be the last handle of its recorder. Wakers are then dropped too, which may run user code, so nothing is borrowed here.
         drop(left);
     }
 }

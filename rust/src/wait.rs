@@ -1,4 +1,4 @@
-//! Waiting: who waits for a channel, and a thread that waits for a future.
+//! Waiting: the futures that wait for a channel, and a thread that waits for a future.
 
 use std::future::Future;
 use std::pin::pin;
@@ -7,13 +7,13 @@ use std::sync::{Arc, Mutex, MutexGuard, PoisonError};
 use std::task::{Context, Poll, Wake, Waker};
 use std::thread::{self, Thread};
 
-/// A lock that isn't closed by a panic: what it keeps is whole between calls, and a test's panic is no reason to lose the run.
+/// Locks a mutex, also if it is poisoned: what it guards is whole between calls, and a test that panics must not lose its run.
 #[inline]
 pub(crate) fn lock<T>(mutex: &Mutex<T>) -> MutexGuard<'_, T> {
     mutex.lock().unwrap_or_else(PoisonError::into_inner)
 }
 
-/// The place of a waiting future in its queue.
+/// Identifies a waiting future in its queue.
 #[derive(Debug, PartialEq, Eq)]
 pub(crate) struct Ticket(u64);
 
@@ -25,7 +25,7 @@ pub(crate) struct Queue {
 }
 
 impl Queue {
-    /// Whether the future of this ticket is waiting already, and would be woken by this waker.
+    /// Whether the future with this ticket waits already, with a waker that wakes the same task.
     pub(crate) fn has(&self, ticket: Option<&Ticket>, waker: &Waker) -> bool {
         ticket.is_some_and(|ticket| {
             self.wakers
@@ -34,7 +34,7 @@ impl Queue {
         })
     }
 
-    /// Waits, in place of the waker of this ticket, if there is one, which comes back.
+    /// Adds a waker, with a new ticket. Returns the waker of the old ticket, if there was one.
     pub(crate) fn wait(&mut self, ticket: &mut Option<Ticket>, waker: Waker) -> Option<Waker> {
         let before = self.leave(ticket);
         self.wakers.push((self.next, waker));
@@ -43,7 +43,7 @@ impl Queue {
         before
     }
 
-    /// Waits no longer. The waker comes back, to be dropped where no lock is held.
+    /// Removes the waker of this ticket, and returns it, to be dropped while no lock is held.
     pub(crate) fn leave(&mut self, ticket: &mut Option<Ticket>) -> Option<Waker> {
         let ticket = ticket.take()?;
         let at = self
@@ -53,7 +53,7 @@ impl Queue {
         Some(self.wakers.swap_remove(at).1)
     }
 
-    /// All who wait, who wait no longer. They are to be woken where no lock is held.
+    /// Removes all wakers, and returns them, to be woken while no lock is held.
     #[inline]
     pub(crate) fn take(&mut self) -> Woken {
         Woken(std::mem::take(&mut self.wakers))
@@ -80,8 +80,8 @@ impl Woken {
     }
 }
 
-/// Wakes a thread that waits for a future. A thread keeps one unpark at most, which whatever else parks within a poll may take: so the flag
-/// says that the future is to be polled again.
+/// Wakes a thread that waits for a future. A thread has one unpark token at most, and other code that parks within a poll may consume it.
+/// So a flag records that the future is to be polled again.
 struct Unpark {
     thread: Thread,
     is_woken: AtomicBool,

@@ -68,14 +68,14 @@ use std::{fmt, thread};
 
 struct Channel<T> {
     tap: Tap,
-    // Its lock is taken before the tap's, as in tokio: who looks at the value holds up senders.
+    // Locked before the tap. As in tokio, a `Ref` of the value blocks senders.
     value: RwLock<T>,
-    // The thread whose code has the value in hand, locked, or 0. Where that code waits for the value, it would wait for ever.
+    // The thread whose user code runs while it has locked the value, or 0. If that code locked the value too, it would wait forever.
     changer: AtomicUsize,
     show: OnceLock<Show<T>>,
 }
 
-/// A number that no other live thread has, and that isn't 0.
+/// Returns a number that no other live thread has, and that isn't 0.
 fn thread_number() -> usize {
     thread_local! {
         static PLACE: u8 = const { 0 };
@@ -83,7 +83,7 @@ fn thread_number() -> usize {
     PLACE.with(|place| std::ptr::from_ref(place).addr())
 }
 
-/// What was locked, if it was free. A panic closes no lock.
+/// Returns the guard, if the lock was free. A poisoned lock is used all the same.
 fn free<G>(tried: TryLockResult<G>) -> Option<G> {
     match tried {
         Ok(locked) => Some(locked),
@@ -120,7 +120,7 @@ pub fn channel<T>(init: T) -> (Sender<T>, Receiver<T>) {
 }
 
 fn open<T>(init: T) -> Arc<Channel<T>> {
-    // A number stands for each value: 0 for the first.
+    // The core knows each value by a number. The first one has 0.
     let Ok(channel) = proved::Channel::watch(0) else {
         panic!("yovanelum: no memory for a channel");
     };
@@ -133,7 +133,7 @@ fn open<T>(init: T) -> Arc<Channel<T>> {
     })
 }
 
-/// The number of a call that makes a handle.
+/// Returns the number of the handle that a call has created.
 fn made(reply: Reply) -> u32 {
     match reply {
         Reply::New(handle) => handle,
@@ -141,8 +141,8 @@ fn made(reply: Reply) -> u32 {
     }
 }
 
-/// Makes a call that carries a new value's number. Where receivers are told of it, those who wait come back: they are to be woken once the
-/// value stands and no lock is held, since a waker may look at it.
+/// Makes a call with the number of a new value. If it notifies receivers, those that wait are returned with the reply. They are to be woken
+/// once the value is stored and no lock is held, since a waker may look at it.
 fn put(
     turn: &mut Turn<'_>,
     text: Option<String>,
@@ -176,7 +176,7 @@ impl<T> Channel<T> {
         lock(&self.value).unwrap_or_else(PoisonError::into_inner)
     }
 
-    /// Runs code of the user's that has the locked value in hand, also where that panics to the end.
+    /// Runs user code while this thread has locked the value. If the code panics, its panic is returned.
     fn with_value<R>(&self, run: impl FnOnce() -> R) -> thread::Result<R> {
         self.changer.store(thread_number(), Ordering::Relaxed);
         let outcome = panic::catch_unwind(AssertUnwindSafe(run));
@@ -188,7 +188,7 @@ impl<T> Channel<T> {
         self.show.get().map(|show| show(value))
     }
 
-    /// Looks at the value by a handle, without seeing it.
+    /// Returns a reference to the value for a handle, without marking the value as seen.
     fn look(&self, handle: u32, is_receiver: bool) -> Ref<'_, T> {
         let inner = self.read();
         let mut turn = self.tap.turn();
@@ -201,7 +201,7 @@ impl<T> Channel<T> {
     }
 
     fn show(&self, show: Show<T>) {
-        // The value that the channel was opened with has its text at once. It stays where it is, so the text is made as a look at it is.
+        // The first value, if it is still the last, gets its text now. It stays in the channel, so it is locked while its text is made.
         let value = self.read();
         let text = show(&value);
         if self.show.set(show).is_ok() {
@@ -215,7 +215,7 @@ impl<T> Channel<T> {
     }
 }
 
-/// What a handle shows of its channel: the value, where nobody holds it.
+/// Formats a handle with the value of its channel, unless a sender has locked the value.
 fn debug<T: fmt::Debug>(
     name: &str,
     channel: &Channel<T>,

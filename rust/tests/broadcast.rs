@@ -1,4 +1,4 @@
-//! What tokio's documentation says of `sync::broadcast`.
+//! What tokio's documentation says about `sync::broadcast`.
 
 mod support;
 
@@ -224,7 +224,7 @@ fn a_dropped_receive_has_received_nothing_and_is_woken_no_more() {
     tx.send(7).unwrap();
     assert_eq!(count.0.load(Ordering::SeqCst), 0);
     assert_eq!(poll_once(rx.recv()), Some(Ok(7)));
-    // The two that waited left no entry.
+    // The two receives that waited left no entry.
     assert_eq!(recorder.len(), 2);
 }
 
@@ -258,7 +258,7 @@ fn values_need_be_neither_send_nor_static() {
 fn handles_and_futures_cross_threads_as_tokios_do() {
     fn send<T: Send>(_: &T) {}
     fn sync<T: Sync>(_: &T) {}
-    // A cell may be sent to another thread, but not be shared.
+    // A `Cell` is `Send` but not `Sync`.
     let (tx, mut rx) = broadcast::channel::<std::cell::Cell<u8>>(4);
     send(&tx);
     sync(&tx);

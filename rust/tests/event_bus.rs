@@ -1,4 +1,4 @@
-//! An event bus whose slow subscriber lags, as a test that fails and leaves its journal, and the step found in it.
+//! An event bus whose slow subscriber lags. The step at which it began to lag is found in the journal.
 
 mod support;
 
@@ -6,7 +6,7 @@ use support::{debugged, poll_once};
 use yovanelum::broadcast::{self, error::RecvError};
 use yovanelum::{Recorder, block_on, named};
 
-/// What `ttd debug` writes for these commands over the journal so far, where the variable `YOVANELUM_TTD` names the program.
+/// Returns what `ttd debug` writes for these commands over the journal so far, if the variable `YOVANELUM_TTD` names the program.
 fn walked(recorder: &Recorder, commands: &str) -> Option<String> {
     let path = std::env::temp_dir().join(format!("yovanelum-bus-{}.journal", std::process::id()));
     recorder.save(&path).unwrap();
@@ -22,7 +22,7 @@ enum Event {
     Price(u32),
 }
 
-/// The third send is the step at which receiver 2 began to lag.
+/// Asserts that the third send is found as the step at which receiver 2 began to lag.
 fn assert_step_is_found(recorder: &Recorder) {
     let commands =
         "rback reply lagged\nstep\nrback lagging 0 2\nback\nrforward lagging 0 2\nstep\n";

@@ -1,4 +1,4 @@
-//! The failing test of the crate's front page, word for word: what it prints, and the walk over what it leaves.
+//! The failing test of the crate's front page, word for word: what it prints, and the walk over its journal.
 
 mod support;
 
@@ -62,7 +62,7 @@ fn the_program_prints_what_the_front_page_has_of_it() {
     );
     assert!(!succeeds, "{said}");
     let built = folder.0.join("built").display().to_string();
-    // The end of the last line is left out.
+    // The page leaves out the end of the last line.
     let wanted = between(&page, "```text\nassertion", "…\n```").replace("/shop/target", &built);
     let found = lines_of_failure(&said);
     assert!(found.starts_with(&format!("assertion{wanted}")), "{found}");

@@ -1,4 +1,4 @@
-//! What a recorder keeps, and where it ends.
+//! What a recorder records, and at which limits recording ends.
 
 mod support;
 
@@ -29,7 +29,7 @@ fn the_journal_of_a_run() {
         5 0 1 send 0 1 = stored\n6 0 0 try-recv 1 = value 1\n7 0 0 recv 1 = value 2\n\
         9 0 0 drop 0 = dropped\nend\n";
     let journal = recorder.journal().unwrap();
-    // The call that would have waited took a number, or two, and left no entry.
+    // The call that would have waited took one or two numbers of the clock, and left no entry.
     let (start, end) = journal.split_at(journal.rfind(" 0 0 drop").unwrap());
     let number = start.rfind('\n').unwrap() + 1;
     assert_eq!(format!("{}9{end}", &start[..number]), wanted);
@@ -57,7 +57,7 @@ fn a_channel_made_in_mid_run_is_recorded_too() {
 #[test]
 fn guards_of_entered_recorders_may_be_dropped_in_any_order() {
     let (first, second) = (Recorder::new(), Recorder::new());
-    // Of each channel two calls are recorded, the drops of its sender and its receiver.
+    // Two calls of each channel are recorded: the drops of its sender and its receiver.
     let open = || drop(broadcast::channel::<u8>(2));
     let entered_first = first.enter();
     let entered_second = second.enter();
@@ -84,7 +84,7 @@ fn what_a_cancelled_future_drops_is_dropped_by_its_actor() {
     assert_eq!(poll_once(waits), None);
     drop(tx.clone());
     let journal = recorder.journal().unwrap();
-    // The cancelled one is the second actor, and the thread is the first again.
+    // The cancelled future is the second actor. The thread is still the first.
     assert!(journal.contains("\n2 1 0 drop 1 = dropped\n"), "{journal}");
     assert!(journal.contains("\n4 0 0 drop 2 = dropped\n"), "{journal}");
 }
@@ -158,7 +158,7 @@ fn quiet_questions_leave_no_entry() {
 
 #[test]
 fn installed_recorders_have_the_channels_of_all_threads() {
-    // In a process of its own, since other tests make channels that would be recorded too.
+    // Runs in a process of its own, since the channels of other tests would be recorded too.
     if std::env::var_os("YOVANELUM_TEST_INSTALL").is_none() {
         let program = std::env::current_exe().unwrap();
         let ran = Command::new(program)
@@ -290,7 +290,7 @@ fn at_a_full_journal_recording_ends_and_calls_go_on() {
     );
     assert_eq!(rx.try_recv(), Ok(1_048_575));
     assert_eq!(rx.try_recv(), Ok(1_048_576));
-    // What the other channel does behind the cut isn't recorded either.
+    // Calls on the other channel aren't recorded any more either.
     let before = recorder.len();
     other.send(0).unwrap();
     assert!(from_other.try_recv().is_err());
@@ -310,6 +310,6 @@ fn too_many_receivers_are_a_panic() {
     let refused = catch_unwind(AssertUnwindSafe(|| tx.subscribe()));
     let message = refused.unwrap_err().downcast::<&str>().unwrap();
     assert!(message.contains("65536"), "{message}");
-    // The channel goes on.
+    // The channel still works.
     assert_eq!(tx.send(1).unwrap(), 1);
 }

@@ -1,4 +1,4 @@
-//! Random calls on a broadcast beside a plain model: all values that were ever sent, and where each receiver stands in them.
+//! Random calls on a broadcast, compared with a plain model: how many values were sent, and the position of each receiver.
 
 mod support;
 
@@ -9,12 +9,12 @@ use yovanelum::broadcast::{
     self, Receiver, Sender, WeakSender, error::RecvError, error::TryRecvError,
 };
 
-/// The channel as tokio's documentation has it.
+/// The channel as tokio's documentation describes it.
 struct Model {
     retained: usize,
     sent: usize,
     senders: usize,
-    // The place of each live receiver: how many values were sent before the one that it gets next.
+    // The position of each live receiver: how many values were sent before the one that it receives next.
     places: Vec<usize>,
 }
 
@@ -28,7 +28,7 @@ impl Model {
         self.sent - least.max(self.oldest())
     }
 
-    /// Whether the value of this number has still to be received by somebody.
+    /// Whether a receiver has yet to receive the value with this number.
     fn is_wanted(&self, value: usize) -> bool {
         value >= self.oldest() && self.places.iter().any(|place| *place <= value)
     }
@@ -56,7 +56,7 @@ struct Pair {
     senders: Vec<Sender<Rc<usize>>>,
     weak: Vec<WeakSender<Rc<usize>>>,
     receivers: Vec<Receiver<Rc<usize>>>,
-    // The values that were sent, each to see whether it was dropped.
+    // The values that were sent, to check which of them were dropped.
     values: Vec<Weak<usize>>,
 }
 
@@ -82,7 +82,7 @@ impl Pair {
         }
     }
 
-    /// One call of both, chosen at random.
+    /// Makes a random call on both.
     fn step(&mut self, random: &mut Random) {
         let (s, r, w) = (self.senders.len(), self.receivers.len(), self.weak.len());
         match random.below(19) {
@@ -115,7 +115,7 @@ impl Pair {
         self.assert_values_are_kept();
     }
 
-    /// Those that somebody has yet to receive, and no others.
+    /// Asserts that exactly those values are alive that a receiver has yet to receive.
     fn assert_values_are_kept(&self) {
         for (number, value) in self.values.iter().enumerate() {
             assert_eq!(
@@ -127,7 +127,7 @@ impl Pair {
         }
     }
 
-    /// A new receiver gets what is sent from now on.
+    /// Adds a new receiver, which receives what is sent from now on.
     fn begin(&mut self, receiver: Receiver<Rc<usize>>) {
         self.receivers.push(receiver);
         self.model.places.push(self.model.sent);

@@ -1,4 +1,4 @@
-//! Random calls on a watch beside a plain model: all values that receivers were told of, and how many of them each has seen.
+//! Random calls on a watch, compared with a plain model: the value, how many changes were notified, and what each receiver has seen.
 
 mod support;
 
@@ -7,12 +7,12 @@ use support::{Random, accepted, poll_once};
 use yovanelum::Recorder;
 use yovanelum::watch::{self, Receiver, Sender};
 
-/// The channel as tokio's documentation has it.
+/// The channel as tokio's documentation describes it.
 struct Model {
     value: usize,
     changes: usize,
     senders: usize,
-    // For each live receiver the changes that there had been when it last saw the value; none where it was marked as unseen.
+    // For each live receiver the number of changes when it last saw the value, or `None` if the value was marked as unseen.
     seen: Vec<Option<usize>>,
 }
 
@@ -62,7 +62,7 @@ impl Pair {
         (value, weak)
     }
 
-    /// One call of both, chosen at random.
+    /// Makes a random call on both.
     fn step(&mut self, random: &mut Random) {
         let (s, r) = (self.senders.len(), self.receivers.len());
         match random.below(20) {
@@ -96,7 +96,7 @@ impl Pair {
             }
             _ => self.ask(),
         }
-        // The last value alone is kept, as long as there is a handle.
+        // The last value is alive as long as there is a handle.
         let is_kept = !self.senders.is_empty() || !self.receivers.is_empty();
         assert_eq!(self.last.strong_count() > 0, is_kept);
     }

@@ -1,4 +1,4 @@
-//! README's failing test, word for word: what it says, and the walk over what it leaves.
+//! The README's failing test, word for word: what it prints, and the walk over its journal.
 
 mod support;
 
@@ -10,7 +10,7 @@ use support::parts::{Folder, between, is_part, lines_of_failure, play};
 const README: &str = include_str!("../README.md");
 const NAME: &str = "no_price_is_missing";
 
-/// How often the program is run until its auditor is as late as README has it: it sleeps, and another thread may be slower yet.
+/// How often the program may be run until its auditor is as late as in the README. It sleeps, but another thread may be even slower.
 const TRIES: usize = 20;
 
 #[rustfmt::skip]
@@ -44,7 +44,7 @@ fn program() {
     // Its end.
 }
 
-/// The program's lines above, by which the functions here know it.
+/// Returns the lines of the program above.
 fn source() -> String {
     let lines = between(
         include_str!("readme.rs"),
@@ -57,7 +57,7 @@ fn source() -> String {
     lines.map(|line| format!("{line}\n")).collect()
 }
 
-/// The lines that README has of what the program says, with this folder for that of its journal.
+/// Returns the lines that the README shows of the program's output, with this folder as that of its journal.
 fn said_in_readme(folder: &Path) -> String {
     let told = between(README, "```text\nassertion", "```");
     let built = folder.join("built").display().to_string();
@@ -66,7 +66,7 @@ fn said_in_readme(folder: &Path) -> String {
         .replace("/yovanelum/rust", env!("CARGO_MANIFEST_DIR"))
 }
 
-/// What the program says on standard error, but for the lines that Rust adds to it.
+/// Runs the program, and returns the lines of its failure on standard error.
 fn said(folder: &Path) -> String {
     let (succeeds, said) = play("the_program_says_what_readme_has_of_it", folder, None);
     assert!(!succeeds, "{said}");

@@ -1,4 +1,4 @@
-//! Threads alone: settings that are changed while workers read them, with no future anywhere but within `block_on`.
+//! Threads without async code: settings are changed while workers read them, and futures occur only within `block_on`.
 
 mod support;
 
@@ -12,7 +12,7 @@ struct Settings {
     is_last: bool,
 }
 
-/// A thread that waits for the last settings, and comes to their level.
+/// Spawns a thread that waits for the last settings, and returns their level.
 fn worker(number: usize, mut rx: watch::Receiver<Settings>) -> JoinHandle<u32> {
     let worker = thread::Builder::new().name(format!("worker {number}"));
     let wait = move || {

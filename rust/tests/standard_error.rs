@@ -1,4 +1,4 @@
-//! What is told on standard error. Each test runs this program again for its own part, as a process whose words can be read.
+//! What is written to standard error. Each test runs this program again for its part, as a process whose output can be read.
 
 mod support;
 
@@ -7,14 +7,14 @@ use std::path::Path;
 use support::parts::{self, Folder, is_part};
 use yovanelum::{Recorder, broadcast};
 
-/// Whether the part of this test succeeds, and the lines of ours that it writes on standard error.
+/// Returns whether the part of this test succeeds, and the lines of this crate that it writes to standard error.
 fn played(test: &str, folder: &Path, keep: Option<&str>) -> (bool, Vec<String>) {
     let (succeeds, said) = parts::play(test, folder, keep);
     let ours = said.lines().filter(|line| line.contains("yovanelum: "));
     (succeeds, ours.map(String::from).collect())
 }
 
-/// The two lines about a journal, and that it is there with its names, and the page.
+/// Returns the two lines about a journal. Asserts that the journal, its names and the page exist.
 fn kept(name: &str, folder: &Path) -> Vec<String> {
     let path = folder.join(format!("built/yovanelum/{name}.journal"));
     let journal = fs::read_to_string(&path).unwrap();

@@ -19,7 +19,7 @@ const LIMIT: Duration = Duration::from_millis(400);
 /// How many values each thread sends, at most.
 const MOST: u64 = 20_000;
 
-/// How many times a thread could make a call: until it has made so many, or the time is over.
+/// Repeats a call until it was made `MOST` times or the time is over. Returns how often it was made.
 fn repeated(end: Instant, mut call: impl FnMut(u64)) -> u64 {
     let mut made = 0;
     while made < MOST && Instant::now() < end {
@@ -29,13 +29,13 @@ fn repeated(end: Instant, mut call: impl FnMut(u64)) -> u64 {
     made
 }
 
-/// What the threads came to, in the order in which they were begun.
+/// Returns the results of the threads, in the order in which they were spawned.
 fn joined<R>(threads: Vec<JoinHandle<R>>) -> Vec<R> {
     let ended = threads.into_iter().map(|thread| thread.join().unwrap());
     ended.collect()
 }
 
-/// What a receiver came to: the values that it got, of which all differ, and how many it lost.
+/// What a receiver got: its values in order, the same values as a set, and how many it lost.
 #[derive(Default)]
 struct Came {
     got: Vec<Sent>,
@@ -43,17 +43,17 @@ struct Came {
     lost: u64,
 }
 
-/// A value: its sender, and how many that one sent before.
+/// A value: its sender, and how many values that sender sent before.
 type Sent = (usize, u64);
 
 impl Came {
-    /// What another got too, in the order in which this one got it.
+    /// Returns the values that the other receiver got too, in the order in which this one got them.
     fn common_with(&self, other: &Came) -> impl Iterator<Item = &Sent> {
         self.got.iter().filter(|value| other.all.contains(value))
     }
 }
 
-/// Receives to the end. Of each sender the values rise, and all that was sent was got or counted as lost.
+/// Receives until the channel is closed. Asserts that the values of each sender rise.
 fn receive_all(mut rx: Receiver<Sent>) -> Came {
     let mut came = Came::default();
     let mut last = [None; 4];
@@ -173,7 +173,7 @@ fn a_journal_saved_while_others_call_is_a_run() {
         .collect();
     let mut before = 0;
     for save in 0..5 {
-        // Here no call waits, so each that is recorded has a stamp, and none before the cut is missing.
+        // No call waits here, so each call leaves an entry, and no stamp before the cut is missing.
         let stamps = stamps(&recorder.journal().unwrap());
         assert!(stamps.iter().copied().eq(1..=stamps.len() as u64));
         let entries = accepted(&recorder, &format!("mid-run-{save}"));
@@ -265,7 +265,7 @@ fn a_thread_that_waits_is_woken_also_where_something_parks_within_the_poll() {
             if answer.is_pending() && !has_parked {
                 has_parked = true;
                 tx.send(7).unwrap();
-                // As whatever waits here for something else does: it takes the thread's one unpark.
+                // Like other code that parks within a poll, this consumes the thread's one unpark token.
                 thread::park();
             }
             answer

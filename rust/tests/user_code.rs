@@ -1,4 +1,4 @@
-//! Code of the user's that runs during a call: clones, drops and texts of values, and wakers. None runs while the channel is locked, but the
+//! User code that runs during a call: clones, drops and texts of values, and wakers. None of it runs while the channel is locked, except
 //! closures that change a watch's value and the texts of what they changed.
 
 mod support;
@@ -15,7 +15,7 @@ use yovanelum::{Recorder, watch};
 
 type Line = (Sender<Talks>, Mutex<Receiver<Talks>>);
 
-/// A value that uses its own channel where it is cloned and where it is dropped.
+/// A value that uses its own channel when it is cloned and when it is dropped.
 struct Talks(u32, Arc<OnceLock<Line>>);
 
 impl Talks {
@@ -94,7 +94,7 @@ fn a_text_may_use_its_channel() {
     );
 }
 
-/// A value that looks at its watch where it is dropped.
+/// A value that looks at its watch when it is dropped.
 struct Looks(Arc<OnceLock<watch::Receiver<Option<Looks>>>>);
 
 impl Drop for Looks {
@@ -123,7 +123,7 @@ const CHANGES: [fn(&watch::Sender<u32>, u32); 3] = [
     |tx, value| tx.send_modify(|now| *now = value),
 ];
 
-/// A receiver waits with this waker while the value is changed.
+/// Changes the value while the receiver waits with this waker.
 fn change_of_who_waits(
     rx: &mut watch::Receiver<u32>,
     waker: Arc<impl Wake + Send + Sync + 'static>,
@@ -237,7 +237,7 @@ fn receivers_are_told_of_a_change_whose_text_panics() {
         assert_eq!(change(false), "in the text")
     });
     assert_eq!(*woken.1.lock().unwrap(), [1]);
-    // The panic of the closure is the one that is told.
+    // The panic of the closure is the one that is resumed.
     assert_eq!(change(true), "in the closure");
     assert_eq!((*rx.borrow(), rx.has_changed().unwrap()), (2, false));
     let journal = recorder.journal().unwrap();
@@ -266,7 +266,7 @@ fn a_closure_or_a_text_that_uses_its_watch_is_a_panic_and_waits_for_nobody() {
         assert!(message(panicked.unwrap_err()).contains("uses that watch"));
         assert!(rx.has_changed().unwrap());
         assert_eq!(*rx.borrow(), 1);
-        // Of a value that is sent the text is made before the watch is locked.
+        // The text of a sent value is made before the watch is locked.
         tx.send(2).unwrap();
         let names = Recorder::of(&tx).names();
         assert!(names.contains(r#"": "2 at 1""#), "{names}");

@@ -1,4 +1,4 @@
-//! What tokio's documentation says of `sync::watch`.
+//! What tokio's documentation says about `sync::watch`.
 
 mod support;
 

@@ -1,7 +1,7 @@
 //! The command `ttd`: the repository's proved program, built as an archive in `built/`.
 //!
-//! The archive has the program's `main`. It calls the C library, and six functions that Rattle's own linking would bring along: the
-//! words of the command line, `errno`, and the heap. They are written here, by what Rattle's library says of each.
+//! The archive has the program's `main`. It calls the C library, and six functions that Rattle's own linker would add: for the command
+//! line, `errno` and the heap. They are defined here, as Rattle's library documents them.
 #![cfg_attr(
     all(target_arch = "x86_64", target_os = "linux", target_env = "gnu"),
     no_main
@@ -25,7 +25,7 @@ mod linked {
         fn free(block: *mut c_void);
     }
 
-    /// What a request for memory answers: whether there is memory, and where.
+    /// The result of an allocation: whether there is memory, and its address.
     #[repr(C)]
     pub struct Tried {
         ok: bool,
@@ -33,7 +33,7 @@ mod linked {
     }
 
     impl Tried {
-        /// The C library aligns to 16 bytes, as the program wants.
+        /// Wraps a block of the C library, which aligns to 16 bytes, as the program needs.
         fn of(block: *mut c_void) -> Tried {
             match block.is_null() {
                 false => Tried { ok: true, p: block },
@@ -45,8 +45,8 @@ mod linked {
         }
     }
 
-    /// Copies a word of the command line and returns its length: -1 where there is no such word, -2 where it doesn't fit, and then as
-    /// much is copied as does.
+    /// Copies a word of the command line and returns its length. Returns -1 if there is no such word, and -2 if it doesn't fit; then as
+    /// much of it is copied as fits.
     ///
     /// # Safety
     ///
@@ -57,7 +57,7 @@ mod linked {
             return -1;
         };
         let word = word.as_bytes();
-        // SAFETY: as many bytes are copied as both have.
+        // SAFETY: no more bytes are copied than both have.
         unsafe { ptr::copy_nonoverlapping(word.as_ptr(), room, word.len().min(len)) };
         match word.len() <= len {
             true => word.len() as isize,
@@ -79,13 +79,13 @@ mod linked {
 
     #[unsafe(no_mangle)]
     extern "C" fn rattle_alloc(size: usize, _align: usize) -> Tried {
-        // SAFETY: any size may be asked for. One byte more, since none may be answered by null.
+        // SAFETY: any size may be requested. It is at least 1, since a size of 0 may return null.
         Tried::of(unsafe { malloc(size.max(1)) })
     }
 
     /// # Safety
     ///
-    /// `p` is a block of these functions, and isn't used again where there is memory.
+    /// `p` is a block that these functions allocated, and isn't used again if there is memory.
     #[unsafe(no_mangle)]
     unsafe extern "C" fn rattle_realloc(
         p: *mut c_void,
@@ -99,7 +99,7 @@ mod linked {
 
     /// # Safety
     ///
-    /// `p` is a block of these functions, and isn't used again.
+    /// `p` is a block that these functions allocated, and isn't used again.
     #[unsafe(no_mangle)]
     unsafe extern "C" fn rattle_dealloc(p: *mut c_void) {
         // SAFETY: `p` is a block.

@@ -44,7 +44,7 @@ pub struct Receiver<T> {
     pub(super) handle: u32,
 }
 
-/// What a receiver gets, before the value is cloned.
+/// The result of a receive, before the value is cloned.
 type Got<T> = Result<Value<T>, TryRecvError>;
 
 impl<T> Receiver<T> {
@@ -162,7 +162,7 @@ impl<T> Receiver<T> {
         self.sender_strong_count() == 0
     }
 
-    /// A call by which it receives, or `None` where that would wait.
+    /// Makes a receive call. Returns `None` if it would wait.
     fn receive(
         &self,
         turn: &mut Turn<'_>,
@@ -356,7 +356,7 @@ impl<T> fmt::Debug for Receiver<T> {
     }
 }
 
-// A panic of user code leaves no channel in halves: none runs while a lock of the channel is held.
+// A panic in user code leaves no channel half changed: none of that code runs while the channel is locked.
 impl<T> UnwindSafe for Receiver<T> {}
 impl<T> RefUnwindSafe for Receiver<T> {}
 

@@ -62,7 +62,7 @@ impl<T> Sender<T> {
     #[track_caller]
     pub fn new(capacity: usize) -> Sender<T> {
         let channel = open(capacity);
-        // The core opens each channel with a receiver. Nobody sent anything to it.
+        // The core opens each channel with a receiver. Nothing was sent to it, so it has no values to drop.
         channel
             .tap
             .call(|channel, caller| channel.broadcast_drop(caller, 1));
@@ -152,7 +152,7 @@ impl<T> Sender<T> {
 
     /// Creates a weak sender, which does not keep the channel open.
     ///
-    /// As in tokio, the channel is closed when the last `Sender` is dropped, whatever weak senders are left. This sender can still be used.
+    /// As in tokio, the channel is closed when the last `Sender` is dropped, even if weak senders are left. This sender can still be used.
     ///
     /// # Panics
     ///
@@ -373,7 +373,7 @@ impl<T> fmt::Debug for Sender<T> {
     }
 }
 
-// A panic of user code leaves no channel in halves: none runs while a lock of the channel is held.
+// A panic in user code leaves no channel half changed: none of that code runs while the channel is locked.
 impl<T> UnwindSafe for Sender<T> {}
 impl<T> RefUnwindSafe for Sender<T> {}
 

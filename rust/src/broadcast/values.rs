@@ -1,19 +1,19 @@
-//! The values of a broadcast, of which the core knows the numbers alone.
+//! The values of a broadcast. The core knows only their numbers.
 
 use std::sync::{Arc, Mutex};
 
 use crate::wait::lock;
 
-/// A value that receivers have yet to get.
+/// A value that receivers have yet to receive.
 pub(super) enum Value<T> {
-    /// One receiver has.
+    /// Sent to one receiver.
     Own(T),
-    /// Several have, and clone it one at a time, as a `T` need not be `Sync`: under the lock of this one value, which nothing else takes.
+    /// Sent to several receivers. They clone it one at a time, under a lock of this value alone, since a `T` need not be `Sync`.
     Shared(Arc<Mutex<T>>),
 }
 
 impl<T: Clone> Value<T> {
-    /// A clone, also for the last receiver, as in tokio. What nobody wants any more is dropped with it.
+    /// Returns a clone, also for the last receiver, as in tokio. The original is dropped with its last `Value`.
     #[inline]
     pub(super) fn cloned(self) -> T {
         match self {
@@ -27,27 +27,27 @@ fn clone_of_shared<T: Clone>(value: Arc<Mutex<T>>) -> T {
     lock(&value).clone()
 }
 
-/// The values that a receiver may still get.
+/// The values that a receiver may still receive.
 pub(super) struct Values<T> {
-    // A power of two.
+    // The capacity, rounded up to a power of two.
     most: usize,
-    // As many as were sent at first, and from then on a ring, in which the newest is written over the oldest.
+    // Grows with each send up to `most` slots. From then on it is a ring, in which the newest value overwrites the oldest.
     slots: Vec<Slot<T>>,
-    // Where the oldest stands.
+    // The index of the oldest slot.
     first: usize,
 }
 
 struct Slot<T> {
-    // What stands for the value in the core.
+    // The number of the value in the core.
     number: u64,
-    // How many receivers have yet to get it: at 0 it is dropped, as in tokio, while its slot stays until it is evicted. The core can tell
-    // whether a value is still wanted, by a look at every handle; this makes it one step.
+    // How many receivers have yet to receive the value. At 0 the value is dropped, as in tokio, and its slot stays until it is evicted.
+    // The core could compute this only from every handle, so it is counted here.
     rest: u64,
     value: Option<Value<T>>,
 }
 
 impl<T> Slot<T> {
-    /// One receiver less has yet to get the value, which it gets.
+    /// Returns the value for one receiver, and counts one receiver less.
     fn get(&mut self) -> Option<Value<T>> {
         self.rest -= 1;
         match &self.value {
@@ -58,7 +58,7 @@ impl<T> Slot<T> {
 }
 
 impl<T> Values<T> {
-    /// No values, and room for as many as the channel retains. It is taken as values come.
+    /// Creates an empty store of as many values as the channel retains. Memory is allocated as they are sent.
     pub(super) fn new(capacity: usize) -> Values<T> {
         Values {
             most: capacity.next_power_of_two(),
@@ -67,7 +67,7 @@ impl<T> Values<T> {
         }
     }
 
-    /// A value was sent to so many receivers. What is evicted for it comes back, to be dropped where no lock is held.
+    /// Stores a value that was sent to this many receivers. Returns the value that it evicts, to be dropped while no lock is held.
     #[inline]
     pub(super) fn push(&mut self, number: u64, value: T, receivers: u64) -> Option<Value<T>> {
         let value = match receivers {
@@ -89,7 +89,7 @@ impl<T> Values<T> {
         slot.value.replace(value)
     }
 
-    /// A receiver gets the value of this number.
+    /// Returns the value with this number, for a receiver that has yet to receive it.
     #[inline]
     pub(super) fn get(&mut self, number: u64) -> Value<T> {
         let at = self.place(number);
@@ -97,13 +97,13 @@ impl<T> Values<T> {
         value.expect("a value that a receiver has yet to get")
     }
 
-    /// Where the slot stands before which there are so many older ones.
+    /// Returns the index of the slot that has this many older ones.
     #[inline]
     fn at(&self, age: usize) -> usize {
         (self.first + age) & (self.most - 1)
     }
 
-    /// Where the value of this number is. Numbers rise, by more than one only where a value came back to its sender.
+    /// Returns the index of the value with this number. Numbers rise by one, or by more where sends failed in between.
     #[inline]
     fn place(&self, number: u64) -> usize {
         let oldest = self.slots[self.first].number;
@@ -114,7 +114,7 @@ impl<T> Values<T> {
         }
     }
 
-    /// Where the value of this number is, by halving.
+    /// Finds the index of the value with this number by binary search.
     #[cold]
     fn find(&self, number: u64) -> usize {
         let (newer, older) = self.slots.split_at(self.first);
@@ -124,7 +124,7 @@ impl<T> Values<T> {
         }
     }
 
-    /// A receiver that has yet to get so many values is gone. What nobody wants any more comes back.
+    /// Removes a dropped receiver from the counts of its unread values. Returns the values that no receiver has yet to receive.
     pub(super) fn leave(&mut self, unread: u64) -> Vec<Value<T>> {
         let count = self.slots.len();
         let mut unwanted = Vec::new();
@@ -144,7 +144,7 @@ impl<T> Values<T> {
 mod tests {
     use super::*;
 
-    // Numbers that came back to their senders are left out.
+    // The numbers in between are those of sends that failed.
     const SENT: [u64; 9] = [0, 1, 4, 5, 9, 20, 21, 22, 40];
 
     #[test]

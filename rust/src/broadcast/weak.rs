@@ -138,7 +138,7 @@ impl<T> fmt::Debug for WeakSender<T> {
     }
 }
 
-// A panic of user code leaves no channel in halves: none runs while a lock of the channel is held.
+// A panic in user code leaves no channel half changed: none of that code runs while the channel is locked.
 impl<T> UnwindSafe for WeakSender<T> {}
 impl<T> RefUnwindSafe for WeakSender<T> {}
 

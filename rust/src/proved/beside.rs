@@ -3,8 +3,8 @@
 use std::cell::UnsafeCell;
 use std::ptr;
 
-/// A value that is reached under a lock which lies elsewhere: by who has what that lock keeps, a `K`. So a channel's values, whose type may
-/// borrow, and its core, which a recorder keeps too, are under one lock.
+/// A value that a lock elsewhere guards: it is reached with a `&mut` of what that lock guards, a `K`. So a channel's values, whose type may
+/// borrow, and its core, which a recorder shares, are under one lock.
 pub(crate) struct Beside<K, T> {
     key: *const K,
     value: UnsafeCell<T>,
@@ -23,16 +23,16 @@ impl<K, T> Beside<K, T> {
         }
     }
 
-    /// The value.
+    /// Returns the value.
     ///
     /// # Panics
     ///
-    /// Where it is another's key.
+    /// Panics if it is the key of another value.
     #[inline]
     pub(crate) fn reach<'a>(&'a self, key: &'a mut K) -> &'a mut T {
         assert!(ptr::eq(self.key, key), "the value is beside another lock");
-        // SAFETY: of the place of the key there is one `&mut` at a time, since a `K` has bytes, and this one is borrowed as long as
-        // the value.
+        // SAFETY: there is one `&mut` at a time to the address of the key, since a `K` isn't zero-sized, and this one is borrowed as
+        // long as the value.
         unsafe { &mut *self.value.get() }
     }
 }

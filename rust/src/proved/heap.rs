@@ -3,21 +3,21 @@
 use std::alloc::{Layout, alloc, dealloc, realloc};
 use std::ptr;
 
-/// What an allotment answers: whether there is memory, and where.
+/// The result of an allocation: whether there is memory, and its address.
 #[repr(C)]
 pub(super) struct Tried {
     pub(super) ok: bool,
     pub(super) p: *mut u8,
 }
 
-/// The core's blocks are aligned to 16 bytes at most. The first 16 bytes hold the block's room, which `dealloc` of `std` wants to know.
+/// The core needs an alignment of 16 bytes at most. Each block begins with 16 bytes for its size, which `std`'s `dealloc` needs.
 const ALIGN: usize = 16;
 
-/// A block that grows to this size gets room for a whole journal, so that it grows in place from there on. Room that isn't used is
-/// addresses alone.
+/// A block that grows to this size is allocated for a whole journal, so that it grows in place from then on. What isn't written takes only
+/// addresses.
 pub(super) const LARGE: usize = 1 << 20;
 
-/// What a whole journal takes: 1,048,576 entries of 88 bytes.
+/// The size of a whole journal: 1,048,576 entries of 88 bytes.
 pub(super) const JOURNAL: usize = 1_048_576 * 88;
 
 impl Tried {
@@ -31,7 +31,7 @@ fn layout(room: usize) -> Option<Layout> {
     Layout::from_size_align(room.checked_add(ALIGN)?, ALIGN).ok()
 }
 
-/// A block with this room.
+/// Allocates a block of this size.
 fn allot(room: usize) -> Tried {
     let Some(layout) = layout(room) else {
         return Tried::NO_MEMORY;
@@ -44,7 +44,7 @@ fn allot(room: usize) -> Tried {
     if room >= LARGE {
         ask_for_large_pages(block, room);
     }
-    // SAFETY: the block has room for a number at its front, and its alignment is 16.
+    // SAFETY: the block begins with 16 bytes for its size, and its alignment is 16.
     unsafe {
         block.cast::<usize>().write(room);
         Tried {
@@ -54,8 +54,8 @@ fn allot(room: usize) -> Tried {
     }
 }
 
-/// Asks the system to back what was just allotted by large pages, so that not each 4 KiB of it is a fault when it is first written.
-/// Whether it does changes speed alone.
+/// Asks the system to back a new block by large pages, so that the first write to each 4 KiB of it isn't a page fault. This affects only
+/// speed.
 fn ask_for_large_pages(block: *mut u8, size: usize) {
     unsafe extern "C" {
         fn madvise(addr: *mut u8, len: usize, advice: i32) -> i32;
@@ -70,11 +70,11 @@ fn ask_for_large_pages(block: *mut u8, size: usize) {
     }
 }
 
-/// The block of a pointer, and its room.
+/// Returns the start of a pointer's block, and the block's size.
 ///
 /// # Safety
 ///
-/// `p` is of a block of these functions.
+/// `p` is the pointer of a block that these functions allocated.
 unsafe fn block_of(p: *mut u8) -> (*mut u8, usize) {
     // SAFETY: the block has its header.
     unsafe {
@@ -83,10 +83,10 @@ unsafe fn block_of(p: *mut u8) -> (*mut u8, usize) {
     }
 }
 
-// The names are Rattle's for these functions. Where a program links another library of Rattle's, either definition serves both.
+// Rattle gives these functions their names. If a program links another Rattle library, either definition serves both.
 /// # Safety
 ///
-/// Any size and alignment that the core asks for will do.
+/// Any size and alignment that the core requests is allowed.
 #[unsafe(no_mangle)]
 pub(super) unsafe extern "C" fn rattle_alloc(size: usize, _align: usize) -> Tried {
     allot(size)
@@ -94,7 +94,7 @@ pub(super) unsafe extern "C" fn rattle_alloc(size: usize, _align: usize) -> Trie
 
 /// # Safety
 ///
-/// `p` is of a block of these functions, and isn't used again where there is memory.
+/// `p` is the pointer of a block that these functions allocated, and isn't used again if there is memory.
 #[unsafe(no_mangle)]
 pub(super) unsafe extern "C" fn rattle_realloc(
     p: *mut u8,
@@ -102,13 +102,13 @@ pub(super) unsafe extern "C" fn rattle_realloc(
     new: usize,
     _align: usize,
 ) -> Tried {
-    // SAFETY: `p` is of a block.
+    // SAFETY: `p` is the pointer of a block.
     let (_, room) = unsafe { block_of(p) };
     if new <= room && new >= LARGE {
         return Tried { ok: true, p };
     }
     if new < LARGE {
-        // SAFETY: `p` is of a block.
+        // SAFETY: `p` is the pointer of a block.
         return unsafe { resized(p, new) };
     }
     let mut moved = allot(new.max(JOURNAL));
@@ -116,7 +116,7 @@ pub(super) unsafe extern "C" fn rattle_realloc(
         moved = allot(new);
     }
     if moved.ok {
-        // SAFETY: both blocks have as many bytes, and they are two.
+        // SAFETY: both blocks have at least this many bytes, and they don't overlap.
         unsafe {
             ptr::copy_nonoverlapping(p, moved.p, old.min(new));
             rattle_dealloc(p);
@@ -125,13 +125,13 @@ pub(super) unsafe extern "C" fn rattle_realloc(
     moved
 }
 
-/// The block with another room, below that of large ones.
+/// Resizes a block to a size below `LARGE`.
 ///
 /// # Safety
 ///
-/// `p` is of a block of these functions, and isn't used again where there is memory.
+/// `p` is the pointer of a block that these functions allocated, and isn't used again if there is memory.
 unsafe fn resized(p: *mut u8, new: usize) -> Tried {
-    // SAFETY: `p` is of a block, which has its header.
+    // SAFETY: `p` is the pointer of a block, which has its header.
     unsafe {
         let (block, room) = block_of(p);
         let (Some(old), Some(wanted)) = (layout(room), layout(new)) else {
@@ -151,10 +151,10 @@ unsafe fn resized(p: *mut u8, new: usize) -> Tried {
 
 /// # Safety
 ///
-/// `p` is of a block of these functions, and isn't used again.
+/// `p` is the pointer of a block that these functions allocated, and isn't used again.
 #[unsafe(no_mangle)]
 pub(super) unsafe extern "C" fn rattle_dealloc(p: *mut u8) {
-    // SAFETY: the block has its header, with the room that it was allotted with.
+    // SAFETY: the block's header has the size that it was allocated with.
     unsafe {
         let (block, room) = block_of(p);
         dealloc(

@@ -1,9 +1,9 @@
-//! The declarations and the heap by themselves: what the tests in `tests/` reach late or not at all. `rust/test` runs these under valgrind.
+//! Tests of the declarations and the heap alone: what the tests in `tests/` reach late or not at all. `rust/test` runs them under valgrind.
 
 use super::heap::{JOURNAL, LARGE, rattle_alloc, rattle_dealloc, rattle_realloc};
 use super::{Actor, Caller, Channel, Cut, Found, Held, Reply};
 
-// The crate itself never asks for a receiver's position.
+// The crate itself doesn't use a receiver's position.
 unsafe extern "C" {
     fn yovanelum_position(held: &mut Held, receiver: u32) -> Found;
 }
@@ -118,7 +118,7 @@ fn a_block_keeps_its_bytes_whatever_its_size_becomes() {
         2,
     ];
     let mut size = 100;
-    // SAFETY: the blocks are of these functions, each is used until it has been given back, and within its size.
+    // SAFETY: these functions allocated the blocks, and each is used within its size until it is freed.
     unsafe {
         let mut block = rattle_alloc(size, 8).p;
         block.write(17);
@@ -136,7 +136,7 @@ fn a_block_keeps_its_bytes_whatever_its_size_becomes() {
 
 #[test]
 fn a_size_that_no_memory_has_is_refused_and_the_block_stays() {
-    // SAFETY: the block is of these functions, and is used until it has been given back.
+    // SAFETY: these functions allocated the block, and it is used until it is freed.
     unsafe {
         assert!(!rattle_alloc(usize::MAX - 8, 8).ok);
         let block = rattle_alloc(64, 8).p;

@@ -48,10 +48,10 @@ impl Drop for ForTest {
 
 impl ForTest {
     fn keep(&self) {
-        // The whole path, since whoever reads it may be in another folder, as in that of a workspace.
+        // An absolute path, since the reader may be in another folder, such as that of a workspace.
         let target = target();
         let folder = path::absolute(&target).unwrap_or(target).join("yovanelum");
-        // A name is one file, also where it has a path's separator in it.
+        // A name with a path separator is one file too.
         let path = folder.join(format!("{}.journal", self.name.replace('/', "_")));
         let saved = fs::create_dir_all(&folder).and_then(|()| self.recorder.save(&path));
         let path = path.display();
@@ -70,7 +70,7 @@ impl ForTest {
 /// The page, which comes with the sources of this crate.
 const PAGE: &str = concat!(env!("CARGO_MANIFEST_DIR"), "/built/yovanelum.html");
 
-/// The folder `target` of the build in which this runs, or of this folder.
+/// Returns the folder `target` of the build that this program is from, or else that of the working folder.
 fn target() -> PathBuf {
     if let Some(folder) = env::var_os("CARGO_TARGET_DIR") {
         return folder.into();

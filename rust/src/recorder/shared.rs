@@ -10,13 +10,13 @@ use std::sync::{Arc, Mutex};
 /// How many channels a run has at most.
 const MOST_CHANNELS: usize = 64;
 
-/// Recording goes on.
+/// The value of `end` while recording continues.
 const NEVER: u64 = u64::MAX;
 
 static IDS: AtomicU64 = AtomicU64::new(1);
 
-/// Counts calls. Each takes a number under its channel's lock and hands it to the core as its clock. Every call of every thread writes it,
-/// so it has cache lines of its own.
+/// Counts calls. Each takes a number under its channel's lock, and passes it to the core as its clock. Every call of every thread writes
+/// it, so it shares no cache line with other data.
 #[repr(align(128))]
 struct Clock(AtomicU64);
 
@@ -35,7 +35,7 @@ pub(crate) struct Shared {
 }
 
 impl Shared {
-    /// Of a recorder without channels.
+    /// Creates the shared part of a recorder without channels.
     pub(super) fn new() -> Shared {
         Shared {
             id: IDS.fetch_add(1, Ordering::Relaxed),
@@ -49,7 +49,7 @@ impl Shared {
         }
     }
 
-    /// The stamp of the last call that is recorded by now.
+    /// Returns the greatest stamp that a recorded call can have so far.
     pub(super) fn last(&self) -> u64 {
         let Clock(clock) = &self.clock;
         clock
@@ -57,14 +57,14 @@ impl Shared {
             .min(self.end.load(Ordering::SeqCst))
     }
 
-    /// The clock's number for a call whose channel's lock is held.
+    /// Returns the clock's number for a call whose channel is locked.
     #[inline]
     pub(crate) fn tick(&self) -> u64 {
         let Clock(clock) = &self.clock;
         if self.has_several.load(Ordering::Relaxed) {
             return clock.fetch_add(1, Ordering::SeqCst);
         }
-        // Of one channel each call has the lock, so that no other changes the clock in between.
+        // With one channel each call holds its lock, so no other call changes the clock in between.
         let now = clock.load(Ordering::Relaxed);
         clock.store(now + 1, Ordering::Release);
         now
@@ -97,7 +97,7 @@ impl Shared {
         self.is_quiet.load(Ordering::Relaxed)
     }
 
-    /// Ends recording, of all channels with the calls whose stamps are at most this.
+    /// Ends the recording of all channels. Calls with a stamp above this are not recorded.
     pub(crate) fn end_at(&self, last: u64) {
         if self.end.fetch_min(last, Ordering::SeqCst) == NEVER {
             eprintln!(
@@ -106,7 +106,7 @@ impl Shared {
         }
     }
 
-    /// Adds a channel to the run, which was handed so many values at its opening. The 65th and later ones are recorded by none.
+    /// Adds a channel that was opened with this many values to the run. The 65th channel and later ones are not recorded.
     pub(crate) fn add(self: &Arc<Shared>, channel: Channel, values: u64) -> Tap {
         let line = Arc::new(Line::new(channel, values));
         let mut lines = lock(&self.lines);

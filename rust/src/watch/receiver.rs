@@ -324,7 +324,7 @@ impl<T: fmt::Debug> fmt::Debug for Receiver<T> {
     }
 }
 
-// A panic of user code leaves no channel in halves: what a closure left of the value is the value, as in tokio.
+// A panic in user code leaves no channel half changed: the value is what the closure has left, as in tokio.
 impl<T> UnwindSafe for Receiver<T> {}
 impl<T> RefUnwindSafe for Receiver<T> {}
 

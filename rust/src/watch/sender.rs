@@ -90,7 +90,7 @@ impl<T> Sender<T> {
         let mut text = channel.text(&value);
         let mut now = match free(channel.value.try_write()) {
             Some(now) => now,
-            // Somebody looks at the value, who may be this thread. Without receivers it stays as it is, so nobody is waited for.
+            // The value is locked, perhaps by this thread. Without receivers the send changes nothing, so it doesn't wait.
             None if self.send_is_refused(&mut text) => return Err(SendError(value)),
             None => channel.write(),
         };
@@ -117,7 +117,7 @@ impl<T> Sender<T> {
         })
     }
 
-    /// Sends where there is no receiver, so that the value comes back, and answers whether that is so. It is asked and sent under one lock.
+    /// If there is no receiver, makes the send, which is then refused, and returns `true`. The check and the send are under one lock.
     #[cold]
     fn send_is_refused(&self, text: &mut Option<String>) -> bool {
         let mut turn = self.channel.tap.turn();
@@ -131,7 +131,7 @@ impl<T> Sender<T> {
 
     /// Changes the value in place and notifies all receivers.
     ///
-    /// As in tokio, the value need not be allocated anew, and it is changed also if there is no receiver. If the change depends on the
+    /// As in tokio, the value need not be allocated again, and it is changed also if there is no receiver. If the change depends on the
     /// value, use [`send_if_modified`](Sender::send_if_modified). The call blocks while a [`Ref`] of the channel is alive.
     ///
     /// # Panics
@@ -209,7 +209,7 @@ impl<T> Sender<T> {
         let mut now = channel.write();
         let outcome = channel.with_value(|| modify(&mut now));
         let told = matches!(outcome, Ok(true));
-        // The value is changed: also where its text panics, the core and the receivers are told.
+        // The value has changed, so the core and the receivers are notified even if the function for its text panics.
         let (text, refused) = match channel.with_value(|| channel.text(&now)) {
             Ok(text) => (text, None),
             Err(panicked) => (None, Some(panicked)),
@@ -298,9 +298,9 @@ impl<T> Sender<T> {
 
     /// Waits until the channel has no receiver.
     ///
-    /// If there is none at the call, the future completes at once. As in tokio, a producer learns by it that nobody wants its values any
-    /// more, and [`subscribe`](Sender::subscribe) opens the channel again. If receivers are created right after the last one was dropped,
-    /// the future may complete, or go on waiting.
+    /// If there is none at the call, the future completes at once. As in tokio, a producer learns by it that its values are no longer
+    /// needed, and [`subscribe`](Sender::subscribe) opens the channel again. If receivers are created right after the last one was dropped,
+    /// the future may complete or continue to wait.
     ///
     /// # Cancel safety
     ///
@@ -467,7 +467,7 @@ impl<T: fmt::Debug> fmt::Debug for Sender<T> {
     }
 }
 
-// A panic of user code leaves no channel in halves: what a closure left of the value is the value, as in tokio.
+// A panic in user code leaves no channel half changed: the value is what the closure has left, as in tokio.
 impl<T> UnwindSafe for Sender<T> {}
 impl<T> RefUnwindSafe for Sender<T> {}
 

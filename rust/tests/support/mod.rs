@@ -14,7 +14,7 @@ use std::time::Duration;
 use std::{panic, thread};
 use yovanelum::Recorder;
 
-/// Numbers from a seed (xorshift64*).
+/// Random numbers from a seed (xorshift64*).
 pub struct Random(u64);
 
 impl Random {
@@ -31,7 +31,7 @@ impl Random {
     }
 }
 
-/// What a future answers at its first poll, after which it is dropped.
+/// Polls a future once and drops it. Returns its output, or `None` if it is pending.
 pub fn poll_once<F: Future>(future: F) -> Option<F::Output> {
     match pin!(future).poll(&mut Context::from_waker(Waker::noop())) {
         Poll::Ready(output) => Some(output),
@@ -39,7 +39,7 @@ pub fn poll_once<F: Future>(future: F) -> Option<F::Output> {
     }
 }
 
-/// What something answers that may wait for ever where there is a fault: it has a thread of its own, and half a minute.
+/// Runs something that a fault may make wait forever, in a thread of its own. Returns its result, or panics after half a minute.
 pub fn in_time<R: Send + 'static>(act: impl FnOnce() -> R + Send + 'static) -> R {
     let (over, is_over) = mpsc::channel::<()>();
     let thread = thread::spawn(move || {
@@ -61,8 +61,8 @@ pub fn stamps(journal: &str) -> Vec<u64> {
         .collect()
 }
 
-/// How many entries the journal has that the proved debugger, `ttd check`, accepts. The variable `YOVANELUM_TTD` names the program; without it
-/// nobody judges the journal, and its entries are counted.
+/// Asserts that the proved debugger, `ttd check`, accepts the journal, and returns the number of its entries. The variable `YOVANELUM_TTD`
+/// names the program. Without it the entries are only counted.
 pub fn accepted(recorder: &Recorder, name: &str) -> u64 {
     let path =
         std::env::temp_dir().join(format!("yovanelum-{name}-{}.journal", std::process::id()));
@@ -83,7 +83,7 @@ pub fn accepted(recorder: &Recorder, name: &str) -> u64 {
     entries
 }
 
-/// What `ttd debug` writes for these commands over a journal, where the variable `YOVANELUM_TTD` names the program.
+/// Returns what `ttd debug` writes for these commands over a journal, if the variable `YOVANELUM_TTD` names the program.
 pub fn debugged(journal: &Path, commands: &str) -> Option<String> {
     let ttd = std::env::var_os("YOVANELUM_TTD")?;
     let mut walk = Command::new(ttd)

@@ -1,17 +1,17 @@
-//! Tests that run their own program again for a part of theirs, as a process whose words can be read.
+//! For tests that run their own program again for a part of the test, as a process whose output can be read.
 
 use std::path::{Path, PathBuf};
 use std::process::Command;
 use std::{env, fs, process};
 
-/// Set where this process plays a test's part.
+/// The variable that is set in the process that runs a test's part.
 const PART: &str = "YOVANELUM_TEST_PART";
 
 pub fn is_part() -> bool {
     env::var_os(PART).is_some()
 }
 
-/// A folder that is deleted with this.
+/// A folder that is deleted when this is dropped.
 pub struct Folder(pub PathBuf);
 
 impl Folder {
@@ -28,8 +28,8 @@ impl Drop for Folder {
     }
 }
 
-/// Whether the part of this test succeeds, and what it writes on standard error. It works in the folder, with a relative name for the
-/// build's.
+/// Runs the part of this test in the folder, with a relative path as cargo's target folder. Returns whether it succeeds, and what it writes
+/// to standard error.
 pub fn play(test: &str, folder: &Path, keep: Option<&str>) -> (bool, String) {
     let mut part = Command::new(env::current_exe().unwrap());
     part.args(["--exact", test, "--nocapture"])
@@ -42,7 +42,7 @@ pub fn play(test: &str, folder: &Path, keep: Option<&str>) -> (bool, String) {
     (ran.status.success(), String::from_utf8(ran.stderr).unwrap())
 }
 
-/// What a failing program says on standard error, but for the lines that Rust adds to it.
+/// Returns the lines of a failed assertion and of this crate from what a program wrote to standard error.
 pub fn lines_of_failure(said: &str) -> String {
     let lines = said.lines().filter(|line| {
         ["assertion ", "  left: ", " right: ", "yovanelum: "]
@@ -52,7 +52,7 @@ pub fn lines_of_failure(said: &str) -> String {
     lines.map(|line| format!("{line}\n")).collect()
 }
 
-/// The part of a text between two others.
+/// Returns the part of a text between two others.
 pub fn between<'a>(text: &'a str, start: &str, end: &str) -> &'a str {
     let (_, rest) = text.split_once(start).unwrap();
     rest.split_once(end).unwrap().0
