@@ -1,4 +1,4 @@
-// The place in the page's address, as `#place=42`, so that a link means a place.
+// The place in the page's address, as `#place=42`, so that a link leads to a place.
 
 const PLACE = /^#place=(\d+)$/;
 const QUIET = 250;
@@ -10,7 +10,7 @@ export function placeIn(address) {
   return found ? Number(found[1]) : 0;
 }
 
-// Browsers bear few changes of the address at a time, so it changes where walking pauses.
+// Browsers limit how often the address may change, so it changes only when the walk pauses.
 export function putIntoAddress(place) {
   clearTimeout(timer);
   timer = setTimeout(() => history.replaceState(null, "", `#place=${place}`), QUIET);

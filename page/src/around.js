@@ -1,4 +1,4 @@
-// The calls around the place, as a list to go by.
+// The calls around the place, as a list of buttons that go there.
 
 import { coloured, element } from "./dom.js";
 import { actorColour } from "./palette.js";

@@ -25,7 +25,7 @@ function drawHead({ pen, run, frame, band, palette }) {
   pen.fillText(kindOf(channel), 18 + width, band.head);
 }
 
-// From the first place on where it has no sender, a channel is closed for ever.
+// Hatches a channel from the first place on at which it has no sender: from then on it is closed.
 function drawClosed({ pen, run, frame, places, band, palette }) {
   const first = places.findIndex(place => run.state(place).channels[band.channel].closed);
   if (first < 0) return;
@@ -58,7 +58,7 @@ function drawRows({ pen, run, frame, band, palette }) {
   }
 }
 
-// Names each handle of a row where it begins, unless the name is wider than it.
+// Names each handle at the start of its line in the row. Far out, names that are wider than the line are left out.
 function drawSharedNames({ pen, frame, palette }, row) {
   pen.font = SMALL_BOLD;
   pen.textAlign = "left";
@@ -70,13 +70,13 @@ function drawSharedNames({ pen, frame, palette }, row) {
   }
 }
 
-// What a row's handles are called, in a word less where there is little room.
+// Returns the name of a row's handles. If it is too wide, `weak sender` becomes `weak`.
 function rowName(pen, row, room) {
   const name = row.lives.length === 1 ? `${row.kind} ${row.lives[0].handle}` : `${row.kind}s`;
   return pen.measureText(name).width <= room ? name : name.replace(/ senders?/, "");
 }
 
-// A row's handle is named on the left. Where a row has several, each is named in it.
+// Names each row on the left. If a row has several handles, each is also named in the row.
 function drawRowNames(drawing) {
   const { pen, frame, band, palette } = drawing;
   for (const row of band.rows) {

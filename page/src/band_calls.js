@@ -11,12 +11,12 @@ const VALUE_WIDTH = 48;
 const VALUE_SLANT = -Math.PI / 3.2;
 const POINTER = 5;
 
-// Where a mark stands: one of a handle's own life on its line, the others just above it.
+// Returns the height of a mark: on the row's line if a handle is made or dropped, else just above the line.
 function heightOf(mark, row) {
   return mark === "made" || mark === "dropped" ? row.base + 1.5 : row.base - 5;
 }
 
-// A lag is told: a red flag that says how many values are lost.
+// For a reply `lagged`: a red flag with the number of lost values.
 function drawLag({ pen, run, frame, palette }, place, row) {
   const x = frame.middle(place);
   flag(pen, `lost ${run.entry(place).answer}`, {
@@ -30,7 +30,7 @@ function drawLag({ pen, run, frame, palette }, place, row) {
   pen.fill();
 }
 
-// A watch's values stand above its rows.
+// Draws a sent value above its mark. The values of a watch are drawn above its rows instead.
 function drawSentValue({ pen, run, frame, band }, entry, x, y) {
   if (frame.column < VALUE_COLUMN || run.channels[band.channel].kind === "watch") return;
   const value = run.names.value(entry.channel, entry.rest.split(" ")[0]);
@@ -43,7 +43,7 @@ function drawSentValue({ pen, run, frame, band }, entry, x, y) {
   pen.restore();
 }
 
-// A dashed line from the handle that made another to that one's row.
+// Draws a dashed line from the handle that made another to the other's row.
 function drawMaking({ pen, band }, entry, x, y) {
   const made = band.rowOf.get(Number(entry.answer));
   if (made === undefined) return;
@@ -68,7 +68,7 @@ function drawNear(drawing, place, mark, row) {
   if (mark === "made") drawMaking(drawing, entry, x, y);
 }
 
-// Far out only what is rare is drawn: lags, ends of handles, and that a channel is closed.
+// Far out only rare calls are drawn: lags, drops of handles, and replies that the channel is closed.
 function drawFar({ pen, frame, palette }, place, mark, row) {
   const x = frame.middle(place);
   if (mark === "lagged") {
@@ -80,7 +80,7 @@ function drawFar({ pen, frame, palette }, place, mark, row) {
   }
 }
 
-// Shows each call in view whose handle has a row in the band, with what it came to.
+// Calls `show` for each call in view whose handle has a row in the band, with its mark.
 function eachCall({ run, view, band }, show) {
   const { channels, handles, marks } = run.columns;
   for (let place = Math.max(1, view.from); place <= Math.min(view.to, run.lastPlace); place++) {
@@ -90,7 +90,7 @@ function eachCall({ run, view, band }, show) {
   }
 }
 
-// Lags come last, so that nothing lies over them.
+// Lags are drawn last, so that nothing covers them.
 export function drawBandCalls(drawing) {
   if (!drawing.frame.isNear) return eachCall(drawing, (place, mark, row) => drawFar(drawing, place, MARK_NAMES[mark], row));
   eachCall(drawing, (place, mark, row) => drawNear(drawing, place, MARK_NAMES[mark], row));

@@ -4,14 +4,14 @@ import { SMALL_BOLD } from "./palette.js";
 
 const MOST_PIXELS = 16000;
 
-// Gives a canvas this many points, unless it has them.
+// Resizes a canvas to this many pixels, unless it has that size.
 function resize(canvas, width, height) {
   if (canvas.width === width && canvas.height === height) return;
   canvas.width = width;
   canvas.height = height;
 }
 
-// Makes a canvas this large, empty, and gives what draws on it. On a sharp screen it has more points, as far as a canvas may.
+// Clears and resizes a canvas, and returns its drawing context. On a sharp screen it has more pixels, up to the limit of a canvas.
 export function cleared(canvas, width, height) {
   const scale = Math.min(window.devicePixelRatio || 1, MOST_PIXELS / Math.max(width, height));
   resize(canvas, Math.round(width * scale), Math.round(height * scale));
@@ -30,8 +30,8 @@ export function line(pen, x1, y1, x2, y2) {
   pen.stroke();
 }
 
-// A text, cut where it is wider than this. Texts of values may be very long and measuring takes its time with them, so a text is first
-// cut to a letter for each point of the width, and then halving finds how many letters fit.
+// Returns a text, cut if it is wider than this. Texts of values may be very long, and measuring them is slow. So a text is first cut to
+// one letter for each pixel of the width, and then a binary search finds how many letters fit.
 export function fitted(pen, text, width) {
   const isFitting = part => pen.measureText(part).width <= width;
   const cutTo = count => `${text.slice(0, count)}…`;
@@ -67,7 +67,7 @@ export function hatched(pen, palette, x, y, width, height) {
   pen.restore();
 }
 
-// A small flag with a text in it, above a point and between two edges.
+// Draws a small flag with a text, centred on x and between two edges.
 export function flag(pen, text, { x, y, colour, ink, least, most }) {
   pen.font = SMALL_BOLD;
   const width = pen.measureText(text).width + 10;

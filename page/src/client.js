@@ -1,7 +1,7 @@
-// The page's end of the debugger: each request is a promise of its answer.
+// The page's side of the debugger: each request returns a promise of its reply.
 
 export class Client {
-  // `moduleBytes` gives the debugger's module; it is called while the worker starts.
+  // `moduleBytes` returns the debugger's module. It is called while the worker starts.
   constructor(workerText, moduleBytes) {
     this.waiting = new Map();
     this.count = 0;

@@ -1,4 +1,4 @@
-// Draws the place over the picture: its column, and how each live receiver stands there.
+// Draws the place over the picture: its column, and what each live receiver has yet to read or see there.
 
 import { SMALL } from "./palette.js";
 
@@ -63,7 +63,7 @@ function drawColumn({ pen, view, frame, layout, palette }) {
   pen.fill();
 }
 
-// `drawing` is as for the picture; nothing is drawn where the place is out of view.
+// `drawing` is as for the picture. Nothing is drawn if the place is out of view.
 export function drawCursor(drawing) {
   const { run, view } = drawing;
   if (view.place < view.from || view.place > view.to) return;

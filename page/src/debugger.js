@@ -1,4 +1,4 @@
-// The proved debugger: the two exports of its module, over bytes that go in and out through the module's memory.
+// The proved debugger: the two exports of its module. Bytes are passed to and from them in the module's memory.
 
 const ANSWERED = 0;
 const TOO_SMALL = 1;
@@ -11,17 +11,17 @@ export class Debugger {
     this.start();
   }
 
-  // What the commands write over a journal text.
+  // Returns what the commands write over a journal text.
   debug(journal, commands) {
     return this.call("ttd_debug", [journal, commands]);
   }
 
-  // What a script, a line `---` and commands write.
+  // Returns what a session writes. The input is a script, a line `---`, and commands.
   session(input) {
     return this.call("ttd_session", [input]);
   }
 
-  // A trap leaves the memory half written: whatever fails, the next call meets a fresh instance.
+  // A trap leaves the memory half written. So after any failure the next call uses a fresh instance.
   call(name, inputs) {
     try {
       return this.answer(this.exports[name], inputs);
@@ -39,7 +39,7 @@ export class Debugger {
   }
 
   answer(ask, inputs) {
-    // A listing is somewhat longer than its journal. Where the room is too small all is computed twice.
+    // A listing is somewhat longer than its journal. If the room is too small, everything is computed twice.
     const likely = inputs.reduce((sum, bytes) => sum + 2 * bytes.length, FIRST_ROOM);
     if (likely > this.room) this.widen(likely);
     const slices = inputs.flatMap(bytes => [this.put(bytes), BigInt(bytes.length)]);
@@ -54,7 +54,7 @@ export class Debugger {
     return this.view(this.roomAt, this.count()).slice();
   }
 
-  // The memory is another buffer after it has grown, so a view serves at once or never.
+  // When the memory grows, it becomes another buffer, so a view must be used at once.
   view(at, size) {
     return new Uint8Array(this.exports.memory.buffer, Number(at), size);
   }

@@ -1,10 +1,10 @@
-// Elements made of texts: whatever a run or a file says becomes a text, never markup.
+// Elements made of texts: everything from a run or a file becomes text, never markup.
 
 export function byId(id) {
   return document.getElementById(id);
 }
 
-// An element with these attributes, and these elements and texts in it.
+// Creates an element with these attributes, and with these elements and texts in it.
 export function element(tag, attributes = {}, ...children) {
   const made = document.createElement(tag);
   for (const [name, value] of Object.entries(attributes)) made.setAttribute(name, value);
@@ -12,7 +12,7 @@ export function element(tag, attributes = {}, ...children) {
   return made;
 }
 
-// A word of an element, in the colour of an actor.
+// Creates an element with a text in the colour of an actor.
 export function coloured(colour, text) {
   const made = element("span", { class: "actor" }, text);
   made.style.setProperty("color", colour);

@@ -1,4 +1,4 @@
-// What stands in the page's own file: the debugger's module, the worker's program, and a run where one was put in.
+// The contents of the page's own file: the debugger's module, the worker's program, and a run if one was put in.
 
 import { byId } from "./dom.js";
 
@@ -23,7 +23,7 @@ export function exampleRun() {
   return { name: "an example", bytes: bytesOf("example"), names: bytesOf("example-names") };
 }
 
-// A run's file name, its bytes, and those of its file of names, if it has one; or nothing. Each stands in a line of its own.
+// Returns a run's file name, its bytes, and those of its file of names, if it has one, or null without a run. Each part is one line.
 export function embeddedRun() {
   const parts = byId("run").textContent.split("\n").slice(1, -1);
   if (parts.length === 0) return null;

@@ -1,4 +1,4 @@
-// An entry line, as the console's `list` and `step` write it, taken apart.
+// Parses an entry line, as the console's `list` and `step` write it.
 
 const ENTRY = /^#(\d+) (\d+) (\d+) (\d+) (\S+) (\d+)(?: (.*?))? = (\S+)(?: (.*))?$/;
 

@@ -1,4 +1,4 @@
-// A refused text: its fault as the debugger says it, what that means, and the lines around it.
+// A refused text: its fault as the debugger reports it, what that means, and the lines around it.
 
 import { element } from "./dom.js";
 import { grouped } from "./numbers.js";
@@ -27,7 +27,7 @@ const MEANINGS = {
   "no-channels": "there is no channel line",
 };
 
-// A fault's kind and line: `wrong-reply 4`, `4 syntax` or `truncated`. What is cut short is so at its last line.
+// Parses a fault into its kind and line: `wrong-reply 4`, `4 syntax` or `truncated`. A truncated text is at fault in its last line.
 function takeApart(text, lineCount) {
   const words = text.split(" ");
   return {
@@ -41,7 +41,7 @@ function numbered(lines, number, isFaulty) {
   return element("li", { value: number, ...(isFaulty ? { "aria-current": "true" } : {}) }, element("code", {}, text));
 }
 
-// `fault` says of what it is, and its text.
+// `fault` has the kind of text that is refused (`of`), and the text of the fault.
 export function faultPanel(fault, bytes) {
   const lines = new TextDecoder().decode(bytes).split("\n");
   if (lines.at(-1) === "") lines.pop();

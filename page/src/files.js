@@ -6,7 +6,7 @@ async function bytesOf(file) {
   return file && new Uint8Array(await file.arrayBuffer());
 }
 
-// The run among these files, with the bytes of the file of names, if there is one.
+// Reads the run among these files, and the file of names, if there is one.
 export async function readFiles(files) {
   const isNames = file => file.name.endsWith(NAMES_END);
   const run = files.find(file => !isNames(file));

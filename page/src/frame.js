@@ -1,4 +1,4 @@
-// Where a column of the view stands on a canvas.
+// Where a column of the view is on a canvas.
 
 const MARGIN = 14;
 const NARROW = 560;

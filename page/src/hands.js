@@ -2,10 +2,10 @@
 
 import { byId } from "./dom.js";
 
-// How much of the view a turn of the wheel scrolls.
+// The share of the view that one turn of the wheel scrolls.
 const WHEEL_SHARE = 0.1;
 
-// `page.walk` is the walk over what is opened, if anything is.
+// `page.walk` is the walk over the opened run, if there is one.
 function press(page, id, move) {
   byId(id).addEventListener("click", () => page.walk && move(page.walk));
 }
@@ -62,7 +62,7 @@ function dragged(box, go) {
   });
 }
 
-// With Ctrl the wheel zooms; sideways or with Shift it scrolls, and over the strip any way.
+// With Ctrl the wheel zooms. Sideways or with Shift it scrolls, and over the strip in every direction.
 function wheeled(page, box, isStrip) {
   box.addEventListener("wheel", event => {
     if (!event.ctrlKey && !event.shiftKey && !isStrip && Math.abs(event.deltaX) <= Math.abs(event.deltaY)) return;

@@ -4,7 +4,7 @@ import { element } from "./dom.js";
 
 const FAR = 10;
 
-// Each key with its names for people, what it does in words, and the move.
+// Each key with its names in events, the name that is shown, what it does in words, and the move.
 const KEYS = [
   { keys: ["ArrowRight"], shown: "→, with Shift ten", does: "next place", move: (walk, far) => walk.by(far ? FAR : 1) },
   { keys: ["ArrowLeft"], shown: "←, with Shift ten", does: "place before", move: (walk, far) => walk.by(far ? -FAR : -1) },
@@ -26,7 +26,7 @@ function isTyping(target) {
   return target.tagName === "INPUT" && target.type !== "range";
 }
 
-// `page.walk` is the walk over what is opened, if anything is.
+// `page.walk` is the walk over the opened run, if there is one.
 export function listenToKeys(page) {
   document.addEventListener("keydown", event => {
     if (event.ctrlKey || event.metaKey || event.altKey || isTyping(event.target)) return;

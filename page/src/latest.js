@@ -1,4 +1,4 @@
-// One job at a time, and after it once more if it was asked for meanwhile: what is shown is the latest, and nothing queues up.
+// Runs one job at a time, and then once more if it was requested meanwhile. So the latest is shown, and requests don't queue up.
 
 export class Latest {
   constructor(job, onFault) {
@@ -9,7 +9,7 @@ export class Latest {
     this.isStopped = false;
   }
 
-  // No job begins any more.
+  // After this no job begins.
   stop() {
     this.isStopped = true;
   }

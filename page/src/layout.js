@@ -1,5 +1,5 @@
-// Where the rows of the picture stand: one for each actor, and for each channel a band with a row for each handle in view. Where
-// that would be very many rows, handles that live one after the other share one, and far out the receivers come first.
+// Where the rows of the picture are: one for each actor, and for each channel a band with a row for each handle in view. If that
+// would be very many rows, handles that live one after the other share one, and far out the receivers are first.
 
 const TOP = 8;
 const ACTOR_ROW = 18;
@@ -28,7 +28,7 @@ function ownRows(lives) {
   return lives.toSorted((a, b) => a.handle - b.handle).map(life => ({ kind: life.kind, lives: [life] }));
 }
 
-// Puts each life of a kind into the first row that is free again, with a gap between them. There are only so many rows.
+// Puts each life of a kind into the first row that is free again, with a gap between them. There are `MOST_ROWS` at most.
 function sharedRows(lives, kind, gap) {
   const rows = [];
   for (const life of lives.filter(it => it.kind === kind).sort((a, b) => a.from - b.from || a.handle - b.handle)) {
@@ -44,7 +44,7 @@ function bandOf(channel, lives, rows) {
   return { channel, rows, left: lives.length - drawn };
 }
 
-// Stands rows under each other, and gives where the band ends.
+// Arranges a band's rows under each other, and returns where the next band begins.
 function stand(band, foot, heightOf) {
   band.rowOf = new Map();
   let y = band.y + HEAD;
@@ -64,7 +64,7 @@ function receiverHeight(room, bands) {
   return Math.max(LEAST_RECEIVER_ROW, Math.min(MOST_RECEIVER_ROW, Math.floor(room / Math.max(1, count))));
 }
 
-// `room` is the height that the picture should have, if its rows leave it the choice.
+// `room` is the height that the picture should have, as far as its rows allow.
 export function layOut(run, view, frame, room) {
   const seen = run.lives.map(lives => livesInView(lives, view));
   const shared = seen.reduce((sum, lives) => sum + lives.length, 0) > MANY_HANDLES;

@@ -1,4 +1,4 @@
-// Draws how receivers stand: what each has still to read, and what was overwritten before it read it.
+// Draws the state of receivers: what each has yet to read, and what was overwritten before it was read.
 
 import { fitted, line } from "./canvas.js";
 import { NUMBERS } from "./palette.js";
@@ -13,7 +13,7 @@ function standsSame(a, b) {
   return a.unread === b.unread && a.lag === b.lag && a.seen === b.seen;
 }
 
-// Joins neighbouring places at which a receiver stands the same, and shows each such stretch once, with the place behind it.
+// Joins neighbouring places at which a receiver's state is the same. Calls `show` once for each such stretch, with the place after it.
 function eachStretch({ run, view, places, band }, show) {
   const open = new Map();
   for (const place of places) {
@@ -31,7 +31,7 @@ function eachStretch({ run, view, places, band }, show) {
   for (const stretch of open.values()) show(stretch);
 }
 
-// Of a broadcast: blue is what a receiver can still read, red on top of it what it has lost without being told yet.
+// For a broadcast: blue is what a receiver can still read. Red on top of it is what it has lost and no receive has reported yet.
 function drawUnread({ pen, palette }, row, receiver, capacity, x, width) {
   const most = (row.height - 16) * FULL;
   const readable = most * (receiver.unread - receiver.lag) / capacity;
@@ -60,7 +60,7 @@ export function drawLevels(drawing) {
   });
 }
 
-// The places at which a watch has another value than at the one before, each with its value.
+// Returns the first place and each place at which the value of a watch changes, with the values.
 function changesOf(run, places, channel) {
   const changes = [];
   for (const place of places) {
@@ -70,7 +70,7 @@ function changesOf(run, places, channel) {
   return changes;
 }
 
-// Of a watch: its value, where it changes, as far as there is room before the next one.
+// For a watch: its value where it changes, cut to the width before the next one.
 export function drawValues({ pen, run, frame, places, band, palette }) {
   if (run.channels[band.channel].kind !== "watch" || !frame.isNear) return;
   pen.font = NUMBERS;

@@ -1,5 +1,5 @@
 // The console's `list` in columns, for a picture of very many entries: each column is an array by the entry's number, from 1 on.
-// `starts` says where in the listing an entry's line begins, and where the next one would.
+// `starts` has where each entry's line begins in the listing, and at its end where the next one would.
 
 import { MARK_NAMES, markOf } from "./marks.js";
 import { Scanner } from "./scanner.js";
@@ -14,7 +14,7 @@ function emptyColumns(count) {
   };
 }
 
-// Tells `lives` of each handle that is made or dropped.
+// Also records in `lives` where each handle is made or dropped.
 export function readListing(bytes, text, count, lives) {
   const columns = emptyColumns(count);
   const scanner = new Scanner(bytes, text);

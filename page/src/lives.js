@@ -1,4 +1,4 @@
-// From which place to which each handle lives, as replies say it: `new H` makes a handle, `dropped` ends one.
+// From which place to which each handle lives, by the replies: `new H` makes a handle, `dropped` ends one.
 
 const KIND_MADE_BY = {
   subscribe: "receiver", resubscribe: "receiver", "clone-receiver": "receiver",

@@ -19,7 +19,7 @@ import { View, columnsThatFit, placesAtFirst } from "./view.js";
 import { waitingCall } from "./waiting.js";
 import { Walk } from "./walk.js";
 
-// A module that has nothing but a memory of 64-bit addresses.
+// A module that has only a memory with 64-bit addresses.
 const WIDE_MEMORY = Uint8Array.of(0, 97, 115, 109, 1, 0, 0, 0, 5, 3, 1, 4, 1);
 
 const page = { walk: null };
@@ -33,7 +33,7 @@ function tellFault(fault) {
   tell(`The debugger failed: ${fault.message}.`);
 }
 
-// Shows one of the page's parts, or none: what there is before a run, a run, or why a text is refused.
+// Shows one of the page's parts, or none: the welcome before a run, a run, or why a text is refused.
 function showPart(part) {
   for (const id of ["welcome", "refusal", "walk"]) byId(id).hidden = id !== part;
 }
@@ -67,7 +67,7 @@ async function showRun(client, opened, { name, bytes, names }, place) {
   addSamples(page.walk);
 }
 
-// The strip's samples come from all over the run, so they come last.
+// The strip's samples are states from all over the run, so they are loaded last.
 async function addSamples(walk) {
   try {
     const samples = await sample(walk.run);
@@ -77,15 +77,15 @@ async function addSamples(walk) {
   }
 }
 
-// Leaves what is opened, so that none of it stands under the name of what comes next.
+// Leaves the opened run, so that none of it is shown under the name of the next one.
 function leave() {
   page.walk?.leave();
   page.walk = null;
   showPart(null);
 }
 
-// Opens a run at the address's place where it stands in the page's own file. Else that may be a place in the run before, and it is
-// opened at its start.
+// Opens a run. One in the page's own file is opened at the place in the address. Others are opened at their start, since the address
+// may have a place of the run before.
 async function open(client, source) {
   tell("");
   leave();
@@ -108,7 +108,7 @@ async function openOrTell(client, source) {
   }
 }
 
-// Opens what it is given, one after the other: of those that wait only the last.
+// Returns a function that opens sources one after the other. Of those that wait, only the last is opened.
 function opener(client) {
   let next = null;
   const opening = new Latest(() => openOrTell(client, next), tellFault);
@@ -125,7 +125,7 @@ function redraw() {
   page.walk.show();
 }
 
-// Opens the run among these files. What is dropped may be no files at all, as words of the page, or a folder, which can't be read.
+// Opens the run among these files. What is dropped may be text, which has no files, or a folder, which can't be read.
 async function openFiles(openSource, files) {
   if (files.length === 0) return;
   try {
@@ -137,7 +137,7 @@ async function openFiles(openSource, files) {
   }
 }
 
-// The field is emptied, since it tells of a file only where that is another one: the same one may have another text by now.
+// Empties the field, since it reports a chosen file only if it differs from the last, and the same file may have changed.
 function takeChosen(openSource) {
   const files = [...byId("file").files];
   byId("file").value = "";
@@ -160,7 +160,7 @@ function listen(openSource) {
   listenToKeys(page);
 }
 
-// What the page offers to the browser's own console: the debugger's answers to commands, as texts.
+// What the page offers to the browser's own console: what commands write, as text.
 function answersOf(client) {
   return {
     ask: commands => client.request("ask", commands),
@@ -174,7 +174,7 @@ function openEmbedded(openSource) {
   if (embedded) openSource(embedded);
 }
 
-// The debugger starts while the browser still reads the run that stands behind this script in the page's file.
+// The debugger starts while the browser still reads the run, which is after this script in the page's file.
 function start() {
   byId("key-list").replaceChildren(...keyRows());
   if (!WebAssembly.validate(WIDE_MEMORY)) {

@@ -1,4 +1,4 @@
-// What a call shows as in the picture: by the word of its reply, and in one case by its own.
+// The mark of a call in the picture: by the word of its reply, and in one case by the word of the call too.
 
 export const MARK_NAMES = ["asked", "sent", "unsent", "received", "made", "dropped", "lagged", "closed", "refused"];
 

@@ -1,4 +1,4 @@
-// Names of actors and channels, and texts of values: from a file of names where there is one, else numbers.
+// Names of actors and channels, and texts of values: from a file of names if there is one, else numbers.
 
 const KINDS = ["actors", "channels", "values"];
 

@@ -1,4 +1,4 @@
-// Numbers for people: `12,345`. (The browser's own way of writing them is slow at its first use.)
+// Numbers with separators: `12,345`. (The browser's own formatter is slow at its first use.)
 
 export function grouped(number) {
   return String(number).replace(/\B(?=(\d{3})+$)/g, ",");

@@ -1,4 +1,4 @@
-// Opens a run by the debugger's own answers: whether it is refused, how many places it has, what happened in it.
+// Opens a run by what the debugger writes: whether it is refused, how many places it has, and what happened in it.
 
 import { readListing } from "./listing.js";
 import { Lives } from "./lives.js";
@@ -9,7 +9,7 @@ const FAULT = /^(journal|script) fault (.*)$/;
 const WAITS = /^would wait (\d+)$/;
 const PLACE = /^place 0 of (\d+)$/;
 
-// Takes line by line from the front of some bytes.
+// Reads line by line from the front of some bytes.
 class Front {
   constructor(bytes) {
     this.rest = bytes;
@@ -23,7 +23,7 @@ class Front {
   }
 }
 
-// The states at these places. Where there is no such place it is the state before once more.
+// Reads the states at these places. If a place doesn't exist, the state before it is repeated.
 function statesAt(places, front) {
   return places.map(() => {
     front.line();
@@ -31,8 +31,8 @@ function statesAt(places, front) {
   });
 }
 
-// `ask` gives the bytes that commands write, with a heading before them where a call of the script would wait. The states at `places`
-// are answered along with the opening, since each question reads the whole journal.
+// `ask` returns the bytes that commands write, after a heading if a call of the script would wait. The states at `places` are read
+// together with the opening, since each request reads the whole journal.
 export function openRun(ask, places) {
   const front = new Front(ask(`${commandsFor([0, ...places])}list\n`));
   const first = front.line();

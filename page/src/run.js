@@ -1,9 +1,9 @@
-// An opened run: its entries, and the states at those places that were asked for.
+// An opened run: its entries, and the states that are loaded.
 
 import { readEntry } from "./entries.js";
 import { commandsFor, readStates } from "./states.js";
 
-// How long an answer may be, how much is kept of them, and what a state takes before any was seen.
+// In characters: the output of one request, the states that are kept, and as a first guess a state without values, and a value in it.
 const MOST_ASKED = 8 << 20;
 const MOST_KEPT = 16 << 20;
 const SHORT_STATE = 1000;
@@ -38,7 +38,7 @@ export class Run {
     return this.listing.slice(this.columns.starts[number], this.columns.starts[number + 1] - 1);
   }
 
-  // The state at a place, where it is known.
+  // Returns the state at a place, if it is loaded.
   state(place) {
     return this.states.get(place);
   }
@@ -47,13 +47,13 @@ export class Run {
     return places.filter(place => !this.states.has(place));
   }
 
-  // Asks for the states at these places that aren't known.
+  // Loads the states at these places that aren't loaded yet.
   async load(places) {
     for (const state of await this.statesAt(this.missing(places))) this.states.set(state.place, state);
     this.forget(new Set(places));
   }
 
-  // Forgets states that aren't needed, the oldest first, where there are too many.
+  // Removes states that aren't needed, the oldest first, while there are too many.
   forget(needed) {
     for (const place of this.states.keys()) {
       if (this.states.size * this.stateLength <= MOST_KEPT) return;
@@ -73,7 +73,7 @@ export class Run {
     return states;
   }
 
-  // What these commands write, as they stand in the console.
+  // Returns what these commands write, as in the console.
   ask(commands) {
     return this.client.request("ask", commands);
   }

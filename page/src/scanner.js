@@ -1,4 +1,4 @@
-// Goes through a text of ASCII number by number and word by word, each behind the byte that ends it.
+// Reads an ASCII text by numbers and words. After each it moves past the byte that ends it.
 
 const SPACE = 32;
 const ZERO = 48;
@@ -23,7 +23,7 @@ export class Scanner {
     return this.text.slice(start, this.at++);
   }
 
-  // Goes behind the next such byte, unless one was just passed.
+  // Moves past the next such byte, unless the last byte passed was one.
   goBehind(byte) {
     while (this.bytes[this.at - 1] !== byte) this.at++;
   }

@@ -19,13 +19,13 @@ export class Screen {
     this.resize();
   }
 
-  // Draws the strip anew, with how the channels stand at samples of the run.
+  // Draws the strip again, with the states of the channels at samples of the run.
   addSamples(samples) {
     this.samples = samples;
     this.drawStrip();
   }
 
-  // After a change of the window's size, or between light and dark.
+  // Called after a change of the window's size, or between light and dark.
   resize() {
     this.palette = readPalette();
     this.width = byId("picture-box").clientWidth;
@@ -45,7 +45,7 @@ export class Screen {
     return cleared(byId(id), this.width, height);
   }
 
-  // Draws the places in view whose states are known, if the picture isn't of them already.
+  // Draws the places in view whose states are loaded, unless the picture shows exactly these.
   drawView() {
     const { run, view, palette } = this;
     const places = view.drawnPlaces().filter(place => run.state(place));
@@ -64,7 +64,7 @@ export class Screen {
     if (this.picture) drawCursor({ ...this.picture, pen: this.pen("cursor", this.picture.layout.height) });
   }
 
-  // Which place stands under a point of the picture, and of the strip. Before the first picture it is the place where one is.
+  // Returns the place under a point of the picture. Before the first picture it is the current place.
   placeInPicture(x) {
     return this.picture ? this.picture.frame.columnAt(x) : this.view.place;
   }

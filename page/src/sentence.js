@@ -4,7 +4,7 @@ import { coloured, element } from "./dom.js";
 import { countOf } from "./numbers.js";
 import { actorColour } from "./palette.js";
 
-// What a reply means, where its word alone may not say it.
+// What a reply means, if its word alone may be unclear.
 function meaning(entry, names) {
   if (entry.reply === "lagged") {
     const lost = countOf(Number(entry.answer), "value was", "values were");
@@ -35,7 +35,7 @@ export function atTheStart() {
   return [element("span", { class: "mute" }, "the start: no call has been made")];
 }
 
-// The same in one short line, for a list.
+// A call in one short line, for a list.
 export function shortLine(entry) {
   return `${entry.channel}: ${callText(entry)} → ${replyText(entry)}`;
 }

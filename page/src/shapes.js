@@ -1,4 +1,4 @@
-// The shapes of marks, each round a point: what came of a call.
+// The shapes of marks, each around a point. They show the result of a call.
 
 import { line } from "./canvas.js";
 

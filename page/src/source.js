@@ -1,4 +1,4 @@
-// What is opened: a journal text or a script, and how the debugger is asked about it.
+// What is opened: a journal text or a script, and how commands are run over it.
 
 const JOURNAL_BEGINS = "ttd-journal";
 const LINE_END = 10;
@@ -7,7 +7,7 @@ function isJournal(bytes) {
   return new TextDecoder().decode(bytes.subarray(0, JOURNAL_BEGINS.length)) === JOURNAL_BEGINS;
 }
 
-// The script's bytes before its line `---`, with their last line ended.
+// Returns the script's bytes before its line `---`. An LF is added if their last line has none.
 function scriptPart(bytes) {
   let start = 0;
   while (start < bytes.length) {
@@ -26,7 +26,7 @@ function joined(front, back) {
   return whole;
 }
 
-// A function from commands to the bytes that they write over what is opened.
+// Returns a function from commands to the bytes that they write over the opened text.
 export function questions(engine, bytes) {
   const encoder = new TextEncoder();
   if (isJournal(bytes)) return commands => engine.debug(bytes, encoder.encode(commands));

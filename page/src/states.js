@@ -1,5 +1,5 @@
-// States at places, as the console's `state json` writes them. Of the values that a broadcast retains only the newest are kept:
-// there may be 65,536 of them, at each of very many places.
+// States at places, as the console's `state json` writes them. Only the newest values that a broadcast retains are kept, since it
+// may retain 65,536 at each of very many places.
 
 const NEWEST = 16;
 
@@ -15,7 +15,7 @@ function kept(state) {
   return state;
 }
 
-// The numbers that a browser would round stay texts.
+// Parses a state. Numbers that a browser would round become strings.
 export function readState(line) {
   return kept(JSON.parse(line.replace(LONG_NUMBER, '"$&"')));
 }

@@ -3,7 +3,7 @@
 const MOST_RECEIVERS = 16;
 const HIT = /^hit (\d+) of/;
 
-// Asks for the nearest hit, by `rback` or `rforward`. Gives what the console answers, and the place of the hit, if there is one.
+// Searches for the nearest hit by `rback` or `rforward`. Returns the line that the console writes, and the hit's place, if there is one.
 export async function seek(run, place, word, condition) {
   const lines = (await run.ask(`goto ${place}\n${word} ${condition}\n`)).trimEnd().split("\n");
   const answer = lines.at(-1);
@@ -11,7 +11,7 @@ export async function seek(run, place, word, condition) {
   return { answer, place: hit && Number(hit[1]) };
 }
 
-// Conditions that a state offers, each with what it asks for in words.
+// Returns the conditions that are offered at a state, each with its meaning in words.
 export function conditionsAt(state, run) {
   const { names } = run;
   const offers = [

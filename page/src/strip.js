@@ -25,7 +25,7 @@ function summaryOf(channel) {
   };
 }
 
-// How the channels stand at up to 600 places of the run.
+// Returns the states of the channels at up to 601 places of the run.
 export async function sample(run) {
   const stride = Math.max(1, Math.ceil(run.lastPlace / MOST_SAMPLES));
   const places = Array.from({ length: Math.floor(run.lastPlace / stride) + 1 }, (_, i) => i * stride);
@@ -49,7 +49,7 @@ function drawSummary({ pen, palette }, summary, x, y, width) {
   }
 }
 
-// Each reply `lagged`, exactly.
+// Draws each reply `lagged`, at its exact place.
 function drawLags({ pen, run, frame, palette }, channel, y) {
   const { marks, channels } = run.columns;
   pen.fillStyle = palette.lag;
@@ -69,7 +69,7 @@ function drawSamples(drawing, channel, y) {
   }
 }
 
-// `drawing` has the pen, the run, a frame over all of it, the palette, and the samples, once they are there.
+// `drawing` has the pen, the run, a frame over all of it, the palette, and the samples, once they are loaded.
 export function drawStrip(drawing) {
   const { pen, run, frame, palette, samples } = drawing;
   pen.font = SMALL;
@@ -85,7 +85,7 @@ export function drawStrip(drawing) {
   });
 }
 
-// The part in view, and the place.
+// Draws the part in view, and the place.
 export function drawStripCursor({ pen, view, frame, palette, height }) {
   const x = frame.x(view.from);
   const width = Math.max(frame.x(view.to + 1) - x, 3);

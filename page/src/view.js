@@ -7,12 +7,12 @@ const MOST_DRAWN = 1500;
 const GOOD_COLUMN = 14;
 const MOST_AT_FIRST = 64;
 
-// How many columns are well seen side by side.
+// How many columns fit side by side at a good width.
 export function columnsThatFit(width) {
   return Math.max(FEWEST, Math.min(MOST_AT_FIRST, Math.floor((width - gutterOf(width)) / GOOD_COLUMN)));
 }
 
-// The places that are likely to be in view at first, round this one: there may be fewer.
+// Returns the places around this one that are likely to be in view at first. The run may have fewer.
 export function placesAtFirst(place) {
   const from = Math.max(0, place - MOST_AT_FIRST / 2);
   return Array.from({ length: MOST_AT_FIRST + 1 }, (_, i) => from + i);
@@ -35,7 +35,7 @@ export class View {
     return this.to - this.from;
   }
 
-  // Goes to a place, which is brought into view.
+  // Goes to a place, and brings it into view.
   go(place) {
     this.place = within(0, place, this.lastPlace);
     if (this.place < this.from || this.place > this.to) this.centre(this.place);
@@ -45,7 +45,7 @@ export class View {
     this.show(Math.round(column - this.width / 2), this.width);
   }
 
-  // Has this many columns in view, from this one on, as far as there are so many.
+  // Brings this many columns into view, from this one on, as far as the run has them.
   show(from, width) {
     const most = within(Math.min(FEWEST, this.lastColumn), width, this.lastColumn);
     this.from = within(0, from, this.lastColumn - most);
@@ -68,7 +68,7 @@ export class View {
     this.show(0, this.lastColumn);
   }
 
-  // Of very many places in view every so many are drawn.
+  // If very many places are in view, only every `stride`th is drawn.
   get stride() {
     return Math.max(1, Math.ceil(this.width / MOST_DRAWN));
   }

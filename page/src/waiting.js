@@ -1,17 +1,17 @@
-// The call that would wait: the script's line, who makes it, and a mark behind the last place.
+// The call that would wait: the script's line, who makes it, and a mark after the last place.
 
 import { flag, line } from "./canvas.js";
 
 const STEP = /^(\d+) (\d+) ([a-z-]+) (\S+)/;
 
-// The handle that a step names: by its number, or by the name that an earlier step gave to the one that it made. Each of the
-// earlier steps is an entry.
+// Returns the handle that a step names: by its number, or by the name that an earlier step gave to the handle that it made. Each of
+// the earlier steps is an entry.
 function handleOf(word, steps, run) {
   const binding = steps.findIndex(step => step.endsWith(` as ${word}`));
   return Number(binding < 0 ? word : run.entry(binding + 1).answer);
 }
 
-// What the script says in this line, the first being 1.
+// Parses the call in this line of the script. The first line is 1.
 export function waitingCall(bytes, lineNumber, run) {
   const lines = new TextDecoder().decode(bytes).split("\n").slice(0, lineNumber);
   const steps = lines.filter(text => STEP.test(text));

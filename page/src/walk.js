@@ -1,4 +1,4 @@
-// The walk over an opened run: where it stands, and what the page shows of that.
+// The walk over an opened run: its place, and what the page shows there.
 
 import { putIntoAddress } from "./address.js";
 import { callsAround } from "./around.js";
@@ -28,14 +28,14 @@ export class Walk {
     byId("found").textContent = "";
   }
 
-  // Another run is opened: what is asked for and not answered yet is shown no more.
+  // Called when another run is opened. Replies that arrive after that are not shown.
   leave() {
     this.isLeft = true;
     this.drawing.stop();
     this.telling.stop();
   }
 
-  // A move of the reader's own: searches that were asked for before it, and what they have told, count no more.
+  // Goes to a place by hand. This discards earlier searches and what they have reported.
   to(place) {
     this.moves++;
     byId("found").textContent = "";
@@ -61,7 +61,7 @@ export class Walk {
     this.to(this.screen.placeInPicture(x));
   }
 
-  // What lies round the place comes into view with it.
+  // Brings the place into view, with what is around it.
   toPointInStrip(x) {
     const place = this.screen.placeInStrip(x);
     this.view.centre(place);
@@ -92,7 +92,7 @@ export class Walk {
     this.seek(isBack ? "rback" : "rforward", LAG);
   }
 
-  // Searches are made one after the other, so that each begins where the one before has gone.
+  // Searches run one after the other, so that each begins where the one before has ended.
   seek(word, condition) {
     const { moves } = this;
     const isOver = () => this.isLeft || this.moves !== moves;
@@ -110,7 +110,7 @@ export class Walk {
     this.show();
   }
 
-  // The words change at once; the picture when its states are there.
+  // The texts change at once, and the picture when its states are loaded.
   show() {
     const { run, view } = this;
     const { place } = view;
@@ -125,7 +125,7 @@ export class Walk {
     if (byId("told").open) this.telling.ask();
   }
 
-  // The states that are drawn. Where that of the place has to be asked for, its neighbours come with it.
+  // Returns the places whose states are needed. If the state of the current place isn't loaded, its neighbours are included.
   neededPlaces() {
     const { run, view } = this;
     const places = new Set(view.drawnPlaces());
@@ -154,7 +154,7 @@ export class Walk {
     byId("picture").setAttribute("aria-label", `The calls from place ${view.from} to ${Math.min(view.to, run.lastPlace)}, drawn.`);
   }
 
-  // Conditions to choose from; most places offer those of the place before.
+  // Offers conditions to choose from, unless they are those of the place before, as they mostly are.
   offer(offers) {
     const offered = JSON.stringify(offers);
     if (this.offered === offered) return;
@@ -164,7 +164,7 @@ export class Walk {
     byId("conditions").replaceChildren(...offers.map(([condition, meaning]) => element("option", { value: condition }, meaning)));
   }
 
-  // The step and the state as the console writes them.
+  // Shows the step and the state as the console writes them.
   async tell() {
     const told = await this.run.ask(`goto ${this.view.place}\nstep\nstate\n`);
     if (!this.isLeft) byId("told-text").textContent = told;

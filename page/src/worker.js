@@ -1,4 +1,4 @@
-// The debugger beside the page's own thread: requests come as messages, and each is answered by one.
+// The debugger, in a thread beside the page's own: each request is a message, and gets one message as its reply.
 
 import { Debugger } from "./debugger.js";
 import { openRun } from "./opening.js";

@@ -1,4 +1,4 @@
-"""Random commands and spoiled texts: the page's debugger answers each with the bytes of the native program."""
+"""Random commands and spoiled texts: for each, the page's debugger writes the same bytes as the native program."""
 import base64
 import json
 import os
@@ -57,7 +57,7 @@ def commands(chance, calls, count):
 
 
 def compare(tab, asked, wanted):
-    """Asks the page, in batches. Each case is a request with the names or the bytes that it takes."""
+    """Makes requests to the page, in batches. Each case is a request with its arguments: names of bytes, or bytes."""
     for start in range(0, len(asked), BATCH):
         told = tab.run(f"answers({json.dumps(asked[start:start + BATCH])})")
         for case, text, want in zip(asked[start:], told, wanted[start:]):
@@ -95,7 +95,7 @@ def spoiled(chance, text):
 
 
 def spoiled_texts(tab, journals):
-    """1,000 texts that chance has spoiled: journals, and scripts with commands behind them."""
+    """1,000 randomly spoiled texts: journals, and scripts with commands after them."""
     chance = random.Random(2)
     texts = [spoiled(chance, journals[63]) for _ in range(560)] + [spoiled(chance, journals[10_000]) for _ in range(40)]
     sessions = [spoiled(chance, runs.example()) + b"---\n" + commands(chance, 63, 10) for _ in range(400)]

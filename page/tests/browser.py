@@ -13,7 +13,7 @@ PATIENCE = 60
 
 
 class BrowserFault(Exception):
-    """What the browser answered in place of a result."""
+    """The error that the browser returned in place of a result."""
 
 
 class Browser:
@@ -38,7 +38,7 @@ class Browser:
         shutil.rmtree(self.profile, ignore_errors=True)
 
     def message(self):
-        """The next message, each of which ends with a zero byte."""
+        """The next message. Each message ends with a zero byte."""
         while b"\0" not in self.rest:
             if not select.select([self.reads], [], [], PATIENCE)[0]:
                 raise BrowserFault(f"the browser said nothing for {PATIENCE} seconds")
@@ -50,7 +50,7 @@ class Browser:
         return json.loads(said)
 
     def call(self, method, session=None, **values):
-        """Calls a method of the protocol, and keeps the events that come before its answer."""
+        """Calls a method of the protocol, and stores the events that arrive before its answer."""
         number = next(self.numbers)
         request = {"id": number, "method": method, "params": values}
         if session:
@@ -68,7 +68,7 @@ class Browser:
                 return answer["result"]
 
     def event(self, method, session):
-        """Waits for an event, and gives what it tells."""
+        """Waits for an event, and returns its parameters."""
         while True:
             for i, event in enumerate(self.events):
                 if event.get("method") == method and event.get("sessionId") == session:
@@ -116,14 +116,14 @@ class Tab:
         self.browser.event("Page.loadEventFired", self.session)
 
     def run(self, script):
-        """The value of an expression in the page, which is waited for where it is a promise."""
+        """The value of an expression in the page. If it is a promise, its result is waited for."""
         answer = self.call("Runtime.evaluate", expression=script, awaitPromise=True, returnByValue=True)
         if "exceptionDetails" in answer:
             raise BrowserFault(f"{script[:200]}: {answer['exceptionDetails'].get('exception', {}).get('description')}")
         return answer["result"].get("value")
 
     def wait(self, condition, seconds=20):
-        """Waits until an expression holds."""
+        """Waits until an expression is true."""
         self.run(f"""new Promise((done, failed) => {{
             const end = performance.now() + {seconds * 1000};
             const look = () => ({condition}) ? done() : performance.now() > end ? failed(new Error("no end of waiting")) : setTimeout(look, 5);
@@ -183,11 +183,11 @@ class Tab:
             file.write(base64.b64decode(self.call("Page.captureScreenshot", format="png", **cut)["data"]))
 
     def forget(self):
-        """Forgets what the page has told until now."""
+        """Discards what the page has reported so far."""
         self.browser.events.clear()
 
     def faults(self):
-        """What the page told its console as an error, or threw."""
+        """The errors that the page wrote to its console or threw."""
         told = [event["params"] for event in self.browser.events if event.get("sessionId") == self.session
                 and event.get("method") in ("Runtime.exceptionThrown", "Log.entryAdded")]
         return [json.dumps(it)[:400] for it in told if it.get("entry", {"level": "error"})["level"] == "error"]

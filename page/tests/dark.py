@@ -7,10 +7,10 @@ import opening
 
 STYLE = os.path.join(native.TOP, "page", "src", "style.css")
 
-# Values that a receiver can read, and such as it has lost, in the picture and in the strip; and the line of its life.
+# Values that a receiver can read, and values that it has lost, in the picture and in the strip; and the line of its life.
 DRAWN = [("picture", "lag"), ("picture", "unread"), ("picture", "alive"), ("strip", "unread"), ("strip", "lag-pale")]
 
-# How many points of a canvas have a colour.
+# How many pixels of a canvas have a colour.
 COUNT = """((name, colour) => {{
     const canvas = document.getElementById(name);
     const {{ data }} = canvas.getContext('2d').getImageData(0, 0, canvas.width, canvas.height);
@@ -33,7 +33,7 @@ def counts(tab, named):
 
 
 def drawn_in(tab, wanted, unwanted):
-    """The drawings have the colours of one kind and none of the other's. Their points, to compare."""
+    """Checks that the drawings have the colours of one kind and none of the other. Returns their pixels, to compare."""
     tab.wait(COUNT.format("picture", wanted["lag"]) + " > 0")
     assert min(counts(tab, wanted)) > 100, counts(tab, wanted)
     assert counts(tab, unwanted) == [0] * len(DRAWN), counts(tab, unwanted)

@@ -1,4 +1,4 @@
-"""Files that are given to the page: chosen, dropped, beside each other, or such that can't be opened."""
+"""Files that are opened in the page: chosen, dropped, several at once, or such that can't be opened."""
 import json
 import os
 
@@ -39,7 +39,7 @@ def chosen_again(tab, folder, journals):
 
 
 def drop_with_names(tab, folder, journals):
-    """A journal is dropped along with its file of names, in either order; what is dropped without a run, or is a folder, is told of."""
+    """A journal is dropped together with its file of names, in either order. A drop without a run, or of a folder, is reported."""
     journal = opening.put(folder, "named.journal", journals[63])
     names = opening.put(folder, "named.names", runs.example_file("price_feed.names"))
     for files in ([journal, names], [names, journal]):
@@ -57,7 +57,7 @@ def drop_with_names(tab, folder, journals):
 
 
 def places_of_two_runs(tab, folder, journals):
-    """The place in the address is one of the run that stands in the page: one that is dropped on it is opened at its start."""
+    """The place in the address is one of the run in the page's own file. A run that is dropped on the page is opened at its start."""
     opening.load(tab, opening.page_of(folder, "first.journal", journals[63]), 3)
     tab.key("ArrowLeft")
     tab.wait("location.hash === '#place=2'")
@@ -68,7 +68,7 @@ def places_of_two_runs(tab, folder, journals):
 
 
 def failed_opening(tab, folder, journals):
-    """Where the debugger fails over a file, the run before isn't shown under that one's name. A refused file has its own title."""
+    """If the debugger fails on a file, the run before isn't shown under the file's name. A refused file has its own title."""
     opening.load(tab, opening.page_of(folder, "first.journal", journals[63]))
     tab.run(FAILING)
     tab.drop(opening.put(folder, "second.ttd", SCRIPT))

@@ -1,4 +1,4 @@
-"""Keys, mouse, stops and files in the real browser, each compared with what the program answers."""
+"""Keys, mouse, stops and files in the real browser, each compared with what the program writes."""
 import json
 import math
 import os
@@ -15,7 +15,7 @@ STOPS = [("rforward", "lagging 0 2"), ("rforward", "lagging 0 2"), ("rback", "ac
          ("rback", "unseen 1 2"), ("rforward", "queue 0 4"), ("rforward", "reply nonsense"), ("rback", "sideways"),
          ("rback", "closed 0"), ("rforward", "lagging 99999999999999999999 1")]
 
-# The debugger's next answer is that it has no memory, as far as the page can tell.
+# For the page, the next request to the debugger fails for lack of memory.
 FAILING = """(() => {
     const { postMessage } = Worker.prototype;
     Worker.prototype.postMessage = () => {
@@ -24,7 +24,7 @@ FAILING = """(() => {
     };
 })()"""
 
-# A click as soon as a run is shown; most of the places at the end of a large one have their states asked for after that.
+# A click as soon as a run is shown. At the end of a large run most states are requested only after that.
 EARLY_CLICK = """new MutationObserver((_, observer) => {
     if (document.getElementById('walk')?.hidden !== false) return;
     observer.disconnect();
@@ -35,7 +35,7 @@ EARLY_CLICK = """new MutationObserver((_, observer) => {
 
 
 def column_x(tab, box, column, columns):
-    """Where a column stands in a drawing of so many."""
+    """Where a column is in a drawing with this many columns."""
     left, top, width, height = tab.box(box)
     return left + GUTTER + (column + 0.5) * (width - GUTTER - MARGIN) / columns, top
 
@@ -52,7 +52,7 @@ def keys(tab, folder, journals):
 
 
 def lag_keys(tab, folder, journals):
-    """L and Shift L go to the places where a receiver is told that it lagged, and say where there is none."""
+    """L and Shift L go to the places at which a receive returned `lagged`, and report if there is none."""
     opening.load(tab, opening.page_of(folder, "lags.journal", journals[63]))
     ask, place = opening.asker(journals[63]), 0
     for shift in [False] * 4 + [True] * 3:
@@ -82,13 +82,13 @@ PRESS = "document.dispatchEvent(new KeyboardEvent('keydown', {{ key: '{}' }}))"
 
 
 def hurried(tab, *pressed):
-    """Presses keys, none of which the page has answered when the next one comes, and waits until no answer is left."""
+    """Presses keys, each before the page has finished with the last one, and waits until it has finished with all."""
     tab.run(f"void ({', '.join(PRESS.format(key) for key in pressed)})")
     tab.run("ttd.ask('').then(() => ttd.ask('')).then(() => new Promise(done => setTimeout(done, 100)))")
 
 
 def hurried_searches(tab, folder, journals):
-    """A search begins where the one before has gone, and is over where the reader goes on by hand. What it told goes with it."""
+    """A search begins where the one before has ended. A move by hand discards it, with what it has reported."""
     opening.load(tab, opening.page_of(folder, "hurried.journal", journals[63]))
     ask = opening.asker(journals[63])
     second = ask("start\nrforward reply lagged\nrforward reply lagged\n").rstrip("\n").split("\n")[-1]
@@ -103,7 +103,7 @@ def hurried_searches(tab, folder, journals):
 
 
 def failed_search(tab, folder, journals):
-    """Where the debugger fails over a search, the page says so, and the next one is made."""
+    """If the debugger fails in a search, the page reports it, and the next search works."""
     opening.load(tab, opening.page_of(folder, "failed.journal", journals[63]))
     tab.run(FAILING)
     tab.key("l")
@@ -140,7 +140,7 @@ def buttons(tab, folder, journals):
 
 
 def places_in_view(tab):
-    """The first and the last place that the picture says it has."""
+    """The first and the last place of the picture, by its label."""
     label = tab.run("document.getElementById('picture').getAttribute('aria-label')")
     return [int(it) for it in re.fullmatch(r"The calls from place (\d+) to (\d+), drawn\.", label).groups()]
 
@@ -172,7 +172,7 @@ def mouse(tab, folder, journals):
 
 
 def drops(tab, folder, journals):
-    """A journal, then a script, then a spoiled journal is dropped on the page."""
+    """A journal is dropped on the page, then a script, then a spoiled journal."""
     tab.load(native.PAGE)
     tab.wait("window.ttd")
     journal = opening.put(folder, "dropped.journal", journals[63])
@@ -191,7 +191,7 @@ def drops(tab, folder, journals):
 
 
 def script_asker(script):
-    """The program's answers to commands behind a script, but for the line that says that it would wait."""
+    """What the program writes for commands after a script, without the line that it would wait."""
     def ask(commands):
         answer = native.session(script.partition(b"---\n")[0] + b"---\n" + commands.encode()).decode()
         return answer.partition("\n")[2] if answer.startswith("would wait") else answer
@@ -199,7 +199,7 @@ def script_asker(script):
 
 
 def waiting_script(tab, folder, journals):
-    """A script whose last call would wait: the page says so, and walks the calls before it."""
+    """A script whose last call would wait: the page reports it, and walks the calls before it."""
     script = b"broadcast 2\nactors 2\n1 0 subscribe 0 as slow\n0 0 send 0 5\n1 0 recv slow\n1 0 recv slow\n0 0 send 0 6\n"
     opening.load(tab, opening.page_of(folder, "waits.ttd", script))
     assert native.session(script).startswith(b"would wait 6"), "the program says another line"
@@ -215,7 +215,7 @@ def waiting_script(tab, folder, journals):
 
 
 def points_behind(tab, column, columns):
-    """How many points of actor 1's colour stand in the picture from a column on, of so many."""
+    """How many pixels of the picture have actor 1's colour, from this one of its columns on."""
     x, _ = column_x(tab, "#picture-box", column - 0.5, columns)
     return points_of(tab, "--actor-1", math.ceil(x - tab.box("#picture-box")[0]))
 
@@ -260,7 +260,7 @@ def example(tab, folder, journals):
 
 
 def files_that_are_not_there(tab, folder, journals):
-    """page/open says what it is missing, with status 2."""
+    """page/open reports what is missing, with status 2."""
     for words, told in (([os.path.join(folder, "nothing")], f"page/open: {folder}/nothing is no file that can be read\n"),
                         ([], "page/open: give one journal or script\n")):
         done = subprocess.run([opening.OPEN, *words], capture_output=True)
@@ -268,7 +268,7 @@ def files_that_are_not_there(tab, folder, journals):
 
 
 def addresses(tab, folder, journals):
-    """A place in the address is gone to, and walking puts the place there."""
+    """The page goes to the place in the address, and walking updates it."""
     path, ask = opening.page_of(folder, "address.journal", journals[63]), opening.asker(journals[63])
     opening.load(tab, path, 42)
     check_place(tab, ask, 42)

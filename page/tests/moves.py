@@ -5,8 +5,8 @@ from opening import check_place
 
 SHIFT, CTRL = 8, 2
 
-# Turns of the wheel one after the other: over what, how far sideways and down, with which keys; and the first and the last place in
-# view then. A turn scrolls a tenth of what is in view, and zooming keeps the first place where the place itself is out of view.
+# Turns of the wheel one after the other: over what, how far sideways and down, with which keys; and then the first and the last place in
+# view. A turn scrolls a tenth of what is in view. Zooming keeps the first place in view, if the current place is out of view.
 TURNS = [
     ("#strip-box", 0, 120, 0, [6, 70]), ("#strip-box", 0, 120, 0, [12, 76]), ("#strip-box", 0, -120, 0, [6, 70]),
     ("#strip-box", 120, 0, 0, [12, 76]), ("#picture-box", 0, 120, 0, [12, 76]), ("#picture-box", 120, 0, 0, [18, 82]),
@@ -18,7 +18,7 @@ TURNS = [
 
 
 def turn(tab, box, sideways, down, modifiers):
-    """A turn of the wheel in the middle of an element; it is over when the page has drawn what comes of it."""
+    """Turns the wheel in the middle of an element, and waits until the page has drawn the result."""
     left, top, width, height = tab.box(box)
     tab.mouse("mouseWheel", left + width / 2, top + height / 2, deltaX=sideways, deltaY=down, modifiers=modifiers)
     tab.run("ttd.ask('').then(() => new Promise(done => requestAnimationFrame(() => setTimeout(done, 50))))")
@@ -35,7 +35,7 @@ def wheel(tab, folder, journals):
 
 
 def field(tab):
-    """What has the focus, the field's text, and how much of that is selected."""
+    """The element with the focus, its text, and how much of that is selected."""
     return tab.run("""(() => {
         const { id, value, selectionStart, selectionEnd } = document.activeElement;
         return [id, value, value && selectionEnd - selectionStart];
@@ -43,7 +43,7 @@ def field(tab):
 
 
 def stop_field(tab, folder, journals):
-    """`/` goes into the field for a stop, whose text is selected. There keys are letters; Enter seeks on, with Shift back, and Escape goes out of it."""
+    """`/` focuses the field for a stop and selects its text. Keys are letters there. Enter searches, with Shift back. Escape leaves."""
     opening.load(tab, opening.page_of(folder, "field.journal", journals[63]))
     ask = opening.asker(journals[63])
     tab.key("/")

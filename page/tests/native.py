@@ -1,4 +1,4 @@
-"""The program `ttd`, whose answers the page's are compared with."""
+"""The program `ttd`, with whose output the page is compared."""
 import os
 import subprocess
 import tempfile
@@ -6,7 +6,7 @@ from concurrent.futures import ThreadPoolExecutor
 
 TOP = os.path.dirname(os.path.dirname(os.path.dirname(os.path.realpath(__file__))))
 PROGRAM = os.environ.get("YOVANELUM_TTD", os.path.join(TOP, "rust", "built", "x86_64-linux", "ttd"))
-# The page that is tested, and where the pictures of it go.
+# The page that is tested, and the folder for pictures of it.
 PAGE = os.path.join(TOP, "rust", "built", "yovanelum.html")
 PICTURES = os.path.join(os.environ.get("YOVANELUM_OUT", os.path.join(TOP, "out")), "page")
 
@@ -35,6 +35,6 @@ def debug(journal, commands):
 
 
 def each(ask, cases):
-    """The answers to many cases, asked for side by side."""
+    """The program's output for many cases, which run side by side."""
     with ThreadPoolExecutor(os.cpu_count()) as pool:
         return list(pool.map(lambda case: ask(*case), cases))

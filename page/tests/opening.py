@@ -34,7 +34,7 @@ def settle(tab, place=None):
 
 
 def standing(receiver):
-    """How the page says that a receiver stands."""
+    """The page's text about a receiver."""
     if "seen" in receiver:
         return "has seen it" if receiver["seen"] else "has not seen it"
     if receiver["unread"] == 0:
@@ -44,7 +44,7 @@ def standing(receiver):
 
 
 def boxes_of(channel):
-    """What the page shows of a channel's values: a watch's, or the newest 16 that a broadcast retains and who reads each next."""
+    """What the page shows of a channel's values: a watch's, or the newest 16 of a broadcast with the receivers that read each next."""
     if channel["kind"] == "watch":
         return [str(channel["value"])]
     values = channel["window"]
@@ -56,7 +56,7 @@ def boxes_of(channel):
 
 
 def panel_of(state):
-    """The rows that the page shows of a state: of each channel its word, its values, its receivers, its senders and its weak senders."""
+    """The rows that the page shows of a state: for each channel `open` or `closed`, its values, receivers, senders and weak senders."""
     rows = []
     for channel in state["channels"]:
         rows.append("closed" if channel["closed"] else "open")
@@ -74,7 +74,7 @@ PANEL = """[...document.querySelectorAll('#state section')].flatMap(section => [
 
 
 def check_place(tab, ask, place):
-    """The page stands at this place, and shows there what the program answers. `ask` gives the program's answer to commands."""
+    """Checks that the page is at this place, and shows what the program writes. `ask` returns what the program writes for commands."""
     settle(tab, place)
     step, state = ask(f"goto {place}\nstep\n"), ask(f"goto {place}\nstate json\n")
     entry, count = step.split("\n")[1], json.loads(state.split("\n")[-2])["len"]
@@ -94,5 +94,5 @@ def check_place(tab, ask, place):
 
 
 def asker(journal):
-    """The program's answers over a journal, as texts."""
+    """A function that returns what the program writes for commands over a journal."""
     return lambda commands: native.debug(journal, commands.encode()).decode()

@@ -1,4 +1,4 @@
-"""Runs the page's tests in a browser, whose program is named, all of them or those whose names follow. The last line counts them."""
+"""run.py BROWSER [NAME..]: runs the page's tests in a browser, all of them or those that are named. The last line counts them."""
 import sys
 import tempfile
 import time
@@ -52,7 +52,7 @@ def passes(name, run):
 
 
 def in_tab(test, browser, journals):
-    """Runs a test in a tab of its own, where the page may tell of no fault."""
+    """Runs a test in a tab of its own, in which the page must report no error."""
     tab = Tab(browser)
     try:
         with tempfile.TemporaryDirectory() as folder:
@@ -64,7 +64,7 @@ def in_tab(test, browser, journals):
 
 
 def run_all(program, wanted):
-    """How many tests there were, and how many passed."""
+    """Runs the tests. Returns how many there were, and how many passed."""
     journals = runs.journals()
     tests = [test for test in TESTS if not wanted or test.__name__ in wanted]
     browser = Browser(program)

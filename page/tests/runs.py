@@ -1,4 +1,4 @@
-"""Runs that the tests open: scripts of random calls, the same ones each time."""
+"""Runs that the tests open: scripts of random calls, which are the same each time."""
 import os
 import random
 
@@ -9,7 +9,7 @@ WATCH = 2
 
 
 class Handles:
-    """Which handles are alive on a channel, as far as a script's author has to know."""
+    """The handles that are alive on a channel, as far as writing a script needs them."""
 
     def __init__(self):
         self.senders, self.receivers, self.made = [0], [1], 2
@@ -26,7 +26,7 @@ def drop(chance, handles):
 
 
 def broadcast_call(chance, handles, value):
-    """A call on a broadcast: mostly sends and receives, by receivers of which the last is slow."""
+    """A call on a broadcast: mostly sends and receives. The last receiver is slow."""
     senders, receivers, turn = handles.senders, handles.receivers, chance.random()
     if turn < 0.30:
         return f"send {chance.choice(senders)} {value}"

@@ -48,7 +48,7 @@ def pictures(tab, folder, journals):
 
 
 def points_of(tab, colour, left=0):
-    """How many points of the picture, from so far to the right on, have a colour of the style sheet."""
+    """How many pixels of the picture have a colour of the style sheet, from this far to the right on."""
     return tab.run(f"""(() => {{
         const canvas = document.getElementById('picture');
         const {{ data }} = canvas.getContext('2d').getImageData({left}, 0, canvas.width, canvas.height);
@@ -61,7 +61,7 @@ def points_of(tab, colour, left=0):
 
 
 def lagging_is_red(tab, folder, journals):
-    """The picture has the red of overwritten values where the program's states have a lag, and nowhere else."""
+    """The picture has the red of overwritten values exactly if the program's states have a lag."""
     quiet = native.record(b"broadcast 4\n" + b"0 0 send 0 1\n0 0 recv 1\n" * 20)
     opening.load(tab, opening.page_of(folder, "quiet.journal", quiet))
     assert points_of(tab, "--lag") == 0
@@ -100,7 +100,7 @@ def refused_markup(tab, folder, journals):
 
 
 def wrong_names(tab, folder, journals):
-    """A file of names that can't be read is told of, and the run is shown by its numbers."""
+    """A file of names that can't be read is reported, and the run is shown by its numbers."""
     for text in (b"{", b"[]", b'{"actors": ["a"]}', b'{"actors": {"0": 1}}', b'{"values": {"0": "x"}}', b'{"colour": {}}'):
         opening.put(folder, "wrong.names", text)
         opening.load(tab, opening.page_of(folder, "wrong.journal", journals[63]), 1)
@@ -109,7 +109,7 @@ def wrong_names(tab, folder, journals):
 
 
 def spoken(tab, folder, journals):
-    """What a screen reader is told: the place with its call on the slider, and the state as texts under headings."""
+    """What a screen reader gets: the place with its call on the slider, and the state as texts under headings."""
     opening.load(tab, opening.page_of(folder, "spoken.journal", journals[63]), 22)
     value = tab.run("document.getElementById('slider').getAttribute('aria-valuetext')")
     assert value == "place 22 of 63: actor 1 on channel 0: recv 1 → value 107", value
@@ -124,7 +124,7 @@ def spoken(tab, folder, journals):
 
 
 def nothing_is_loaded(tab, folder, journals):
-    """The page asks for nothing: what stands in its file is all."""
+    """The page loads nothing: all that it needs is in its file."""
     opening.load(tab, opening.page_of(folder, "alone.journal", journals[63]))
     loaded = tab.run("performance.getEntriesByType('resource').map(it => it.name).filter(it => !it.startsWith('blob:'))")
     assert loaded == [], loaded
@@ -133,7 +133,7 @@ def nothing_is_loaded(tab, folder, journals):
 
 
 def quick_walking(tab, folder, journals):
-    """After quick moves the picture is the one that is drawn anew, when all its states are there."""
+    """After quick moves the picture is the same as when it is drawn again with all its states loaded."""
     opening.load(tab, opening.page_of(folder, "quick.journal", journals[100_000]), 50_000)
     for key in ["PageDown"] * 5 + ["-", "-", "PageUp", "-", "PageDown", "+"]:
         tab.call("Input.dispatchKeyEvent", type="keyDown", key=key)
@@ -146,7 +146,7 @@ def quick_walking(tab, folder, journals):
 
 
 def many_handles(tab, folder, journals):
-    """A run with thousands of receivers alive at once opens, and says how many it leaves out."""
+    """A run with thousands of receivers alive at once opens, and the page shows how many it leaves out."""
     script = b"broadcast 4\n" + b"0 0 subscribe 0\n" * 3000 + b"0 0 send 0 1\n" * 9
     opening.load(tab, opening.page_of(folder, "many.ttd", script), 3005)
     assert "receiversand 2937 more" in tab.text("state"), tab.text("state")[:2000]

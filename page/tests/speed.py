@@ -1,4 +1,4 @@
-"""How long opening and stepping take. The figures are told, and on a machine that has nothing else to do they keep to what is promised."""
+"""How long opening and stepping take. The figures are printed, and on an idle machine they have to be within what is promised."""
 import time
 
 import opening
@@ -6,10 +6,10 @@ import opening
 MANY = 30
 OPENINGS = 5
 
-# By the calls of a run, how many seconds opening it may take, and a step in it.
+# For the number of calls of a run: the seconds that opening it may take, and a step in it.
 PROMISED = {63: (0.2, 0.02), 10_000: (0.2, 0.02), 100_000: (1, 0.06)}
 
-# How many times that it may be where nothing else is at work, and else.
+# The factor by which these may be exceeded on an idle machine, and else; and the idle share from which on it counts as idle.
 MARGIN, BUSY = 1.5, 50
 IDLE = 0.8
 
@@ -32,14 +32,14 @@ STEPS = f"""(async () => {{
 
 
 def idle_and_all():
-    """How much time the machine has had until now, and how much of that nobody took."""
+    """The idle time of the machine so far, and all of its time."""
     with open("/proc/stat", encoding="ascii") as file:
         times = [int(it) for it in file.readline().split()[1:]]
     return times[3] + times[4], sum(times)
 
 
 def idle_share():
-    """The part of half a second that nobody takes."""
+    """The share of half a second in which the machine is idle."""
     idle, all_of_it = idle_and_all()
     time.sleep(0.5)
     idle_then, all_then = idle_and_all()
@@ -47,7 +47,7 @@ def idle_share():
 
 
 def opened(tab, path):
-    """The seconds from the address on until the state at the first place is shown: the least of several openings, since one may meet other work."""
+    """The seconds until the state at the first place is shown: the least of several openings, since other work may slow one."""
     times = []
     for _ in range(OPENINGS):
         opening.load(tab, path)

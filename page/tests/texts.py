@@ -20,8 +20,7 @@ broadcast 4
 0 1 recv 1
 """.encode()
 
-# The page draws all anew, and tells each text that it draws in the picture, where that begins and how wide it is, and how many letters it
-# has measured for that.
+# Draws the page again, and returns each text in the picture with its start and its width, and how many letters were measured for that.
 DRAWN_TEXTS = """(() => {
     const pens = CanvasRenderingContext2D.prototype, { fillText, measureText } = pens, texts = [];
     let measured = 0;
@@ -45,7 +44,7 @@ def watch_values(tab):
 
 
 def large_numbers(tab, folder, journals):
-    """Values that a browser's number can't hold are shown digit by digit, and are found among the names."""
+    """Values that a browser's number can't hold are shown with all their digits, and their names are found."""
     journal = native.record(NUMBERS)
     opening.load(tab, opening.page_of(folder, "numbers.journal", journal))
     ask = opening.asker(journal)

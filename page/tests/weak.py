@@ -39,7 +39,7 @@ def walk(tab, ask, last):
 
 
 def stop(tab, condition, found):
-    """Seeks on from the start, and is told this."""
+    """Searches from the start, and waits for this result."""
     tab.key("Home")
     tab.run("document.getElementById('condition').select()")
     tab.type(condition)
@@ -49,7 +49,7 @@ def stop(tab, condition, found):
 
 
 def weak_senders(tab, folder, journals):
-    """Weak senders are among the state's handles, and a stop finds where an upgrade is told that no sender is left."""
+    """Weak senders are among the state's handles, and a stop finds the upgrade that returned `no-sender`."""
     journal = native.record(SCRIPT)
     assert [line.split(b" = ")[1].decode() for line in journal.split(b"\n") if b" = " in line] == REPLIES, journal
     opening.load(tab, opening.page_of(folder, "weak.journal", journal))
@@ -64,7 +64,7 @@ def weak_senders(tab, folder, journals):
 
 
 def drawn(tab, folder, name, script):
-    """How many points of the picture are a sender's line, and how high the picture is."""
+    """How many pixels of the picture are of a sender's line, and the picture's height."""
     opening.load(tab, opening.page_of(folder, name, native.record(script)))
     return points_of(tab, "--alive-sender"), tab.run("document.getElementById('picture').height")
 

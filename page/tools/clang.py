@@ -1,4 +1,4 @@
-"""The kit's clang for WebAssembly with 64-bit memory, with the words that the kit itself has for this target."""
+"""The kit's clang for WebAssembly with 64-bit memory, with the options that the kit itself uses for this target."""
 
 TARGET = "wasm64-unknown-unknown"
 PASSES = ["-expand-div-rem-bits=64", "-expand-fp-convert-bits=64", "-trap-unreachable", "-disable-machine-licm",

@@ -1,4 +1,4 @@
-"""Makes the page's one file of its parts: the style, the scripts, the debugger's module."""
+"""Makes the page's one file from its parts: the style, the scripts, the debugger's module."""
 import base64
 import hashlib
 import os
@@ -19,7 +19,7 @@ def read(*path):
 
 
 def gather(folder, name, found):
-    """Finds the sources of a module and of all that it imports, each behind those that it needs."""
+    """Finds the sources of a module and of all that it imports, each after those that it needs."""
     source = read(folder, f"{name}.js")
     for _, used in IMPORT.findall(source):
         if used not in found:
@@ -28,7 +28,7 @@ def gather(folder, name, found):
 
 
 def enclosed(name, source):
-    """A module as a constant that has its exports, which later ones take from it. Lines that are comments stay out."""
+    """A module as a constant with its exports, from which later modules import them. Lines that are comments are left out."""
     exports = ", ".join(word for _, word in EXPORT.findall(source))
     body = COMMENT.sub("", EXPORT.sub(r"\1", IMPORT.sub(r"const \1 = from_\2;", source)))
     if re.search(r"^(import|export)\b", body, re.M):

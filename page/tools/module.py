@@ -1,8 +1,8 @@
-"""Makes the page's WebAssembly module of the proved crate rw_page, by the kit's own tools and none of their files changed.
+"""Makes the page's WebAssembly module from the proved crate rw_page, with the kit's own tools, none of whose files is changed.
 
-The kit's `rattle build` compiles the crate over its kept proofs for plain x86-64. It hands its LLVM module to the clang of the
-toolchain folder that it is given: here a folder of links to the kit's tools, but for `clang`, which is the script retarget.py.
-That gives the module the layout and the name of wasm64 and hands it to the kit's clang, with the kit's own words for wasm64.
+The kit's `rattle build` compiles the crate over its stored proofs for plain x86-64. It passes its LLVM module to the clang of the
+toolchain folder that is its argument: here a folder of links to the kit's tools, except for `clang`, which is the script retarget.py.
+That gives the module the layout and the name of wasm64, and passes it to the kit's clang, with the kit's own options for wasm64.
 The kit's `rattle-link` then links it with heap.c, the three functions that the C library would have for the heap.
 """
 import os

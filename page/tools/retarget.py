@@ -1,8 +1,8 @@
 #!/usr/bin/env -S python3 -B
-"""retarget.py KIT WORD..: what stands for the kit's clang while rw_page is built. The words are those that Rattle gives it.
+"""retarget.py KIT ARGUMENT..: replaces the kit's clang while rw_page is built. The arguments are those that Rattle passes to it.
 
 The LLVM module was made for plain x86-64, which has what wasm64 has: little endian, pointers of 64 bits, and the same layout of
-what the crate uses. Before it is given the layout and the name of wasm64, it must have no code for x86 alone, and each export.
+what the crate uses. Before it gets the layout and the name of wasm64, it must have no code for x86 alone, and each export.
 """
 import os
 import re
@@ -60,7 +60,7 @@ def main():
         said = retargeted(readable(kit, words[words.index("ir") + 1], work), target_lines(kit, work))
         with open(f"{work}/page.ll", "w", encoding="utf-8") as file:
             file.write(said)
-        # The name of the file would stand in the object.
+        # A relative name, since the object contains the name of the file.
         subprocess.run([*clang.command(kit), "-Werror", "-c", "-x", "ir", "page.ll", "-o", os.path.abspath(words[words.index("-o") + 1])],
                        check=True, cwd=work)
 
