@@ -1,7 +1,7 @@
 # What the test scripts share. A script sets `top`, the repository's folder, and reads this file.
 #
-# All that tests write goes into one folder, out/ or the one that the variable YOVANELUM_OUT names, so that the checkout may be read-only.
-# `work` is a folder in it that is removed at the script's end: `rt ci` refuses a checkout with links or stray sources, as some leave there.
+# Tests write only into one folder, out/ or the one that the variable YOVANELUM_OUT names, so that the checkout may be read-only. `work` is
+# a folder in it that is removed at the script's end: some tests leave links or sources there, with which `rt ci` refuses a checkout.
 out=${YOVANELUM_OUT:-$top/out}
 mkdir -p "$out" && out=$(cd "$out" && pwd) && work=$(mktemp -d "$out/work.XXXXXX") || { echo "the tests can't write into $out"; exit 70; }
 trap 'rm -rf "$work"' EXIT
@@ -11,13 +11,13 @@ export YOVANELUM_TTD=${YOVANELUM_TTD:-$top/rust/built/x86_64-linux/ttd}
 passed=0
 failed=0
 
-# Counts a failure, and says what failed.
+# Counts a failure, and prints what failed.
 fail() {
   failed=$((failed + 1))
   printf '%s: %s\n' "${0#"$top/"}" "$*"
 }
 
-# Counts a command that has no count of its own, and prints what it said where it fails.
+# Counts a command that has no count of its own, and prints its output if it fails.
 step() {
   local said
   if said=$("$@" 2>&1); then
@@ -28,7 +28,7 @@ step() {
   fi
 }
 
-# Runs a command whose last line is 'N passed, M failed', adds that, and says how long it took.
+# Runs a command whose last line is 'N passed, M failed', adds that, and prints how long it took.
 count() {
   local since=$SECONDS last
   last=$("$@" | tee >(cat >&2) | tail -n 1)
@@ -41,8 +41,8 @@ count() {
   printf '%s: %s: %s, %s s\n' "${0#"$top/"}" "$*" "$last" "$((SECONDS - since))" >&2
 }
 
-# Calls a function for each line of standard input, as many side by side as there are processors, and adds their counts. What one
-# prints comes when it ends.
+# Calls a function for each line of standard input, as many side by side as there are processors, and adds their counts. The output
+# of each is printed when it ends.
 each() {
   local number=0 counts line counted
   counts=$(mktemp -d) || exit 70
@@ -66,7 +66,7 @@ each() {
   rm -rf "$counts"
 }
 
-# Ends the script where a command isn't there that it can't do without.
+# Ends the script if one of these commands is missing.
 need() {
   local command
   for command in "$@"; do
@@ -74,7 +74,7 @@ need() {
   done
 }
 
-# Installs the packages that bring a command, where it isn't there and may be installed. Where it may not, `missing` says what is missing.
+# Installs the packages of a command that is missing, if that is allowed. If not, `missing` has the message about it.
 install_tool() {
   local command=$1
   shift
@@ -86,7 +86,7 @@ install_tool() {
   return 1
 }
 
-# Prints the sum, which is a script's last line, and ends with 0 where nothing failed.
+# Prints the sum, which is a script's last line, and ends with status 0 if nothing failed.
 finish() {
   echo "$passed passed, $failed failed"
   [ "$failed" -eq 0 ]

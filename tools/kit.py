@@ -9,7 +9,7 @@ class Refused(Exception):
 
 
 def run(*words, **how):
-    """Runs a tool, and refuses with the end of what it printed where it fails."""
+    """Runs a tool, and raises Refused with the end of its output if it fails."""
     done = subprocess.run(words, stdin=subprocess.DEVNULL, stdout=subprocess.PIPE, stderr=subprocess.STDOUT, text=True, **how)
     if done.returncode != 0:
         raise Refused(f"{os.path.basename(words[0])} failed\n{done.stdout[-4000:]}")
@@ -35,7 +35,7 @@ def uses_of(top):
 
 
 def below(name, uses):
-    """The crates of the repository that a crate depends on, each behind those that it needs itself."""
+    """The crates of the repository that a crate depends on, each after those that it needs itself."""
     found = []
     for used in uses[name]:
         if used in uses:
@@ -50,7 +50,7 @@ def are_left(top, name):
 
 
 def library_words(top, crate):
-    """How `rattle build` is told where the libraries of a crate are."""
+    """The arguments by which `rattle build` finds the libraries of a crate."""
     kit, uses = folder(), uses_of(top)
     words = ["--extern", f"std={kit}/rlibs/std.rlib", "-L", f"dependency={kit}/rlibs"]
     for name in uses[crate]:
@@ -62,9 +62,9 @@ def library_words(top, crate):
 
 
 def compile_words(top, crate, made, target="x86_64-unknown-linux-gnu", cpu="x86-64", toolchain=None):
-    """The words of `rattle build` for a program or a static library over its proved libraries, for the plainest processor of a target.
+    """The arguments of `rattle build` for a program or a static library over its proved libraries, for a target's most basic processor.
 
-    They are for the crate's folder. The same sources make the same bytes, wherever the repository lies.
+    It is run in the crate's folder. The same sources make the same bytes, wherever the repository is.
     """
     kit = folder()
     is_program = os.path.exists(f"{top}/crates/{crate}/src/main.rt")

@@ -14,7 +14,7 @@ sys.path.append(os.path.join(os.path.dirname(HERE), "page", "tools"))
 import document
 import module
 
-# The triple of each target for which the core's archive is built, with its folder and its plainest processor.
+# The folder of each target for which the core's archive is built, with its triple and its most basic processor.
 TARGETS = {"x86_64-linux": ("x86_64-unknown-linux-gnu", "x86-64"), "aarch64-linux": ("aarch64-unknown-linux-gnu", "generic")}
 PAGE = "yovanelum.html"
 PROGRAM = "x86_64-linux/ttd"
@@ -28,7 +28,7 @@ def read(path):
 def sources(top, crate):
     """A checksum of each source of the crate and of those below it, as `b2sum --check` reads them.
 
-    Proofs aren't among them: they say why the sources are right, and no code is made of them.
+    Proofs aren't among them: they show why the sources are right, and no code is made of them.
     """
     lines = []
     for name in [*kit.below(crate, kit.uses_of(top)), crate]:
@@ -67,7 +67,7 @@ def page(top, work):
 
 
 def page_again(top):
-    """The page of today's scripts over the module that the built page has, for work on the page alone: it needs no kit."""
+    """The page with the current scripts and the module of the built page, for work on the page alone. It needs no kit."""
     built = read(f"{top}/rust/built/{PAGE}").decode()
     found = re.search(r'<script type="[\w/-]+" id="module">([^<]*)</script>', built)
     if not found:

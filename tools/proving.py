@@ -1,7 +1,7 @@
-"""Proves crates and all that they depend on, side by side, and says how far it is.
+"""Proves crates and all that they depend on, side by side, and prints the progress.
 
-`rt` lets nobody else into a crate and those below it while it works there. So each crate is proved in a tree of its own, `out/trees/NAME`:
-copies of its sources and of those below it, and links to the libraries that are proved already.
+`rt` locks a crate and those below it while it works there. So each crate is proved in a tree of its own, `out/trees/NAME`: copies of its
+sources and of those below it, and links to the libraries that are proved already.
 """
 import contextlib
 import fcntl
@@ -16,9 +16,9 @@ import time
 
 import kit
 
-# The most processes that one proof is given; more cost more time in all.
+# The most processes of one proof. More of them cost more time in all.
 MOST_JOBS = 4
-# What a proof takes of memory, in KiB.
+# The memory that a proof needs, in KiB.
 MEMORY = 2_000_000
 
 
@@ -28,7 +28,7 @@ def say(text):
 
 @contextlib.contextmanager
 def locked(path, waiting=None):
-    """Nobody else has this file or folder locked. Where somebody has, `waiting` is said first."""
+    """Locks this file or folder. If another process has locked it, `waiting` is printed first."""
     lock = os.open(path, os.O_RDONLY)
     try:
         try:
@@ -50,7 +50,7 @@ def lanes():
 
 
 def lines_of(top, name):
-    """How many lines of source a crate has, by which its proof's time is guessed."""
+    """The lines of source of a crate, by which the time of its proof is estimated."""
     count = 0
     for part in ("src", "specs", "proofs"):
         for folder, _, files in os.walk(f"{top}/crates/{name}/{part}"):
@@ -109,11 +109,11 @@ class Tree:
             shutil.copytree(library, f"{self.folder}/crates/{name}/out/rlib")
 
     def take_kept(self):
-        """Takes along what earlier proofs of the crate have left in its folder out/."""
+        """Moves what earlier proofs of the crate have left in its folder out/ into the tree."""
         move(f"{self.top}/crates/{self.name}/out", f"{self.folder}/crates/{self.name}/out")
 
     def clear(self):
-        """Gives the folder out/ back to the crate, and removes the tree."""
+        """Moves the folder out/ back to the crate, and removes the tree."""
         move(f"{self.folder}/crates/{self.name}/out", f"{self.top}/crates/{self.name}/out")
         shutil.rmtree(self.folder, ignore_errors=True)
 
@@ -125,7 +125,7 @@ def move(old, new):
 
 
 class Proof:
-    """A crate at work in a thread. At its end it puts itself into a queue."""
+    """A thread that proves a crate. At its end it puts itself into a queue."""
 
     def __init__(self, top, name, uses, jobs, ended):
         self.tree, self.uses, self.jobs, self.ended = Tree(top, name), uses, jobs, ended
@@ -139,7 +139,7 @@ class Proof:
     def work(self):
         self.is_proved = False
         try:
-            # Whoever works in the crate's own folder is waited for, and waits.
+            # Waits for other work in the crate's own folder, and locks it out until the end.
             with locked(f"{self.tree.top}/crates/{self.name}"):
                 self.tree.plant(self.uses)
                 self.tree.take_kept()
@@ -176,13 +176,13 @@ class Proofs:
         self.since = time.monotonic()
 
     def ready(self):
-        """The crates whose libraries are proved, the one first that the longest chain waits for."""
+        """The crates whose libraries are proved. The first is the one that the longest chain waits for."""
         left = [name for name in self.weight if name not in self.proved and name not in self.at_work]
         found = [name for name in left if all(used in self.proved for used in self.uses[name] if used in self.uses)]
         return sorted(found, key=lambda name: -self.weight[name])
 
     def start_ready(self):
-        """Starts crates on the idle lanes. The first gets those that the others leave."""
+        """Starts crates on the idle lanes. The first crate gets the lanes that the others leave."""
         ready = self.ready()
         for place, name in enumerate(ready):
             idle = self.lanes - sum(it.jobs for it in self.at_work.values())
@@ -212,7 +212,7 @@ class Proofs:
             self.say_progress(f"{proof.name} took {proof.seconds()} s")
 
     def stop(self):
-        """Ends what is at work, and puts back what it has left."""
+        """Ends the running proofs. What they have left is moved back."""
         for proof in self.at_work.values():
             proof.stop()
         for proof in self.at_work.values():
@@ -220,7 +220,7 @@ class Proofs:
 
 
 def clear_trees(top):
-    """Removes the trees. What a proof that was killed has left in one goes back to its crate."""
+    """Removes the trees. What a killed proof has left in one is moved back to its crate."""
     trees = f"{top}/out/trees"
     for name in os.listdir(trees) if os.path.isdir(trees) else []:
         Tree(top, name).clear()
@@ -232,7 +232,7 @@ def interrupted(_number, _frame):
 
 
 def prove(top, goals):
-    """Proves the goals and all that they depend on. One build at a time works in a checkout."""
+    """Proves the goals and all that they depend on. Only one build runs in a checkout at a time."""
     for number in (signal.SIGTERM, signal.SIGHUP):
         signal.signal(number, interrupted)
     with locked(f"{top}/crates.txt", "waiting for another build in this checkout"):

@@ -1,7 +1,7 @@
-# A text so many times.
+# Prints a text this many times.
 times() { for ((i = 0; i < $2; i++)); do printf %s "$1"; done; }
 
-# The row of a journal with this line in place of its fourth, an entry line.
+# Prints the row of a journal with this line as its fourth, an entry line.
 row() { echo "ttd-journal 2/broadcast 1/steps/$1/end/|journal fault $2 4/"; }
 
 row '4611686018427387905 0 0 try-recv 1 = empty' limit-exceeded

@@ -1,4 +1,4 @@
-# A text so many times.
+# Prints a text this many times.
 times() { for ((i = 0; i < $2; i++)); do printf %s "$1"; done; }
 
 echo 'ttd-journal 2/broadcast 1/steps/4611686018427387904 0 0 try-recv 1 = empty/end/|ok 1/'

@@ -1,2 +1,2 @@
-# A file of 268,435,456 bytes whose first line is none of a journal.
+# A file of 268,435,456 bytes whose first line isn't that of a journal.
 yes | head -c 268435456

@@ -1,5 +1,5 @@
-# Two whole entry lines, and behind them as many bytes without an LF as a line may have, and one more; the second with another reply, cut
-# to 90 bytes.
+# Two whole entry lines, and after them as many bytes without an LF as a line may have, and one more. Then the second line with another
+# reply, and a third one cut off.
 text='ttd-journal 1/broadcast 4/steps/1 0 0 send 0 7 = sent 1/2 0 0 try-recv 1 = value 7/'
 letters=$(printf '%256s' '' | tr ' ' x)
 echo "$text$letters|journal fault truncated/"

@@ -1,4 +1,4 @@
-# A text so many times.
+# Prints a text this many times.
 times() { for ((i = 0; i < $2; i++)); do printf %s "$1"; done; }
 
 echo "$(times 'watch 0/' 64)0 63 borrow 1|ttd-journal 2/$(times 'watch 0/' 64)steps/1 0 63 borrow 1 = value 0/end/"

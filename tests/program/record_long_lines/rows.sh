@@ -1,7 +1,7 @@
-# A text so many times.
+# Prints a text this many times.
 times() { for ((i = 0; i < $2; i++)); do printf %s "$1"; done; }
 
-# The row of a script that begins with a text, goes on with another so many times, and is refused.
+# Prints the row of a script that is refused: a text, and then another one this many times.
 row() { echo "$1$(times "$2" "$3")||script fault $4/"; }
 
 row '' x 257 '1 too-long'

@@ -1,4 +1,4 @@
-# A text so many times.
+# Prints a text this many times.
 times() { for ((i = 0; i < $2; i++)); do printf %s "$1"; done; }
 
 echo '---||script fault 1 no-channels/'

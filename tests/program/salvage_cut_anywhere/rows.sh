@@ -1,4 +1,4 @@
-# The small journal in each version, cut behind each of its bytes from the line `steps` on: its whole entry lines, and how many bytes the
+# The small journal in each version, cut after each of its bytes from the line `steps` on: its whole entry lines, and how many bytes its
 # whole lines have.
 for version in 1 2; do
   text="ttd-journal $version/broadcast 4/steps/1 0 0 send 0 7 = sent 1/2 0 0 try-recv 1 = value 7/3 0 0 drop 0 = dropped/end/"

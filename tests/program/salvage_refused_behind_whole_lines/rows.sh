@@ -1,4 +1,5 @@
-# Two whole entry lines, and behind them one byte more without an LF than a line may have; the second with another reply, cut to 90 bytes.
+# Two whole entry lines, and after them one byte more without an LF than a line may have. Then the second line with another reply, and a
+# third one cut off. Then a byte after the line `end`.
 text='ttd-journal 1/broadcast 4/steps/1 0 0 send 0 7 = sent 1/2 0 0 try-recv 1 = value 7/'
 letters=$(printf '%257s' '' | tr ' ' x)
 echo "$text$letters||journal fault limit-exceeded 6/"

@@ -1,4 +1,4 @@
-# How the channel stands in the end: each number but the dropped 2 has a handle.
+# The channel's state at the end: each number but the dropped 2 has a handle.
 state() {
   printf '%s\n' 'channel 0 broadcast capacity 1 sent 0 queued 0 made 65536 open' window
   echo "senders 0 $(seq -s ' ' 3 65535)"

@@ -1,4 +1,4 @@
-# How the channel stands in the end: each number but the dropped 2 has a handle.
+# The channel's state at the end: each number but the dropped 2 has a handle.
 state() {
   printf '%s\n' 'channel 0 watch version 0 value 7 made 65536 open' 'senders 0' 'receiver 1 mark 0 seen'
   seq -f 'receiver %g mark 0 seen' 3 65535

@@ -1,4 +1,4 @@
-# A line of so many bytes.
+# Prints a line of this many bytes.
 line() { printf "%$1s" '' | tr ' ' '#'; }
 
 echo "broadcast 2/$(line 256)/---/end/|place 0 of 0/"

@@ -1,5 +1,5 @@
-# A run of 1,000,000 steps by actor 0, and one search of it asked 400,000 times. The index of the last search answers all but the first:
-# without it each would look at every step, and they would take longer than a run may.
+# A run of 1,000,000 steps by actor 0, and one search of it, repeated 400,000 times. All but the first use the index of the last search.
+# Without it each would look at every step, and they would take longer than a run may.
 echo 'broadcast 1'
 yes '0 0 drop 9' | head -n 1000000
 printf '%s\n' --- end

@@ -1,4 +1,4 @@
-# A line of so many bytes.
+# Prints a line of this many bytes.
 line() { printf "%$1s" '' | tr ' ' '#'; }
 
 for length in 257 1000; do

@@ -1,4 +1,4 @@
-# All the handles that a channel makes, most of them weak senders; its only sender is dropped, and none is made again.
+# All the handles that a channel makes, most of them weak senders. An upgrade is refused before its only sender is dropped, and after that.
 echo 'broadcast 1'
 echo '0 0 downgrade 0'
 yes '0 0 clone-weak 2' | head -n 65533
