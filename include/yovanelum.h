@@ -1,9 +1,9 @@
 /* tokio's broadcast and watch channels for C: each channel is held by one pointer, with the journal of its calls, and the journals of
-   several give the text of one run, which `ttd debug` walks. docs/FOREIGN.md says what each function promises and what its caller has to
-   uphold, docs/CALLS.md what each call does and returns.
+   several channels give the text of one run, which `ttd debug` walks. docs/FOREIGN.md says what each function promises and what its caller
+   has to uphold, docs/CALLS.md what each call does and returns.
 
-   The archives are rust/built/x86_64-linux/libyovanelum_core.a and rust/built/aarch64-linux/libyovanelum_core.a. A program that links one defines the
-   three functions of the heap, which stand last here. */
+   The archives are rust/built/x86_64-linux/libyovanelum_core.a and rust/built/aarch64-linux/libyovanelum_core.a. A program that links one
+   of them defines the three functions of the heap, at the end of this file. */
 #ifndef YOVANELUM_H
 #define YOVANELUM_H
 
@@ -15,7 +15,7 @@
 extern "C" {
 #endif
 
-/* A channel with its journal, or null. It is given to one call at a time. C neither reads, writes nor copies the pointer. */
+/* A channel with its journal, or null. Pass it to one call at a time. C neither reads, writes nor copies the pointer. */
 struct Held { void *channel; };
 
 /* What channels have recorded up to one stamp, or null. It stays on its thread. */
@@ -24,11 +24,11 @@ struct HeldCut { void *cut; };
 /* What a call returns: a kind of reply, and the number that the reply carries. docs/CALLS.md has the kinds, 0 to 22. */
 struct Answer { uint32_t kind; uint64_t number; };
 
-/* A number that there may be: 1 and the number, or 0 and 0. */
+/* An optional number: 1 and the number, or 0 and 0. */
 struct Found { uint32_t is_some; uint64_t number; };
 
-/* Opens a channel with sender 0 and receiver 1, where `held` is null. It returns 0; 1 where the capacity is 0 or above 65,536; or 2 where
-   there is no memory. Then nothing is held. */
+/* Opens a channel with sender 0 and receiver 1. `held` must be null. Returns 0; 1 if the capacity is 0 or above 65,536; or 2 if there is no
+   memory. After 1 and 2 nothing is held. */
 uint32_t yovanelum_open_broadcast(struct Held *held, uint32_t capacity);
 uint32_t yovanelum_open_watch(struct Held *held, uint64_t value);
 
@@ -38,8 +38,8 @@ void yovanelum_end(struct Held *held);
 /* Frees the channel with its journal. Nothing is held then. */
 void yovanelum_free(struct Held *held);
 
-/* A call: its actor is below 64, and it is stamped one above the greater of `clock` and the channel's last stamp. Where it isn't made (the
-   journal is full, no memory, it would wait, or the channel is of the other kind) the channel is as before. */
+/* A call: its actor is below 64, and it is stamped one above the greater of `clock` and the channel's last stamp. If it isn't made (the
+   journal is full, no memory, it would wait, or the channel is of the other kind), the channel is unchanged. */
 typedef struct Answer YovanelumCall(struct Held *held, uint32_t actor, uint64_t clock, uint32_t handle);
 typedef struct Answer YovanelumSend(struct Held *held, uint32_t actor, uint64_t clock, uint32_t sender, uint64_t value);
 
@@ -54,7 +54,7 @@ YovanelumCall yovanelum_broadcast_upgrade, yovanelum_broadcast_clone_weak;
 /* Drops a handle of a broadcast. */
 YovanelumCall yovanelum_broadcast_drop;
 
-/* By a sender of a watch. `told` says whether receivers are told of the modified value. */
+/* By a sender of a watch. If `told` is true, receivers are notified of the modified value. */
 YovanelumSend yovanelum_watch_send, yovanelum_watch_send_replace;
 struct Answer yovanelum_watch_modify(struct Held *held, uint32_t actor, uint64_t clock, bool told, uint32_t sender, uint64_t value);
 YovanelumCall yovanelum_watch_subscribe, yovanelum_watch_clone_sender, yovanelum_watch_receiver_count, yovanelum_watch_is_closed,
@@ -80,26 +80,26 @@ struct Found yovanelum_unread(struct Held *held, uint32_t receiver);
 /* Whether a receiver of a watch has seen its value: 1 or 0. */
 struct Found yovanelum_seen(struct Held *held, uint32_t receiver);
 
-/* Opens a cut without channels, where `cut` is null. It returns whether there is memory. */
+/* Opens a cut without channels. `cut` must be null. Returns false if there is no memory. */
 bool yovanelum_cut_open(struct HeldCut *cut);
 
-/* Adds a channel, with its entries before the first that is stamped above `last`. It returns 0; 4 where there are 64; or 2 where there is no
-   memory. Then the cut is as before. */
+/* Adds a channel, with its entries before the first that is stamped above `last`. Returns 0; 4 if the cut has 64 channels already; or 2 if
+   there is no memory. After 4 and 2 the cut is unchanged. */
 uint32_t yovanelum_cut_add(struct HeldCut *cut, struct Held *held, uint64_t last);
 
-/* Makes the journal text of the run of these channels. It returns 0; 3 where there is no channel; 5 where the stamps don't put the entries
-   into one order; or 2 where there is no memory. Then the cut is as before. */
+/* Makes the journal text of the run of these channels. Returns 0; 3 if there is no channel; 5 if the stamps don't put the entries into one
+   order; or 2 if there is no memory. After 3, 5 and 2 the cut is unchanged. */
 uint32_t yovanelum_cut_merge(struct HeldCut *cut);
 
-/* The length of the text; copies the text where `len` is that length, and returns whether it is. */
+/* The length of the text. The second copies the text if `len` is that length, and returns whether it is. */
 uint64_t yovanelum_cut_text_len(struct HeldCut *cut);
 bool yovanelum_cut_text(struct HeldCut *cut, uint8_t *room, size_t len);
 
 /* Frees the cut. Nothing is held then. */
 void yovanelum_cut_free(struct HeldCut *cut);
 
-/* The heap, which the program defines. A block is aligned to 16 bytes. A resized one keeps its first `old` bytes, of which it may have
-   more; where there is no memory it is as before. */
+/* The heap, which the program defines. Blocks are aligned to 16 bytes. A resized block keeps its first `old` bytes, and it may have more
+   than that. If there is no memory, the block is unchanged. */
 struct Tried { bool is_there; void *block; };
 struct Tried rattle_alloc(size_t size, size_t align);
 struct Tried rattle_realloc(void *block, size_t old, size_t new_size, size_t align);

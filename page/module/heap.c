@@ -1,5 +1,5 @@
-/* The heap of the module: a free list for each power of two, over memory that the module asks for itself. Before each block
-   stand 16 bytes, which keep its list, so that a block lies at a multiple of 16. No memory is ever given back. */
+/* The heap of the module: a free list for each power of two, over memory that the module grows itself. A header of 16 bytes
+   before each block has its power, so that blocks are aligned to 16. Memory is never returned to the browser. */
 typedef unsigned char byte;
 typedef unsigned long word;
 typedef struct { word is_there; byte *block; } Tried;
@@ -18,7 +18,7 @@ static word power_of(word size) {
 
 static word *power_before(byte *block) { return (word *)(block - HEAD); }
 
-/* Whether so many bytes are there above what was handed out; more pages are asked for where there aren't. */
+/* Whether this many bytes are left above the allocated ones. If not, more pages are requested. */
 static int has_room(word size) {
   if (!top) {
     top = ((word)&__heap_base + HEAD - 1) & ~(word)(HEAD - 1);
@@ -53,7 +53,7 @@ static void give(byte *block) {
   freed[power] = block;
 }
 
-/* What the proved code declares of the heap. Each alignment that it asks for divides 16. */
+/* The heap as the proved code declares it. Each alignment that it requests divides 16. */
 Tried rattle_alloc(word size, word align) {
   (void)align;
   byte *block = take(size);
@@ -71,6 +71,6 @@ Tried rattle_realloc(byte *block, word kept, word size, word align) {
 
 void rattle_dealloc(byte *block) { give(block); }
 
-/* For the page: room for what goes in and comes out. */
+/* For the page: memory for its inputs and outputs. */
 __attribute__((export_name("host_alloc"))) byte *host_alloc(word size) { return take(size); }
 __attribute__((export_name("host_free"))) void host_free(byte *block) { give(block); }

@@ -1,5 +1,5 @@
-/* Plays random scripts of calls on the static library's channels: `driver FIRST COUNT` those of the seeds from FIRST on. It prints each
-   call with its answer, and the text of each cut between two markers:
+/* Plays random scripts of calls on the static library's channels: `driver FIRST COUNT` plays COUNT of them, by the seeds from FIRST on. It
+   prints each call with its answer, and the text of each cut between two markers:
 
      script SEED
      EXPORT WHAT IT WAS GIVEN = ANSWER
@@ -8,8 +8,8 @@
      journal over
      script over, BLOCKS blocks left
 
-   A call is printed with channel, handle and value. What is printed is a function of the seeds alone: no expression draws twice, as C
-   doesn't order what stands in one. The driver keeps what docs/FOREIGN.md asks of callers, and judges no answer. */
+   A call is printed with channel, handle and value. The output depends on the seeds alone: no expression draws twice, since C doesn't
+   order its parts. The driver upholds what docs/FOREIGN.md requires of callers, and judges no answer. */
 #include "yovanelum.h"
 #include <inttypes.h>
 #include <malloc.h>
@@ -17,8 +17,8 @@
 #include <stdlib.h>
 #include <string.h>
 
-/* ---- The library's heap. It grants so many requests, and refuses the next one, or all that come then. Both archives are of one source,
-   and for words of one size: they ask alike. */
+/* ---- The library's heap. It grants `granted` requests, and then refuses the next one, or all. Both archives are of one source, and for
+   words of one size, so they make the same requests. */
 
 #define PLENTY UINT64_MAX
 
@@ -47,7 +47,7 @@ void rattle_dealloc(void *block) {
   free(block);
 }
 
-/* A block that grows is always another one, and keeps no more than it is said to have. */
+/* A resized block always moves, and only its first `old` bytes are copied. */
 struct Tried rattle_realloc(void *block, size_t old, size_t new, size_t align) {
   if (old > malloc_usable_size(block)) abort();
   struct Tried moved = rattle_alloc(new, align);
@@ -57,7 +57,7 @@ struct Tried rattle_realloc(void *block, size_t old, size_t new, size_t align) {
   return moved;
 }
 
-/* ---- What is drawn: splitmix64. */
+/* ---- Random numbers: splitmix64. */
 
 static uint64_t drawn;
 static uint64_t draw(void) {
@@ -169,14 +169,14 @@ struct Channel {
 static struct Channel channels[MOST_CHANNELS];
 static uint32_t channel_count, actor_count;
 
-/* Each actor's last stamp; and where all share one clock, as in a recorder of the Rust crate, its number, which each call takes. */
+/* Each actor's last stamp. If all share one clock, as in a recorder of the Rust crate, each call takes the next number, `ticks`. */
 static uint64_t stamps[MOST_ACTORS], ticks;
 static bool is_one_clock;
 
 static uint32_t number_of(const struct Channel *channel) { return (uint32_t)(channel - channels); }
 
-/* The clock of an actor's next call. Where each has its own, stamps of several channels are often one, and now and then it heeds a later
-   stamp. */
+/* The clock of an actor's next call. If each has its own, stamps of several channels are often equal, and now and then the actor heeds a
+   later stamp. */
 static uint64_t clock_of(uint32_t actor) {
   uint64_t clock = stamps[actor];
   if (is_one_clock) {
@@ -186,7 +186,7 @@ static uint64_t clock_of(uint32_t actor) {
   return one_in(16) && clock < LAST_STAMP / 2 ? clock + any_number() / (1 << 24) : clock;
 }
 
-/* The same, but now and then the clock with which the last stamp of all is given, or one so late that no stamp is left. */
+/* The same, but now and then the clock that gives the last possible stamp, or one so late that no stamp is left. */
 static uint64_t any_clock_of(uint32_t actor) {
   uint32_t chance = below(4096);
   if (chance == 0) return LAST_STAMP - 1;
@@ -195,7 +195,7 @@ static uint64_t any_clock_of(uint32_t actor) {
   return clock_of(actor);
 }
 
-/* A handle of these kinds, or some number where there is none. */
+/* A handle of these kinds, or some number if there is none. */
 static uint32_t find_handle(const struct Channel *channel, uint8_t wanted) {
   uint32_t first = below(channel->made);
   for (uint32_t i = 0; i < channel->made; i++) {
@@ -205,7 +205,7 @@ static uint32_t find_handle(const struct Channel *channel, uint8_t wanted) {
   return first;
 }
 
-/* Mostly a live handle of the right kinds; now and then one that was dropped, one of a wrong kind, or one that never was. */
+/* Mostly a live handle of the right kinds; now and then one that was dropped, one of a wrong kind, or one that was never made. */
 static uint32_t any_handle(const struct Channel *channel, uint8_t wanted) {
   switch (below(40)) {
   case 0: return find_handle(channel, GONE);
@@ -220,7 +220,7 @@ static bool is_made(struct Answer answer) {
   return answer.kind != WAITS && answer.kind != STRAYS && answer.kind != JOURNAL_FULL && answer.kind != NO_MEMORY;
 }
 
-/* Follows an answer: which handles are alive, and what was stamped. */
+/* Records what an answer shows: which handles are alive, and the stamp. */
 static void follow(struct Channel *channel, const struct Call *call, uint32_t handle, uint32_t actor, uint64_t clock,
                    struct Answer answer) {
   if (answer.kind == NEW && answer.number < MOST_HANDLES) {
@@ -252,7 +252,7 @@ static bool has(const struct Channel *channel, uint8_t wanted) {
   return channel->handles[handle] & wanted;
 }
 
-/* A call of the other kind of channel now and then. Where no handle is alive that the call wants, another is drawn, but twice at most. */
+/* Now and then a call of the other kind of channel. If no handle is alive that the call needs, another call is drawn, but twice at most. */
 static void call_any(struct Channel *channel) {
   bool is_broadcast = channel->is_broadcast != one_in(64);
   const struct Call *call = draw_call(is_broadcast);
@@ -330,7 +330,7 @@ static void merge_cut(struct HeldCut *cut) {
   printf("cut_merge = %" PRIu32 "\n", code);
 }
 
-/* Prints the text, and of a room that is a byte too long whether it was filled, and whether it is as it was. */
+/* Prints the text. Also prints whether a room that is a byte too long was filled, and whether it is unchanged. */
 static void print_text(struct HeldCut *cut) {
   uint64_t len = yovanelum_cut_text_len(cut);
   uint8_t *room = malloc(len + 1);
@@ -367,8 +367,8 @@ static void cut_anywhere(void) {
   cut_at(last > 0 ? last - below(2) : 0);
 }
 
-/* A cut with no channel, which can't be merged, then with one, which can twice, and then with more of it than there may be, whose entries
-   have no order. */
+/* A cut with no channel, which can't be merged; then with one, which can be merged twice; and then with that channel more often than a cut
+   accepts, so that its entries have no order. */
 static void cut_oddly(struct Channel *channel) {
   struct HeldCut cut = {NULL};
   if (!open_cut(&cut)) return;
@@ -426,8 +426,8 @@ static void open_channel(struct Channel *channel, bool is_broadcast) {
   channel->handles[1] = RECEIVER;
 }
 
-/* Each channel is sent a value first, so that no journal is empty, and has some handles, so that it isn't closed at once. One script in 500
-   asks for more handles than a channel makes, of a broadcast and of a watch by turns. */
+/* Each channel is sent a value first, so that no journal is empty, and gets some handles, so that it isn't closed at once. One script in
+   500 requests more handles than a channel makes, by turns on a broadcast and on a watch. */
 static void begin(uint64_t seed) {
   drawn = seed * UINT64_C(0xd1342543de82ef95);
   blocks = 0;
@@ -456,7 +456,7 @@ static void free_channel(struct Channel *channel) {
   printf("free %" PRIu32 "\n", number_of(channel));
 }
 
-/* Calls for which there is little memory or none. */
+/* Calls with little memory or none. */
 static void call_in_want(void) {
   want_memory(3);
   for (uint32_t i = 0; i < 20; i++) call_any(any_channel());

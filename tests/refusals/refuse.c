@@ -1,7 +1,7 @@
-/* Loaded before a program, it refuses one of the program's requests for memory: the one of the number REFUSE, the first being 1, or
-   none; one of its threads, the one of the number REFUSE_THREAD, or none; one of its reads, by REFUSE_READ; and its writes to standard
-   output from the one of the number REFUSE_WRITE on. With REFUSE_SHORT=1 each read and each write moves one byte. At the program's end it tells on standard
-   error how many requests, threads, reads and writes were asked for. */
+/* Loaded before a program, this refuses requests of the program by their numbers, from 1 on: the request for memory of the number REFUSE,
+   the thread of REFUSE_THREAD, the read of REFUSE_READ, and the writes to standard output from REFUSE_WRITE on. Of a number that isn't set
+   nothing is refused. With REFUSE_SHORT=1 each read and each write moves one byte. At the program's end this prints to standard error how
+   many requests, threads, reads and writes there were. */
 #define _GNU_SOURCE
 #include <dlfcn.h>
 #include <errno.h>
@@ -14,7 +14,7 @@
 #include <sys/types.h>
 #include <unistd.h>
 
-/* The C library's own, below the names that are taken here. */
+/* The C library's own functions, whose public names are defined here. */
 extern void *__libc_malloc(size_t size);
 extern void *__libc_realloc(void *block, size_t size);
 
@@ -29,7 +29,7 @@ static unsigned long number_of(const char *name) {
   return number ? strtoul(number, 0, 10) : 0;
 }
 
-/* What is asked for before the program begins isn't counted. */
+/* Requests before the program begins aren't counted. */
 __attribute__((constructor)) static void begin(void) {
   start = (start_thread *)dlsym(RTLD_NEXT, "pthread_create");
   refused = number_of("REFUSE");
@@ -87,7 +87,7 @@ __attribute__((destructor)) static void end(void) {
   if (syscall(SYS_write, 2, line, length) != length) leave(70);
 }
 
-/* A program with a status leaves by this, and no destructor is called. */
+/* A program exits with its status by this, and no destructor is called. */
 void _exit(int status) {
   end();
   leave(status);
