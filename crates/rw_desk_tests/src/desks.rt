@@ -1,6 +1,5 @@
 //! Passes, which record calls, and desks.
 
-mod by_handles;
 mod full;
 mod one_thread;
 mod passes;

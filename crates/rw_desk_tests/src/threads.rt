@@ -113,7 +113,10 @@ fn played<G: Gate + Sync, R: Threads + Wait + Sync>(
 ) -> Result<Vec<u8>, Fail> {
     let script = script_of(alloc, script)?;
     let run = play_on_threads(rt, alloc, &script, gate)?;
-    Ok(lines_of(alloc, &run)?)
+    let lines = lines_of(alloc, &run);
+    drop(run);
+    drop(script);
+    Ok(lines?)
 }
 
 /// The script's threads make these entries, whatever the gate holds.

@@ -12,6 +12,7 @@ use rw_law::{NoMemory, Reversible};
 use rw_watch::WCall;
 use rw_world::{ChanCall, OpenFault, RowCall, World, open};
 use std::alloc::Global;
+use std::fmt::Debug;
 use std::io;
 
 /// A book of a world of these channels. Where memory is refused for the book, its world is dropped.
@@ -20,7 +21,7 @@ fn open_book(alloc: Global) -> Result<Book<World<u64>>, OpenFault> {
 }
 
 /// The same, asked for again.
-pub fn new_book(alloc: Global, met: &mut Met) -> Result<Book<World<u64>>, NoMemory> {
+fn new_book(alloc: Global, met: &mut Met) -> Result<Book<World<u64>>, NoMemory> {
     for _ in 0..TRIES {
         match open_book(alloc) {
             Ok(book) => return Ok(book),
@@ -31,7 +32,7 @@ pub fn new_book(alloc: Global, met: &mut Met) -> Result<Book<World<u64>>, NoMemo
 }
 
 /// Takes a call by an actor with clock 0, and answers its stamp and its reply.
-pub fn take<M: Shows>(
+fn take<M: Shows>(
     met: &mut Met,
     book: &mut Book<M>,
     actor: u32,
@@ -89,9 +90,59 @@ fn run<M: Shows>(
     Err((0, TakeFault::NoMemory))
 }
 
-/// Takes calls one by one, and prints what each answers.
-fn take_all(rt: &impl Print, met: &mut Met, book: &mut Book<World<u64>>) -> io::Result<()> {
-    for call in [
+/// Takes calls by actor 1 one by one, and prints what each returns.
+fn take_all<M: Shows>(
+    rt: &impl Print,
+    met: &mut Met,
+    book: &mut Book<M>,
+    calls: &[M::Call],
+) -> io::Result<()>
+where
+    M::Reply: Debug,
+{
+    for call in calls {
+        println!(rt; "  {:?}", take(met, book, 1, *call))?;
+    }
+    Ok(())
+}
+
+/// Runs a list of calls so often that it is longer than the room of a new book, and prints how long the book is after each time.
+fn run_all<M: Shows>(
+    rt: &impl Print,
+    met: &mut Met,
+    book: &mut Book<M>,
+    calls: &[(u32, M::Call)],
+) -> io::Result<()>
+    requires { All (λ call. call.0 < MOST_ACTORS) calls.now }
+{
+    for _ in 0..12 {
+        let answer = run(met, book, calls);
+        println!(rt; "  {answer:?}, then {} entries", book.len())?;
+    }
+    Ok(())
+}
+
+/// Takes calls, runs a list of them often, and makes room for one more.
+fn play_book<M: Shows>(
+    rt: &impl Print,
+    met: &mut Met,
+    book: &mut Book<M>,
+    single: &[M::Call],
+    listed: &[(u32, M::Call)],
+) -> io::Result<()>
+where
+    M::Reply: Debug,
+    requires { All (λ call. call.0 < MOST_ACTORS) listed.now }
+{
+    take_all(rt, met, book, single)?;
+    run_all(rt, met, book, listed)?;
+    println!(rt; "  {:?}, {:?}", ready(met, book), book.machine().place())
+}
+
+/// Plays books.
+pub fn play(rt: &impl Print, alloc: Global, met: &mut Met) -> io::Result<()> {
+    println!(rt; "a book")?;
+    let single = [
         broadcast(BCall::Send(0, 1)),
         watch(WCall::Send(0, 8)),
         broadcast(BCall::Recv(1)),
@@ -102,38 +153,16 @@ fn take_all(rt: &impl Print, met: &mut Met, book: &mut Book<World<u64>>) -> io::
             channel: 2,
             call: ChanCall::B(BCall::Send(0, 1)),
         },
-    ] {
-        println!(rt; "  {:?}", take(met, book, 1, call))?;
-    }
-    Ok(())
-}
-
-/// Runs lists of calls, which are longer than the room of a new book, and prints how long it is after each.
-fn run_all(rt: &impl Print, met: &mut Met, book: &mut Book<World<u64>>) -> io::Result<()> {
-    for value in 0..12 {
-        let sent = (0, broadcast(BCall::Send(0, value)));
-        let stored = (1, watch(WCall::Send(0, value)));
-        let made = (2, broadcast(BCall::CloneSender(0)));
-        let answer = run(met, book, &[sent, stored, made]);
-        println!(rt; "  {answer:?}, then {} entries", book.len())?;
-    }
-    Ok(())
-}
-
-/// Takes calls, runs lists of them, and makes room for one more.
-fn play_book(rt: &impl Print, met: &mut Met, book: &mut Book<World<u64>>) -> io::Result<()> {
-    take_all(rt, met, book)?;
-    run_all(rt, met, book)?;
-    println!(rt; "  {:?}, {:?}", ready(met, book), book.machine().place())
-}
-
-/// Plays books.
-pub fn play(rt: &impl Print, alloc: Global, met: &mut Met) -> io::Result<()> {
-    println!(rt; "a book")?;
+    ];
+    let listed = [
+        (0, broadcast(BCall::Send(0, 5))),
+        (1, watch(WCall::Send(0, 5))),
+        (2, broadcast(BCall::CloneSender(0))),
+    ];
     let Ok(mut book) = new_book(alloc, met) else {
         return println!(rt; "  isn't opened");
     };
-    let played = play_book(rt, met, &mut book);
+    let played = play_book(rt, met, &mut book, &single, &listed);
     drop(book);
     played
 }

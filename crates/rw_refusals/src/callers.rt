@@ -6,13 +6,14 @@ use rw_desk::{Desk, DeskFault, Pass};
 use rw_world::{ChanCall, ChanReply};
 use std::io;
 use std::sync::Wait;
+use support_desks::{Hand, call_by, drop_hand};
 
 /// What a call answers, and whether a closure was called for it.
 pub type Made = (Result<ChanReply<u64>, DeskFault>, bool);
 
 /// Who makes calls.
 pub trait Caller {
-    /// Makes a call. Of one that this caller can't make it is said that there is no such channel.
+    /// Makes a call. One that this caller can't make is refused with `NoChannel`.
     fn make<R: Wait>(
         &self,
         rt: &R,
@@ -43,6 +44,20 @@ impl Caller for ByNumbers {
         } else {
             (desk.call(rt, pass, self.channel, call), false)
         }
+    }
+}
+
+/// Makes calls by a handle. A handle that a call makes is forgotten, and stays alive in its channel.
+impl Caller for Hand {
+    fn make<R: Wait>(
+        &self,
+        rt: &R,
+        desk: &Desk<u64>,
+        pass: &mut Pass<u64>,
+        call: ChanCall<u64>,
+    ) -> Made {
+        let called = call_by(rt, desk, pass, self, call);
+        (called.reply, called.was_called)
     }
 }
 
@@ -81,4 +96,29 @@ pub fn ask_all<C: Caller, R: Wait + Print>(
         println!(rt; "  {answer:?}")?;
     }
     Ok(())
+}
+
+/// Drops a handle. At a refusal it comes back, and is dropped the next time.
+pub fn ask_drop<R: Wait>(
+    rt: &R,
+    met: &mut Met,
+    desk: &Desk<u64>,
+    pass: &mut Pass<u64>,
+    hand: Hand,
+) -> Result<ChanReply<u64>, DeskFault> {
+    let (before, number) = (held(pass), hand.number());
+    let dropped = match drop_hand(rt, desk, pass, hand) {
+        Err((DeskFault::NoMemory, hand)) => {
+            met.refused(held(pass) == before && hand.number() == number);
+            drop_hand(rt, desk, pass, hand)
+        }
+        dropped => dropped,
+    };
+    match dropped {
+        Ok(reply) => Ok(reply),
+        Err((fault, hand)) => {
+            drop(hand);
+            Err(fault)
+        }
+    }
 }

@@ -6,23 +6,23 @@ use crate::met::{Met, TRIES};
 use rw_broadcast::BCall;
 use rw_desk::{CloseFault, Desk, DeskOpenFault, Ends, Pass};
 use rw_journal::Run;
-use rw_law::Payload;
 use rw_watch::WCall;
 use rw_world::{ChanCall, OpenFault, Spec};
 use std::alloc::Global;
 use std::io;
 use std::sync::Wait;
+use support_desks::{Hand, hands_of};
 
 /// A desk, with a pass for each actor and the handles that each channel has from the beginning.
-pub type Opened<V> = (Desk<V>, Vec<Pass<V>>, Vec<Ends>);
+pub type Opened = (Desk<u64>, Vec<Pass<u64>>, Vec<Ends>);
 
 /// A desk of so many actors.
-pub fn new_desk<V: Payload>(
+pub fn new_desk(
     alloc: Global,
     met: &mut Met,
-    specs: &[Spec<V>],
+    specs: &[Spec<u64>],
     actors: u32,
-) -> Result<Opened<V>, DeskOpenFault> {
+) -> Result<Opened, DeskOpenFault> {
     for _ in 0..TRIES {
         match Desk::open(alloc, specs, actors) {
             Err(DeskOpenFault::World(OpenFault::NoMemory)) => met.refused(true),
@@ -33,7 +33,7 @@ pub fn new_desk<V: Payload>(
 }
 
 /// How many receipts these passes have.
-fn receipts_in<V: Copy>(passes: &[Pass<V>]) -> usize {
+fn receipts_in(passes: &[Pass<u64>]) -> usize {
     let mut count: usize = 0;
     for pass in passes {
         count = count.saturating_add(pass.kept().len());
@@ -42,12 +42,12 @@ fn receipts_in<V: Copy>(passes: &[Pass<V>]) -> usize {
 }
 
 /// Closes a desk. At a refusal desk and passes come back, and are handed in once more. At another fault they are dropped.
-fn close<V: Payload>(
+fn close(
     alloc: Global,
     met: &mut Met,
-    desk: Desk<V>,
-    passes: Vec<Pass<V>>,
-) -> Result<Run<V>, CloseFault> {
+    desk: Desk<u64>,
+    passes: Vec<Pass<u64>>,
+) -> Result<Run<u64>, CloseFault> {
     let before = (passes.len(), receipts_in(&passes));
     let closed = match desk.close(alloc, passes) {
         Err((CloseFault::NoMemory, desk, passes)) => {
@@ -66,20 +66,28 @@ fn close<V: Payload>(
     }
 }
 
-/// The handles of the last channel. Those of the others are forgotten, and stay alive in their channels.
-pub fn last_ends(mut ends: Vec<Ends>) -> Option<Ends> {
+/// The sender and the receiver of a channel.
+pub fn hands_in(ends: Option<Ends>) -> Option<(Hand, Hand)> {
+    match ends {
+        Some(ends) => Some(hands_of(ends)),
+        None => None,
+    }
+}
+
+/// Those of the last channel. The handles of the others are forgotten, and stay alive in their channels.
+pub fn last_hands(mut ends: Vec<Ends>) -> Option<(Hand, Hand)> {
     let last = ends.pop();
     drop(ends);
-    last
+    hands_in(last)
 }
 
 /// Closes a desk, and prints how long its run is, in which each actor's receipts are its entries.
-pub fn say_closed<V: Payload>(
+pub fn say_closed(
     rt: &impl Print,
     alloc: Global,
     met: &mut Met,
-    desk: Desk<V>,
-    passes: Vec<Pass<V>>,
+    desk: Desk<u64>,
+    passes: Vec<Pass<u64>>,
 ) -> io::Result<()> {
     match close(alloc, met, desk, passes) {
         Ok(run) => {

@@ -15,6 +15,7 @@ use rw_world::{Chan, ChanCall, ChanReply, Spec, open_channel};
 use std::alloc::Global;
 use std::fmt::Debug;
 use std::io;
+use support_desks::StampedCall;
 
 /// How many receipts a pass has, and its clock.
 pub fn held<V: Copy>(pass: &Pass<V>) -> (usize, u64) {
@@ -77,9 +78,9 @@ fn record_each<V: Copy>(
     met: &mut Met,
     pass: &mut Pass<V>,
     book: &mut Book<Chan<V>>,
-    calls: &[(u32, ChanCall<V>)],
+    calls: &[StampedCall<V>],
 ) -> Result<(), NoMemory> {
-    for (_, call) in calls {
+    for (_, _, call) in calls {
         if let Err(DeskFault::NoMemory) = record(met, pass, book, *call) {
             return Err(NoMemory);
         }
@@ -93,7 +94,7 @@ pub fn record_all<V: Copy>(
     met: &mut Met,
     pass: &mut Pass<V>,
     spec: &Spec<V>,
-    calls: &[(u32, ChanCall<V>)],
+    calls: &[StampedCall<V>],
 ) -> Result<(), NoMemory> {
     let mut book = new_book(alloc, met, spec)?;
     let recorded = record_each(met, pass, &mut book, calls);

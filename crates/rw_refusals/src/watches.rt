@@ -1,18 +1,18 @@
 //! Calls on a watch of a desk by its handles. Each is made by another actor, whose pass has no room for a receipt yet.
 
-use crate::callers::{self, Caller, ask, ask_all};
-use crate::desks::{last_ends, new_desk, say_closed};
+use crate::callers::{ask, ask_all, ask_drop};
+use crate::desks::{hands_in, last_hands, new_desk, say_closed};
 use crate::met::{Met, TRIES};
 use crate::passes::held;
-use rw_desk::{Desk, DeskFault, Ends, Made, Pass, WRx, WTx};
-use rw_law::Payload;
+use rw_desk::{Desk, DeskFault, Pass};
 use rw_watch::{WCall, WReply};
-use rw_world::{ChanCall, ChanReply, Spec};
+use rw_world::{ChanCall, Spec};
 use std::alloc::Global;
 use std::io;
 use std::sync::Wait;
+use support_desks::{Hand, wait_until};
 
-/// What is called by sender 0. A value is modified by a closure, which either answers nothing or that nobody is told.
+/// What is called by sender 0. A value is modified by a closure, which returns nothing or `false`.
 const BY_SENDER: [ChanCall<u64>; 9] = [
     ChanCall::W(WCall::Send(0, 8)),
     ChanCall::W(WCall::Borrow(0)),
@@ -49,177 +49,18 @@ const BY_RECEIVER: [ChanCall<u64>; 9] = [
 /// How many actors there are: one for each of these calls, and one who waits for a value.
 const ACTORS: u32 = 19;
 
-/// A receiver that was made, by its number. The handle is forgotten, and stays alive in its channel.
-fn receiver_made<V: Copy>(made: Made<WRx, WReply<V>>) -> WReply<V> {
-    match made {
-        Made::New(receiver) => {
-            let number = receiver.number();
-            drop(receiver);
-            WReply::New(number)
-        }
-        Made::Refused(reply) => reply,
-    }
-}
-
-/// A sender that was made, by its number. It is forgotten too.
-fn sender_made<V: Copy>(made: Made<WTx, WReply<V>>) -> WReply<V> {
-    match made {
-        Made::New(sender) => {
-            let number = sender.number();
-            drop(sender);
-            WReply::New(number)
-        }
-        Made::Refused(reply) => reply,
-    }
-}
-
-/// Makes a call by a sender that takes no closure. Of another handle's call it is said that there is no such channel.
-fn by_sender<V: Payload, R: Wait>(
-    rt: &R,
-    desk: &Desk<V>,
-    pass: &mut Pass<V>,
-    sender: &WTx,
-    call: WCall<V>,
-) -> Result<WReply<V>, DeskFault> {
-    match call {
-        WCall::Send(_, value) => desk.w_send(rt, pass, sender, value),
-        WCall::SendReplace(_, value) => desk.w_send_replace(rt, pass, sender, value),
-        WCall::Borrow(_) => desk.w_peek(rt, pass, sender),
-        WCall::ReceiverCount(_) => desk.w_receiver_count(rt, pass, sender),
-        WCall::IsClosed(_) => desk.w_is_closed(rt, pass, sender),
-        WCall::AwaitClosed(_) => desk.w_closed(rt, pass, sender),
-        WCall::Subscribe(_) => Ok(receiver_made(desk.w_subscribe(rt, pass, sender)?)),
-        WCall::CloneSender(_) => Ok(sender_made(desk.w_clone_sender(rt, pass, sender)?)),
-        _ => Err(DeskFault::NoChannel),
-    }
-}
-
-/// Stores a value by a closure that answers nothing, and says whether it was called.
-fn modify<V: Payload, R: Wait>(
-    rt: &R,
-    desk: &Desk<V>,
-    pass: &mut Pass<V>,
-    sender: &WTx,
-    value: V,
-) -> (Result<WReply<V>, DeskFault>, bool) {
-    let mut was_called = false;
-    let answer = desk.w_send_modify(rt, pass, sender, |held| {
-        was_called = true;
-        *held = value;
-    });
-    (answer, was_called)
-}
-
-/// Stores a value by a closure that answers whether the receivers are told, and says whether it was called.
-fn modify_if<V: Payload, R: Wait>(
-    rt: &R,
-    desk: &Desk<V>,
-    pass: &mut Pass<V>,
-    sender: &WTx,
-    value: V,
-    told: bool,
-) -> (Result<WReply<V>, DeskFault>, bool) {
-    let mut was_called = false;
-    let answer = desk.w_send_if_modified(rt, pass, sender, |held| {
-        was_called = true;
-        *held = value;
-        told
-    });
-    (answer, was_called)
-}
-
-/// Makes a call by a receiver that takes no closure.
-fn by_receiver<V: Payload, R: Wait>(
-    rt: &R,
-    desk: &Desk<V>,
-    pass: &mut Pass<V>,
-    receiver: &WRx,
-    call: WCall<V>,
-) -> Result<WReply<V>, DeskFault> {
-    match call {
-        WCall::Borrow(_) => desk.w_borrow(rt, pass, receiver),
-        WCall::Update(_) => desk.w_update(rt, pass, receiver),
-        WCall::HasChanged(_) => desk.w_has_changed(rt, pass, receiver),
-        WCall::Changed(_) => desk.w_changed(rt, pass, receiver),
-        WCall::MarkChanged(_) => desk.w_mark_changed(rt, pass, receiver),
-        WCall::MarkUnchanged(_) => desk.w_mark_unchanged(rt, pass, receiver),
-        WCall::CloneReceiver(_) => Ok(receiver_made(desk.w_clone_receiver(rt, pass, receiver)?)),
-        _ => Err(DeskFault::NoChannel),
-    }
-}
-
-/// Makes a call by a sender, and says whether a closure was called.
-fn by_any_sender<V: Payload, R: Wait>(
-    rt: &R,
-    desk: &Desk<V>,
-    pass: &mut Pass<V>,
-    sender: &WTx,
-    call: WCall<V>,
-) -> (Result<WReply<V>, DeskFault>, bool) {
-    match call {
-        WCall::Modify {
-            told: true,
-            value,
-            ..
-        } => modify(rt, desk, pass, sender, value),
-        WCall::Modify { told, value, .. } => modify_if(rt, desk, pass, sender, value, told),
-        call => (by_sender(rt, desk, pass, sender, call), false),
-    }
-}
-
-/// An answer to a call, and whether a closure was called for it.
-fn answered(answer: Result<WReply<u64>, DeskFault>, was_called: bool) -> callers::Made {
-    match answer {
-        Ok(reply) => (Ok(ChanReply::W(reply)), was_called),
-        Err(fault) => (Err(fault), was_called),
-    }
-}
-
-impl Caller for WTx {
-    fn make<R: Wait>(
-        &self,
-        rt: &R,
-        desk: &Desk<u64>,
-        pass: &mut Pass<u64>,
-        call: ChanCall<u64>,
-    ) -> callers::Made {
-        match call {
-            ChanCall::W(call) => {
-                let (answer, was_called) = by_any_sender(rt, desk, pass, self, call);
-                answered(answer, was_called)
-            }
-            ChanCall::B(_) => (Err(DeskFault::NoChannel), false),
-        }
-    }
-}
-
-impl Caller for WRx {
-    fn make<R: Wait>(
-        &self,
-        rt: &R,
-        desk: &Desk<u64>,
-        pass: &mut Pass<u64>,
-        call: ChanCall<u64>,
-    ) -> callers::Made {
-        match call {
-            ChanCall::W(call) => answered(by_receiver(rt, desk, pass, self, call), false),
-            ChanCall::B(_) => (Err(DeskFault::NoChannel), false),
-        }
-    }
-}
-
-/// Waits for a value whose word is at least this. What is read before a refusal stands, and is read again.
-fn wait_for<V: Payload, R: Wait>(
+/// Waits for a value that is at least this. Values that were read before a refusal stay recorded, and are read again.
+fn wait_for<R: Wait>(
     rt: &R,
     met: &mut Met,
-    desk: &Desk<V>,
-    pass: &mut Pass<V>,
-    receiver: &WRx,
+    desk: &Desk<u64>,
+    pass: &mut Pass<u64>,
+    receiver: &Hand,
     least: u64,
-) -> Result<WReply<V>, DeskFault> {
+) -> Result<WReply<u64>, DeskFault> {
     let (receipts, _) = held(pass);
     for _ in 0..TRIES {
-        match desk.w_wait_for(rt, pass, receiver, |value| value.word() >= least) {
+        match wait_until(rt, desk, pass, receiver, least) {
             Err(DeskFault::NoMemory) => met.refused(held(pass).0 >= receipts),
             answer => return answer,
         }
@@ -227,91 +68,26 @@ fn wait_for<V: Payload, R: Wait>(
     Err(DeskFault::NoMemory)
 }
 
-/// Drops a sender. At a refusal it comes back, and is dropped the next time.
-fn drop_sender<V: Payload, R: Wait>(
-    rt: &R,
-    met: &mut Met,
-    desk: &Desk<V>,
-    pass: &mut Pass<V>,
-    sender: WTx,
-) -> Result<WReply<V>, DeskFault> {
-    let (before, number) = (held(pass), sender.number());
-    let dropped = match desk.w_drop_sender(rt, pass, sender) {
-        Err((DeskFault::NoMemory, sender)) => {
-            met.refused(held(pass) == before && sender.number() == number);
-            desk.w_drop_sender(rt, pass, sender)
-        }
-        dropped => dropped,
-    };
-    match dropped {
-        Ok(reply) => Ok(reply),
-        Err((fault, sender)) => {
-            drop(sender);
-            Err(fault)
-        }
-    }
-}
-
-/// Drops a receiver. At a refusal it comes back too.
-fn drop_receiver<V: Payload, R: Wait>(
-    rt: &R,
-    met: &mut Met,
-    desk: &Desk<V>,
-    pass: &mut Pass<V>,
-    receiver: WRx,
-) -> Result<WReply<V>, DeskFault> {
-    let (before, number) = (held(pass), receiver.number());
-    let dropped = match desk.w_drop_receiver(rt, pass, receiver) {
-        Err((DeskFault::NoMemory, receiver)) => {
-            met.refused(held(pass) == before && receiver.number() == number);
-            desk.w_drop_receiver(rt, pass, receiver)
-        }
-        dropped => dropped,
-    };
-    match dropped {
-        Ok(reply) => Ok(reply),
-        Err((fault, receiver)) => {
-            drop(receiver);
-            Err(fault)
-        }
-    }
-}
-
-/// Makes all calls by the two handles, and waits for a value that is there already.
-fn ask_both<R: Wait + Print>(
-    rt: &R,
-    met: &mut Met,
-    desk: &Desk<u64>,
-    passes: &mut [Pass<u64>],
-    sender: &WTx,
-    receiver: &WRx,
-) -> io::Result<()> {
-    let (by_sender, rest) = passes.split_at_mut(BY_SENDER.len().min(passes.len()));
-    ask_all(rt, met, desk, by_sender, sender, &BY_SENDER)?;
-    let (by_receiver, rest) = rest.split_at_mut(BY_RECEIVER.len().min(rest.len()));
-    ask_all(rt, met, desk, by_receiver, receiver, &BY_RECEIVER)?;
-    let [pass] = rest else {
-        return println!(rt; "  not one pass is left");
-    };
-    let found = wait_for(rt, met, desk, pass, receiver, 11);
-    println!(rt; "  {found:?}")
-}
-
-/// The same with handles that are forgotten then.
+/// Makes all calls by the two handles, and waits for a value that is there already. The handles are forgotten then.
 fn play_handles<R: Wait + Print>(
     rt: &R,
     met: &mut Met,
     desk: &Desk<u64>,
     passes: &mut [Pass<u64>],
-    ends: Option<Ends>,
+    hands: Option<(Hand, Hand)>,
 ) -> io::Result<()> {
-    let Some(Ends::Watch(sender, receiver)) = ends else {
-        return println!(rt; "  no watch");
+    let Some((sender, receiver)) = hands else {
+        return println!(rt; "  no handles");
     };
-    let asked = ask_both(rt, met, desk, passes, &sender, &receiver);
-    drop(sender);
-    drop(receiver);
-    asked
+    let (by_sender, rest) = passes.split_at_mut(BY_SENDER.len().min(passes.len()));
+    let (by_receiver, rest) = rest.split_at_mut(BY_RECEIVER.len().min(rest.len()));
+    ask_all(rt, met, desk, by_sender, &sender, &BY_SENDER)?;
+    ask_all(rt, met, desk, by_receiver, &receiver, &BY_RECEIVER)?;
+    let [pass] = rest else {
+        return println!(rt; "  not one pass is left");
+    };
+    let found = wait_for(rt, met, desk, pass, &receiver, 11);
+    println!(rt; "  {found:?}")
 }
 
 /// Drops the receiver of a watch, which is closed then.
@@ -320,20 +96,14 @@ fn close_for_sender<R: Wait + Print>(
     met: &mut Met,
     desk: &Desk<u64>,
     passes: &mut [Pass<u64>],
-    ends: Option<Ends>,
+    hands: Option<(Hand, Hand)>,
 ) -> io::Result<()> {
-    let Some(Ends::Watch(sender, receiver)) = ends else {
-        return println!(rt; "  no watch");
+    let (Some((sender, receiver)), [first, second, ..]) = (hands, passes) else {
+        return println!(rt; "  no handles or passes");
     };
-    let [first, second, ..] = passes else {
-        drop(sender);
-        drop(receiver);
-        return println!(rt; "  no two passes");
-    };
-    let dropped = drop_receiver(rt, met, desk, first, receiver);
+    let dropped = ask_drop(rt, met, desk, first, receiver);
     let awaited = ChanCall::W(WCall::AwaitClosed(0));
     let closed = ask(rt, met, desk, second, &sender, awaited);
-    drop(sender);
     println!(rt; "  {dropped:?}")?;
     println!(rt; "  {closed:?}")
 }
@@ -344,32 +114,26 @@ fn close_for_receiver<R: Wait + Print>(
     met: &mut Met,
     desk: &Desk<u64>,
     passes: &mut [Pass<u64>],
-    ends: Option<Ends>,
+    hands: Option<(Hand, Hand)>,
 ) -> io::Result<()> {
-    let Some(Ends::Watch(sender, receiver)) = ends else {
-        return println!(rt; "  no second watch");
+    let (Some((sender, receiver)), [.., third, fourth]) = (hands, passes) else {
+        return println!(rt; "  no handles or passes");
     };
-    let [.., third, fourth] = passes else {
-        drop(sender);
-        drop(receiver);
-        return println!(rt; "  no two passes");
-    };
-    let dropped = drop_sender(rt, met, desk, third, sender);
+    let dropped = ask_drop(rt, met, desk, third, sender);
     let closed = wait_for(rt, met, desk, fourth, &receiver, 9);
-    drop(receiver);
     println!(rt; "  {dropped:?}")?;
     println!(rt; "  {closed:?}")
 }
 
-/// Plays a watch whose receiver goes, and one whose sender goes, of one desk.
+/// Plays a watch whose receiver is dropped, and one whose sender is, of one desk.
 fn play_closed<R: Wait + Print>(rt: &R, alloc: Global, met: &mut Met) -> io::Result<()> {
     println!(rt; "watches of a desk that close")?;
     let specs = [Spec::Watch(7), Spec::Watch(8)];
     let Ok((desk, mut passes, mut ends)) = new_desk(alloc, met, &specs, 4) else {
         return println!(rt; "  no desk");
     };
-    let second = ends.pop();
-    let first = last_ends(ends);
+    let second = hands_in(ends.pop());
+    let first = last_hands(ends);
     let for_sender = close_for_sender(rt, met, &desk, &mut passes, first);
     let for_receiver = close_for_receiver(rt, met, &desk, &mut passes, second);
     let closed = say_closed(rt, alloc, met, desk, passes);
@@ -385,7 +149,7 @@ pub fn play<R: Wait + Print>(rt: &R, alloc: Global, met: &mut Met) -> io::Result
     let Ok((desk, mut passes, ends)) = new_desk(alloc, met, &specs, ACTORS) else {
         return println!(rt; "  no desk");
     };
-    let played = play_handles(rt, met, &desk, &mut passes, last_ends(ends));
+    let played = play_handles(rt, met, &desk, &mut passes, last_hands(ends));
     let closed = say_closed(rt, alloc, met, desk, passes);
     played?;
     closed?;

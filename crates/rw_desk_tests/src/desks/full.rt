@@ -3,6 +3,7 @@
 use super::plain::{
     OfBoth, b_receiver_count, b_send, call, open_both, receipts, run_of_one, w_send,
 };
+use super::shared::length_of;
 use rw_broadcast::{BCall, BReply};
 use rw_desk::{BTx, Desk, DeskFault, Pass};
 use rw_law::Entry;
@@ -50,7 +51,7 @@ fn ends_on_both(rt: &impl Abort, entries: &[Entry<World<u64>>]) -> Result<(), Fa
 }
 
 /// Fills the first channel, which refuses calls then, and calls the other.
-fn fills_one<R: Wait + Abort>(rt: &R, open: &mut OfBoth<u64>) {
+fn fills_one<R: Wait + Abort>(rt: &R, open: &mut OfBoth) {
     let (desk, pass, sender) = (&open.desk, &mut open.pass, &open.sender);
     fill(rt, desk, pass, sender);
     is_full(rt, desk, pass, sender);
@@ -62,9 +63,10 @@ fn fills_one<R: Wait + Abort>(rt: &R, open: &mut OfBoth<u64>) {
 #[test]
 fn a_full_channel_of_a_desk(rt: HostRuntime) -> Result<(), Fail> {
     let alloc = rt.alloc();
-    let mut open = open_both(alloc, &[Spec::Broadcast(1), Spec::Watch(1u64)])?;
+    let mut open = open_both(alloc, &[Spec::Broadcast(1), Spec::Watch(1)])?;
     fills_one(&rt, &mut open);
     let run = run_of_one(alloc, open.desk, open.pass)?;
-    assert_eq!(rt; run.len(), 1_048_577);
-    ends_on_both(&rt, run.entries())
+    let ends = ends_on_both(&rt, run.entries());
+    assert_eq!(rt; length_of(run), 1_048_577);
+    ends
 }

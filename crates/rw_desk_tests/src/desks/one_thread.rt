@@ -9,32 +9,19 @@ use super::plain::{
     close, differs, open, open_both, open_broadcast, open_watch, order, receipts, run_of,
     run_of_one, run_with, w_drop_sender, w_send, w_send_if_modified, w_wait_for, wait_call,
 };
-use super::shared::{both, desk_of_two};
+use super::shared::{desk_of_two, length_of, run_of_two};
 use rw_broadcast::{BCall, BReply};
 use rw_desk::{BTx, CloseFault, Desk, DeskFault, DeskOpenFault, Kept, Pass, WRx, WTx};
 use rw_journal::Run;
-use rw_law::Payload;
 use rw_watch::{WCall, WReply};
 use rw_world::{ChanCall, ChanReply, OpenFault, Spec};
-use std::alloc::Global;
+use std::alloc::{AllocError, Global};
 use std::process::Abort;
 use std::sync::Wait;
 use std::test::Fail;
 
-/// The entries of a run have these stamps and channels.
-fn is_in_order(
-    rt: &impl Abort,
-    alloc: Global,
-    run: &Run<u64>,
-    wanted: &[(u64, u32)],
-) -> Result<(), Fail> {
-    let order = order(alloc, run)?;
-    assert_eq!(rt; order.as_slice(), wanted);
-    Ok(())
-}
-
 /// A value is sent and received, a call would wait, and one strays.
-fn answers_to_one_actor<R: Wait + Abort>(rt: &R, open: &mut OfBroadcast<u64>) {
+fn answers_to_one_actor<R: Wait + Abort>(rt: &R, open: &mut OfBroadcast) {
     let (desk, pass) = (&open.desk, &mut open.pass);
     let answers = [
         b_send(desk, rt, pass, &open.sender, 4),
@@ -50,25 +37,23 @@ fn answers_to_one_actor<R: Wait + Abort>(rt: &R, open: &mut OfBroadcast<u64>) {
     assert_eq!(rt; refused, [Err(DeskFault::Waits), Err(DeskFault::NoChannel)]);
 }
 
-/// The fault of a close without a pass, and what comes back with it.
-fn close_without<V: Payload>(
+/// The fault of a close without the pass, and the stamps and channels of the run of the next close, with it.
+fn closes(
     alloc: Global,
-    desk: Desk<V>,
-) -> Result<(CloseFault, Desk<V>, Vec<Pass<V>>), Fail> {
+    desk: Desk<u64>,
+    pass: Pass<u64>,
+) -> Result<(CloseFault, Vec<(u64, u32)>), Fail> {
     match close(desk, alloc, Vec::new(alloc)) {
-        Ok(_) => Err(Fail::from("closed without the pass")),
-        Err(back) => Ok(back),
+        Ok(run) => {
+            drop(run);
+            drop(pass);
+            Err(Fail::from("closed without the pass"))
+        }
+        Err((fault, desk, passes)) => {
+            let run = run_with(alloc, desk, passes, pass)?;
+            Ok((fault, order(alloc, run)?))
+        }
     }
-}
-
-/// The fault of a close without the pass, and the run of the next close, with it.
-fn closes<V: Payload>(
-    alloc: Global,
-    desk: Desk<V>,
-    pass: Pass<V>,
-) -> Result<(CloseFault, Run<V>), Fail> {
-    let (fault, desk, passes) = close_without(alloc, desk)?;
-    Ok((fault, run_with(alloc, desk, passes, pass)?))
 }
 
 #[test]
@@ -76,9 +61,10 @@ fn desk_of_one_actor(rt: HostRuntime) -> Result<(), Fail> {
     let alloc = rt.alloc();
     let mut open = open_broadcast(alloc, &[Spec::Broadcast(2)])?;
     answers_to_one_actor(&rt, &mut open);
-    let (fault, run) = closes(alloc, open.desk, open.pass)?;
+    let (fault, order) = closes(alloc, open.desk, open.pass)?;
     assert_eq!(rt; fault, CloseFault::Stranger(0));
-    is_in_order(&rt, alloc, &run, &[(1, 0), (2, 0), (3, 0)])
+    assert_eq!(rt; order.as_slice(), [(1, 0), (2, 0), (3, 0)].as_slice());
+    Ok(())
 }
 
 /// Where these receipts differ from the run, and fewer and other ones.
@@ -99,67 +85,74 @@ fn differs_at(rt: &impl Abort, run: &Run<u64>, kept: &[Kept<u64>]) -> Result<(),
     Ok(())
 }
 
+/// Sends a value, and receives twice. The receipts.
+fn calls_thrice<R: Wait>(
+    rt: &R,
+    alloc: Global,
+    open: &mut OfBroadcast,
+) -> Result<Vec<Kept<u64>>, AllocError> {
+    let (desk, pass) = (&open.desk, &mut open.pass);
+    let _sent = b_send(desk, rt, pass, &open.sender, 4);
+    let _received = b_try_recv(desk, rt, pass, &open.receiver);
+    let _nothing = b_try_recv(desk, rt, pass, &open.receiver);
+    Vec::from_slice(alloc, receipts(pass))
+}
+
 /// The place of the first receipt that isn't its actor's entry of the run.
 #[test]
 fn receipts_beside_a_run(rt: HostRuntime) -> Result<(), Fail> {
     let alloc = rt.alloc();
-    let OfBroadcast {
-        desk,
-        mut pass,
-        sender,
-        receiver,
-    } = open_broadcast(alloc, &[Spec::Broadcast(2)])?;
-    let _sent = b_send(&desk, &rt, &mut pass, &sender, 4);
-    let _received = b_try_recv(&desk, &rt, &mut pass, &receiver);
-    let _nothing = b_try_recv(&desk, &rt, &mut pass, &receiver);
-    let kept = Vec::from_slice(alloc, receipts(&pass))?;
-    let run = run_of_one(alloc, desk, pass)?;
-    differs_at(&rt, &run, &kept)
+    let mut open = open_broadcast(alloc, &[Spec::Broadcast(2)])?;
+    let kept = calls_thrice(&rt, alloc, &mut open);
+    let run = run_of_one(alloc, open.desk, open.pass)?;
+    let differs = match &kept {
+        Ok(kept) => differs_at(&rt, &run, kept),
+        Err(_) => Err(Fail::from("no receipts")),
+    };
+    drop(run);
+    drop(kept);
+    differs
 }
 
 /// The fault of a desk that isn't opened.
-fn refusal<V: Payload>(
-    alloc: Global,
-    specs: &[Spec<V>],
-    actors: u32,
-) -> Result<DeskOpenFault, Fail> {
+fn refusal(alloc: Global, specs: &[Spec<u64>], actors: u32) -> Option<DeskOpenFault> {
     match open(alloc, specs, actors) {
-        Ok(_) => Err(Fail::from("opened")),
-        Err(fault) => Ok(fault),
+        Ok(opened) => {
+            drop(opened);
+            None
+        }
+        Err(fault) => Some(fault),
     }
 }
 
 #[test]
 fn desks_that_are_not_opened(rt: HostRuntime) -> Result<(), Fail> {
     let alloc = rt.alloc();
-    let one = [Spec::<u64>::Broadcast(2)];
-    let none: [Spec<u64>; 0] = [];
+    let one = [Spec::Broadcast(2)];
     let faults = [
-        refusal(alloc, &one, 0)?,
-        refusal(alloc, &one, 65)?,
-        refusal(alloc, &none, 1)?,
+        refusal(alloc, &one, 0),
+        refusal(alloc, &one, 65),
+        refusal(alloc, &[], 1),
     ];
-    let no_channels = DeskOpenFault::World(OpenFault::NoChannels);
-    let bad_actors = DeskOpenFault::BadActors;
+    let no_channels = Some(DeskOpenFault::World(OpenFault::NoChannels));
+    let bad_actors = Some(DeskOpenFault::BadActors);
     assert_eq!(rt; faults, [bad_actors, bad_actors, no_channels]);
     Ok(())
 }
 
-/// How many entries and how many specs a run has.
-fn lengths<V: Payload>(run: &Run<V>) -> (u64, usize) {
-    (run.len(), run.specs().len())
-}
-
-/// The run of the greatest desk without a call.
-fn run_without_calls(alloc: Global) -> Result<Run<u64>, Fail> {
-    let (desk, passes, _ends) = open(alloc, &[Spec::Watch(7u64); 64], 64)?;
-    run_of(alloc, desk, passes)
+/// How many entries and how many specs the run of the greatest desk has without a call.
+fn lengths_without_calls(alloc: Global) -> Result<(u64, usize), Fail> {
+    let (desk, passes, ends) = open(alloc, &[Spec::Watch(7); 64], 64)?;
+    drop(ends);
+    let run = run_of(alloc, desk, passes)?;
+    let lengths = (run.len(), run.specs().len());
+    drop(run);
+    Ok(lengths)
 }
 
 #[test]
 fn desk_without_calls(rt: HostRuntime) -> Result<(), Fail> {
-    let run = run_without_calls(rt.alloc())?;
-    assert_eq!(rt; lengths(&run), (0, 64));
+    assert_eq!(rt; lengths_without_calls(rt.alloc())?, (0, 64));
     Ok(())
 }
 
@@ -175,9 +168,12 @@ struct OfTwo {
 
 /// Opens a desk of two actors.
 fn open_of_two(alloc: Global) -> Result<OfTwo, Fail> {
-    let specs = [Spec::Broadcast(2), Spec::Watch(5u64)];
+    let specs = [Spec::Broadcast(2), Spec::Watch(5)];
     let (desk, ends, first, second) = desk_of_two(alloc, &specs)?;
-    let (sender, _, writer, _) = both_ends(ends)?;
+    let Some((sender, _, writer, _)) = both_ends(ends) else {
+        drop(desk);
+        return Err(Fail::from("other channels"));
+    };
     Ok(OfTwo {
         desk,
         first,
@@ -200,21 +196,30 @@ fn heeds<R: Wait + Abort>(rt: &R, open: &mut OfTwo, heed: u64, next: u64) {
     assert_eq!(rt; (stored, second.stamp()), (Ok(WReply::Stored), next));
 }
 
-/// The run of a desk of two actors.
-fn run_of_two(alloc: Global, open: OfTwo) -> Result<Run<u64>, Fail> {
-    run_of(alloc, open.desk, both(alloc, open.first, open.second)?)
+/// The stamps and channels of the run of a desk of two actors, of whom the second heeds a stamp.
+fn order_heeding<R: Wait + Abort>(
+    rt: &R,
+    alloc: Global,
+    heed: u64,
+) -> Result<Vec<(u64, u32)>, Fail> {
+    let mut open = open_of_two(alloc)?;
+    heeds(rt, &mut open, heed, heed + 1);
+    let run = run_of_two(alloc, open.desk, open.first, open.second)?;
+    Ok(order(alloc, run)?)
 }
 
 #[test]
 fn heeded_stamps(rt: HostRuntime) -> Result<(), Fail> {
-    let alloc = rt.alloc();
-    let heeded = [(1, 0), (2, 0), (3, 0), (4, 1)];
-    let unheeded = [(1, 0), (1, 1), (2, 0), (3, 0)];
-    for (heed, wanted) in [(3, heeded), (0, unheeded)] {
-        let mut open = open_of_two(alloc)?;
-        heeds(&rt, &mut open, heed, heed + 1);
-        is_in_order(&rt, alloc, &run_of_two(alloc, open)?, &wanted)?;
-    }
+    let heeded = order_heeding(&rt, rt.alloc(), 3)?;
+    assert_eq!(rt;
+        heeded.as_slice(),
+        [(1, 0), (2, 0), (3, 0), (4, 1)].as_slice()
+    );
+    let unheeded = order_heeding(&rt, rt.alloc(), 0)?;
+    assert_eq!(rt;
+        unheeded.as_slice(),
+        [(1, 0), (1, 1), (2, 0), (3, 0)].as_slice()
+    );
     Ok(())
 }
 
@@ -249,7 +254,7 @@ fn wait_for_a_value_of_a_closed_watch(rt: HostRuntime) -> Result<(), Fail> {
         mut pass,
         writer,
         reader,
-    } = open_watch(alloc, &[Spec::Watch(1u64)])?;
+    } = open_watch(alloc, &[Spec::Watch(1)])?;
     drops_a_writer(&rt, &desk, &mut pass, writer);
     is_closed(&rt, &desk, &mut pass, &reader);
     let wanted = [
@@ -258,12 +263,12 @@ fn wait_for_a_value_of_a_closed_watch(rt: HostRuntime) -> Result<(), Fail> {
         (WCall::Changed(1), WReply::Closed),
     ];
     are_receipts(&rt, receipts(&pass), wanted);
-    let _run = run_of_one(alloc, desk, pass)?;
+    drop(run_of_one(alloc, desk, pass)?);
     Ok(())
 }
 
 /// Sends a value more than the greatest ring holds, and then receives the oldest that are left.
-fn overfills<R: Wait + Abort>(rt: &R, open: &mut OfBroadcast<u64>) {
+fn overfills<R: Wait + Abort>(rt: &R, open: &mut OfBroadcast) {
     let (desk, pass, receiver) = (&open.desk, &mut open.pass, &open.receiver);
     for value in 0..=65_536 {
         let sent = b_send(desk, rt, pass, &open.sender, value);
@@ -288,15 +293,14 @@ fn overfills<R: Wait + Abort>(rt: &R, open: &mut OfBroadcast<u64>) {
 
 #[test]
 fn ring_of_the_greatest_capacity(rt: HostRuntime) -> Result<(), Fail> {
-    overfills(
-        &rt,
-        &mut open_broadcast(rt.alloc(), &[Spec::Broadcast(65_536)])?,
-    );
+    let mut open = open_broadcast(rt.alloc(), &[Spec::Broadcast(65_536)])?;
+    overfills(&rt, &mut open);
+    drop(open);
     Ok(())
 }
 
 /// Each call is refused for want of a stamp, but one that strays.
-fn has_no_stamp<R: Wait + Abort>(rt: &R, open: &mut OfBoth<u64>) {
+fn has_no_stamp<R: Wait + Abort>(rt: &R, open: &mut OfBoth) {
     let (desk, pass) = (&open.desk, &mut open.pass);
     let full = DeskFault::JournalFull;
     let answers = [
@@ -321,33 +325,38 @@ fn has_no_stamp<R: Wait + Abort>(rt: &R, open: &mut OfBoth<u64>) {
 }
 
 /// A writer comes back where its drop is refused for want of a stamp, and nothing was recorded.
-fn keeps_its_writer<R: Wait + Abort>(
+fn comes_back<R: Wait + Abort>(
     rt: &R,
     desk: &Desk<u64>,
     pass: &mut Pass<u64>,
     writer: WTx,
     heeded: u64,
-) -> Result<(), Fail> {
-    let Err((fault, writer)) = w_drop_sender(desk, rt, pass, writer) else {
-        return Err(Fail::from("dropped"));
+) {
+    let back = match w_drop_sender(desk, rt, pass, writer) {
+        Ok(_) => None,
+        Err((fault, writer)) => Some((fault, writer.number())),
     };
     assert_eq!(rt;
-        (fault, writer.number(), pass.stamp(), receipts(pass).len()),
-        (DeskFault::JournalFull, 0, heeded, 0)
+        (back, pass.stamp(), receipts(pass).len()),
+        (Some((DeskFault::JournalFull, 0)), heeded, 0)
     );
+}
+
+/// No call is recorded by an actor that has heeded a stamp after which there is none.
+fn records_nothing<R: Wait + Abort>(rt: &R, alloc: Global, heeded: u64) -> Result<(), Fail> {
+    let mut open = open_both(alloc, &[Spec::Broadcast(2), Spec::Watch(1)])?;
+    open.pass.heed(heeded);
+    has_no_stamp(rt, &mut open);
+    comes_back(rt, &open.desk, &mut open.pass, open.writer, heeded);
+    let run = run_of_one(alloc, open.desk, open.pass)?;
+    assert_eq!(rt; length_of(run), 0);
     Ok(())
 }
 
 #[test]
 fn no_stamp_is_left_at_a_desk(rt: HostRuntime) -> Result<(), Fail> {
-    let alloc = rt.alloc();
     for heeded in [1 << 62, u64::MAX] {
-        let mut open = open_both(alloc, &[Spec::Broadcast(2), Spec::Watch(1u64)])?;
-        open.pass.heed(heeded);
-        has_no_stamp(&rt, &mut open);
-        keeps_its_writer(&rt, &open.desk, &mut open.pass, open.writer, heeded)?;
-        let run = run_of_one(alloc, open.desk, open.pass)?;
-        assert_eq!(rt; run.len(), 0);
+        records_nothing(&rt, rt.alloc(), heeded)?;
     }
     Ok(())
 }

@@ -51,6 +51,8 @@ fn a_pass_keeps_what_it_recorded(rt: HostRuntime) -> Result<(), Fail> {
     let mut pass = Pass::<u64>::new(rt.alloc(), 5);
     records(&rt, &mut book, &mut pass);
     keeps(&rt, book.entries(), pass.kept());
+    drop(book);
+    drop(pass);
     Ok(())
 }
 
@@ -88,6 +90,8 @@ fn the_clock_ends_at_two_to_the_62(rt: HostRuntime) -> Result<(), Fail> {
     let mut book = broadcast_book(rt.alloc())?;
     let mut pass = Pass::<u64>::new(rt.alloc(), 0);
     ends_its_clock(&rt, &mut book, &mut pass);
+    drop(book);
+    drop(pass);
     Ok(())
 }
 
@@ -99,6 +103,9 @@ fn a_refused_call_is_recorded(rt: HostRuntime) -> Result<(), Fail> {
     let closed = ChanReply::W(WReply::Unknown);
     let call = ChanCall::W(WCall::Borrow(9));
     let answer = pass.record(&mut book, 0, call);
-    assert_eq!(rt; (answer, pass.stamp()), (Ok(closed), 1));
+    let stamp = pass.stamp();
+    drop(book);
+    drop(pass);
+    assert_eq!(rt; (answer, stamp), (Ok(closed), 1));
     Ok(())
 }

@@ -1,40 +1,39 @@
-//! Calls of desks without their contracts, over any type of values: a test that meets them here takes seconds to prove.
+//! Calls of desks without their contracts: each instance of a generic call is put together here once, and not in every test.
 
 use rw_broadcast::BReply;
 use rw_desk::{
     BRx, BTx, CloseFault, Desk, DeskFault, DeskOpenFault, Ends, Kept, Made, Pass, WRx, WTx, compare,
 };
 use rw_journal::Run;
-use rw_law::Payload;
 use rw_watch::WReply;
 use rw_world::{ChanCall, ChanReply, Spec};
-use std::alloc::Global;
+use std::alloc::{AllocError, Global};
 use std::sync::Wait;
 use std::test::Fail;
 
 /// A desk of one actor with a broadcast channel.
 #[derive(Drop)]
-pub struct OfBroadcast<V: Payload> {
-    pub desk: Desk<V>,
-    pub pass: Pass<V>,
+pub struct OfBroadcast {
+    pub desk: Desk<u64>,
+    pub pass: Pass<u64>,
     pub sender: BTx,
     pub receiver: BRx,
 }
 
 /// A desk of one actor with a watch channel.
 #[derive(Drop)]
-pub struct OfWatch<V: Payload> {
-    pub desk: Desk<V>,
-    pub pass: Pass<V>,
+pub struct OfWatch {
+    pub desk: Desk<u64>,
+    pub pass: Pass<u64>,
     pub writer: WTx,
     pub reader: WRx,
 }
 
 /// A desk of one actor with a broadcast channel, and then a watch channel.
 #[derive(Drop)]
-pub struct OfBoth<V: Payload> {
-    pub desk: Desk<V>,
-    pub pass: Pass<V>,
+pub struct OfBoth {
+    pub desk: Desk<u64>,
+    pub pass: Pass<u64>,
     pub sender: BTx,
     pub receiver: BRx,
     pub writer: WTx,
@@ -42,59 +41,72 @@ pub struct OfBoth<V: Payload> {
 }
 
 /// A desk with its passes and ends.
-pub fn open<V: Payload>(
+pub fn open(
     alloc: Global,
-    specs: &[Spec<V>],
+    specs: &[Spec<u64>],
     actors: u32,
-) -> Result<(Desk<V>, Vec<Pass<V>>, Vec<Ends>), DeskOpenFault> {
+) -> Result<(Desk<u64>, Vec<Pass<u64>>, Vec<Ends>), DeskOpenFault> {
     Desk::open(alloc, specs, actors)
 }
 
 /// Closes a desk.
-pub fn close<V: Payload>(
-    desk: Desk<V>,
+pub fn close(
+    desk: Desk<u64>,
     alloc: Global,
-    passes: Vec<Pass<V>>,
-) -> Result<Run<V>, (CloseFault, Desk<V>, Vec<Pass<V>>)> {
+    passes: Vec<Pass<u64>>,
+) -> Result<Run<u64>, (CloseFault, Desk<u64>, Vec<Pass<u64>>)> {
     desk.close(alloc, passes)
 }
 
-/// Takes the ends of the last channel, a broadcast.
-pub fn broadcast_ends(ends: &mut Vec<Ends>) -> Result<(BTx, BRx), Fail> {
+/// The ends of the last channel, where it is a broadcast.
+pub fn broadcast_ends(ends: &mut Vec<Ends>) -> Option<(BTx, BRx)> {
     match ends.pop() {
-        Some(Ends::Broadcast(sender, receiver)) => Ok((sender, receiver)),
-        _ => Err(Fail::from("no broadcast")),
+        Some(Ends::Broadcast(sender, receiver)) => Some((sender, receiver)),
+        _ => None,
     }
 }
 
-/// Takes the ends of the last channel, a watch.
-fn watch_ends(ends: &mut Vec<Ends>) -> Result<(WTx, WRx), Fail> {
+/// The ends of the last channel, where it is a watch.
+fn watch_ends(ends: &mut Vec<Ends>) -> Option<(WTx, WRx)> {
     match ends.pop() {
-        Some(Ends::Watch(writer, reader)) => Ok((writer, reader)),
-        _ => Err(Fail::from("no watch")),
+        Some(Ends::Watch(writer, reader)) => Some((writer, reader)),
+        _ => None,
     }
 }
 
-/// Takes the ends of a broadcast and then a watch.
-pub fn both_ends(mut ends: Vec<Ends>) -> Result<(BTx, BRx, WTx, WRx), Fail> {
+/// The ends of a broadcast and then a watch.
+pub fn both_ends(mut ends: Vec<Ends>) -> Option<(BTx, BRx, WTx, WRx)> {
     let (writer, reader) = watch_ends(&mut ends)?;
     let (sender, receiver) = broadcast_ends(&mut ends)?;
-    Ok((sender, receiver, writer, reader))
+    Some((sender, receiver, writer, reader))
 }
 
-/// The last of the passes.
-pub fn last_pass<V: Payload>(mut passes: Vec<Pass<V>>) -> Result<Pass<V>, Fail> {
-    Ok(passes.pop().ok_or("no pass")?)
+/// A desk of one actor, its pass, and the ends of its channels.
+pub fn open_one(
+    alloc: Global,
+    specs: &[Spec<u64>],
+) -> Result<(Desk<u64>, Pass<u64>, Vec<Ends>), Fail> {
+    let (desk, mut passes, ends) = open(alloc, specs, 1)?;
+    let pass = passes.pop();
+    drop(passes);
+    let Some(pass) = pass else {
+        drop(desk);
+        drop(ends);
+        return Err(Fail::from("no pass"));
+    };
+    Ok((desk, pass, ends))
 }
 
 /// A desk of one actor with the broadcast of these specs.
-pub fn open_broadcast<V: Payload>(
-    alloc: Global,
-    specs: &[Spec<V>],
-) -> Result<OfBroadcast<V>, Fail> {
-    let (desk, passes, mut ends) = open(alloc, specs, 1)?;
-    let pass = last_pass(passes)?;
-    let (sender, receiver) = broadcast_ends(&mut ends)?;
+pub fn open_broadcast(alloc: Global, specs: &[Spec<u64>]) -> Result<OfBroadcast, Fail> {
+    let (desk, pass, mut ends) = open_one(alloc, specs)?;
+    let last = broadcast_ends(&mut ends);
+    drop(ends);
+    let Some((sender, receiver)) = last else {
+        drop(desk);
+        drop(pass);
+        return Err(Fail::from("no broadcast"));
+    };
     Ok(OfBroadcast {
         desk,
         pass,
@@ -104,10 +116,15 @@ pub fn open_broadcast<V: Payload>(
 }
 
 /// A desk of one actor with the watch of these specs.
-pub fn open_watch<V: Payload>(alloc: Global, specs: &[Spec<V>]) -> Result<OfWatch<V>, Fail> {
-    let (desk, passes, mut ends) = open(alloc, specs, 1)?;
-    let pass = last_pass(passes)?;
-    let (writer, reader) = watch_ends(&mut ends)?;
+pub fn open_watch(alloc: Global, specs: &[Spec<u64>]) -> Result<OfWatch, Fail> {
+    let (desk, pass, mut ends) = open_one(alloc, specs)?;
+    let last = watch_ends(&mut ends);
+    drop(ends);
+    let Some((writer, reader)) = last else {
+        drop(desk);
+        drop(pass);
+        return Err(Fail::from("no watch"));
+    };
     Ok(OfWatch {
         desk,
         pass,
@@ -117,10 +134,13 @@ pub fn open_watch<V: Payload>(alloc: Global, specs: &[Spec<V>]) -> Result<OfWatc
 }
 
 /// A desk of one actor with the broadcast and the watch of these specs.
-pub fn open_both<V: Payload>(alloc: Global, specs: &[Spec<V>]) -> Result<OfBoth<V>, Fail> {
-    let (desk, passes, ends) = open(alloc, specs, 1)?;
-    let pass = last_pass(passes)?;
-    let (sender, receiver, writer, reader) = both_ends(ends)?;
+pub fn open_both(alloc: Global, specs: &[Spec<u64>]) -> Result<OfBoth, Fail> {
+    let (desk, pass, ends) = open_one(alloc, specs)?;
+    let Some((sender, receiver, writer, reader)) = both_ends(ends) else {
+        drop(desk);
+        drop(pass);
+        return Err(Fail::from("no broadcast and watch"));
+    };
     Ok(OfBoth {
         desk,
         pass,
@@ -132,70 +152,75 @@ pub fn open_both<V: Payload>(alloc: Global, specs: &[Spec<V>]) -> Result<OfBoth<
 }
 
 /// The run of a desk that closes with these passes.
-pub fn run_of<V: Payload>(
+pub fn run_of(
     alloc: Global,
-    desk: Desk<V>,
-    passes: Vec<Pass<V>>,
-) -> Result<Run<V>, Fail> {
+    desk: Desk<u64>,
+    passes: Vec<Pass<u64>>,
+) -> Result<Run<u64>, CloseFault> {
     match close(desk, alloc, passes) {
         Ok(run) => Ok(run),
-        Err(_) => Err(Fail::from("not closed")),
+        Err((fault, desk, passes)) => {
+            drop(desk);
+            drop(passes);
+            Err(fault)
+        }
     }
 }
 
 /// The run of a desk that closes with these passes and one more.
-pub fn run_with<V: Payload>(
+pub fn run_with(
     alloc: Global,
-    desk: Desk<V>,
-    mut passes: Vec<Pass<V>>,
-    pass: Pass<V>,
-) -> Result<Run<V>, Fail> {
-    passes.push(pass)?;
+    desk: Desk<u64>,
+    mut passes: Vec<Pass<u64>>,
+    pass: Pass<u64>,
+) -> Result<Run<u64>, CloseFault> {
+    if passes.push(pass).is_err() {
+        drop(desk);
+        drop(passes);
+        return Err(CloseFault::NoMemory);
+    }
     run_of(alloc, desk, passes)
 }
 
 /// The run of a desk that closes with this one pass.
-pub fn run_of_one<V: Payload>(alloc: Global, desk: Desk<V>, pass: Pass<V>) -> Result<Run<V>, Fail> {
+pub fn run_of_one(alloc: Global, desk: Desk<u64>, pass: Pass<u64>) -> Result<Run<u64>, CloseFault> {
     run_with(alloc, desk, Vec::new(alloc), pass)
 }
 
 /// One call.
-pub fn call<V: Payload, R: Wait>(
-    desk: &Desk<V>,
+pub fn call<R: Wait>(
+    desk: &Desk<u64>,
     rt: &R,
-    pass: &mut Pass<V>,
+    pass: &mut Pass<u64>,
     channel: u32,
-    call: ChanCall<V>,
-) -> Result<ChanReply<V>, DeskFault> {
+    call: ChanCall<u64>,
+) -> Result<ChanReply<u64>, DeskFault> {
     desk.call(rt, pass, channel, call)
 }
 
 /// One call, which waits.
-pub fn wait_call<V: Payload, R: Wait>(
-    desk: &Desk<V>,
+pub fn wait_call<R: Wait>(
+    desk: &Desk<u64>,
     rt: &R,
-    pass: &mut Pass<V>,
+    pass: &mut Pass<u64>,
     channel: u32,
-    call: ChanCall<V>,
-) -> Result<ChanReply<V>, DeskFault> {
+    call: ChanCall<u64>,
+) -> Result<ChanReply<u64>, DeskFault> {
     desk.wait_call(rt, pass, channel, call)
 }
 
 /// The receipts of a pass.
-pub fn receipts<V: Payload>(pass: &Pass<V>) -> &[Kept<V>] {
+pub fn receipts(pass: &Pass<u64>) -> &[Kept<u64>] {
     pass.kept()
 }
 
 /// The least place at which receipts and entries differ.
-pub fn differs<V: Payload>(run: &Run<V>, actor: u32, kept: &[Kept<V>]) -> Option<u64> {
+pub fn differs(run: &Run<u64>, actor: u32, kept: &[Kept<u64>]) -> Option<u64> {
     compare(run, actor, kept)
 }
 
 /// Each entry's stamp and channel.
-pub fn order<V: Payload>(
-    alloc: Global,
-    run: &Run<V>,
-) -> Result<Vec<(u64, u32)>, std::alloc::AllocError> {
+fn order_in(alloc: Global, run: &Run<u64>) -> Result<Vec<(u64, u32)>, AllocError> {
     let mut order = Vec::new(alloc);
     for entry in run.entries() {
         order.push((entry.stamp, entry.call.channel))?;
@@ -203,182 +228,189 @@ pub fn order<V: Payload>(
     Ok(order)
 }
 
+/// The same of a run that is dropped.
+pub fn order(alloc: Global, run: Run<u64>) -> Result<Vec<(u64, u32)>, AllocError> {
+    let order = order_in(alloc, &run);
+    drop(run);
+    order
+}
+
 /// Sends a value on a broadcast channel.
-pub fn b_send<V: Payload, R: Wait>(
-    desk: &Desk<V>,
+pub fn b_send<R: Wait>(
+    desk: &Desk<u64>,
     rt: &R,
-    pass: &mut Pass<V>,
+    pass: &mut Pass<u64>,
     sender: &BTx,
-    value: V,
-) -> Result<BReply<V>, DeskFault> {
+    value: u64,
+) -> Result<BReply<u64>, DeskFault> {
     desk.b_send(rt, pass, sender, value)
 }
 
 /// Receives a value of a broadcast channel, if there is one.
-pub fn b_try_recv<V: Payload, R: Wait>(
-    desk: &Desk<V>,
+pub fn b_try_recv<R: Wait>(
+    desk: &Desk<u64>,
     rt: &R,
-    pass: &mut Pass<V>,
+    pass: &mut Pass<u64>,
     receiver: &BRx,
-) -> Result<BReply<V>, DeskFault> {
+) -> Result<BReply<u64>, DeskFault> {
     desk.b_try_recv(rt, pass, receiver)
 }
 
 /// Receives a value of a broadcast channel, and waits for it.
-pub fn b_recv<V: Payload, R: Wait>(
-    desk: &Desk<V>,
+pub fn b_recv<R: Wait>(
+    desk: &Desk<u64>,
     rt: &R,
-    pass: &mut Pass<V>,
+    pass: &mut Pass<u64>,
     receiver: &BRx,
-) -> Result<BReply<V>, DeskFault> {
+) -> Result<BReply<u64>, DeskFault> {
     desk.b_recv(rt, pass, receiver)
 }
 
 /// Counts the values that a receiver has not received.
-pub fn b_receiver_len<V: Payload, R: Wait>(
-    desk: &Desk<V>,
+pub fn b_receiver_len<R: Wait>(
+    desk: &Desk<u64>,
     rt: &R,
-    pass: &mut Pass<V>,
+    pass: &mut Pass<u64>,
     receiver: &BRx,
-) -> Result<BReply<V>, DeskFault> {
+) -> Result<BReply<u64>, DeskFault> {
     desk.b_receiver_len(rt, pass, receiver)
 }
 
 /// Drops a sender of a broadcast channel.
-pub fn b_drop_sender<V: Payload, R: Wait>(
-    desk: &Desk<V>,
+pub fn b_drop_sender<R: Wait>(
+    desk: &Desk<u64>,
     rt: &R,
-    pass: &mut Pass<V>,
+    pass: &mut Pass<u64>,
     sender: BTx,
-) -> Result<BReply<V>, (DeskFault, BTx)> {
+) -> Result<BReply<u64>, (DeskFault, BTx)> {
     desk.b_drop_sender(rt, pass, sender)
 }
 
 /// Makes another sender of a broadcast channel.
-pub fn b_clone_sender<V: Payload, R: Wait>(
-    desk: &Desk<V>,
+pub fn b_clone_sender<R: Wait>(
+    desk: &Desk<u64>,
     rt: &R,
-    pass: &mut Pass<V>,
+    pass: &mut Pass<u64>,
     sender: &BTx,
-) -> Result<Made<BTx, BReply<V>>, DeskFault> {
+) -> Result<Made<BTx, BReply<u64>>, DeskFault> {
     desk.b_clone_sender(rt, pass, sender)
 }
 
 /// Counts the receivers of a broadcast channel.
-pub fn b_receiver_count<V: Payload, R: Wait>(
-    desk: &Desk<V>,
+pub fn b_receiver_count<R: Wait>(
+    desk: &Desk<u64>,
     rt: &R,
-    pass: &mut Pass<V>,
+    pass: &mut Pass<u64>,
     sender: &BTx,
-) -> Result<BReply<V>, DeskFault> {
+) -> Result<BReply<u64>, DeskFault> {
     desk.b_receiver_count(rt, pass, sender)
 }
 
 /// Writes the value of a watch channel.
-pub fn w_send<V: Payload, R: Wait>(
-    desk: &Desk<V>,
+pub fn w_send<R: Wait>(
+    desk: &Desk<u64>,
     rt: &R,
-    pass: &mut Pass<V>,
+    pass: &mut Pass<u64>,
     sender: &WTx,
-    value: V,
-) -> Result<WReply<V>, DeskFault> {
+    value: u64,
+) -> Result<WReply<u64>, DeskFault> {
     desk.w_send(rt, pass, sender, value)
 }
 
 /// Makes another sender of a watch channel.
-pub fn w_clone_sender<V: Payload, R: Wait>(
-    desk: &Desk<V>,
+pub fn w_clone_sender<R: Wait>(
+    desk: &Desk<u64>,
     rt: &R,
-    pass: &mut Pass<V>,
+    pass: &mut Pass<u64>,
     sender: &WTx,
-) -> Result<Made<WTx, WReply<V>>, DeskFault> {
+) -> Result<Made<WTx, WReply<u64>>, DeskFault> {
     desk.w_clone_sender(rt, pass, sender)
 }
 
 /// Reads the value of a watch channel as a sender.
-pub fn w_peek<V: Payload, R: Wait>(
-    desk: &Desk<V>,
+pub fn w_peek<R: Wait>(
+    desk: &Desk<u64>,
     rt: &R,
-    pass: &mut Pass<V>,
+    pass: &mut Pass<u64>,
     sender: &WTx,
-) -> Result<WReply<V>, DeskFault> {
+) -> Result<WReply<u64>, DeskFault> {
     desk.w_peek(rt, pass, sender)
 }
 
 /// Reads the value of a watch channel, which is then seen.
-pub fn w_update<V: Payload, R: Wait>(
-    desk: &Desk<V>,
+pub fn w_update<R: Wait>(
+    desk: &Desk<u64>,
     rt: &R,
-    pass: &mut Pass<V>,
+    pass: &mut Pass<u64>,
     receiver: &WRx,
-) -> Result<WReply<V>, DeskFault> {
+) -> Result<WReply<u64>, DeskFault> {
     desk.w_update(rt, pass, receiver)
 }
 
 /// Drops a sender of a watch channel.
-pub fn w_drop_sender<V: Payload, R: Wait>(
-    desk: &Desk<V>,
+pub fn w_drop_sender<R: Wait>(
+    desk: &Desk<u64>,
     rt: &R,
-    pass: &mut Pass<V>,
+    pass: &mut Pass<u64>,
     sender: WTx,
-) -> Result<WReply<V>, (DeskFault, WTx)> {
+) -> Result<WReply<u64>, (DeskFault, WTx)> {
     desk.w_drop_sender(rt, pass, sender)
 }
 
 /// Drops a receiver of a watch channel.
-pub fn w_drop_receiver<V: Payload, R: Wait>(
-    desk: &Desk<V>,
+pub fn w_drop_receiver<R: Wait>(
+    desk: &Desk<u64>,
     rt: &R,
-    pass: &mut Pass<V>,
+    pass: &mut Pass<u64>,
     receiver: WRx,
-) -> Result<WReply<V>, (DeskFault, WRx)> {
+) -> Result<WReply<u64>, (DeskFault, WRx)> {
     desk.w_drop_receiver(rt, pass, receiver)
 }
 
 /// Waits until no receiver of a watch channel is alive.
-pub fn w_closed<V: Payload, R: Wait>(
-    desk: &Desk<V>,
+pub fn w_closed<R: Wait>(
+    desk: &Desk<u64>,
     rt: &R,
-    pass: &mut Pass<V>,
+    pass: &mut Pass<u64>,
     sender: &WTx,
-) -> Result<WReply<V>, DeskFault> {
+) -> Result<WReply<u64>, DeskFault> {
     desk.w_closed(rt, pass, sender)
 }
 
 /// Stores what f makes of the value of a watch channel.
-pub fn w_send_modify<V: Payload, R: Wait, F: FnOnce(&mut V)>(
-    desk: &Desk<V>,
+pub fn w_send_modify<R: Wait, F: FnOnce(&mut u64)>(
+    desk: &Desk<u64>,
     rt: &R,
-    pass: &mut Pass<V>,
+    pass: &mut Pass<u64>,
     sender: &WTx,
     f: F,
-) -> Result<WReply<V>, DeskFault>
+) -> Result<WReply<u64>, DeskFault>
     requires { F.IsAlwaysCallable f }
 {
     desk.w_send_modify(rt, pass, sender, f)
 }
 
 /// Stores what f makes of the value of a watch channel, told or not.
-pub fn w_send_if_modified<V: Payload, R: Wait, F: FnOnce(&mut V) -> bool>(
-    desk: &Desk<V>,
+pub fn w_send_if_modified<R: Wait, F: FnOnce(&mut u64) -> bool>(
+    desk: &Desk<u64>,
     rt: &R,
-    pass: &mut Pass<V>,
+    pass: &mut Pass<u64>,
     sender: &WTx,
     f: F,
-) -> Result<WReply<V>, DeskFault>
+) -> Result<WReply<u64>, DeskFault>
     requires { F.IsAlwaysCallable f }
 {
     desk.w_send_if_modified(rt, pass, sender, f)
 }
 
 /// Waits for a value of which f is true.
-pub fn w_wait_for<V: Payload, R: Wait, F: Fn(&V) -> bool>(
-    desk: &Desk<V>,
+pub fn w_wait_for<R: Wait, F: Fn(&u64) -> bool>(
+    desk: &Desk<u64>,
     rt: &R,
-    pass: &mut Pass<V>,
+    pass: &mut Pass<u64>,
     receiver: &WRx,
     f: F,
-) -> Result<WReply<V>, DeskFault>
+) -> Result<WReply<u64>, DeskFault>
     requires { F.IsAlwaysCallable f }
 {
     desk.w_wait_for(rt, pass, receiver, f)

@@ -1,20 +1,20 @@
 //! Worked rows of both channels, made by handles at a desk of one actor. In a row `/` stands for a line's end.
 
-use super::by_handles::{Hand, hands_of, make};
-use super::plain::{call, open};
-use super::shared::closed;
-use rw_desk::{Desk, Ends, Pass};
-use rw_law::Payload;
+use super::plain::{call, open_one, run_of_one};
+use super::shared::length_of;
+use rw_broadcast::BCall;
+use rw_desk::{CloseFault, Desk, Ends, Pass};
+use rw_watch::WCall;
 use rw_words::{WordFault, read_call, read_reply};
 use rw_world::{ChanCall, ChanReply, Spec};
-use std::alloc::Global;
-use std::fmt::Debug;
+use std::alloc::{AllocError, Global};
 use std::process::Abort;
 use std::sync::Wait;
 use std::test::Fail;
+use support_desks::{Hand, call_by, drop_hand, hands_of};
 
 /// Rows of broadcasts: the capacity, and what is called and answered.
-const BROADCASTS: [(u32, &str); 10] = [
+static BROADCASTS: [(u32, &str); 10] = [
     // A receiver is overrun.
     (
         2,
@@ -62,7 +62,7 @@ const BROADCASTS: [(u32, &str); 10] = [
 ];
 
 /// Rows of watches: the first value, and what is called and answered.
-const WATCHES: [(u64, &str); 6] = [
+static WATCHES: [(u64, &str); 6] = [
     // The same value is a change.
     (
         7,
@@ -99,94 +99,163 @@ const WATCHES: [(u64, &str); 6] = [
 const WEAK_SENDERS: &str =
     "downgrade 0=new 2/upgrade 2=new 3/drop 0=dropped/try-recv 1=empty/drop 3=dropped/upgrade 2=no-sender/try-recv 1=closed/clone-weak 2=new 4";
 
-/// The number of the handle in the words of a call.
-fn handle_in(words: &str) -> Result<usize, Fail> {
-    let number = words.split(' ').nth(1).ok_or("no handle")?;
-    number.parse().map_err(|_| Fail::from("no number"))
-}
-
 /// The call and the reply of a line.
-fn line_of<V: Payload>(
+fn line_of(
     broadcast: bool,
     words: &str,
     reply: &str,
-) -> Result<(ChanCall<V>, ChanReply<V>), WordFault> {
+) -> Result<(ChanCall<u64>, ChanReply<u64>), WordFault> {
     Ok((
         read_call(broadcast, words.as_bytes())?,
         read_reply(broadcast, reply.as_bytes())?,
     ))
 }
 
+/// The handles that make the calls of a row, under their numbers.
+#[derive(Drop)]
+struct Hands {
+    by_number: Vec<Option<Hand>>,
+}
+
+impl Hands {
+    /// With the handles that a channel has from the beginning.
+    fn with(alloc: Global, ends: Ends) -> Result<Hands, AllocError> {
+        let (sender, receiver) = hands_of(ends);
+        let mut by_number = Vec::new(alloc);
+        by_number.push(Some(sender))?;
+        by_number.push(Some(receiver))?;
+        Ok(Hands { by_number })
+    }
+
+    /// Takes the handle that is named in the words of a call.
+    fn take(&mut self, words: &str) -> Result<(usize, Hand), Fail> {
+        let number = words.split(' ').nth(1).ok_or("no handle")?;
+        let Ok(number) = number.parse() else {
+            return Err(Fail::from("no number"));
+        };
+        let slot = self.by_number.get_mut(number).ok_or("no such handle")?;
+        let hand = slot.take().ok_or("a handle that was dropped")?;
+        Ok((number, hand))
+    }
+
+    /// Puts a handle back, and one that was made behind the others.
+    fn put(&mut self, number: usize, hand: Hand, made: Option<Hand>) -> Result<(), AllocError> {
+        if let Some(slot) = self.by_number.get_mut(number) {
+            *slot = Some(hand);
+        }
+        if let Some(made) = made {
+            self.by_number.push(Some(made))?;
+        }
+        Ok(())
+    }
+
+    /// Makes a call by the handle that its words name.
+    fn make<R: Wait>(
+        &mut self,
+        rt: &R,
+        desk: &Desk<u64>,
+        pass: &mut Pass<u64>,
+        words: &str,
+        call: ChanCall<u64>,
+    ) -> Result<ChanReply<u64>, Fail> {
+        let (number, hand) = self.take(words)?;
+        if let ChanCall::B(BCall::DropHandle(_)) | ChanCall::W(WCall::DropHandle(_)) = call {
+            return match drop_hand(rt, desk, pass, hand) {
+                Ok(reply) => Ok(reply),
+                Err((fault, _)) => Err(Fail::from(fault)),
+            };
+        }
+        let called = call_by(rt, desk, pass, &hand, call);
+        self.put(number, hand, called.made)?;
+        Ok(called.reply?)
+    }
+}
+
 /// Makes the calls of a row, and compares the replies.
-fn make_all<V: Payload + PartialEq + Debug, R: Wait + Abort>(
+fn make_all<R: Wait + Abort>(
     rt: &R,
-    desk: &Desk<V>,
-    pass: &mut Pass<V>,
-    hands: &mut Vec<Option<Hand>>,
+    desk: &Desk<u64>,
+    pass: &mut Pass<u64>,
+    hands: &mut Hands,
     broadcast: bool,
     row: &str,
 ) -> Result<(), Fail> {
     for line in row.split('/') {
         let (words, reply) = line.split_once('=').ok_or("no reply")?;
         let (call, reply) = line_of(broadcast, words, reply)?;
-        let made = make(desk, rt, pass, hands, handle_in(words)?, call)?;
+        let made = hands.make(rt, desk, pass, words, call)?;
         assert_eq!(rt; made, reply, "{line}");
     }
     Ok(())
 }
 
-/// Makes the calls of a row by the first pass, with the ends of the last channel.
-fn make_first<V: Payload + PartialEq + Debug, R: Wait + Abort>(
+/// Makes the calls of a row with the ends of the last channel.
+fn make_with<R: Wait + Abort>(
     rt: &R,
     alloc: Global,
-    desk: &Desk<V>,
-    passes: &mut Vec<Pass<V>>,
-    mut ends: Vec<Ends>,
+    desk: &Desk<u64>,
+    pass: &mut Pass<u64>,
+    ends: Option<Ends>,
     broadcast: bool,
     row: &str,
 ) -> Result<(), Fail> {
-    let pass = passes.get_mut(0).ok_or("no pass")?;
-    let mut hands = hands_of(alloc, ends.pop().ok_or("no ends")?)?;
-    make_all(rt, desk, pass, &mut hands, broadcast, row)
+    let mut hands = Hands::with(alloc, ends.ok_or("no ends")?)?;
+    let made = make_all(rt, desk, pass, &mut hands, broadcast, row);
+    drop(hands);
+    made
+}
+
+/// How long the run is of a desk that closes with this one pass.
+fn length_at_close(alloc: Global, desk: Desk<u64>, pass: Pass<u64>) -> Result<u64, CloseFault> {
+    Ok(length_of(run_of_one(alloc, desk, pass)?))
+}
+
+/// A run has as many entries as its row has lines.
+fn is_long_as(rt: &impl Abort, length: u64, row: &str) {
+    assert_eq!(rt; length, row.split('/').count() as u64);
 }
 
 /// Plays a row on a desk of one channel, a broadcast or not, which then closes.
-fn play<V: Payload + PartialEq + Debug, R: Wait + Abort>(
+fn play<R: Wait + Abort>(
     rt: &R,
     alloc: Global,
-    specs: &[Spec<V>],
+    specs: &[Spec<u64>],
     broadcast: bool,
     row: &str,
 ) -> Result<(), Fail> {
-    let (desk, mut passes, ends) = open(alloc, specs, 1)?;
-    make_first(rt, alloc, &desk, &mut passes, ends, broadcast, row)?;
-    closed(rt, alloc, desk, passes, row.split('/').count() as u64)
+    let (desk, mut pass, mut ends) = open_one(alloc, specs)?;
+    let last = ends.pop();
+    drop(ends);
+    let made = make_with(rt, alloc, &desk, &mut pass, last, broadcast, row);
+    let length = length_at_close(alloc, desk, pass);
+    made?;
+    is_long_as(rt, length?, row);
+    Ok(())
 }
 
 #[test]
 fn rows_of_broadcasts(rt: HostRuntime) -> Result<(), Fail> {
-    for (capacity, row) in BROADCASTS {
-        play::<u64, _>(&rt, rt.alloc(), &[Spec::Broadcast(capacity)], true, row)?;
+    for (capacity, row) in &BROADCASTS {
+        play(&rt, rt.alloc(), &[Spec::Broadcast(*capacity)], true, row)?;
     }
     Ok(())
 }
 
 #[test]
 fn rows_of_watches(rt: HostRuntime) -> Result<(), Fail> {
-    for (value, row) in WATCHES {
-        play(&rt, rt.alloc(), &[Spec::Watch(value)], false, row)?;
+    for (value, row) in &WATCHES {
+        play(&rt, rt.alloc(), &[Spec::Watch(*value)], false, row)?;
     }
     Ok(())
 }
 
-/// Makes the calls of a row of a broadcast by the first pass and the channel's number, and compares the replies.
-fn call_all<V: Payload + PartialEq + Debug, R: Wait + Abort>(
+/// Makes the calls of a row of a broadcast by the channel's number, and compares the replies.
+fn call_all<R: Wait + Abort>(
     rt: &R,
-    desk: &Desk<V>,
-    passes: &mut Vec<Pass<V>>,
+    desk: &Desk<u64>,
+    pass: &mut Pass<u64>,
     row: &str,
 ) -> Result<(), Fail> {
-    let pass = passes.get_mut(0).ok_or("no pass")?;
     for line in row.split('/') {
         let (words, reply) = line.split_once('=').ok_or("no reply")?;
         let (asked, reply) = line_of(true, words, reply)?;
@@ -198,7 +267,11 @@ fn call_all<V: Payload + PartialEq + Debug, R: Wait + Abort>(
 #[test]
 fn weak_senders(rt: HostRuntime) -> Result<(), Fail> {
     let alloc = rt.alloc();
-    let (desk, mut passes, _ends) = open::<u64>(alloc, &[Spec::Broadcast(2)], 1)?;
-    call_all(&rt, &desk, &mut passes, WEAK_SENDERS)?;
-    closed(&rt, alloc, desk, passes, 8)
+    let (desk, mut pass, ends) = open_one(alloc, &[Spec::Broadcast(2)])?;
+    drop(ends);
+    let called = call_all(&rt, &desk, &mut pass, WEAK_SENDERS);
+    let length = length_at_close(alloc, desk, pass);
+    called?;
+    is_long_as(&rt, length?, WEAK_SENDERS);
+    Ok(())
 }

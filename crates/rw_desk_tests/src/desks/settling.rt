@@ -2,16 +2,16 @@
 
 ghost use Rattle.std.specs.Prelude.{◌≡◌, ◌≤◌, length};
 
-use super::plain::{differs, receipts};
-use crate::journals::by_channel::{StampedCall, settled};
+use crate::journals::by_channel::settled;
 use rw_broadcast::BCall;
-use rw_desk::{CloseFault, Pass};
+use rw_desk::{CloseFault, DeskFault, Pass, compare};
 use rw_journal::Book;
 use rw_law::Payload;
-use rw_world::{ChanCall, Spec, open_channel};
+use rw_world::{Chan, ChanCall, Spec, open_channel};
 use std::alloc::Global;
 use std::process::Abort;
 use std::test::Fail;
+use support_desks::StampedCall;
 
 /// What is called, by actor 0.
 const CALLS: [StampedCall<u64>; 3] = [
@@ -26,14 +26,28 @@ const TWICE: [StampedCall<u64>; 2] = [
     (5, 2, ChanCall::B(BCall::TryRecv(1))),
 ];
 
+/// Records calls by a pass.
+fn record_all<V: Payload>(
+    book: &mut Book<Chan<V>>,
+    pass: &mut Pass<V>,
+    steps: &[StampedCall<V>],
+) -> Result<(), DeskFault> {
+    for (_, _, call) in steps {
+        pass.record(book, 0, *call)?;
+    }
+    Ok(())
+}
+
 /// The pass of actor 0 that made the calls.
 fn pass_of<V: Payload>(alloc: Global, steps: &[StampedCall<V>]) -> Result<Pass<V>, Fail> {
     let mut book = Book::open(alloc, open_channel(alloc, &Spec::Broadcast(2))?)?;
     let mut pass = Pass::new(alloc, 0);
-    for (_, _, call) in steps {
-        pass.record(&mut book, 0, *call)?;
+    let recorded = record_all(&mut book, &mut pass, steps);
+    drop(book);
+    match recorded {
+        Ok(()) => Ok(pass),
+        Err(fault) => Err(Fail::from(fault)),
     }
-    Ok(pass)
 }
 
 /// How long the run is to which the journal of a channel and the pass of actor 0 settle, and where its receipts differ.
@@ -50,8 +64,12 @@ fn settle_row<V: Payload>(
         Ok(run) => run,
         Err(fault) => return Ok(Err(fault)),
     };
-    let pass = passes.first().ok_or("no pass")?;
-    Ok(Ok((run.len(), differs(&run, 0, receipts(pass)))))
+    let found = match passes.first() {
+        Some(pass) => (run.len(), compare(&run, 0, pass.kept())),
+        None => (run.len(), Some(0)),
+    };
+    drop(run);
+    Ok(Ok(found))
 }
 
 /// The calls settle with the pass that made them, and fewer and other ones don't.
@@ -71,5 +89,8 @@ fn settles_with(rt: &impl Abort, alloc: Global, passes: &[Pass<u64>; 1]) -> Resu
 #[test]
 fn settles(rt: HostRuntime) -> Result<(), Fail> {
     let alloc = rt.alloc();
-    settles_with(&rt, alloc, &[pass_of(alloc, &CALLS)?])
+    let passes = [pass_of(alloc, &CALLS)?];
+    let settles = settles_with(&rt, alloc, &passes);
+    drop(passes);
+    settles
 }

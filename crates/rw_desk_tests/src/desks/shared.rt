@@ -5,12 +5,11 @@ use super::plain::{
     w_send_if_modified, w_wait_for,
 };
 use rw_broadcast::BReply;
-use rw_desk::{BRx, BTx, Desk, DeskFault, Ends, Pass, WRx, WTx};
-use rw_law::Payload;
+use rw_desk::{BRx, BTx, CloseFault, Desk, DeskFault, Ends, Pass, WRx, WTx};
+use rw_journal::Run;
 use rw_watch::WReply;
 use rw_world::Spec;
 use std::alloc::{AllocError, Global};
-use std::process::Abort;
 use std::sync::Wait;
 use std::test::Fail;
 
@@ -20,8 +19,13 @@ pub type Opened = (Desk<u64>, Vec<Ends>, Pass<u64>, Pass<u64>);
 /// Opens a desk of two actors. A test that gets all at once has few early exits that drop them.
 pub fn desk_of_two(alloc: Global, specs: &[Spec<u64>]) -> Result<Opened, Fail> {
     let (desk, mut passes, ends) = open(alloc, specs, 2)?;
-    let second = passes.pop().ok_or("no second pass")?;
-    let first = passes.pop().ok_or("no first pass")?;
+    let (second, first) = (passes.pop(), passes.pop());
+    drop(passes);
+    let (Some(first), Some(second)) = (first, second) else {
+        drop(desk);
+        drop(ends);
+        return Err(Fail::from("no two passes"));
+    };
     Ok((desk, ends, first, second))
 }
 
@@ -31,23 +35,31 @@ pub fn both(
     former: Pass<u64>,
     latter: Pass<u64>,
 ) -> Result<Vec<Pass<u64>>, AllocError> {
-    let mut passes = Vec::new(alloc);
+    let mut passes = Vec::with_capacity(alloc, 2)?;
     passes.push(former)?;
     passes.push(latter)?;
     Ok(passes)
 }
 
-/// The desk closes, with a run of so many entries.
-pub fn closed<V: Payload>(
-    rt: &impl Abort,
+/// The run of a desk of two actors, which closes with their passes in this order.
+pub fn run_of_two(
     alloc: Global,
-    desk: Desk<V>,
-    passes: Vec<Pass<V>>,
-    entries: u64,
-) -> Result<(), Fail> {
-    let run = run_of(alloc, desk, passes)?;
-    assert_eq!(rt; run.len(), entries);
-    Ok(())
+    desk: Desk<u64>,
+    former: Pass<u64>,
+    latter: Pass<u64>,
+) -> Result<Run<u64>, CloseFault> {
+    let Ok(passes) = both(alloc, former, latter) else {
+        drop(desk);
+        return Err(CloseFault::NoMemory);
+    };
+    run_of(alloc, desk, passes)
+}
+
+/// How many entries a run has, which is dropped.
+pub fn length_of(run: Run<u64>) -> u64 {
+    let length = run.len();
+    drop(run);
+    length
 }
 
 /// What threads make their calls on. They share it as a parameter, so that their proof needn't look into a desk.

@@ -1,12 +1,14 @@
 //! Desks that aren't closed, since receipts and entries don't belong together.
+//!
+//! Each desk of a test has two broadcast channels and two actors. Tables say what is called, and with whose passes each desk closes.
 
 use super::plain::{call, close, open};
-use super::shared::closed;
+use super::shared::length_of;
 use rw_broadcast::BCall;
 use rw_desk::{CloseFault, Desk, Pass};
 use rw_world::{ChanCall, Spec};
 use std::alloc::Global;
-use std::process::Abort;
+use std::mem;
 use std::sync::Wait;
 use std::test::Fail;
 
@@ -14,95 +16,234 @@ const SEND: ChanCall<u64> = ChanCall::B(BCall::Send(0, 4));
 
 const TRY_RECV: ChanCall<u64> = ChanCall::B(BCall::TryRecv(1));
 
-/// A desk with two broadcast channels and the passes of its two actors.
-fn pair(alloc: Global) -> Result<(Desk<u64>, Vec<Pass<u64>>), Fail> {
-    let (desk, passes, _ends) = open::<u64>(alloc, &[Spec::Broadcast(2); 2], 2)?;
-    Ok((desk, passes))
+/// Desks, and the passes that were opened with each: under the same numbers.
+#[derive(Drop)]
+struct Desks {
+    open: Vec<Option<Desk<u64>>>,
+    passes: Vec<Vec<Pass<u64>>>,
 }
 
-/// Makes these calls in order, each by the pass at its place in the list and on its channel.
-fn call_in_order(
-    rt: &impl Wait,
-    desk: &Desk<u64>,
-    passes: &mut Vec<Pass<u64>>,
-    calls: &[(usize, u32, ChanCall<u64>)],
-) -> Result<(), Fail> {
-    for (at, channel, asked) in calls {
-        let pass = passes.get_mut(*at).ok_or("no such pass")?;
-        call(desk, rt, pass, *channel, *asked)?;
+/// A call at a desk, on this channel of it, by this actor's pass of a desk.
+#[derive(Drop)]
+struct Made {
+    at: usize,
+    channel: u32,
+    of: usize,
+    actor: usize,
+    call: ChanCall<u64>,
+}
+
+/// What a table gets wrong.
+type Fault = &'static str;
+
+/// What was shown: the clock of the pass after each call, and of each close how long the run is.
+#[derive(Drop)]
+struct Shown {
+    clocks: Vec<u64>,
+    closes: Vec<Result<u64, CloseFault>>,
+}
+
+impl Desks {
+    /// No desk.
+    fn none(alloc: Global) -> Desks {
+        Desks {
+            open: Vec::new(alloc),
+            passes: Vec::new(alloc),
+        }
     }
-    Ok(())
+
+    /// Opens one more desk.
+    fn open_one(&mut self, alloc: Global) -> Result<(), Fault> {
+        let Ok((desk, passes, ends)) = open(alloc, &[Spec::Broadcast(2); 2], 2) else {
+            return Err("not opened");
+        };
+        drop(ends);
+        if self.open.push(Some(desk)).is_err() || self.passes.push(passes).is_err() {
+            return Err("no room for a desk");
+        }
+        Ok(())
+    }
+
+    /// Makes a call. The clock of the pass after it.
+    fn call<R: Wait>(&mut self, rt: &R, made: &Made) -> Result<u64, Fault> {
+        let desk = self.open.get(made.at).ok_or("no such desk")?;
+        let desk = desk.as_ref().ok_or("a desk that is closed")?;
+        let passes = self.passes.get_mut(made.of).ok_or("no such passes")?;
+        let pass = passes.get_mut(made.actor).ok_or("no such pass")?;
+        match call(desk, rt, pass, made.channel, made.call) {
+            Ok(_) => Ok(pass.stamp()),
+            Err(_) => Err("a call that is refused"),
+        }
+    }
+
+    /// Closes a desk with the passes of the same desk or of another. Where it isn't closed, both come back.
+    fn close(
+        &mut self,
+        alloc: Global,
+        at: usize,
+        of: usize,
+    ) -> Result<Result<u64, CloseFault>, Fault> {
+        let slot = self.open.get_mut(at).ok_or("no such desk")?;
+        let passes = self.passes.get_mut(of).ok_or("no such passes")?;
+        let desk = slot.take().ok_or("a desk that is closed")?;
+        match close(desk, alloc, mem::replace(passes, Vec::new(alloc))) {
+            Ok(run) => Ok(Ok(length_of(run))),
+            Err((fault, desk, back)) => {
+                *slot = Some(desk);
+                *passes = back;
+                Ok(Err(fault))
+            }
+        }
+    }
+
+    /// Makes calls.
+    fn call_all<R: Wait>(
+        &mut self,
+        rt: &R,
+        alloc: Global,
+        calls: &[Made],
+    ) -> Result<Vec<u64>, Fault> {
+        let mut clocks = Vec::new(alloc);
+        for made in calls {
+            clocks.push(self.call(rt, made)?).map_err(|_| "no memory")?;
+        }
+        Ok(clocks)
+    }
+
+    /// Closes desks, each with the passes of a desk.
+    fn close_all(
+        &mut self,
+        alloc: Global,
+        closes: &[(usize, usize)],
+    ) -> Result<Vec<Result<u64, CloseFault>>, Fault> {
+        let mut closed = Vec::new(alloc);
+        for (at, of) in closes {
+            closed
+                .push(self.close(alloc, *at, *of)?)
+                .map_err(|_| "no memory")?;
+        }
+        Ok(closed)
+    }
+
+    /// Opens three desks.
+    fn open_all(&mut self, alloc: Global) -> Result<(), Fault> {
+        for _ in 0..3 {
+            self.open_one(alloc)?;
+        }
+        Ok(())
+    }
 }
 
-/// The desk and the passes, which come back where this actor strays at this place.
-fn strayed(
-    rt: &impl Abort,
+/// Opens three desks, makes calls, and then closes desks.
+fn played<R: Wait>(
+    rt: &R,
     alloc: Global,
-    desk: Desk<u64>,
-    passes: Vec<Pass<u64>>,
-    actor: u32,
-    place: u64,
-) -> Result<(Desk<u64>, Vec<Pass<u64>>), Fail> {
-    let Err((fault, desk, passes)) = close(desk, alloc, passes) else {
-        return Err(Fail::from("closed"));
-    };
-    assert_eq!(rt; fault, CloseFault::Strayed(actor, place));
-    Ok((desk, passes))
+    calls: &[Made],
+    closes: &[(usize, usize)],
+) -> Result<Shown, Fail> {
+    let mut desks = Desks::none(alloc);
+    let opened = desks.open_all(alloc);
+    let clocks = desks.call_all(rt, alloc, calls);
+    let closes = desks.close_all(alloc, closes);
+    drop(desks);
+    opened?;
+    Ok(Shown {
+        clocks: clocks?,
+        closes: closes?,
+    })
+}
+
+/// The call of an actor of desk 0 by the pass of desk 0.
+fn own(channel: u32, actor: usize, call: ChanCall<u64>) -> Made {
+    Made {
+        at: 0,
+        channel,
+        of: 0,
+        actor,
+        call,
+    }
 }
 
 #[test]
 fn passes_of_another_desk(rt: HostRuntime) -> Result<(), Fail> {
-    let alloc = rt.alloc();
-    let (desk, mut own) = pair(alloc)?;
-    let (other, mut others) = pair(alloc)?;
-    // Both desks answer the same two calls alike, and then the other's second actor makes one more.
-    let calls = [(0, 0, SEND), (1, 0, TRY_RECV), (1, 0, TRY_RECV)];
-    call_in_order(&rt, &desk, &mut own, &calls[..2])?;
-    call_in_order(&rt, &other, &mut others, &calls)?;
-    let (desk, others) = strayed(&rt, alloc, desk, others, 1, 1)?;
-    let (other, own) = strayed(&rt, alloc, other, own, 1, 1)?;
-    // Without any receipt both actors stray, and the least of them is told.
-    let (_, fresh) = pair(alloc)?;
-    let (desk, _) = strayed(&rt, alloc, desk, fresh, 0, 0)?;
-    closed(&rt, alloc, desk, own, 2)?;
-    closed(&rt, alloc, other, others, 3)
+    // Both desks reply to the same two calls alike, and then the other's second actor makes one more.
+    let other = |actor, call| Made {
+        at: 1,
+        channel: 0,
+        of: 1,
+        actor,
+        call,
+    };
+    let calls = [
+        own(0, 0, SEND),
+        own(0, 1, TRY_RECV),
+        other(0, SEND),
+        other(1, TRY_RECV),
+        other(1, TRY_RECV),
+    ];
+    // With the third desk's passes, which have no receipt, both actors stray, and the least of them is reported.
+    let closes = [(0, 1), (1, 0), (0, 2), (0, 0), (1, 1)];
+    let shown = played(&rt, rt.alloc(), &calls, &closes)?;
+    let wanted = [
+        Err(CloseFault::Strayed(1, 1)),
+        Err(CloseFault::Strayed(1, 1)),
+        Err(CloseFault::Strayed(0, 0)),
+        Ok(2),
+        Ok(3),
+    ];
+    assert_eq!(rt; shown.closes.as_slice(), wanted.as_slice());
+    Ok(())
 }
 
 #[test]
 fn a_pass_at_two_desks(rt: HostRuntime) -> Result<(), Fail> {
-    let alloc = rt.alloc();
-    let (desk, mut own) = pair(alloc)?;
-    let (other, others) = pair(alloc)?;
-    call_in_order(&rt, &desk, &mut own, &[(1, 0, SEND), (1, 1, SEND)])?;
-    call_in_order(&rt, &other, &mut own, &[(1, 0, SEND)])?;
+    let elsewhere = Made {
+        at: 1,
+        channel: 0,
+        of: 0,
+        actor: 1,
+        call: SEND,
+    };
+    let calls = [own(0, 1, SEND), own(1, 1, SEND), elsewhere];
     // The one desk lacks an entry for a receipt, and the other one a receipt for its entry.
-    strayed(&rt, alloc, desk, own, 1, 2)?;
-    strayed(&rt, alloc, other, others, 1, 0)?;
-    Ok(())
-}
-
-/// The second passes of both lists have come to the stamp 2.
-fn two_at_one_stamp(rt: &impl Abort, own: &[Pass<u64>], guests: &[Pass<u64>]) -> Result<(), Fail> {
-    let second = own.get(1).ok_or("no second pass")?;
-    let guest = guests.get(1).ok_or("no guest")?;
-    assert_eq!(rt; (second.stamp(), guest.stamp()), (2, 2));
+    let shown = played(&rt, rt.alloc(), &calls, &[(0, 0), (1, 1)])?;
+    let wanted = [
+        Err(CloseFault::Strayed(1, 2)),
+        Err(CloseFault::Strayed(1, 0)),
+    ];
+    assert_eq!(rt; shown.closes.as_slice(), wanted.as_slice());
     Ok(())
 }
 
 #[test]
 fn entries_out_of_order(rt: HostRuntime) -> Result<(), Fail> {
-    let alloc = rt.alloc();
-    let (desk, mut own) = pair(alloc)?;
-    let (other, mut guests) = pair(alloc)?;
     // The guest's call has a stamp on one channel that its actor has on the other one already.
-    let calls = [(1, 0, SEND), (0, 1, SEND), (1, 0, SEND)];
-    call_in_order(&rt, &desk, &mut own, &calls)?;
-    call_in_order(&rt, &desk, &mut guests, &[(1, 1, SEND)])?;
-    two_at_one_stamp(&rt, &own, &guests)?;
+    let by_guest = Made {
+        at: 0,
+        channel: 1,
+        of: 1,
+        actor: 1,
+        call: SEND,
+    };
     // By the receipts alone the first actor strays, at its second one. The order of the entries is looked at before.
-    call_in_order(&rt, &other, &mut own, &[(0, 0, SEND)])?;
-    let (desk, passes) = strayed(&rt, alloc, desk, own, 1, 1)?;
+    let elsewhere = Made {
+        at: 1,
+        channel: 0,
+        of: 0,
+        actor: 0,
+        call: SEND,
+    };
+    let calls = [
+        own(0, 1, SEND),
+        own(1, 0, SEND),
+        own(0, 1, SEND),
+        by_guest,
+        elsewhere,
+    ];
     // It doesn't close with any passes.
-    strayed(&rt, alloc, desk, passes, 1, 1)?;
+    let shown = played(&rt, rt.alloc(), &calls, &[(0, 0), (0, 0)])?;
+    let strayed = Err(CloseFault::Strayed(1, 1));
+    assert_eq!(rt; shown.clocks.as_slice(), [1, 1, 2, 2, 2].as_slice());
+    assert_eq!(rt; shown.closes.as_slice(), [strayed, strayed].as_slice());
     Ok(())
 }

@@ -1,12 +1,11 @@
 //! Desks that threads share.
 
-use super::plain::{receipts, run_of, w_peek};
-use super::shared::{Calls, both, closed, desk_of_two};
+use super::plain::{receipts, w_peek};
+use super::shared::{Calls, desk_of_two, length_of, run_of_two};
 use crate::flags::is_set_in_time;
 use rw_broadcast::{BCall, BReply};
 use rw_desk::{BRx, BTx, Desk, Ends, Pass, WRx, WTx};
 use rw_journal::Run;
-use rw_law::Payload;
 use rw_watch::{WCall, WReply};
 use rw_world::{ChanCall, ChanReply, Spec};
 use std::alloc::{AllocError, Global};
@@ -30,21 +29,27 @@ fn peeks<R: Wait + Abort>(
 }
 
 /// An entry of a run: its stamp, its channel, its actor and its reply.
-type Told<V> = (u64, u32, u32, ChanReply<V>);
+type Shown = (u64, u32, u32, ChanReply<u64>);
 
 /// The entries of a run.
-fn told<V: Payload>(alloc: Global, run: &Run<V>) -> Result<Vec<Told<V>>, AllocError> {
-    let mut told = Vec::new(alloc);
+fn shown(alloc: Global, run: &Run<u64>) -> Result<Vec<Shown>, AllocError> {
+    let mut shown = Vec::new(alloc);
     for entry in run.entries() {
-        told.push((entry.stamp, entry.call.channel, entry.actor, entry.reply))?;
+        shown.push((entry.stamp, entry.call.channel, entry.actor, entry.reply))?;
     }
-    Ok(told)
+    Ok(shown)
 }
 
 /// A run has these entries.
-fn tells(rt: &impl Abort, alloc: Global, run: &Run<u64>, wanted: &[Told<u64>]) -> Result<(), Fail> {
-    let told = told(alloc, run)?;
-    assert_eq!(rt; told.as_slice(), wanted);
+fn has_entries(
+    rt: &impl Abort,
+    alloc: Global,
+    run: Run<u64>,
+    wanted: &[Shown],
+) -> Result<(), Fail> {
+    let shown = shown(alloc, &run);
+    drop(run);
+    assert_eq!(rt; shown?.as_slice(), wanted);
     Ok(())
 }
 
@@ -87,13 +92,17 @@ fn closures_of_two_threads(rt: HostRuntime) -> Result<(), Fail> {
     let alloc = rt.alloc();
     let (desk, ends, first, second) = desk_of_two(alloc, &[Spec::Watch(0)])?;
     let [Ends::Watch(sender, _)] = ends.as_slice() else {
+        drop(desk);
         return Err(Fail::from("no watch"));
     };
     let Some((mut first, second)) = add_twice(&rt, &desk, first, second, sender) else {
+        drop(desk);
         return Err(Fail::from("no thread"));
     };
     peeks(&rt, &desk, &mut first, sender, 2000);
-    closed(&rt, alloc, desk, both(alloc, second, first)?, 2001)
+    let run = run_of_two(alloc, desk, second, first)?;
+    assert_eq!(rt; length_of(run), 2001);
+    Ok(())
 }
 
 /// A receiver's wait, in another thread, and the value that it waits for, sent in this one.
@@ -124,17 +133,19 @@ fn a_value_for_a_thread_that_waits(rt: HostRuntime) -> Result<(), Fail> {
     let alloc = rt.alloc();
     let (desk, ends, first, mut second) = desk_of_two(alloc, &[Spec::Broadcast(2)])?;
     let [Ends::Broadcast(sender, receiver)] = ends.as_slice() else {
+        drop(desk);
         return Err(Fail::from("no broadcast"));
     };
     let Some(first) = receive_beside(&rt, &desk, first, &mut second, receiver, sender) else {
+        drop(desk);
         return Err(Fail::from("no thread"));
     };
-    let run = run_of(alloc, desk, both(alloc, second, first)?)?;
+    let run = run_of_two(alloc, desk, second, first)?;
     let wanted = [
         (1, 0, 1, ChanReply::B(BReply::Sent(1))),
         (2, 0, 0, ChanReply::B(BReply::Value(5))),
     ];
-    tells(&rt, alloc, &run, &wanted)
+    has_entries(&rt, alloc, run, &wanted)
 }
 
 /// A closure under the lock of one channel, in another thread, that waits for an answered call of another channel in this one.
@@ -175,13 +186,15 @@ fn a_call_beside_a_closure_of_another_channel(rt: HostRuntime) -> Result<(), Fai
     let alloc = rt.alloc();
     let (desk, ends, first, mut second) = desk_of_two(alloc, &[Spec::Watch(0); 2])?;
     let [Ends::Watch(here, _), Ends::Watch(there, _)] = ends.as_slice() else {
+        drop(desk);
         return Err(Fail::from("no two watches"));
     };
     let Some(first) = modify_beside(&rt, &desk, first, &mut second, here, there) else {
+        drop(desk);
         return Err(Fail::from("no thread"));
     };
     peeks(&rt, &desk, &mut second, here, 1);
-    run_of(alloc, desk, both(alloc, first, second)?)?;
+    drop(run_of_two(alloc, desk, first, second)?);
     Ok(())
 }
 
@@ -219,19 +232,21 @@ fn calls_of_two_threads_on_two_channels(rt: HostRuntime) -> Result<(), Fail> {
     let specs = [Spec::Broadcast(2), Spec::Watch(5)];
     let (desk, ends, first, mut second) = desk_of_two(alloc, &specs)?;
     let [Ends::Broadcast(sender, _), Ends::Watch(writer, _)] = ends.as_slice() else {
+        drop(desk);
         return Err(Fail::from("no broadcast and watch"));
     };
     let Some((first, in_time)) = send_held(&rt, &desk, first, &mut second, sender, writer) else {
+        drop(desk);
         return Err(Fail::from("no thread"));
     };
+    let run = run_of_two(alloc, desk, first, second)?;
     assert!(rt; in_time);
-    let run = run_of(alloc, desk, both(alloc, first, second)?)?;
     // The send came later, and stands first: by its stamp, and then by its channel.
     let wanted = [
         (1, 0, 0, ChanReply::B(BReply::Sent(1))),
         (1, 1, 1, ChanReply::W(WReply::Stored)),
     ];
-    tells(&rt, alloc, &run, &wanted)
+    has_entries(&rt, alloc, run, &wanted)
 }
 
 /// What a thread waits by: for the value 3 of a watch, for the end of a broadcast, and for that of another watch.
@@ -331,8 +346,12 @@ fn kept_last(rt: &impl Abort, pass: &Pass<u64>, last_first: &[(ChanCall<u64>, Ch
 fn waits_that_another_thread_ends(rt: HostRuntime) -> Result<(), Fail> {
     let specs = [Spec::Watch(0), Spec::Broadcast(2), Spec::Watch(0)];
     let (desk, ends, first, mut second) = desk_of_two(rt.alloc(), &specs)?;
-    let (waits, ending) = roles(ends).ok_or("other ends")?;
+    let Some((waits, ending)) = roles(ends) else {
+        drop(desk);
+        return Err(Fail::from("other ends"));
+    };
     let back = wait_beside(&rt, &desk, first, &mut second, &waits, ending);
+    drop(desk);
     let first = back.ok_or("no thread")?;
     let last_first = [
         (

@@ -1,72 +1,13 @@
-//! Journals of channels, out of calls with their actors and stamps, and the run that they are merged into.
+//! The run that the journals of channels are merged into.
 
-ghost use Rattle.std.specs.Prelude.{◌≡◌, ◌≤◌, false, None, All, IfOk, length};
-ghost use Rattle.rw_world.specs.Openings.{has_bad_capacity, refusal};
-ghost use Rattle.rw_journal.specs.Merge.{AreJournalsOf, lists};
-ghost use Rattle.rw_desk.specs.Closing.{AreJournalsFrom, IsJournalFrom};
+ghost use Rattle.std.specs.Prelude.{◌≡◌, ◌≤◌, length};
 
 use rw_desk::{CloseFault, Pass, settle};
-use rw_fixtures::record;
 use rw_journal::{MergeFault, Run, merge};
-use rw_law::{Entry, NoMemory, Payload};
-use rw_world::{Chan, ChanCall, OpenFault, Spec, open_channel, refusal_of};
+use rw_law::Payload;
+use rw_world::{OpenFault, Spec};
 use std::alloc::Global;
-
-/// A call, by its actor and at its stamp.
-pub type StampedCall<V> = (u32, u64, ChanCall<V>);
-
-/// The journal of a channel that is opened from this spec, of a hundred steps at most.
-fn journal_of<V: Copy>(
-    alloc: Global,
-    spec: &Spec<V>,
-    steps: &[StampedCall<V>],
-) -> Result<Vec<Entry<Chan<V>>>, NoMemory>
-    requires { has_bad_capacity spec.now ≡ false }
-    ensures { IfOk result (λ journal. IsJournalFrom spec.now journal.items) }
-{
-    let mut channel = open_channel(alloc, spec)?;
-    let few = steps.len().min(100);
-    let journal = record(alloc, &mut channel, &steps[..few])?;
-    Ok(journal)
-}
-
-/// The journals of channels that are opened from these specs.
-fn journals_of<V: Copy>(
-    alloc: Global,
-    specs: &[Spec<V>],
-    steps: &[&[StampedCall<V>]],
-) -> Result<Vec<Vec<Entry<Chan<V>>>>, NoMemory>
-    requires good { All (λ spec. has_bad_capacity spec ≡ false) specs.now }
-    requires same { length steps.now ≡ length specs.now }
-    ensures all { IfOk result (λ journals. length journals.items ≡ length specs.now) }
-    ensures journals { IfOk result (λ journals. AreJournalsFrom specs.now (lists journals.items)) }
-{
-    let mut journals = Vec::with_capacity(alloc, specs.len())?;
-    for at in 0..specs.len() {
-        journals.push_reserved(journal_of(alloc, &specs[at], steps[at])?);
-    }
-    Ok(journals)
-}
-
-/// The specs, which open, and the journals of their channels.
-fn parts_of<V: Copy>(
-    alloc: Global,
-    specs: &[Spec<V>],
-    steps: &[&[StampedCall<V>]],
-) -> Result<(Vec<Spec<V>>, Vec<Vec<Entry<Chan<V>>>>), OpenFault>
-    requires { length steps.now ≡ length specs.now }
-    ensures opens { IfOk result (λ parts. refusal parts.0.items ≡ None) }
-    ensures journals { IfOk result (λ parts. AreJournalsOf parts.0.items (lists parts.1.items)) }
-{
-    if let Some(fault) = refusal_of(specs) {
-        return Err(fault);
-    }
-    let journals = journals_of(alloc, specs, steps)?;
-    let Ok(specs) = Vec::from_slice(alloc, specs) else {
-        return Err(OpenFault::NoMemory);
-    };
-    Ok((specs, journals))
-}
+use support_desks::{StampedCall, parts_of};
 
 /// What the journals of these calls merge to.
 pub fn merged<V: Copy>(

@@ -1,6 +1,6 @@
 //! Journals of two channels, merged.
 
-use super::by_channel::{StampedCall, merged};
+use super::by_channel::merged;
 use crate::desks::plain::order;
 use rw_broadcast::BCall;
 use rw_journal::MergeFault;
@@ -8,6 +8,7 @@ use rw_world::{ChanCall, Spec};
 use std::alloc::{AllocError, Global};
 use std::process::Abort;
 use std::test::Fail;
+use support_desks::StampedCall;
 
 /// Calls that each state answers alike, by these actors and at these stamps.
 fn steps(alloc: Global, marks: &[(u32, u64)]) -> Result<Vec<StampedCall<u64>>, AllocError> {
@@ -33,7 +34,7 @@ fn order_of(
 ) -> Result<Result<Vec<(u64, u32)>, MergeFault>, Fail> {
     let specs = [Spec::Broadcast(2), Spec::Broadcast(2)];
     match merged(alloc, &specs, &[first, second])? {
-        Ok(run) => Ok(Ok(order(alloc, &run)?)),
+        Ok(run) => Ok(Ok(order(alloc, run)?)),
         Err(fault) => Ok(Err(fault)),
     }
 }

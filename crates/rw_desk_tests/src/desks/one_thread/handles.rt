@@ -2,11 +2,11 @@
 
 use crate::desks::plain::{
     OfBoth, OfBroadcast, OfWatch, b_clone_sender, b_drop_sender, b_receiver_count, b_recv, b_send,
-    broadcast_ends, call, last_pass, open, open_both, open_broadcast, open_watch, receipts,
+    broadcast_ends, call, open_both, open_broadcast, open_one, open_watch, receipts,
     w_clone_sender, w_send_if_modified, w_send_modify, w_update, w_wait_for,
 };
 use rw_broadcast::{BCall, BReply};
-use rw_desk::{BRx, BTx, Desk, DeskFault, Ends, Kept, Made, WTx};
+use rw_desk::{BRx, BTx, Desk, DeskFault, Ends, Kept, Made, Pass, WTx};
 use rw_watch::{WCall, WReply};
 use rw_world::{ChanCall, ChanReply, Spec};
 use std::alloc::Global;
@@ -15,7 +15,7 @@ use std::sync::Wait;
 use std::test::Fail;
 
 /// What a writer's clone stores is read and waited for.
-fn writes<R: Wait + Abort>(rt: &R, open: &mut OfBoth<u64>, second: &WTx) {
+fn writes<R: Wait + Abort>(rt: &R, open: &mut OfBoth, second: &WTx) {
     let (desk, pass, reader) = (&open.desk, &mut open.pass, &open.reader);
     assert_eq!(rt; (second.channel(), second.number()), (1, 2));
     let answers = [
@@ -34,27 +34,27 @@ fn writes<R: Wait + Abort>(rt: &R, open: &mut OfBoth<u64>, second: &WTx) {
 }
 
 /// Clones the writer, and writes by the clone.
-fn clones_a_writer<R: Wait + Abort>(rt: &R, open: &mut OfBoth<u64>) -> Result<(), Fail> {
+fn clones_a_writer<R: Wait + Abort>(rt: &R, open: &mut OfBoth) -> Result<(), &'static str> {
     let made = w_clone_sender(&open.desk, rt, &mut open.pass, &open.writer);
     let Ok(Made::New(second)) = made else {
-        return Err(Fail::from("no second writer"));
+        return Err("no second writer");
     };
     writes(rt, open, &second);
     Ok(())
 }
 
 /// A sender's clone counts the receivers.
-fn counts<R: Wait + Abort>(rt: &R, open: &mut OfBoth<u64>, other: &BTx) {
+fn counts<R: Wait + Abort>(rt: &R, open: &mut OfBoth, other: &BTx) {
     assert_eq!(rt; (other.channel(), other.number()), (0, 2));
     let count = b_receiver_count(&open.desk, rt, &mut open.pass, other);
     assert_eq!(rt; count, Ok(BReply::Count(1)));
 }
 
 /// Clones the sender, and counts the receivers by the clone.
-fn clones_a_sender<R: Wait + Abort>(rt: &R, open: &mut OfBoth<u64>) -> Result<(), Fail> {
+fn clones_a_sender<R: Wait + Abort>(rt: &R, open: &mut OfBoth) -> Result<(), &'static str> {
     let made = b_clone_sender(&open.desk, rt, &mut open.pass, &open.sender);
     let Ok(Made::New(other)) = made else {
-        return Err(Fail::from("no second sender"));
+        return Err("no second sender");
     };
     counts(rt, open, &other);
     Ok(())
@@ -62,13 +62,16 @@ fn clones_a_sender<R: Wait + Abort>(rt: &R, open: &mut OfBoth<u64>) -> Result<()
 
 #[test]
 fn senders_that_are_cloned(rt: HostRuntime) -> Result<(), Fail> {
-    let mut open = open_both(rt.alloc(), &[Spec::Broadcast(2), Spec::Watch(1u64)])?;
-    clones_a_writer(&rt, &mut open)?;
-    clones_a_sender(&rt, &mut open)
+    let mut open = open_both(rt.alloc(), &[Spec::Broadcast(2), Spec::Watch(1)])?;
+    let written = clones_a_writer(&rt, &mut open);
+    let counted = clones_a_sender(&rt, &mut open);
+    drop(open);
+    written?;
+    Ok(counted?)
 }
 
 /// The closures of a writer that is dropped by the channel's number aren't called.
-fn closures_are_left<R: Wait + Abort>(rt: &R, open: &mut OfWatch<u64>) {
+fn closures_are_left<R: Wait + Abort>(rt: &R, open: &mut OfWatch) {
     let (desk, pass, writer) = (&open.desk, &mut open.pass, &open.writer);
     let dropped = call(desk, rt, pass, 0, ChanCall::W(WCall::DropHandle(0)));
     assert_eq!(rt; dropped, Ok(ChanReply::W(WReply::Dropped)));
@@ -103,13 +106,15 @@ fn last_two_are_unchanged(rt: &impl Abort, kept: &[Kept<u64>]) -> Result<(), Fai
 /// Where the handle is refused, the closure isn't called, and the receipt holds the value as it is.
 #[test]
 fn closures_of_a_sender_that_is_gone(rt: HostRuntime) -> Result<(), Fail> {
-    let mut open = open_watch(rt.alloc(), &[Spec::Watch(4u64)])?;
+    let mut open = open_watch(rt.alloc(), &[Spec::Watch(4)])?;
     closures_are_left(&rt, &mut open);
-    last_two_are_unchanged(&rt, receipts(&open.pass))
+    let unchanged = last_two_are_unchanged(&rt, receipts(&open.pass));
+    drop(open);
+    unchanged
 }
 
 /// Clones the sender until there are as many handles as there may be. The last clone.
-fn last_clone<R: Wait + Abort>(rt: &R, open: &mut OfBroadcast<u64>) -> Result<BTx, Fail> {
+fn last_clone<R: Wait + Abort>(rt: &R, open: &mut OfBroadcast) -> Result<BTx, Fail> {
     let mut last = None;
     for number in 2..65_536 {
         let made = b_clone_sender(&open.desk, rt, &mut open.pass, &open.sender);
@@ -123,27 +128,34 @@ fn last_clone<R: Wait + Abort>(rt: &R, open: &mut OfBroadcast<u64>) -> Result<BT
 }
 
 /// There is no further clone.
-fn has_no_clone<R: Wait + Abort>(rt: &R, open: &mut OfBroadcast<u64>) {
+fn has_no_clone<R: Wait + Abort>(rt: &R, open: &mut OfBroadcast) {
     let refused = b_clone_sender(&open.desk, rt, &mut open.pass, &open.sender);
     assert_eq!(rt; refused, Ok(Made::Refused(BReply::TooManyHandles)));
+}
+
+/// There is no clone beyond the limit, even after one was dropped.
+fn clones_to_the_limit<R: Wait + Abort>(rt: &R, open: &mut OfBroadcast) -> Result<(), Fail> {
+    let last = last_clone(rt, open)?;
+    has_no_clone(rt, open);
+    let dropped = b_drop_sender(&open.desk, rt, &mut open.pass, last);
+    assert_eq!(rt; dropped, Ok(BReply::Dropped));
+    has_no_clone(rt, open);
+    Ok(())
 }
 
 #[test]
 fn handle_limit_at_a_desk(rt: HostRuntime) -> Result<(), Fail> {
     let mut open = open_broadcast(rt.alloc(), &[Spec::Broadcast(1)])?;
-    let last = last_clone(&rt, &mut open)?;
-    has_no_clone(&rt, &mut open);
-    let dropped = b_drop_sender(&open.desk, &rt, &mut open.pass, last);
-    assert_eq!(rt; dropped, Ok(BReply::Dropped));
-    has_no_clone(&rt, &mut open);
-    Ok(())
+    let cloned = clones_to_the_limit(&rt, &mut open);
+    drop(open);
+    cloned
 }
 
 /// What was made on the other desk is no handle here, until this desk makes one of its number: it may be of another kind, and
 /// may be dropped.
 fn are_handles_by_number<R: Wait + Abort>(
     rt: &R,
-    open: &mut OfBroadcast<u64>,
+    open: &mut OfBroadcast,
     second: &BTx,
     receiver: &BRx,
 ) {
@@ -162,17 +174,13 @@ fn are_handles_by_number<R: Wait + Abort>(
 }
 
 /// A sender of a channel that this desk doesn't have sends nothing.
-fn sends_nothing<R: Wait + Abort>(rt: &R, open: &mut OfBroadcast<u64>, beyond: &BTx) {
+fn sends_nothing<R: Wait + Abort>(rt: &R, open: &mut OfBroadcast, beyond: &BTx) {
     let sent = b_send(&open.desk, rt, &mut open.pass, beyond, 1);
     assert_eq!(rt; sent, Err(DeskFault::NoChannel));
 }
 
 /// It isn't dropped either, and comes back.
-fn comes_back<R: Wait + Abort>(
-    rt: &R,
-    open: &mut OfBroadcast<u64>,
-    beyond: BTx,
-) -> Result<(), Fail> {
+fn comes_back<R: Wait + Abort>(rt: &R, open: &mut OfBroadcast, beyond: BTx) -> Result<(), Fail> {
     let dropped = b_drop_sender(&open.desk, rt, &mut open.pass, beyond);
     let Err((fault, back)) = dropped else {
         return Err(Fail::from("dropped"));
@@ -183,29 +191,42 @@ fn comes_back<R: Wait + Abort>(
 
 /// The sender and the receiver of a broadcast, and the sender of the next one.
 fn two_broadcasts(mut ends: Vec<Ends>) -> Result<(BTx, BRx, BTx), Fail> {
-    let (beyond, _) = broadcast_ends(&mut ends)?;
-    let (sender, receiver) = broadcast_ends(&mut ends)?;
+    let (beyond, _) = broadcast_ends(&mut ends).ok_or("no second broadcast")?;
+    let (sender, receiver) = broadcast_ends(&mut ends).ok_or("no broadcast")?;
     Ok((sender, receiver, beyond))
 }
 
-/// A desk of two broadcasts, a clone of the first one's sender, and the first one's receiver and the second one's sender.
-fn elsewhere<R: Wait>(rt: &R, alloc: Global) -> Result<(Desk<u64>, BTx, BRx, BTx), Fail> {
-    let specs = [Spec::Broadcast(2), Spec::Broadcast(2)];
-    let (desk, passes, ends) = open::<u64>(alloc, &specs, 1)?;
-    let mut pass = last_pass(passes)?;
+/// Clones the first channel's sender. The clone, and the first channel's receiver and the second one's sender.
+fn clone_first<R: Wait>(
+    rt: &R,
+    desk: &Desk<u64>,
+    pass: &mut Pass<u64>,
+    ends: Vec<Ends>,
+) -> Result<(BTx, BRx, BTx), Fail> {
     let (sender, receiver, beyond) = two_broadcasts(ends)?;
-    match b_clone_sender(&desk, rt, &mut pass, &sender) {
-        Ok(Made::New(second)) => Ok((desk, second, receiver, beyond)),
+    match b_clone_sender(desk, rt, pass, &sender) {
+        Ok(Made::New(second)) => Ok((second, receiver, beyond)),
         _ => Err(Fail::from("no clone")),
     }
+}
+
+/// The same of a desk of two broadcasts, which is dropped then.
+fn elsewhere<R: Wait>(rt: &R, alloc: Global) -> Result<(BTx, BRx, BTx), Fail> {
+    let (desk, mut pass, ends) = open_one(alloc, &[Spec::Broadcast(2), Spec::Broadcast(2)])?;
+    let handles = clone_first(rt, &desk, &mut pass, ends);
+    drop(desk);
+    drop(pass);
+    handles
 }
 
 #[test]
 fn handles_of_another_desk(rt: HostRuntime) -> Result<(), Fail> {
     let alloc = rt.alloc();
-    let (_other, second, receiver, beyond) = elsewhere(&rt, alloc)?;
+    let (second, receiver, beyond) = elsewhere(&rt, alloc)?;
     let mut open = open_broadcast(alloc, &[Spec::Broadcast(2)])?;
     are_handles_by_number(&rt, &mut open, &second, &receiver);
     sends_nothing(&rt, &mut open, &beyond);
-    comes_back(&rt, &mut open, beyond)
+    let back = comes_back(&rt, &mut open, beyond);
+    drop(open);
+    back
 }

@@ -1,7 +1,7 @@
 use Rattle.std.proofs.Common.{◌≡◌, ◌∙◌, sym, subst}
 use Rattle.rw_journal.specs.Merge.{AreJournalsOf, lists}
 use Rattle.rw_desk.proofs.Copies.{all_copied, length_lists}
-use Rattle.rw_desk_tests.proofs.journals.by_channel.parts_of.Goals as goal
+use Rattle.support_desks.proofs.journals.parts_of.Goals as goal
 
 pub returns-clause-journals : goal.returns-clause-journals
 returns-clause-journals g c =
