@@ -1,6 +1,6 @@
 /* tokio's broadcast and watch channels for C: each channel is held by one pointer, with the journal of its calls, and the journals of
-   several channels give the text of one run, which `ttd debug` walks. docs/FOREIGN.md says what each function promises and what its caller
-   has to uphold, docs/CALLS.md what each call does and returns.
+   several channels give the text of one run, which `ttd debug` walks. docs/use/FOREIGN.md says what each function promises and what its caller
+   has to uphold, docs/use/CALLS.md what each call does and returns.
 
    The archives are rust/built/x86_64-linux/libyovanelum_core.a and rust/built/aarch64-linux/libyovanelum_core.a. A program that links one
    of them defines the three functions of the heap, at the end of this file. */
@@ -21,7 +21,7 @@ struct Held { void *channel; };
 /* What channels have recorded up to one stamp, or null. It stays on its thread. */
 struct HeldCut { void *cut; };
 
-/* What a call returns: a kind of reply, and the number that the reply carries. docs/CALLS.md has the kinds, 0 to 22. */
+/* What a call returns: a kind of reply, and the number that the reply carries. docs/use/CALLS.md has the kinds, 0 to 22. */
 struct Answer { uint32_t kind; uint64_t number; };
 
 /* An optional number: 1 and the number, or 0 and 0. */

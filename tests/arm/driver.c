@@ -9,7 +9,7 @@
      script over, BLOCKS blocks left
 
    A call is printed with channel, handle and value. The output depends on the seeds alone: no expression draws twice, since C doesn't
-   order its parts. The driver upholds what docs/FOREIGN.md requires of callers, and judges no answer. */
+   order its parts. The driver upholds what docs/use/FOREIGN.md requires of callers, and judges no answer. */
 #include "yovanelum.h"
 #include <inttypes.h>
 #include <malloc.h>
