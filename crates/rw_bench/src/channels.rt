@@ -71,7 +71,7 @@ pub fn on_world(
     measure(clock, alloc, played, recorded, walked, calls)
 }
 
-/// A world of one channel.
+/// Opens a world of one channel.
 fn world_of(alloc: Global, spec: Spec<u64>) -> Result<World<u64>>
     ensures shows { IfOk result (λ world. ⟦<World<u64> as Reversible>⟧.shown world ≡ opening_row (spec ∷ [])) }
     ensures light { IfOk result (λ world. ⟦<World<u64> as Reversible>⟧.weigh (⟦<World<u64> as Reversible>⟧.shown world) ≤ 2) }

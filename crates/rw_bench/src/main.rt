@@ -2,10 +2,10 @@
 //! and undoes them.
 //!
 //! `rw_bench COUNT` makes COUNT steps of each workload, or 1,000. The times go to standard error, with the bytes of an entry and
-//! those that handles, retained values and channels take. Standard output has what each workload came to, which is the same
-//! each time.
-//! Start reading at `workloads.rt`, which says what is done, and go on with `measure.rt`, which says what is timed, and
-//! `memory.rt`, which says what memory is counted.
+//! those that handles, retained values and channels take. Standard output has the result of each workload, which is the same each
+//! time.
+//! Start reading at `workloads.rt`, which says what is done. Then read `measure.rt`, which says what is timed, and `memory.rt`,
+//! which says what memory is counted.
 #![tactic(auto)]
 
 ghost use Rattle.std.specs.Prelude.{◌≡◌};
@@ -30,10 +30,10 @@ use std::num::nearest_u64_to_f64;
 use std::time::{Clock, Duration};
 use workloads::{BroadcastWork, MOST_STEPS, WatchWork, to_broadcast, to_watch};
 
-/// How many steps are made where no number is given.
+/// How many steps are made if no number is given.
 const DEFAULT_STEPS: u64 = 1_000;
 
-/// How many steps the command line asks for.
+/// Returns how many steps the command line asks for.
 fn asked_steps(rt: &(impl Env + Alloc)) -> Result<u64> {
     match env::args(rt)?.nth(1) {
         Some(count) => count.parse::<u64>().context("COUNT must be a number"),
@@ -41,19 +41,19 @@ fn asked_steps(rt: &(impl Env + Alloc)) -> Result<u64> {
     }
 }
 
-/// How many bytes an entry of a world's journal takes. A journal has up to a million of them.
+/// Returns how many bytes an entry of a world's journal takes. A journal has up to a million of them.
 fn entry_bytes() -> usize
     ensures { result ≡ 96 }
 {
     size_of::<Entry<World<u64>>>()
 }
 
-/// Nanoseconds of each step, where so many took this long.
+/// Returns the nanoseconds of each step, if this many took this long.
 fn per_step(all: Duration, steps: u64) -> f64 {
     all.as_secs_f64() * 1e9 / nearest_u64_to_f64(steps)
 }
 
-/// Prints what a workload came to, and to standard error the times of a step.
+/// Prints the result of a workload, and to standard error the times of a step.
 fn report<R: Debug>(
     rt: &(impl Print + Eprint),
     name: &str,

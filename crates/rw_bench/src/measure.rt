@@ -17,7 +17,7 @@ use std::time::{Clock, Duration, Instant};
 pub struct Measured<R> {
     /// Of the calls made on the machine alone.
     pub apply: Duration,
-    /// Of the same calls taken into a book.
+    /// Of the same calls recorded by a book.
     pub take: Duration,
     /// Of the walk from the start of the book's journal to its end.
     pub redo: Duration,
@@ -25,13 +25,13 @@ pub struct Measured<R> {
     pub undo: Duration,
     /// How many calls there were.
     pub steps: u64,
-    /// What the last call answered in the book.
+    /// The book's reply to the last call.
     pub last: Option<R>,
     /// How many steps both walks made together.
     pub turns: u64,
 }
 
-/// Makes the calls on one machine, takes them into the book of another, and walks the book's journal with a third.
+/// Makes the calls on one machine, records them in the book of another, and walks over the book's journal with a third.
 pub fn measure<M: Reversible + Drop>(
     clock: &impl Clock,
     alloc: Global,
@@ -71,7 +71,7 @@ pub fn measure<M: Reversible + Drop>(
     })
 }
 
-/// How long the calls take on a machine alone, with room made before.
+/// Measures how long the calls take on a machine alone, with room made before.
 fn time_playing<M: Reversible + Drop>(
     clock: &impl Clock,
     mut machine: M,
@@ -80,7 +80,7 @@ fn time_playing<M: Reversible + Drop>(
     requires light { M.weigh (M.shown machine) ≤ 2 ^ 32 }
     requires few { length calls.now ≤ 2 ^ 32 }
 {
-    // The proof takes from here that the machine shows what machines may show.
+    // This call's contract gives the proof that the machine shows what machines may show.
     let _weight = machine.weight();
     if machine.ready(calls.len() as u64).is_err() {
         bail!("no memory for a machine");
@@ -90,7 +90,7 @@ fn time_playing<M: Reversible + Drop>(
     Ok(begin.elapsed(clock)?)
 }
 
-/// How long a move takes.
+/// Measures how long a move takes.
 fn time_move<M: Reversible>(
     clock: &impl Clock,
     navigator: &mut Navigator<M>,

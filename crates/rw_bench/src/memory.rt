@@ -18,7 +18,7 @@ const WORLDS: u64 = 1_024;
 /// The bytes of a page, in which the system counts a process's memory.
 const PAGE: u64 = 4_096;
 
-/// How many bytes the process has.
+/// Returns how many bytes the process has.
 fn process_bytes(rt: &(impl Files + AllocGlobal)) -> Result<u64> {
     let counts = fs::read_to_string(rt, "/proc/self/statm")?;
     let pages = counts
@@ -28,7 +28,7 @@ fn process_bytes(rt: &(impl Files + AllocGlobal)) -> Result<u64> {
     Ok(pages.parse::<u64>()?.saturating_mul(PAGE))
 }
 
-/// How many bytes a handle takes, in tables with room for as many as a channel makes.
+/// Measures how many bytes a handle takes, in tables with room for as many as a channel makes.
 fn handle_bytes(rt: &(impl Files + AllocGlobal)) -> Result<u64> {
     let mut tables = Vec::new(rt.alloc());
     let before = process_bytes(rt)?;
@@ -40,7 +40,7 @@ fn handle_bytes(rt: &(impl Files + AllocGlobal)) -> Result<u64> {
     Ok(process_bytes(rt)?.saturating_sub(before) / (MADE * MOST_HANDLES as u64))
 }
 
-/// How many bytes a handle takes in broadcasts that are ready for as many calls as make handles.
+/// Measures how many bytes a handle takes, in broadcasts that are ready for as many calls as make handles.
 fn broadcast_handle_bytes(rt: &(impl Files + AllocGlobal)) -> Result<u64> {
     let mut channels = Vec::new(rt.alloc());
     let before = process_bytes(rt)?;
@@ -55,7 +55,7 @@ fn broadcast_handle_bytes(rt: &(impl Files + AllocGlobal)) -> Result<u64> {
     Ok(process_bytes(rt)?.saturating_sub(before) / (MADE * MOST_HANDLES as u64))
 }
 
-/// How many bytes a retained value takes, in rings of the greatest capacity.
+/// Measures how many bytes a retained value takes, in rings of the greatest capacity.
 fn value_bytes(rt: &(impl Files + AllocGlobal)) -> Result<u64> {
     let mut rings = Vec::new(rt.alloc());
     let before = process_bytes(rt)?;
@@ -66,7 +66,7 @@ fn value_bytes(rt: &(impl Files + AllocGlobal)) -> Result<u64> {
     Ok(process_bytes(rt)?.saturating_sub(before) / (MADE * u64::from(MOST_CAPACITY)))
 }
 
-/// How many bytes a watch takes, in worlds of as many channels as a world has.
+/// Measures how many bytes a watch takes, in worlds of as many channels as a world has.
 fn channel_bytes(rt: &(impl Files + AllocGlobal)) -> Result<u64> {
     let specs = vec![in rt.alloc(); Spec::Watch(0); MOST_CHANNELS]?;
     let mut worlds = Vec::new(rt.alloc());
@@ -78,13 +78,13 @@ fn channel_bytes(rt: &(impl Files + AllocGlobal)) -> Result<u64> {
     Ok(process_bytes(rt)?.saturating_sub(before) / (WORLDS * MOST_CHANNELS as u64))
 }
 
-/// Prints to standard error how many bytes were asked for, and how many were taken.
+/// Prints to standard error how many bytes were asked for, and how many were used.
 fn tell(rt: &impl Eprint, name: &str, asked: usize, taken: u64) -> io::Result<()> {
     eprintln!(rt; "bytes of {name}: {taken}, {asked} asked for")
 }
 
-/// Prints to standard error how much memory a channel, a retained value and a handle take. What is freed may be taken again, so the smallest
-/// pieces come first, and before any other work.
+/// Prints to standard error how much memory a channel, a retained value and a handle take. Freed memory may be used again, so the
+/// smallest pieces come first, before any other work.
 pub fn report_memory(rt: &(impl Files + AllocGlobal + Eprint)) -> Result<()> {
     // A channel in its row, and its first two handles.
     let channel = size_of::<Chan<u64>>() + 2 * size_of::<Slot<Option<u64>>>();

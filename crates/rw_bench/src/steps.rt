@@ -6,7 +6,7 @@ ghost use Rattle.rw_bench.specs.Calls.{after_calls, calls_of, last_reply};
 use rw_journal::{Book, TakeFault};
 use rw_law::Reversible;
 
-/// Makes the calls, and answers the last reply.
+/// Makes the calls, and returns the last reply.
 pub fn play<M: Reversible>(machine: &mut M, calls: &[M::Call]) -> Option<M::Reply>
     requires known { M.allowed (M.shown machine.old) }
     requires room { M.weigh (M.shown machine.old) + length calls.now ≤ M.reserved machine.old }
@@ -21,7 +21,7 @@ pub fn play<M: Reversible>(machine: &mut M, calls: &[M::Call]) -> Option<M::Repl
     last
 }
 
-/// Takes the calls into a book. At a fault the calls before it stand.
+/// Records the calls in a book. At a fault the calls before it stay recorded.
 pub fn record<M: Reversible>(book: &mut Book<M>, calls: &[M::Call]) -> Result<(), TakeFault>
     ensures calls { OnOk result (calls_of book.new.entries ≡ calls_of book.old.entries ++ calls.now) }
     ensures opening { book.new.opening ≡ book.old.opening }

@@ -1,4 +1,4 @@
-//! What is done to a channel again and again.
+//! What is done to a channel repeatedly.
 
 ghost use Rattle.std.specs.Prelude.{◌≡◌, ◌<◌, ◌≤◌, IfOk, length};
 
@@ -12,13 +12,14 @@ use std::fmt;
 /// The most entries of a book, and so the most steps of a workload.
 pub const MOST_STEPS: u64 = MOST_ENTRIES as u64;
 
-/// The most steps that make a handle at every second step: a channel makes 65,536 handles at most, and two are there.
+/// The most steps that make a handle at every second step: a channel makes at most 65,536 handles, and has two from the
+/// beginning.
 const MOST_STEPS_WITH_HANDLES: u64 = 131_000;
 
 /// Work on a broadcast channel.
 #[derive(Clone, Copy, Debug, PartialEq, Eq)]
 pub enum BroadcastWork {
-    /// A send, and then a try-recv of each of so many receivers. The receivers are made first.
+    /// A send, and then a try-recv of each of this many receivers. The receivers are made first.
     SendAndReceive(u32),
     /// Sends alone.
     Send,
@@ -42,7 +43,7 @@ impl fmt::Display for BroadcastWork {
 }
 
 impl BroadcastWork {
-    /// How many steps are made where this many are asked for.
+    /// Returns how many steps are made if this many are asked for.
     pub fn steps(self, asked: u64) -> u64
         ensures { result ≤ MOST_STEPS }
     {
@@ -52,7 +53,7 @@ impl BroadcastWork {
         }
     }
 
-    /// The call of step i. Sender 0 and receiver 1 are there from the opening.
+    /// Returns the call of step i. Sender 0 and receiver 1 are there from the opening.
     fn call(self, i: u64) -> BCall<u64>
         requires { i < MOST_STEPS }
     {
@@ -79,7 +80,7 @@ impl BroadcastWork {
         }
     }
 
-    /// The calls of so many steps.
+    /// Returns the calls of this many steps.
     pub fn calls(self, alloc: Global, steps: u64) -> Result<Vec<BCall<u64>>, AllocError>
         requires { steps ≤ MOST_STEPS }
         ensures { IfOk result (λ calls. length calls.items ≡ steps) }
@@ -95,9 +96,9 @@ impl BroadcastWork {
 /// Work on a watch channel.
 #[derive(Clone, Copy, Debug, PartialEq, Eq)]
 pub enum WatchWork {
-    /// A send, and then an update of each of so many receivers. The receivers are made first.
+    /// A send, and then an update of each of this many receivers. The receivers are made first.
     SendAndUpdate(u32),
-    /// A receiver asks whether there is a value that it has not seen.
+    /// A receiver checks if there is a value that it has not seen.
     HasChanged,
 }
 
@@ -113,7 +114,7 @@ impl fmt::Display for WatchWork {
 }
 
 impl WatchWork {
-    /// The call of step i. Sender 0 and receiver 1 are there from the opening.
+    /// Returns the call of step i. Sender 0 and receiver 1 are there from the opening.
     fn call(self, i: u64) -> WCall<u64>
         requires { i < MOST_STEPS }
     {
@@ -132,7 +133,7 @@ impl WatchWork {
         }
     }
 
-    /// The calls of so many steps.
+    /// Returns the calls of this many steps.
     pub fn calls(self, alloc: Global, steps: u64) -> Result<Vec<WCall<u64>>, AllocError>
         requires { steps ≤ MOST_STEPS }
         ensures { IfOk result (λ calls. length calls.items ≡ steps) }
@@ -145,7 +146,7 @@ impl WatchWork {
     }
 }
 
-/// The same calls, to channel 0 of a world with a broadcast there.
+/// Returns the same calls, to channel 0 of a world with a broadcast there.
 pub fn to_broadcast(
     alloc: Global,
     calls: &[BCall<u64>],
@@ -162,7 +163,7 @@ pub fn to_broadcast(
     Ok(all)
 }
 
-/// The same calls, to channel 0 of a world with a watch there.
+/// Returns the same calls, to channel 0 of a world with a watch there.
 pub fn to_watch(
     alloc: Global,
     calls: &[WCall<u64>],

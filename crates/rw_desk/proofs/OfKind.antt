@@ -1,4 +1,4 @@
--- The kind of a channel stays, and says which calls stray and of which kind a reply is.
+-- The kind of a channel never changes. It determines which calls stray, and the kind of a reply.
 use Rattle.std.proofs.Common.{◌≡◌, ℕ, false, List, [], ◌∷◌, Result, Ok, Err, IfOk, OnErr, refl, sym, ◌∙◌, ap, subst, arith}
 use Rattle.rw_law.specs.Journal.{after_all}
 use Rattle.rw_world.specs.declared.opening.Spec.{Spec}
@@ -36,7 +36,7 @@ module _ {V : Type 0} where
   pub kind_of_book : (spec : Spec V) (book : Books V) → IsOpenedFrom spec book → channel_kind (state_of of_chan book) ≡ spec_kind spec
   kind_of_book spec book opened = kind_after ((of_chan {V = V}).shown book.opening) book.entries ∙ (ap channel_kind opened ∙ kind_opened spec)
 
-  -- a call strays at a book exactly by the spec that the book was opened from
+  -- whether a call strays at a book depends only on the spec that the book was opened from
   pub strays_by_spec : (spec : Spec V) (book : Books V) (c : ChanCall V) → IsOpenedFrom spec book → (of_chan {V = V}).is_straying (reply_to of_chan book c) ≡ strays_at (spec_kind spec) c
   strays_by_spec spec book c opened =
       strays_by_kind of_broadcast of_watch (state_of of_chan book) c ∙ ap (λ k. strays_at k c) (kind_of_book spec book opened)
@@ -47,7 +47,7 @@ module _ {V : Type 0} where
   kind_of_reply (watch_shown x) (call.B c) stays = absurd (cc)
   kind_of_reply (watch_shown x) (call.W c) stays = tt
 
-  -- a recorded call left its receipt
+  -- a recorded call adds its receipt
   pub has_receipt : (old new : Pass V) (before now : Books V) (channel : ℕ) (c : ChanCall V) (r : ChanReply V) → IsRecorded of_chan old new before now channel c r → HasReceipt old new channel c r
   has_receipt old new before now channel c r recorded =
       let taken = recorded.taken in

@@ -4,7 +4,7 @@ use Rattle.std.specs.Prelude.{slice_get}
 use Rattle.std.proofs.lemmas.Bool.{cases_lt}
 use Rattle.std.proofs.lemmas.List.{length_push}
 
--- what holds anyway holds where there is none
+-- what holds anyway holds if there is none
 pub where_none : {X : Type 0} (o : Option X) (P : Type 0) → P → IfNone o P
 where_none None P p = p
 where_none (Some x) P p = tt
@@ -20,7 +20,7 @@ slice_get-last [] y (suc i) at = absurd (omega arith)
 slice_get-last (x ∷ xs) y zero at = absurd (omega arith)
 slice_get-last (x ∷ xs) y (suc i) at = slice_get-last xs y i (omega arith)
 
--- a list of f 0, f 1, .. with one more
+-- a list of f 0, f 1, .. with one more element
 pub one_more : {X : Type 0} (f : ℕ → Option X) (xs more : List X) (x : X) (n : ℕ) → length xs ≡ n → ((a : ℕ) → a < n → slice_get xs a ≡ f a) → Some x ≡ f n → more ≡ xs ++ x ∷ []
     → (length more ≡ n + 1) × ((a : ℕ) → a < n + 1 → slice_get more a ≡ f a)
 one_more f xs more x n len each new is = rw is (

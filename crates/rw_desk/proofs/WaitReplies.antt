@@ -1,4 +1,4 @@
--- What a wait for a value may be answered.
+-- The replies to the calls of a wait for a value.
 use Rattle.std.proofs.Common.{◌≡◌, ◌⊎◌, ℕ, zero, suc, Bool, true, false, Option, List, [], ◌∷◌, Result, Ok, Err, OnErr, Some, None, refl, sym, ◌∙◌, ap, subst, inl, inr}
 use Rattle.std.specs.Prelude.{map, ◌↔◌, IsErrAnd, IsErrOf, IsTrue, MatchOption}
 use Rattle.std.proofs.lemmas.Bool.{true≢false}
@@ -27,7 +27,7 @@ use Rattle.rw_desk.specs.Passes.{Pass}
 use Rattle.rw_desk.specs.Waiting.{HasChanged, HasLooked, IsHandleRefusal}
 
 module _ {V : Type 0} where
-  -- the value, or why the handle can't be used
+  -- the value, or the refusal of the handle
   abbrev pub IsRead : WReply V → Type 0
   IsRead r = ((v : V) × (r ≡ Value v)) ⊎ IsHandleRefusal r
 
@@ -35,7 +35,7 @@ module _ {V : Type 0} where
   read y h (Fault fault) = inr (fault, refl)
   read y h (Handle kind mark) = inl (y.value, refl)
 
-  -- a change, the end of the channel, or why the handle can't be used
+  -- a change, the channel's close, or the refusal of the handle
   abbrev pub IsChange : WReply V → Type 0
   IsChange r = (r ≡ Done) ⊎ (r ≡ Closed) ⊎ IsHandleRefusal r
 
@@ -69,14 +69,14 @@ module _ {V : Type 0} where
           let no_wait : (of_watch {V = V}).is_waiting given ≡ false = ap (of_watch {V = V}).is_waiting same ∙ receipt.no_wait in
           subst IsChange same (change y h (lookup (wanted_kind {V = V} (Changed h)) y.slots h) no_wait)
 
-  -- a watch's call strays where there is no watch
+  -- a watch's call strays exactly if there is no watch
   pub strays_alike : (specs : List (Spec V)) (channel : ℕ) (c : WCall V) → stray_of strays_at (map spec_kind specs) (row_call channel (call.W c)) ≡ has_no_watch specs channel
   strays_alike [] channel c = refl
   strays_alike (spec.Broadcast n ∷ specs) zero c = refl
   strays_alike (spec.Watch v ∷ specs) zero c = refl
   strays_alike (s ∷ specs) (suc channel) c = strays_alike specs channel c
 
-  -- where a watch's call has found a channel, it is a watch
+  -- if a watch's call found a channel, that is a watch
   pub watch_found : (specs : List (Spec V)) (channel : ℕ) (c : WCall V) → (IsTrue (stray_of strays_at (map spec_kind specs) (row_call channel (call.W c))) → true ≡ false) → IsTrue (has_no_watch specs channel) → ⊥
   watch_found specs channel c found none = true≢false (found (subst IsTrue (sym (strays_alike specs channel c)) none))
 
@@ -84,12 +84,12 @@ module _ {V : Type 0} where
   watch_there (spec.Broadcast n) c stays = absurd (true≢false stays)
   watch_there (spec.Watch v) c stays = refl
 
--- what holds anyway holds beside an error
+-- what holds anyway holds at an error
 pub beside_error : {T E : Type 0} (r : Result T E) (P : Type 0) → P → OnErr r P
 beside_error (Ok x) P p = tt
 beside_error (Err e) P p = p
 
--- an answer is no fault
+-- an `Ok` is no fault
 pub no_fault : {T : Type 0} (x : T) (f : DeskFault) → IsErrOf (Ok x) f → ⊥
 no_fault x f h = cc
 
@@ -105,11 +105,11 @@ module _ {V T : Type 0} (specs : List (Spec V)) (channel : ℕ) (c : WCall V) (x
   there_is : IsTrue (has_no_watch specs channel) → ⊥
   there_is none = no_fault x NoChannel (told.1 (subst IsTrue (sym (strays_alike specs channel c)) none))
 
-  -- where a call was answered there is a channel, at each other answer
+  -- once one call was made, the clause on `NoChannel` holds at each `Ok`
   pub answered_there : {U : Type 0} (y : U) → (IsErrOf (Ok y) NoChannel ↔ IsTrue (has_no_watch specs channel))
   answered_there y = (λ h. absurd (no_fault y NoChannel h), λ none. absurd (there_is none))
 
-  -- and at a fault
+  -- and at each fault
   pub broken_there : {U : Type 0} (d : WCall V) (e : DeskFault) (r : Result U DeskFault) → IsErrAnd r (λ f. f ≡ e) → (IsErrOf {T = T} (Err e) NoChannel ↔ IsTrue (stray_of strays_at (map spec_kind specs) (row_call channel (call.W d))))
       → (IsErrOf r NoChannel ↔ IsTrue (has_no_watch specs channel))
   broken_there d e r is told2 = (

@@ -1,4 +1,4 @@
--- Calls are known by the words of their values.
+-- Calls are equal if they are the same with the words of their values.
 use Rattle.std.proofs.Common.{◌≡◌, ℕ, Option, Some, refl, ap, sym, ◌∙◌}
 use Rattle.std.specs.Option.{option_map}
 use Rattle.rw_broadcast.specs.declared.calls.BCall.{BCall}
@@ -11,7 +11,7 @@ some_is : {X : Type 0} (x y : X) → Some x ≡ Some y → x ≡ y
 some_is x y h = cc
 
 module _ {V : Type 0} (word_of : V → ℕ) (value_of : ℕ → Option V) (is_value : V → Type 0) (gives : (v : V) → is_value v → value_of (word_of v) ≡ Some v) where
-  -- values with one word are one
+  -- values with the same word are equal
   pub one_value : (v u : V) → is_value v → is_value u → word_of v ≡ word_of u → v ≡ u
   one_value v u of_v of_u same = some_is v u (sym (gives v of_v) ∙ (ap value_of same ∙ gives u of_u))
 
@@ -34,7 +34,7 @@ module _ {V : Type 0} (word_of : V → ℕ) (value_of : ℕ → Option V) (is_va
   broadcast_back (b.Send h v) known = ap (λ o. option_map (λ v. b.Send h v) o) (gives v known)
   broadcast_back _ known = refl
 
-  -- calls of broadcasts with the same words are one
+  -- calls of broadcasts with the same words are equal
   pub one_broadcast : (c d : BCall V) → OfBroadcastValue is_value c → OfBroadcastValue is_value d → of_broadcast word_of c ≡ of_broadcast word_of d → c ≡ d
   one_broadcast c d of_c of_d same = some_is c d (sym (broadcast_back c of_c) ∙ (ap broadcast_of same ∙ broadcast_back d of_d))
 
@@ -74,6 +74,6 @@ module _ {V : Type 0} (word_of : V → ℕ) (value_of : ℕ → Option V) (is_va
   watch_back (w.IsClosed h) known = refl
   watch_back (w.AwaitClosed h) known = refl
 
-  -- calls of watches with the same words are one
+  -- calls of watches with the same words are equal
   pub one_watch : (c d : WCall V) → OfWatchValue is_value c → OfWatchValue is_value d → of_watch word_of c ≡ of_watch word_of d → c ≡ d
   one_watch c d of_c of_d same = some_is c d (sym (watch_back c of_c) ∙ (ap watch_of same ∙ watch_back d of_d))

@@ -1,4 +1,4 @@
--- What the calls by handles answer.
+-- What the calls by handles return.
 use Rattle.std.specs.Prelude.{◌≡◌, ◌≢◌, ℕ, List, IfOk, IfErr, Result, Ok, Err}
 use Rattle.rw_broadcast.specs.declared.calls.BCall.{BCall}
 use Rattle.rw_broadcast.specs.declared.calls.BReply.{BReply}
@@ -21,31 +21,31 @@ use Rattle.rw_desk.specs.declared.made.Made.TheVariants.{New, Refused}
 use Rattle.rw_desk.specs.Desks.{IsAnswered}
 use Rattle.rw_desk.specs.Passes.{Pass}
 
--- the fault of a call that hands its handle back beside it
+-- the result of a call without the handle that is returned with a fault
 abbrev pub fault_alone : {X H : Type 0} → Result X (DeskFault × H) → Result X DeskFault
 fault_alone (Ok x) = Ok x
 fault_alone (Err e) = Err e.0
 
--- the reply that was given where a handle was to be made
+-- the reply of a call that makes a handle, from its result
 abbrev pub reply_made : {H R : Type 0} → (new : ℕ → R) → (number : H → ℕ) → Made H R → R
 reply_made new number (New h) = new (number h)
 reply_made new number (Refused r) = r
 
--- a handle that was made is on this channel, and a reply that makes none isn't that of a new handle
+-- a new handle is on this channel, and a refusal isn't the reply `New`
 abbrev pub IsMadeOn : {H R : Type 0} → (new : ℕ → R) → (channel_of : H → ℕ) → ℕ → Made H R → Type 0
 IsMadeOn new channel_of channel (New h) = channel_of h ≡ channel
 IsMadeOn new channel_of channel (Refused r) = (n : ℕ) → r ≢ new n
 
 module _ {V : Type 0} (specs : List (Spec V)) (old after : Pass V) (channel : ℕ) where
-  -- a call of a broadcast channel was answered
+  -- this is the result of a call of a broadcast channel
   abbrev pub IsAnsweredB : BCall V → Result (BReply V) DeskFault → Type 0
   IsAnsweredB c answer = IsAnswered specs old after channel (call.B c) (λ r. reply.B r) answer
 
-  -- a call of a watch channel was answered
+  -- this is the result of a call of a watch channel
   abbrev pub IsAnsweredW : WCall V → Result (WReply V) DeskFault → Type 0
   IsAnsweredW c answer = IsAnswered specs old after channel (call.W c) (λ r. reply.W r) answer
 
-  -- a call that makes a handle was answered: the handle has the receipt's channel and the number in its reply
+  -- this is the result of a call that makes a handle: the handle has the receipt's channel, and the number in its reply
   pub record IsMaking {H R : Type 0} (c : ChanCall V) (new : ℕ → R) (tell : R → ChanReply V) (channel_of number : H → ℕ) (answer : Result (Made H R) DeskFault) : Type 0 where
     pub answered : IsAnswered specs old after channel c (λ made. tell (reply_made new number made)) answer
     pub made : IfOk answer (IsMadeOn new channel_of channel)
@@ -62,7 +62,7 @@ module _ {V : Type 0} (specs : List (Spec V)) (old after : Pass V) (channel : �
   abbrev pub MakesWRx : WCall V → Result (Made WRx (WReply V)) DeskFault → Type 0
   MakesWRx c answer = IsMaking (call.W c) (λ n. w.New n) (λ r. reply.W r) (λ h. h.channel) (λ h. h.number) answer
 
-  -- a call that drops its handle was answered; beside a fault the handle comes back
+  -- this is the result of a call that drops its handle; at a fault the handle is returned
   pub record IsDropping {H R : Type 0} (c : ChanCall V) (tell : R → ChanReply V) (handle : H) (answer : Result R (DeskFault × H)) : Type 0 where
     pub answered : IsAnswered specs old after channel c tell (fault_alone answer)
     pub back : IfErr answer (λ e. e.1 ≡ handle)

@@ -1,11 +1,11 @@
--- Calls with words in their values' places.
+-- Calls with the words of their values in place of the values.
 use Rattle.std.specs.Prelude.{ℕ}
 use Rattle.rw_broadcast.specs.declared.calls.BCall.{BCall}
 use Rattle.rw_broadcast.specs.declared.calls.BCall.TheVariants as b
 use Rattle.rw_watch.specs.declared.calls.WCall.{WCall}
 use Rattle.rw_watch.specs.declared.calls.WCall.TheVariants as w
 
--- a broadcast's call with a word in its value's place
+-- a broadcast's call with its value's word in place of the value
 abbrev pub of_broadcast : {V : Type 0} → (V → ℕ) → BCall V → BCall ℕ
 of_broadcast word_of (b.Send h v) = b.Send h (word_of v)
 of_broadcast word_of (b.Subscribe h) = b.Subscribe h
@@ -26,7 +26,7 @@ abbrev pub OfBroadcastValue : {V : Type 0} → (V → Type 0) → BCall V → Ty
 OfBroadcastValue P (b.Send h v) = P v
 OfBroadcastValue P call = Unit {0}
 
--- a watch's call with a word in its value's place
+-- a watch's call with its value's word in place of the value
 abbrev pub of_watch : {V : Type 0} → (V → ℕ) → WCall V → WCall ℕ
 of_watch word_of (w.Send h v) = w.Send h (word_of v)
 of_watch word_of (w.SendReplace h v) = w.SendReplace h (word_of v)

@@ -1,4 +1,4 @@
--- Desks, and what they answer.
+-- Desks, and what they return.
 use Rattle.std.specs.Prelude.{◌≡◌, ◌↔◌, Bool, true, false, ℕ, ◌<◌, ◌≤◌, ◌||◌, nat_eq, nat_lt, if◌then◌else◌, None, Some, Option, slice_get, List, length, map, IfOk, OnErr, IsErrOf, IsTrue, Result}
 use Rattle.std.specs.Option.{option_map}
 use Rattle.rw_law.specs.declared.limits.TheConstants.{MOST_ACTORS}
@@ -18,12 +18,12 @@ use Rattle.rw_desk.specs.declared.handles.Ends.{Ends}
 use Rattle.rw_desk.specs.declared.handles.Ends.TheVariants.{Broadcast, Watch}
 use Rattle.rw_desk.specs.Passes.{HasReceipt, Pass, fresh_pass}
 
--- what callers see of a desk: what its channels were opened from, and how many actors it has
+-- what callers see of a desk: the specs of its channels, and the number of its actors
 pub record Desk (V : Type 0) : Type 0 where
   pub specs : List (Spec V)
   pub actors : ℕ
 
--- what a desk keeps: its specs open, it has 1 to 64 actors, and a lock for each channel
+-- the invariant of a desk: its specs open, it has 1 to 64 actors, and a lock for each channel
 pub record IsDesk {V : Type 0} (specs : List (Spec V)) (actors locks : ℕ) : Type 0 where
   pub opens : refusal specs ≡ None
   pub some_actor : 0 < actors
@@ -34,13 +34,13 @@ pub record IsDesk {V : Type 0} (specs : List (Spec V)) (actors locks : ℕ) : Ty
 abbrev pub refusal_to_open : {V : Type 0} → List (Spec V) → ℕ → Option DeskOpenFault
 refusal_to_open specs actors = if nat_eq actors 0 || nat_lt MOST_ACTORS actors then Some BadActors else option_map (λ fault. World fault) (refusal specs)
 
--- the sender 0 and the receiver 1 that a channel has from the beginning
+-- sender 0 and receiver 1, which a channel has from the beginning
 abbrev pub ends_at : {V : Type 0} → ℕ → Option (Spec V) → Option Ends
 ends_at channel None = None
 ends_at channel (Some (spec.Broadcast capacity)) = Some (Broadcast (record { channel = channel; number = 0 }) (record { channel = channel; number = 1 }))
 ends_at channel (Some (spec.Watch init)) = Some (Watch (record { channel = channel; number = 0 }) (record { channel = channel; number = 1 }))
 
--- a desk of these specs and so many actors, a fresh pass for each actor, and the first two handles of each channel
+-- a desk with these specs and this many actors, a fresh pass for each actor, and the first two handles of each channel
 pub record HasOpened {V : Type 0} (specs : List (Spec V)) (actors : ℕ) (desk : Desk V) (passes : List (Pass V)) (ends : List Ends) : Type 0 where
   pub desk_is : desk ≡ record { specs = specs; actors = actors }
   pub passes_are : (length passes ≡ actors) × ((a : ℕ) → a < actors → slice_get passes a ≡ Some (fresh_pass a))
@@ -50,7 +50,7 @@ pub record HasOpened {V : Type 0} (specs : List (Spec V)) (actors : ℕ) (desk :
 abbrev pub row_call : {V : Type 0} → ℕ → ChanCall V → RowCall (ChanCall V)
 row_call channel call = record { channel = channel; call = call }
 
--- whether there is no watch channel of this number
+-- whether there is no watch channel with this number
 abbrev pub no_watch_at : {V : Type 0} → Option (Spec V) → Bool
 no_watch_at None = true
 no_watch_at (Some (spec.Broadcast capacity)) = true
@@ -59,8 +59,8 @@ no_watch_at (Some (spec.Watch init)) = false
 abbrev pub has_no_watch : {V : Type 0} → List (Spec V) → ℕ → Bool
 has_no_watch specs channel = no_watch_at (slice_get specs channel)
 
--- What a desk answers to a call: the pass has its receipt, with the reply that the answer stands for; or the pass is as it was.
--- There is no channel for the call exactly by the specs.
+-- What a desk returns for a call: the pass has its receipt, with the reply that the result has; or the pass is unchanged. The fault is
+-- `NoChannel` exactly if the call strays by the specs.
 pub record IsAnswered {V X : Type 0} (specs : List (Spec V)) (old new : Pass V) (channel : ℕ) (call : ChanCall V) (reply_of : X → ChanReply V) (answer : Result X DeskFault) : Type 0 where
   pub receipt : IfOk answer (λ x. HasReceipt old new channel call (reply_of x))
   pub refused : OnErr answer (new ≡ old)

@@ -14,13 +14,13 @@ use Rattle.rw_world.specs.Machines.{ChanShown}
 use Rattle.rw_desk.specs.Passes.{HasReceipt, Pass}
 use Rattle.rw_desk.specs.Waiting.{IsHandleRefusal}
 
--- the value that a watch has
+-- v is the value of a watch
 abbrev pub IsValueOf : {V : Type 0} → ChanShown V → V → Type 0
 IsValueOf (broadcast_shown x) v = ⊥
 IsValueOf (watch_shown y) v = y.value ≡ v
 
 module _ {V : Type 0} (makes : V → Bool → V → Type 0) where
-  -- the call stores what the closure makes of the value; where the handle is no live sender's, it holds the value as it is, told no
+  -- the call stores what the closure makes of the value; if the handle isn't a live sender, it has the value unchanged and `told` false
   abbrev pub IsModification : ChanShown V → ℕ → WCall V → Type 0
   IsModification (broadcast_shown x) sender c = ⊥
   IsModification (watch_shown y) sender c =
@@ -38,7 +38,7 @@ module _ {V : Type 0} (makes : V → Bool → V → Type 0) where
       pub answer : r ≡ Told told
       pub receipt : HasReceipt old new channel (call.W (Modify told sender made)) (reply.W r)
 
-    -- the handle was refused, and the receipt holds the value as it was
+    -- the handle was refused, and the receipt has the value unchanged
     pub record WasRefused (r : WReply V) : Type 0 where
       pub value : V
       pub now : is_now value
@@ -48,7 +48,7 @@ module _ {V : Type 0} (makes : V → Bool → V → Type 0) where
     abbrev pub HasModified : WReply V → Type 0
     HasModified r = WasStored r ⊎ WasRefused r
 
-    -- the same of a reply of any channel
+    -- the same for a reply of either kind of channel
     abbrev pub HasModifiedChannel : ChanReply V → Type 0
     HasModifiedChannel (reply.W r) = HasModified r
     HasModifiedChannel r = ⊥

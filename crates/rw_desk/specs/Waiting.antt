@@ -1,4 +1,4 @@
--- A wait for a value of which a closure is true.
+-- A wait for a value for which a closure returns true.
 use Rattle.std.specs.Prelude.{◌≡◌, ◌⊎◌, ℕ, zero, suc, Bool, true, false, Result, MatchResult}
 use Rattle.rw_handles.specs.declared.kinds.HandleFault.{HandleFault}
 use Rattle.rw_watch.specs.Channel.{fault_reply}
@@ -10,21 +10,21 @@ use Rattle.rw_world.specs.declared.channels.ChanReply.TheVariants as reply
 use Rattle.rw_desk.specs.declared.faults.DeskFault.{DeskFault}
 use Rattle.rw_desk.specs.Passes.{HasReceipt, Pass}
 
--- the reply says that the handle can't be used
+-- the reply is the refusal of a handle that can't be used
 abbrev pub IsHandleRefusal : {V : Type 0} → WReply V → Type 0
 IsHandleRefusal r = (fault : HandleFault) × (r ≡ fault_reply fault)
 
 module _ {V : Type 0} (channel receiver : ℕ) where
-  -- the pass has one receipt more, of a read that marks the value as seen
+  -- the pass has one more receipt, of a read that marks the value as seen
   abbrev pub HasLooked : Pass V → Pass V → WReply V → Type 0
   HasLooked old new r = HasReceipt old new channel (call.W (Update receiver)) (reply.W r)
 
-  -- of a wait for a change
+  -- the same, of a wait for a change
   abbrev pub HasChanged : Pass V → Pass V → WReply V → Type 0
   HasChanged old new r = HasReceipt old new channel (call.W (Changed receiver)) (reply.W r)
 
 module _ {V : Type 0} (tells : V → Bool → Type 0) (channel receiver : ℕ) where
-  -- the value was read, the closure was false of it, and then this was answered to the wait for a change
+  -- the value was read, the closure returned false for it, and the wait for a change that followed got this reply
   pub record HasTried (old new : Pass V) (r : WReply V) : Type 0 where
     pub value : V
     pub between : Pass V
@@ -32,19 +32,20 @@ module _ {V : Type 0} (tells : V → Bool → Type 0) (channel receiver : ℕ) w
     pub untrue : tells value false
     pub changed : HasChanged channel receiver between new r
 
-  -- so often in turn, with a change each time
+  -- this happened n times in a row, with a change each time
   abbrev pub HasTriedTimes : ℕ → Pass V → Pass V → Type 0
   HasTriedTimes zero old new = new ≡ old
   HasTriedTimes (suc n) old new = (between : Pass V) × HasTriedTimes n old between × HasTried between new Done
 
-  -- the last turn, by its answer: the closure was true of the value; or the read was refused; or the wait for a change was, or found the channel closed
+  -- the last turn, by its reply: the closure returned true for the value; or the read was refused; or the wait for a change was refused, or
+  -- found the channel closed
   abbrev pub HasEnded : Pass V → Pass V → WReply V → Type 0
   HasEnded old new r =
       ((v : V) × (r ≡ Value v) × tells v true × HasLooked channel receiver old new r)
       ⊎ (IsHandleRefusal r × HasLooked channel receiver old new r)
       ⊎ (((r ≡ Closed) ⊎ IsHandleRefusal r) × HasTried old new r)
 
-  -- the last turn, where it met a fault: nothing was done, or the value was read, and the closure was false of it
+  -- the last turn, if it ended in a fault: nothing was done, or the value was read and the closure returned false for it
   abbrev pub HasBroken : Pass V → Pass V → Type 0
   HasBroken old new = (new ≡ old) ⊎ ((v : V) × tells v false × HasLooked channel receiver old new (Value v))
 

@@ -14,7 +14,7 @@ use rw_world::{ChanCall, ChanReply};
 use std::sync::Wait;
 
 impl<V: Payload> Desk<V> {
-    /// A call of a broadcast channel.
+    /// Makes a call of a broadcast channel.
     pub(crate) fn b_call<R: Wait>(
         &self,
         rt: &R,
@@ -30,7 +30,7 @@ impl<V: Payload> Desk<V> {
         }
     }
 
-    /// A call of a broadcast channel, which waits where the answer would be `Waits`.
+    /// Makes a call of a broadcast channel, and blocks while its reply would be `Waits`.
     pub(crate) fn b_wait<R: Wait>(
         &self,
         rt: &R,
@@ -47,7 +47,7 @@ impl<V: Payload> Desk<V> {
         }
     }
 
-    /// A call of a broadcast channel that makes a receiver.
+    /// Makes a receiver, by this call of a broadcast channel.
     fn b_new_receiver<R: Wait>(
         &self,
         rt: &R,
@@ -76,7 +76,7 @@ impl<V: Payload> Desk<V> {
         self.b_call(rt, pass, sender.channel, BCall::Send(sender.number, value))
     }
 
-    /// Makes a receiver that gets the values sent from now on.
+    /// Makes a receiver that receives the values sent from now on.
     pub fn b_subscribe<R: Wait>(
         &self,
         rt: &R,
@@ -104,7 +104,7 @@ impl<V: Payload> Desk<V> {
         }
     }
 
-    /// Makes a receiver out of another; it gets the values sent from now on.
+    /// Makes a receiver from another. It receives the values sent from now on.
     pub fn b_resubscribe<R: Wait>(
         &self,
         rt: &R,
@@ -133,7 +133,7 @@ impl<V: Payload> Desk<V> {
         self.b_call(rt, pass, receiver.channel, BCall::TryRecv(receiver.number))
     }
 
-    /// Receives a value, and waits for one where there is none yet.
+    /// Receives a value. If there is none yet, it blocks until there is one or the channel is closed.
     pub fn b_recv<R: Wait>(
         &self,
         rt: &R,
@@ -146,7 +146,7 @@ impl<V: Payload> Desk<V> {
         self.b_wait(rt, pass, receiver.channel, BCall::Recv(receiver.number))
     }
 
-    /// Drops a sender. Beside a fault it comes back.
+    /// Drops a sender. At a fault the sender is returned.
     pub fn b_drop_sender<R: Wait>(
         &self,
         rt: &R,
@@ -161,7 +161,7 @@ impl<V: Payload> Desk<V> {
         }
     }
 
-    /// Drops a receiver. Beside a fault it comes back.
+    /// Drops a receiver. At a fault the receiver is returned.
     pub fn b_drop_receiver<R: Wait>(
         &self,
         rt: &R,
@@ -181,7 +181,7 @@ impl<V: Payload> Desk<V> {
         }
     }
 
-    /// Asks how many values are queued.
+    /// Returns how many values are queued.
     pub fn b_sender_len<R: Wait>(
         &self,
         rt: &R,
@@ -193,7 +193,7 @@ impl<V: Payload> Desk<V> {
         self.b_call(rt, pass, sender.channel, BCall::SenderLen(sender.number))
     }
 
-    /// Asks how many receivers are alive.
+    /// Returns how many receivers are alive.
     pub fn b_receiver_count<R: Wait>(
         &self,
         rt: &R,
@@ -210,7 +210,7 @@ impl<V: Payload> Desk<V> {
         )
     }
 
-    /// Asks how many values the receiver has yet to receive.
+    /// Returns how many values the receiver has yet to receive.
     pub fn b_receiver_len<R: Wait>(
         &self,
         rt: &R,

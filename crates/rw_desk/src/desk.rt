@@ -1,4 +1,4 @@
-//! Desks: channels that threads call, each under a lock of its own.
+//! Desks: channels that threads call, each under its own lock.
 
 ghost use Rattle.std.specs.Prelude.{◌≡◌, ◌↔◌, ◌<◌, ◌≤◌, ℕ, false, None, Some, All, length, map, slice_get, IfNone, IfOk, IfSome, IsErrOf, IsNone, IsTrue, MatchResult};
 ghost use Rattle.rw_law.specs.declared.limits.TheConstants.{MOST_ACTORS};
@@ -20,7 +20,7 @@ use std::alloc::Global;
 use std::marker::Model;
 use std::sync::Wait;
 
-/// Channels that threads share by reference, each under a lock of its own, and how many actors there are.
+/// Channels that threads share by reference, each under its own lock, and the number of actors.
 #[derive(Drop)]
 pub struct Desk<V: Payload> {
     pub(crate) specs: Vec<Spec<V>>,
@@ -40,8 +40,8 @@ impl<V: Payload> Model for Desk<V> {
 }
 
 impl<V: Payload> Desk<V> {
-    /// A desk with a channel for each spec, under the numbers 0, 1, 2, .., with a pass for each actor and the two handles that
-    /// each channel has from the beginning.
+    /// Opens a desk with a channel for each spec, numbered 0, 1, 2, .. in order. Returns it with a pass for each actor and the
+    /// first two handles of each channel.
     pub fn open(
         alloc: Global,
         specs: &[Spec<V>],
@@ -59,7 +59,7 @@ impl<V: Payload> Desk<V> {
         }
     }
 
-    /// The same of specs that open, and of a good number of actors.
+    /// Opens a desk like `open`, for specs and a number of actors that `open` doesn't refuse.
     fn open_all(
         alloc: Global,
         specs: &[Spec<V>],
@@ -85,7 +85,7 @@ impl<V: Payload> Desk<V> {
         Ok((desk, passes, ends))
     }
 
-    /// One call, under the lock of its channel alone.
+    /// Makes a call. It acquires the lock of the call's channel, and no other.
     pub fn call<R: Wait>(
         &self,
         rt: &R,
@@ -101,7 +101,7 @@ impl<V: Payload> Desk<V> {
         }
     }
 
-    /// One call, which waits where the answer would be `Waits`, until a call of another thread changes that.
+    /// Makes a call. If the reply would be `Waits`, it blocks until another thread's call changes that.
     pub fn wait_call<R: Wait>(
         &self,
         rt: &R,
@@ -118,7 +118,7 @@ impl<V: Payload> Desk<V> {
         }
     }
 
-    /// The spec and the lock of a channel, if there is one for this call.
+    /// Returns the spec and the lock of a call's channel, or `None` if the call strays.
     pub(crate) fn place(&self, channel: u32, call: &ChanCall<V>) -> Option<(&Spec<V>, &Place<V>)>
         ensures none { IsNone result ↔ IsTrue (stray_of strays_at (map spec_kind self.now.specs) (row_call channel call.now)) }
         ensures some { IfSome result (λ r. strays_at (spec_kind r.0.now) call.now ≡ false) }
@@ -132,7 +132,7 @@ impl<V: Payload> Desk<V> {
     }
 }
 
-/// Whether a call is of the other kind than the channel of this spec.
+/// Whether the spec and the call are of different kinds of channels.
 pub fn strays<V: Copy>(spec: &Spec<V>, call: &ChanCall<V>) -> bool
     ensures { result ≡ strays_at (spec_kind spec.now) call.now }
 {
@@ -143,7 +143,8 @@ pub fn strays<V: Copy>(spec: &Spec<V>, call: &ChanCall<V>) -> bool
     }
 }
 
-/// Why no desk of these specs and so many actors is opened, if there is such a cause: the number of actors comes first.
+/// Returns why a desk with these specs and this many actors can't be opened, if there is a reason. The number of actors is
+/// checked first.
 pub fn refusal_to_open<V: Copy>(specs: &[Spec<V>], actors: u32) -> Option<DeskOpenFault>
     ensures refusal { result ≡ refusal_to_open specs.now actors }
     ensures opens { IsNone result → refusal specs.now ≡ None }
@@ -160,7 +161,7 @@ pub fn refusal_to_open<V: Copy>(specs: &[Spec<V>], actors: u32) -> Option<DeskOp
     }
 }
 
-/// A pass for each actor, without receipts.
+/// Makes a pass for each actor, without receipts.
 fn fresh_passes<V: Copy>(alloc: Global, actors: u32) -> Result<Vec<Pass<V>>, NoMemory>
     requires { actors ≤ MOST_ACTORS }
     ensures { IfOk result (λ passes. (length passes.items ≡ actors) × ((a : ℕ) → a < actors → slice_get passes.items a ≡ Some (fresh_pass a))) }
@@ -172,7 +173,7 @@ fn fresh_passes<V: Copy>(alloc: Global, actors: u32) -> Result<Vec<Pass<V>>, NoM
     Ok(passes)
 }
 
-/// The handles that each channel has from the beginning.
+/// Returns the first two handles of each channel.
 fn first_ends<V: Copy>(alloc: Global, specs: &[Spec<V>]) -> Result<Vec<Ends>, NoMemory>
     requires { length specs.now ≤ MOST_CHANNELS }
     ensures { IfOk result (λ ends. (length ends.items ≡ length specs.now) × ((c : ℕ) → c < length specs.now → slice_get ends.items c ≡ ends_at c (slice_get specs.now c))) }
@@ -184,7 +185,7 @@ fn first_ends<V: Copy>(alloc: Global, specs: &[Spec<V>]) -> Result<Vec<Ends>, No
     Ok(ends)
 }
 
-/// The sender 0 and the receiver 1 of a channel.
+/// Returns sender 0 and receiver 1 of a channel.
 fn ends_of<V: Copy>(channel: u32, spec: &Spec<V>) -> Ends
     ensures { Some result ≡ ends_at channel (Some spec.now) }
 {

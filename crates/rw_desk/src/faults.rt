@@ -3,7 +3,7 @@
 use rw_world::OpenFault;
 use thiserror::Error;
 
-/// Why a call isn't made. The first that holds is answered, in this order, and nothing has changed.
+/// Why a call isn't made. The first of these that holds is returned, and nothing has changed.
 #[derive(Clone, Copy, Debug, PartialEq, Eq, Error)]
 pub enum DeskFault {
     /// There is no such channel, or it is of the other kind.
@@ -12,7 +12,7 @@ pub enum DeskFault {
     /// The channel's journal has 1,048,576 entries, or the stamp would pass 2^62.
     #[error("journal full")]
     JournalFull,
-    /// A growth was refused.
+    /// An allocation failed.
     #[error("no memory")]
     NoMemory,
     /// The call would wait.
@@ -20,7 +20,7 @@ pub enum DeskFault {
     Waits,
 }
 
-/// Why a desk isn't opened. The first that holds is answered, in this order.
+/// Why a desk isn't opened. The first of these that holds is returned.
 #[derive(Clone, Copy, Debug, PartialEq, Eq, Error)]
 pub enum DeskOpenFault {
     /// There is no actor, or there are more than 64.
@@ -31,17 +31,17 @@ pub enum DeskOpenFault {
     World(OpenFault),
 }
 
-/// Why a desk isn't closed. The first that holds is answered, in this order, and desk and passes come back.
+/// Why a desk isn't closed. `Stranger` comes first. The desk and the passes are returned with the fault.
 #[derive(Clone, Copy, Debug, PartialEq, Eq, Error)]
 pub enum CloseFault {
-    /// The least actor of the desk of whom not exactly one pass was handed in, or else the number of a pass that is no actor's.
+    /// The least actor of the desk that doesn't have exactly one pass, or else the number of a pass that is no actor's.
     #[error("not exactly one pass of actor {0}")]
     Stranger(u32),
-    /// An entry of this actor is out of order, at this place of its channel; or else this is the least actor whose receipts
+    /// An entry of this actor is out of order, at this place of its channel. Or else this is the least actor whose receipts
     /// aren't its entries, and the least place at which they differ.
     #[error("actor {0} strayed at {1}")]
     Strayed(u32, u64),
-    /// A growth was refused.
+    /// An allocation failed.
     #[error("no memory")]
     NoMemory,
 }

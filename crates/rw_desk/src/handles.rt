@@ -1,6 +1,7 @@
 //! The handles of a desk's channels. Each names a channel and the number of a handle there.
 //!
-//! They can't be copied: a handle is dropped by the call that takes it. One that is forgotten stays alive in its channel.
+//! They can't be copied: a handle is dropped by the call that consumes it. One that only goes out of scope stays alive in its
+//! channel.
 
 ghost use Rattle.std.specs.Prelude.{◌≡◌};
 

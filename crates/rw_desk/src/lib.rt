@@ -1,7 +1,7 @@
-//! Desks: channels that threads call, each under a lock of its own, with all calls recorded.
+//! Desks: channels that threads call, each under its own lock, with all calls recorded.
 //!
-//! The one contract: a call adds the receipt of its own entry to its actor's pass, or names the first fault and leaves the pass.
-//! Start reading at `specs/Passes.antt`, which says what a recorded call adds to a pass, and go on with `pass.rt`, whose
+//! The one contract: a call adds the receipt of its entry to its actor's pass, or returns the first fault and leaves the pass
+//! unchanged. Start reading at `specs/Passes.antt`, which says what a recorded call adds to a pass. Then read `pass.rt`, whose
 //! `record` makes each step.
 #![tactic(auto)]
 

@@ -1,4 +1,4 @@
-//! What a call answers that makes a handle.
+//! The result of a call that makes a handle.
 
 /// A new handle, or the reply that refuses it.
 #[derive(Debug, Drop, PartialEq)]

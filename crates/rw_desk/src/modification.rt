@@ -1,4 +1,4 @@
-//! The call that stores what a closure makes of a value.
+//! The call that modifies a watch's value with a closure.
 
 ghost use Rattle.std.specs.Prelude.{◌≡◌, Bool};
 ghost use Rattle.std.specs.Fn.{FnOnceReturnsAtMut};
@@ -10,9 +10,9 @@ use rw_handles::Kind;
 use rw_watch::WCall;
 use rw_world::Chan;
 
-/// What a closure answers that has changed a value: whether the receivers are told of it. One that answers nothing tells them.
+/// What a closure that modifies a value returns: whether the receivers are notified. They are if it returns nothing.
 pub trait Told {
-    /// Whether they are told.
+    /// Whether they are notified.
     ghost tells: { Self → Bool };
 
     fn is_told(self) -> bool
@@ -37,8 +37,8 @@ impl Told for () {
     }
 }
 
-/// The call of this sender that stores what f makes of the value of a watch. Where the handle isn't a live sender's, f isn't
-/// called, and the call holds the value as it is.
+/// Returns the call by which this sender stores what f makes of the value of a watch. If the handle isn't a live sender, f isn't
+/// called, and the call has the value unchanged.
 pub(crate) fn modification<V: Copy, T: Told, F: FnOnce(&mut V) -> T>(
     channel: &Chan<V>,
     sender: u32,

@@ -1,4 +1,4 @@
-//! Calls that are compared by the words of their values.
+//! Comparing calls by the words of their values.
 
 ghost use Rattle.std.specs.Prelude.{◌≡◌, ◌↔◌, IsTrue};
 ghost use Rattle.rw_desk.specs.CallWords as words;
@@ -8,7 +8,7 @@ use rw_law::Payload;
 use rw_watch::WCall;
 use rw_world::ChanCall;
 
-/// A broadcast's call with a word in its value's place.
+/// Returns a broadcast's call with its value's word in place of the value.
 fn broadcast_in_words<V: Payload>(call: &BCall<V>) -> BCall<u64>
     ensures words { result ≡ words.of_broadcast V.word_of call.now }
     ensures known { words.OfBroadcastValue V.is_value call.now }
@@ -30,7 +30,7 @@ fn broadcast_in_words<V: Payload>(call: &BCall<V>) -> BCall<u64>
     }
 }
 
-/// A watch's call with a word in its value's place.
+/// Returns a watch's call with its value's word in place of the value.
 fn watch_in_words<V: Payload>(call: &WCall<V>) -> WCall<u64>
     ensures words { result ≡ words.of_watch V.word_of call.now }
     ensures known { words.OfWatchValue V.is_value call.now }

@@ -1,4 +1,4 @@
-//! Who has handed in a pass.
+//! Which actors have passes.
 
 ghost use Rattle.std.specs.Prelude.{◌≡◌, ◌<◌, IfNone, IfSome};
 ghost use Rattle.rw_law.specs.declared.limits.TheConstants.{MOST_ACTORS};
@@ -7,14 +7,14 @@ ghost use Rattle.rw_desk.specs.Closing.{AreAllHere, IsStranger, passes_of};
 
 use crate::pass::Pass;
 
-/// How many of the passes are an actor's.
+/// Returns how many of the passes are an actor's.
 fn passes_of<V: Copy>(passes: &[Pass<V>], actor: u32) -> usize
     ensures { result ≡ passes_of actor passes.now }
 {
     passes.iter().filter(|pass| pass.actor() == actor).count()
 }
 
-/// The least of so many actors of whom there isn't exactly one pass, or else the number of a pass that is none of theirs.
+/// Returns the least actor that doesn't have exactly one pass. If each has one, returns the number of a pass that is no actor's.
 pub(crate) fn stranger<V: Copy>(passes: &[Pass<V>], actors: u32) -> Option<u32>
     ensures none { IfNone result (AreAllHere actors passes.now) }
     ensures some { IfSome result (IsStranger actors passes.now) }
@@ -32,7 +32,7 @@ pub(crate) fn stranger<V: Copy>(passes: &[Pass<V>], actors: u32) -> Option<u32>
     None
 }
 
-/// Says to a caller that each pass is an actor's.
+/// Changes nothing. Its contract gives the caller's proof that each pass is an actor's.
 pub(crate) fn known<V: Copy>(passes: &[Pass<V>])
     ensures { Each (λ pass. pass.actor < MOST_ACTORS) passes.now }
 {

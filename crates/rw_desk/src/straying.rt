@@ -1,4 +1,4 @@
-//! The receipts of all passes beside one run, followed in one walk.
+//! Comparing the receipts of all passes with a run, in one walk over its entries.
 
 ghost use Rattle.std.specs.Prelude.{◌≡◌, ◌↔◌, ◌+◌, ◌<◌, ◌≤◌, Some, ℕ, get_or, length, replicate, set, slice_get, IfNone, IfSome, IsTrue, MatchBool};
 ghost use Rattle.rw_law.specs.declared.limits.TheConstants.{MOST_ACTORS};
@@ -13,14 +13,14 @@ use rw_journal::Run;
 use rw_law::{Entry, MOST_ACTORS, Payload};
 use rw_world::World;
 
-/// The least actor that was seen to stray, or the number past all actors, and the first place at which it does.
+/// The least actor that was found to stray, and the first place at which it does. The actor is `MOST_ACTORS` if none was found.
 #[derive(Clone, Copy)]
 struct FirstStray {
     actor: u32,
     place: usize,
 }
 
-/// The receipts of an actor's first pass; a number without a pass has none.
+/// Returns the receipts of an actor's first pass, or none if it has no pass.
 fn receipts_of<V: Copy>(passes: &[Pass<V>], actor: u32) -> &[Kept<V>]
     ensures { result.now ≡ receipts_of actor passes.now }
 {
@@ -32,7 +32,7 @@ fn receipts_of<V: Copy>(passes: &[Pass<V>], actor: u32) -> &[Kept<V>]
     &[]
 }
 
-/// Moves the place of the entry's actor on, if its next receipt is the entry's.
+/// Advances the place of the entry's actor if its next receipt is the entry's. Returns whether it is.
 fn follow<V: Payload>(passes: &[Pass<V>], places: &mut [usize], entry: &Entry<World<V>>) -> bool
     requires { entry.now.actor < length places.old }
     ensures same { IsTrue result ↔ (slice_get (receipts_of entry.now.actor passes.now) (get_or places.old entry.now.actor 0) ≡ Some (receipt_of entry.now)) }
@@ -47,7 +47,7 @@ fn follow<V: Payload>(passes: &[Pass<V>], places: &mut [usize], entry: &Entry<Wo
     true
 }
 
-/// Follows the receipts of all actors. One that strays is left where it does, with all greater ones.
+/// Follows the receipts of all actors. Once an actor strays, neither it nor any greater one is followed further.
 fn follow_all<V: Payload>(
     passes: &[Pass<V>],
     entries: &[Entry<World<V>>],
@@ -74,7 +74,7 @@ fn follow_all<V: Payload>(
     nearest
 }
 
-/// The least actor below a bound who has a receipt at its place.
+/// Returns the least actor below a bound that has receipts left from its place on.
 fn first_left<V: Copy>(passes: &[Pass<V>], places: &[usize], bound: u32) -> Option<u32>
     requires { bound ≤ length places.now }
     ensures none { IfNone result ((a : ℕ) → a < bound → length (receipts_of a passes.now) ≤ get_or places.now a 0) }
@@ -89,7 +89,7 @@ fn first_left<V: Copy>(passes: &[Pass<V>], places: &[usize], bound: u32) -> Opti
     None
 }
 
-/// The least actor whose receipts aren't its entries, and the first place at which they differ.
+/// Returns the least actor whose receipts aren't its entries, and the first place at which they differ.
 pub(crate) fn strayed<V: Payload>(
     entries: &[Entry<World<V>>],
     passes: &[Pass<V>],

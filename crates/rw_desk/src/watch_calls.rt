@@ -14,7 +14,7 @@ use rw_world::{ChanCall, ChanReply};
 use std::sync::Wait;
 
 impl<V: Payload> Desk<V> {
-    /// A call of a watch channel.
+    /// Makes a call of a watch channel.
     pub(crate) fn w_call<R: Wait>(
         &self,
         rt: &R,
@@ -30,7 +30,7 @@ impl<V: Payload> Desk<V> {
         }
     }
 
-    /// A call of a watch channel, which waits where the answer would be `Waits`.
+    /// Makes a call of a watch channel, and blocks while its reply would be `Waits`.
     pub(crate) fn w_wait<R: Wait>(
         &self,
         rt: &R,
@@ -47,7 +47,7 @@ impl<V: Payload> Desk<V> {
         }
     }
 
-    /// A call of a watch channel that makes a receiver.
+    /// Makes a receiver, by this call of a watch channel.
     fn w_new_receiver<R: Wait>(
         &self,
         rt: &R,
@@ -63,7 +63,7 @@ impl<V: Payload> Desk<V> {
         }
     }
 
-    /// Writes a value and tells the receivers, if there are any.
+    /// Writes a value and notifies the receivers. If there are none, the value is returned.
     pub fn w_send<R: Wait>(
         &self,
         rt: &R,
@@ -76,7 +76,7 @@ impl<V: Payload> Desk<V> {
         self.w_call(rt, pass, sender.channel, WCall::Send(sender.number, value))
     }
 
-    /// Writes a value and tells the receivers, and gets the value from before.
+    /// Writes a value, notifies the receivers, and returns the previous value.
     pub fn w_send_replace<R: Wait>(
         &self,
         rt: &R,
@@ -122,7 +122,7 @@ impl<V: Payload> Desk<V> {
         }
     }
 
-    /// Makes a receiver that has seen what this one has.
+    /// Makes a receiver that has seen what this one has seen.
     pub fn w_clone_receiver<R: Wait>(
         &self,
         rt: &R,
@@ -163,7 +163,7 @@ impl<V: Payload> Desk<V> {
         self.w_call(rt, pass, sender.channel, WCall::Borrow(sender.number))
     }
 
-    /// Reads the value, which the receiver then has seen.
+    /// Reads the value, and marks it as seen by the receiver.
     pub fn w_update<R: Wait>(
         &self,
         rt: &R,
@@ -175,7 +175,7 @@ impl<V: Payload> Desk<V> {
         self.w_call(rt, pass, receiver.channel, WCall::Update(receiver.number))
     }
 
-    /// Asks whether the receiver has not seen the value.
+    /// Checks if the receiver has not seen the value.
     pub fn w_has_changed<R: Wait>(
         &self,
         rt: &R,
@@ -205,7 +205,7 @@ impl<V: Payload> Desk<V> {
         self.w_wait(rt, pass, receiver.channel, WCall::Changed(receiver.number))
     }
 
-    /// Lets the receiver not have seen the value.
+    /// Marks the value as not seen by the receiver.
     pub fn w_mark_changed<R: Wait>(
         &self,
         rt: &R,
@@ -222,7 +222,7 @@ impl<V: Payload> Desk<V> {
         )
     }
 
-    /// Lets the receiver have seen the value.
+    /// Marks the value as seen by the receiver.
     pub fn w_mark_unchanged<R: Wait>(
         &self,
         rt: &R,
@@ -239,7 +239,7 @@ impl<V: Payload> Desk<V> {
         )
     }
 
-    /// Drops a sender. Beside a fault it comes back.
+    /// Drops a sender. At a fault the sender is returned.
     pub fn w_drop_sender<R: Wait>(
         &self,
         rt: &R,
@@ -254,7 +254,7 @@ impl<V: Payload> Desk<V> {
         }
     }
 
-    /// Drops a receiver. Beside a fault it comes back.
+    /// Drops a receiver. At a fault the receiver is returned.
     pub fn w_drop_receiver<R: Wait>(
         &self,
         rt: &R,
@@ -274,7 +274,7 @@ impl<V: Payload> Desk<V> {
         }
     }
 
-    /// Asks how many receivers are alive.
+    /// Returns how many receivers are alive.
     pub fn w_receiver_count<R: Wait>(
         &self,
         rt: &R,
@@ -291,7 +291,7 @@ impl<V: Payload> Desk<V> {
         )
     }
 
-    /// Asks whether no receiver is alive.
+    /// Checks if no receiver is alive.
     pub fn w_is_closed<R: Wait>(
         &self,
         rt: &R,

@@ -17,8 +17,8 @@ use rw_world::{ChanCall, ChanReply};
 use std::sync::Wait;
 
 impl<V: Payload> Desk<V> {
-    /// Stores what f makes of the value, and tells the receivers of it if f answers true. f runs under the channel's lock, after
-    /// all growths. Where the handle is refused, f isn't called, and the receipt holds the value as it is, told no.
+    /// Modifies the value with f, and notifies the receivers if f returns true. f runs under the channel's lock, after all memory
+    /// is allocated. If the handle is refused, f isn't called, and the receipt has the value unchanged, with `told` false.
     pub fn w_send_if_modified<R: Wait, F: FnOnce(&mut V) -> bool>(
         &self,
         rt: &R,
@@ -34,7 +34,7 @@ impl<V: Payload> Desk<V> {
         self.w_modify(rt, pass, sender, f)
     }
 
-    /// Stores what f makes of the value, and tells the receivers of it. f runs as in `w_send_if_modified`.
+    /// Modifies the value with f, and notifies the receivers. f runs as in `w_send_if_modified`.
     pub fn w_send_modify<R: Wait, F: FnOnce(&mut V)>(
         &self,
         rt: &R,
@@ -50,8 +50,8 @@ impl<V: Payload> Desk<V> {
         self.w_modify(rt, pass, sender, f)
     }
 
-    /// Waits for a value of which f is true, which the receiver then has seen. Each read of a value, and each wait for a change
-    /// between two of them, is a call of its own; those before a fault stand.
+    /// Waits for a value for which f returns true, and marks it as seen by the receiver. Each read of a value, and each wait for
+    /// a change between two reads, is a separate call. At a fault the calls before it stay recorded.
     pub fn w_wait_for<R: Wait, F: Fn(&V) -> bool>(
         &self,
         rt: &R,
@@ -72,7 +72,7 @@ impl<V: Payload> Desk<V> {
         unreachable!()
     }
 
-    /// Reads the value, and where f is false of it waits for a change. `None`: there was a change.
+    /// Reads the value, and waits for a change if f returns false for it. `None`: there was a change.
     fn w_try_for<R: Wait, F: Fn(&V) -> bool>(
         &self,
         rt: &R,
@@ -101,7 +101,7 @@ impl<V: Payload> Desk<V> {
         }
     }
 
-    /// Stores what f makes of the value.
+    /// Modifies the value with f.
     fn w_modify<R: Wait, T: Told, F: FnOnce(&mut V) -> T>(
         &self,
         rt: &R,

@@ -1,4 +1,4 @@
--- A recording may cross threads: all that it holds may.
+-- A recording may cross threads, since all that it has may.
 use denote.Builtin.{u64}
 use denote.Param.Send.{IsSend, struct_send, recorded_send, view_send, sendable}
 use denote.Struct.Declared as Declared

@@ -1,4 +1,4 @@
--- The numbers by which answers cross to C, which has no enums: a kind, and what the reply carries.
+-- The numbers by which results cross to C: a kind of reply, and what the reply carries.
 use Rattle.std.specs.Prelude.{ℕ, Bool, true, false, Option, Some, None, Result, Ok, Err}
 use Rattle.rw_broadcast.specs.declared.calls.BReply.{BReply}
 use Rattle.rw_broadcast.specs.declared.calls.BReply.TheVariants as b
@@ -50,7 +50,7 @@ watch_numbers (w.Told t) = (16, flag t)
 watch_numbers (w.Flag t) = (17, flag t)
 watch_numbers w.Done = (18, 0)
 
--- the numbers of a reply; each has numbers of its own
+-- the numbers of a reply; no two replies of one kind of channel have the same
 abbrev pub numbers_of : ChanReply ℕ → ℕ × ℕ
 numbers_of (B reply) = broadcast_numbers reply
 numbers_of (W reply) = watch_numbers reply
@@ -63,7 +63,7 @@ fault_numbers take.NoChannel = (19, 0)
 fault_numbers take.JournalFull = (20, 0)
 fault_numbers take.NoMemory = (21, 0)
 
--- 0 where it was done, or the fault's number
+-- 0 if it was done, or the fault's number
 abbrev pub number_of : Result (Unit {0}) Fault → ℕ
 number_of (Ok done) = 0
 number_of (Err fault.BadCapacity) = 1
@@ -72,7 +72,7 @@ number_of (Err fault.NoChannels) = 3
 number_of (Err fault.TooManyChannels) = 4
 number_of (Err fault.OutOfOrder) = 5
 
--- whether there is a number, and the number, 0 where there is none
+-- 1 and the number, or 0 and 0 if there is none
 abbrev pub found_number : Option ℕ → ℕ × ℕ
 found_number None = (0, 0)
 found_number (Some n) = (1, n)

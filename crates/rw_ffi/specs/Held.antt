@@ -1,4 +1,4 @@
--- What a `Held` owns: nothing, or what a box of a recording does.
+-- What a `Held` owns: nothing, or what a box of a recording owns.
 use Rattle.std.specs.Prelude.{Option, Some, None}
 use base.Fml.{Fml, ftrue}
 use base.Stored.{Coded}

@@ -1,4 +1,4 @@
--- What a `HeldCut` owns: nothing, or what a box of a cut does.
+-- What a `HeldCut` owns: nothing, or what a box of a cut owns.
 use Rattle.std.specs.Prelude.{Option, Some, None}
 use base.Fml.{Fml, ftrue}
 use base.Stored.{Coded}

@@ -1,4 +1,4 @@
-//! The numbers by which answers cross.
+//! The numbers by which results cross to C.
 
 ghost use Rattle.std.specs.Prelude.{◌≡◌};
 ghost use Rattle.rw_ffi.specs.Answers.{broadcast_numbers, fault_numbers, found_number, number_of, numbers_of, watch_numbers};
@@ -9,7 +9,7 @@ use rw_law::NoMemory;
 use rw_watch::WReply;
 use rw_world::ChanReply;
 
-/// What a call answers: a kind of reply, and what the reply carries.
+/// What a call returns: a kind of reply, and the number that the reply carries.
 #[repr(C)]
 #[derive(Drop)]
 pub struct Answer {
@@ -17,7 +17,7 @@ pub struct Answer {
     pub number: u64,
 }
 
-/// A number that there may be: `is_some` is 1 where there is one.
+/// An optional number: `is_some` is 1 if there is one.
 #[repr(C)]
 #[derive(Drop)]
 pub struct Found {
@@ -25,18 +25,18 @@ pub struct Found {
     pub number: u64,
 }
 
-/// Why something wasn't done.
+/// Why a channel isn't opened, or a cut isn't changed.
 #[derive(Clone, Copy, Debug, PartialEq, Eq)]
 pub enum Fault {
     /// The capacity is 0 or above 65,536.
     BadCapacity,
-    /// A growth was refused.
+    /// An allocation failed.
     NoMemory,
     /// There is no channel.
     NoChannels,
     /// There are 64 channels already.
     TooManyChannels,
-    /// The journals don't stand in one order.
+    /// The stamps don't put the journals' entries into one order.
     OutOfOrder,
 }
 
@@ -97,7 +97,7 @@ fn of_watch(reply: &WReply<u64>) -> (u32, u64)
 }
 
 impl Answer {
-    /// The answer of a call that was made.
+    /// Makes the `Answer` of a call that was made.
     pub fn of(reply: &ChanReply<u64>) -> Answer
         ensures { (result.kind, result.number) ≡ numbers_of reply.now }
     {
@@ -109,7 +109,7 @@ impl Answer {
         Answer { kind, number }
     }
 
-    /// The answer of a call that wasn't made.
+    /// Makes the `Answer` of a call that wasn't made.
     pub fn refused(fault: TakeFault) -> Answer
         ensures { (result.kind, result.number) ≡ fault_numbers fault }
     {
@@ -137,7 +137,7 @@ impl Found {
     }
 }
 
-/// The number of an outcome.
+/// Returns the number of an outcome.
 pub fn number_of(outcome: Result<(), Fault>) -> u32
     ensures { result ≡ number_of outcome }
 {

@@ -124,7 +124,7 @@ pub extern "C" fn yovanelum_broadcast_try_recv(
     )
 }
 
-/// A receiver receives a value; where there is none yet, the call would wait.
+/// A receiver receives a value. If there is none yet, the call would wait.
 #[unsafe(no_mangle)]
 pub extern "C" fn yovanelum_broadcast_recv(
     alloc: Global,
@@ -168,7 +168,7 @@ pub extern "C" fn yovanelum_broadcast_drop(
     )
 }
 
-/// A sender asks how many values are queued.
+/// A sender reads how many values are queued.
 #[unsafe(no_mangle)]
 pub extern "C" fn yovanelum_broadcast_sender_len(
     alloc: Global,
@@ -190,7 +190,7 @@ pub extern "C" fn yovanelum_broadcast_sender_len(
     )
 }
 
-/// A sender asks how many receivers are alive.
+/// A sender reads how many receivers are alive.
 #[unsafe(no_mangle)]
 pub extern "C" fn yovanelum_broadcast_receiver_count(
     alloc: Global,
@@ -212,7 +212,7 @@ pub extern "C" fn yovanelum_broadcast_receiver_count(
     )
 }
 
-/// A receiver asks how many values it has yet to receive.
+/// A receiver reads how many values it has yet to receive.
 #[unsafe(no_mangle)]
 pub extern "C" fn yovanelum_broadcast_receiver_len(
     alloc: Global,

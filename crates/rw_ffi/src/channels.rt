@@ -1,4 +1,4 @@
-//! Channels that are held: opened, recorded no more, and dropped.
+//! Opening and dropping channels that are held, and ending their recording.
 
 ghost use Rattle.std.specs.Prelude.{◌≡◌, None, IsNone, IsSome};
 ghost use Rattle.rw_world.specs.declared.opening.Spec.{Spec};
@@ -29,9 +29,9 @@ fn open(alloc: Global, held: &mut Held, spec: Spec<u64>) -> Result<(), Fault>
     }
 }
 
-/// Opens a broadcast of this capacity, with a sender, 0, and a receiver, 1. Its calls are recorded.
+/// Opens a broadcast of this capacity, with sender 0 and receiver 1. Its calls are recorded.
 ///
-/// 0: it is held. 1: the capacity is 0 or above 65,536. 2: there is no memory. At 1 and 2 nothing is held.
+/// Returns 0 if it is held, 1 if the capacity is 0 or above 65,536, or 2 if there is no memory. At 1 and 2 nothing is held.
 #[unsafe(no_mangle)]
 pub extern "C" fn yovanelum_open_broadcast(alloc: Global, held: &mut Held, capacity: u32) -> u32
     requires { IsNone held.old.value }
@@ -40,9 +40,9 @@ pub extern "C" fn yovanelum_open_broadcast(alloc: Global, held: &mut Held, capac
     number_of(open(alloc, held, Spec::Broadcast(capacity)))
 }
 
-/// Opens a watch of this value, with a sender, 0, and a receiver, 1, which has seen it. Its calls are recorded.
+/// Opens a watch of this value, with sender 0 and receiver 1, which has seen the value. Its calls are recorded.
 ///
-/// 0: it is held. 2: there is no memory, and nothing is held.
+/// Returns 0 if it is held, or 2 if there is no memory and nothing is held.
 #[unsafe(no_mangle)]
 pub extern "C" fn yovanelum_open_watch(alloc: Global, held: &mut Held, value: u64) -> u32
     requires { IsNone held.old.value }
@@ -51,7 +51,7 @@ pub extern "C" fn yovanelum_open_watch(alloc: Global, held: &mut Held, value: u6
     number_of(open(alloc, held, Spec::Watch(value)))
 }
 
-/// Ends recording: calls are made as before, and leave no entry any more.
+/// Ends recording: later calls are made as before, and not recorded.
 #[unsafe(no_mangle)]
 pub extern "C" fn yovanelum_end(alloc: Global, held: &mut Held)
     requires { IsSome held.old.value }

@@ -10,7 +10,7 @@ use crate::held_cut::HeldCut;
 use std::alloc::Global;
 use std::mem;
 
-/// Opens a cut without channels. True: it is held. False: there is no memory, and nothing is held.
+/// Opens a cut without channels. Returns `true` if it is held, or `false` if there is no memory and nothing is held.
 #[unsafe(no_mangle)]
 pub extern "C" fn yovanelum_cut_open(alloc: Global, cut: &mut HeldCut) -> bool
     requires { IsNone cut.old.value }
@@ -25,9 +25,9 @@ pub extern "C" fn yovanelum_cut_open(alloc: Global, cut: &mut HeldCut) -> bool
     }
 }
 
-/// Adds a channel to a cut, with its journal up to the first entry that is stamped above `last`.
+/// Adds a channel to a cut, with its entries before the first that is stamped above `last`.
 ///
-/// 0: it was added. 2: there is no memory. 4: there are 64 channels already. At 2 and 4 the cut is as it was.
+/// Returns 0 if it was added, 2 if there is no memory, or 4 if there are 64 channels already. At 2 and 4 the cut is unchanged.
 #[unsafe(no_mangle)]
 pub extern "C" fn yovanelum_cut_add(
     alloc: Global,
@@ -48,10 +48,11 @@ pub extern "C" fn yovanelum_cut_add(
     number_of(outcome)
 }
 
-/// Merges the journals of a cut's channels into one run, and keeps its text.
+/// Merges the journals of a cut's channels into one run, and stores its text.
 ///
-/// 0: the text is that of the run of these channels that holds each entry of their journals once. 2: there is no memory. 3: there
-/// are no channels. 5: the stamps don't put the entries into one order. At 2, 3 and 5 the cut is as it was.
+/// Returns 0 if the text is stored, which is that of the run of these channels that has each entry of their journals once.
+/// Returns 2 if there is no memory, 3 if there are no channels, or 5 if the stamps don't put the entries into one order. At 2, 3
+/// and 5 the cut is unchanged.
 #[unsafe(no_mangle)]
 pub extern "C" fn yovanelum_cut_merge(alloc: Global, cut: &mut HeldCut) -> u32
     requires { IsSome cut.old.value }
@@ -63,7 +64,7 @@ pub extern "C" fn yovanelum_cut_merge(alloc: Global, cut: &mut HeldCut) -> u32
     number_of(outcome)
 }
 
-/// How many bytes the text has.
+/// Returns how many bytes the text has.
 #[unsafe(no_mangle)]
 pub extern "C" fn yovanelum_cut_text_len(alloc: Global, cut: &mut HeldCut) -> u64
     requires { IsSome cut.old.value }
@@ -76,7 +77,7 @@ pub extern "C" fn yovanelum_cut_text_len(alloc: Global, cut: &mut HeldCut) -> u6
     len
 }
 
-/// Copies the text, where the room has just its length. False: it hasn't, and is as it was.
+/// Copies the text into `room` if `room` has exactly its length. Otherwise it returns `false`, and `room` is unchanged.
 #[unsafe(no_mangle)]
 pub extern "C" fn yovanelum_cut_text(alloc: Global, cut: &mut HeldCut, room: &mut [u8]) -> bool
     requires { IsSome cut.old.value }

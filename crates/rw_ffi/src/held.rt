@@ -9,10 +9,10 @@ use rw_parts::Parts;
 use std::alloc::Global;
 use std::marker::Model;
 
-/// The address of a recording, or null where none is held.
+/// The address of a recording, or null if none is held.
 ///
-/// To C it is one pointer that C gives to one call at a time and never reads, writes or copies. A full one is emptied by the
-/// call that frees it, and by nothing else: what `also_owns` covers isn't dropped with it.
+/// To C it is one pointer, which C passes to one call at a time and never reads, writes or copies. Only the call that frees it
+/// empties a full one: what `also_owns` covers isn't dropped with it.
 #[repr(C)]
 #[derive(Drop)]
 pub struct Held {
@@ -28,7 +28,7 @@ impl Model for Held {
 unsafe impl Send for Held {}
 
 impl Held {
-    /// Nothing.
+    /// Makes a `Held` that holds nothing.
     pub fn empty(alloc: Global) -> Held
         ensures { result.value ≡ None }
     {

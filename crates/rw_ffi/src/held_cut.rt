@@ -9,7 +9,7 @@ use rw_parts::Parts;
 use std::alloc::Global;
 use std::marker::Model;
 
-/// The address of a cut, or null where none is held. It is to C what a `Held` is, and stays on its thread.
+/// The address of a cut, or null if none is held. To C it is like a `Held`, but it stays on its thread.
 #[repr(C)]
 #[derive(Drop)]
 pub struct HeldCut {
@@ -23,7 +23,7 @@ impl Model for HeldCut {
 }
 
 impl HeldCut {
-    /// Nothing.
+    /// Makes a `HeldCut` that holds nothing.
     pub fn empty(alloc: Global) -> HeldCut
         ensures { result.value ≡ None }
     {

@@ -1,4 +1,4 @@
-//! Questions to the channel that is held: none is a call of it, and none leaves an entry.
+//! Readers of the channel that is held. None is a call of it, and none adds an entry.
 
 ghost use Rattle.std.specs.Prelude.{◌≡◌, IsSome};
 ghost use Rattle.rw_handles.specs.declared.kinds.Kind.TheVariants.{Receiver, Sender, Weak};
@@ -10,7 +10,7 @@ use rw_handles::Kind;
 use std::alloc::Global;
 use std::mem;
 
-/// How many entries the journal has.
+/// Returns how many entries the journal has.
 #[unsafe(no_mangle)]
 pub extern "C" fn yovanelum_entries(alloc: Global, held: &mut Held) -> u64
     requires { IsSome held.old.value }
@@ -23,7 +23,7 @@ pub extern "C" fn yovanelum_entries(alloc: Global, held: &mut Held) -> u64
     answer
 }
 
-/// How many senders are alive.
+/// Returns how many senders are alive.
 #[unsafe(no_mangle)]
 pub extern "C" fn yovanelum_senders(alloc: Global, held: &mut Held) -> u64
     requires { IsSome held.old.value }
@@ -36,7 +36,7 @@ pub extern "C" fn yovanelum_senders(alloc: Global, held: &mut Held) -> u64
     answer
 }
 
-/// How many weak senders are alive.
+/// Returns how many weak senders are alive.
 #[unsafe(no_mangle)]
 pub extern "C" fn yovanelum_weak_senders(alloc: Global, held: &mut Held) -> u64
     requires { IsSome held.old.value }
@@ -49,7 +49,7 @@ pub extern "C" fn yovanelum_weak_senders(alloc: Global, held: &mut Held) -> u64
     answer
 }
 
-/// How many receivers are alive.
+/// Returns how many receivers are alive.
 #[unsafe(no_mangle)]
 pub extern "C" fn yovanelum_receivers(alloc: Global, held: &mut Held) -> u64
     requires { IsSome held.old.value }
@@ -62,8 +62,8 @@ pub extern "C" fn yovanelum_receivers(alloc: Global, held: &mut Held) -> u64
     answer
 }
 
-/// How many values a broadcast retains that some live receiver has yet to receive: the value at a position is still wanted exactly
-/// where it is one of so many last ones. It looks at each handle.
+/// Returns how many values a broadcast retains that some live receiver has yet to receive. They are the last ones that were sent.
+/// It reads every handle.
 #[unsafe(no_mangle)]
 pub extern "C" fn yovanelum_queued(alloc: Global, held: &mut Held) -> u64
     requires { IsSome held.old.value }
@@ -76,7 +76,7 @@ pub extern "C" fn yovanelum_queued(alloc: Global, held: &mut Held) -> u64
     answer
 }
 
-/// The position of a live receiver of a broadcast: how many of all the values sent lie behind it.
+/// Returns the position of a live receiver of a broadcast: how many values were sent before the one that it receives next.
 #[unsafe(no_mangle)]
 pub extern "C" fn yovanelum_position(alloc: Global, held: &mut Held, receiver: u32) -> Found
     requires { IsSome held.old.value }
@@ -89,7 +89,7 @@ pub extern "C" fn yovanelum_position(alloc: Global, held: &mut Held, receiver: u
     answer
 }
 
-/// How many values a live receiver of a broadcast has yet to receive.
+/// Returns how many values a live receiver of a broadcast has yet to receive, including evicted ones.
 #[unsafe(no_mangle)]
 pub extern "C" fn yovanelum_unread(alloc: Global, held: &mut Held, receiver: u32) -> Found
     requires { IsSome held.old.value }
@@ -102,7 +102,7 @@ pub extern "C" fn yovanelum_unread(alloc: Global, held: &mut Held, receiver: u32
     answer
 }
 
-/// Whether a live receiver of a watch has seen its value: 1 for yes, 0 for no.
+/// Returns 1 if a live receiver of a watch has seen its value, and 0 if it hasn't.
 #[unsafe(no_mangle)]
 pub extern "C" fn yovanelum_seen(alloc: Global, held: &mut Held, receiver: u32) -> Found
     requires { IsSome held.old.value }

@@ -10,7 +10,7 @@ use rw_world::ChanCall;
 use std::alloc::Global;
 use std::mem;
 
-/// Makes a call of the channel that is held. While its calls are recorded it is recorded, unless it would wait.
+/// Makes a call of the channel that is held. Until recording ends, the call is recorded, unless it would wait.
 pub fn take(alloc: Global, held: &mut Held, actor: u32, clock: u64, call: ChanCall<u64>) -> Answer
     requires held { IsSome held.old.value }
     requires actor { actor < MOST_ACTORS }

@@ -13,7 +13,7 @@ use rw_watch::WCall;
 use rw_world::ChanCall;
 use std::alloc::Global;
 
-/// A sender writes a value and tells the receivers, if there are any.
+/// A sender writes a value and notifies the receivers. If there are none, the value is returned.
 #[unsafe(no_mangle)]
 pub extern "C" fn yovanelum_watch_send(
     alloc: Global,
@@ -36,7 +36,7 @@ pub extern "C" fn yovanelum_watch_send(
     )
 }
 
-/// A sender writes a value and tells the receivers, and gets the value from before.
+/// A sender writes a value, notifies the receivers, and gets the previous value.
 #[unsafe(no_mangle)]
 pub extern "C" fn yovanelum_watch_send_replace(
     alloc: Global,
@@ -59,7 +59,7 @@ pub extern "C" fn yovanelum_watch_send_replace(
     )
 }
 
-/// A sender writes a value, of which the receivers are told or not.
+/// A sender writes a value, and notifies the receivers if `told` is true.
 #[unsafe(no_mangle)]
 pub extern "C" fn yovanelum_watch_modify(
     alloc: Global,
@@ -131,7 +131,7 @@ pub extern "C" fn yovanelum_watch_clone_sender(
     )
 }
 
-/// A receiver makes another, which has seen what this one has.
+/// A receiver makes another, which has seen what this one has seen.
 #[unsafe(no_mangle)]
 pub extern "C" fn yovanelum_watch_clone_receiver(
     alloc: Global,
@@ -175,7 +175,7 @@ pub extern "C" fn yovanelum_watch_borrow(
     )
 }
 
-/// A receiver reads the value, which it then has seen.
+/// A receiver reads the value, and marks it as seen.
 #[unsafe(no_mangle)]
 pub extern "C" fn yovanelum_watch_update(
     alloc: Global,
@@ -197,7 +197,7 @@ pub extern "C" fn yovanelum_watch_update(
     )
 }
 
-/// A receiver asks whether it hasn't seen the value.
+/// A receiver checks if it hasn't seen the value.
 #[unsafe(no_mangle)]
 pub extern "C" fn yovanelum_watch_has_changed(
     alloc: Global,
@@ -219,7 +219,7 @@ pub extern "C" fn yovanelum_watch_has_changed(
     )
 }
 
-/// A receiver sees a value that it hasn't seen; where it has, the call would wait.
+/// A receiver marks a value as seen that it hasn't seen. If it has, the call would wait.
 #[unsafe(no_mangle)]
 pub extern "C" fn yovanelum_watch_changed(
     alloc: Global,
@@ -241,7 +241,7 @@ pub extern "C" fn yovanelum_watch_changed(
     )
 }
 
-/// Makes the value one that the receiver hasn't seen.
+/// Marks the value as not seen by the receiver.
 #[unsafe(no_mangle)]
 pub extern "C" fn yovanelum_watch_mark_changed(
     alloc: Global,
@@ -263,7 +263,7 @@ pub extern "C" fn yovanelum_watch_mark_changed(
     )
 }
 
-/// Makes the value one that the receiver has seen.
+/// Marks the value as seen by the receiver.
 #[unsafe(no_mangle)]
 pub extern "C" fn yovanelum_watch_mark_unchanged(
     alloc: Global,
@@ -307,7 +307,7 @@ pub extern "C" fn yovanelum_watch_drop(
     )
 }
 
-/// A sender asks how many receivers are alive.
+/// A sender reads how many receivers are alive.
 #[unsafe(no_mangle)]
 pub extern "C" fn yovanelum_watch_receiver_count(
     alloc: Global,
@@ -329,7 +329,7 @@ pub extern "C" fn yovanelum_watch_receiver_count(
     )
 }
 
-/// A sender asks whether no receiver is alive.
+/// A sender checks if no receiver is alive.
 #[unsafe(no_mangle)]
 pub extern "C" fn yovanelum_watch_is_closed(
     alloc: Global,
@@ -351,7 +351,7 @@ pub extern "C" fn yovanelum_watch_is_closed(
     )
 }
 
-/// Done where no receiver is alive; else the call would wait.
+/// Replies `Done` if no receiver is alive. Otherwise the call would wait.
 #[unsafe(no_mangle)]
 pub extern "C" fn yovanelum_watch_closed(
     alloc: Global,

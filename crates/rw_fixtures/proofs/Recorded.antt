@@ -1,4 +1,4 @@
--- A step that was taken can be recorded.
+-- A step that was made can be recorded.
 use Rattle.std.proofs.Common.{◌≡◌, List, [], ◌∷◌, ◌++◌, sym, ◌∙◌, ap, subst}
 use Rattle.rw_law.specs.declared.machine.Reversible.{Ghosts}
 use Rattle.rw_law.specs.declared.journal.Entry.{Entry}

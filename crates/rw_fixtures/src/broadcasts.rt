@@ -1,10 +1,10 @@
-//! What the readers of a broadcast channel answer.
+//! What the readers of a broadcast channel return.
 
 use crate::showing::Shows;
 use rw_broadcast::Broadcast;
 use rw_handles::Kind;
 
-/// What the readers answer at a place: of the first values of the window and of the first handles.
+/// What the readers return at a place, for the first values of the window and for the first handles.
 #[derive(Clone, Copy, Debug, PartialEq)]
 pub struct Place {
     pub capacity: u64,
@@ -15,7 +15,7 @@ pub struct Place {
     pub closed: bool,
     pub window: [Option<u64>; 5],
     pub kinds: [Option<Kind>; 3],
-    /// Position, unread and lag, of a receiver.
+    /// Position, unread and lag of each receiver.
     pub receivers: [Option<(u64, u64, u64)>; 3],
 }
 
@@ -47,7 +47,7 @@ impl Shows for Broadcast<u64> {
     }
 }
 
-/// What a channel of this capacity shows at its opening.
+/// Returns what a channel of this capacity shows at its opening.
 pub fn opening(capacity: u64) -> Place {
     Place {
         capacity,

@@ -6,8 +6,8 @@ ghost use Rattle.rw_law.specs.Journal.{IsLegal, IsStep};
 use rw_law::{Entry, MOST_ACTORS, MOST_STAMP, NoMemory, Reversible};
 use std::alloc::Global;
 
-/// Makes the calls in order, each by its actor and at its stamp, and records them: up to the first that would wait or stray, or
-/// whose actor or stamp is above the greatest.
+/// Makes the calls in order, each by its actor and at its stamp, and records them. It stops at the first that would wait or
+/// stray, or whose actor or stamp is above its limit.
 pub fn record<R: Reversible>(
     alloc: Global,
     machine: &mut R,

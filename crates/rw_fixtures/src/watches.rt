@@ -1,10 +1,10 @@
-//! What the readers of a watch channel answer.
+//! What the readers of a watch channel return.
 
 use crate::showing::Shows;
 use rw_handles::Kind;
 use rw_watch::Watch;
 
-/// What the readers answer at a place: of the channel, and of its first handles.
+/// What the readers return at a place, for the channel and for its first handles.
 #[derive(Clone, Copy, Debug, PartialEq)]
 pub struct Place {
     pub version: u64,
@@ -12,7 +12,7 @@ pub struct Place {
     pub made: u32,
     pub closed: bool,
     pub kinds: [Option<Kind>; 3],
-    /// The mark of a receiver, and whether it has seen the value.
+    /// The mark of each receiver, and whether it has seen the value.
     pub receivers: [Option<(Option<u64>, bool)>; 3],
 }
 
@@ -35,7 +35,7 @@ impl Shows for Watch<u64> {
     }
 }
 
-/// What a channel of this value shows at its opening.
+/// Returns what a channel of this value shows at its opening.
 pub fn opening(value: u64) -> Place {
     Place {
         version: 0,

@@ -1,4 +1,4 @@
--- For the end of a hand-off.
+-- For closing a hand-off.
 use Rattle.std.proofs.Common.{◌≡◌, ◌≢◌, ◌⊎◌, ℕ, zero, suc, ◌<◌, List, [], ◌∷◌, ◌++◌, map, length, get_or, take, All, Option, Some, false, sym, ap, ◌∙◌, subst, inl, inr, ⊎_elim, arith}
 use Rattle.std.proofs.lemmas.List.{map-append}
 use Rattle.std.proofs.lemmas.List.Elements.{All-pop, All-same, All-nil}
@@ -36,7 +36,7 @@ module _ {S : Type 0} (f : S → ℕ) where
 pub all_popped : {S : Type 0} (P : S → Type 0) (xs ys : List S) (x : S) → xs ≡ ys ++ x ∷ [] → All P xs → All P ys × P x
 all_popped P xs ys x is all = All-pop P xs ys (Some x) is all
 
--- what is looked for is in neither, once both are counted
+-- a number that is m or is in v is in v ++ w, where w has m alone
 pub in_rest : (n : ℕ) (v w : List ℕ) (A : Type 0) (m : ℕ) → w ≡ m ∷ [] → (A ⊎ (n ≡ m)) ⊎ IsIn n v → A ⊎ IsIn n (v ++ w)
 in_rest n v w A m is (inl (inl a)) = inl a
 in_rest n v w A m is (inl (inr e)) = inr (in_right n v w (subst (IsIn n) (sym is) (inl e)))
@@ -63,7 +63,7 @@ module _ {E S : Type 0} (author : E → ℕ) where
   pub known_one : (h : List E) (v : View E S) (n : ℕ) → v.numbers ≡ n ∷ [] → Known author h v → IsQuiet author (n ∷ []) v.front h
   known_one h v n is k = subst (λ (ns : List ℕ). IsQuiet author ns v.front h) is k.0
 
--- what is known once every seat was joined
+-- what is known once all seats are joined
 pub ended : {B E S X : Type 0} (author : E → ℕ) (start : B → S) (journal : B → List E) (o : S) (seats count id : ℕ) (v : View E S) (ws : List ℕ) (xs : List (Option B)) (f : X → ℕ) (all left : List X) → seats ≡ count → v.held ≡ false
     → left ≡ [] → ((n : ℕ) → IsIn n (map f all) → IsIn n (map f left) ⊎ IsIn n v.numbers) → ((n : ℕ) → n < count → IsIn n (map f all)) → Final (Seen (Kept author start journal o seats) id v) ws xs
     → (b : B) × (get_elem? xs 0 ≡ some (Some b)) × Fits author (journal b) v × (start b ≡ o)

@@ -5,7 +5,7 @@ use Rattle.std.proofs.lemmas.List.{map-append}
 use Rattle.std.proofs.lemmas.List.Elements.{All-map, All-push, All-same}
 use Rattle.rw_seat.specs.Rule.{numbers_from}
 
--- one number more
+-- one more number
 from_snoc : (n k m : ℕ) → m ≡ n + k → numbers_from n (suc k) ≡ numbers_from n k ++ m ∷ []
 from_snoc n zero m e = let same : n ≡ m = omega arith in ap (λ (x : ℕ). x ∷ []) same
 from_snoc n (suc k) m e = ap (λ (l : List ℕ). n ∷ l) (from_snoc (n + 1) k m (omega arith))

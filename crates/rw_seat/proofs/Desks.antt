@@ -1,4 +1,4 @@
--- Seats of a desk, after a call or a look at one of its channels.
+-- Seats of a desk, after a call or a read on one of its channels.
 use Rattle.std.proofs.Common.{◌≡◌, ℕ, zero, suc, ◌<◌, ◌≤◌, true, false, true≢false, List, [], ◌∷◌, ◌++◌, map, length, get_or, Option, Some, None, Result, Ok, Err, IfOk, IfErr, IfSome, MatchOption, refl, sym, ap, ◌∙◌, subst, arith}
 use Rattle.std.specs.List.{insert, remove}
 use Rattle.std.specs.Prelude.{slice_get, IsTrue}
@@ -33,7 +33,7 @@ use Rattle.rw_seat.specs.SeatDesks.{SeatDesk, IsAnswered, IsSeatOf, opening_at}
 use Rattle.rw_seat.proofs.Reaching.{each_front, elsewhere, front_here, has_called, has_seen, homes_still, seat_called, seat_looked}
 
 module _ {V : Type 0} where
-  -- what holds of a book's opening holds of what the book is known to have shown first
+  -- what holds of a book's opening holds of what the book first showed
   pub of_opening : (P : ChanShown V → Type 0) (home : Home (Chan V)) (x : ChanShown V) → OfOpening home P → opening_at home ≡ Some x → P x
   of_opening P home x holds from = go home.start holds from
     where
@@ -41,7 +41,7 @@ module _ {V : Type 0} where
       go None holds from = absurd (cc)
       go (Some m) holds from = let same : (of_chan {V = V}).shown m ≡ x = cc in subst P same holds
 
-  -- a seat of the desk whose hand at one channel was put back, with a front of that channel
+  -- a seat of the desk is still one after its hand at a channel was replaced, with a front of that channel
   pub still_of : (desk : SeatDesk V) (pass new : Pass V) (hands : List (Hand V)) (at : ℕ) (hand h : Hand V) → at < length hands → hand ≡ get_or hands at hand → h.home ≡ hand.home
       → IsFrontOf desk.specs at h.front → IsSeatOf desk (record { pass = pass; hands = hands }) → IsSeatOf desk (record { pass = new; hands = insert (remove hands at) at h })
   still_of desk pass new hands at hand h within is home front seat = record {
@@ -49,7 +49,7 @@ module _ {V : Type 0} where
     fronts = each_front hands at hand h within is (λ c es. IsFrontOf desk.specs c es) front (λ c other. seat.fronts c);
   }
 
-  -- the book of the channel that a spec opens has a front of that channel
+  -- the journal of a book from a spec's opening is a front of the spec's channel
   pub front_of_spec : (specs : List (Spec V)) (c : ℕ) (spec : Spec V) (home : Home (Chan V)) (es : List (ChanEntry V)) → slice_get specs c ≡ Some spec → opening_at home ≡ Some (opened_channel spec)
       → OfOpening home (λ x. IsBook of_chan x es) → IsFrontOf specs c es
   front_of_spec specs c spec home es at from book =
@@ -75,7 +75,7 @@ module _ {V : Type 0} where
         let within : at < length homes = slice_get_within homes at home there in
         omega (arith, within, ap length same, length-map hands (λ (x : Hand V). x.home))
 
-    -- which is of the channel's hand-off
+    -- that hand is of the channel's hand-off
     pub home_at : (hand : Hand V) → hand ≡ get_or hands at hand → hand.home ≡ home
     home_at hand is =
         ap (λ (x : Hand V). x.home) is
@@ -90,19 +90,19 @@ module _ {V : Type 0} where
   kind_opened (Broadcast capacity) = refl
   kind_opened (Watch init) = refl
 
-  -- after any front a call strays exactly by the spec
+  -- after any front, whether a call strays depends only on the spec
   strays_after : (spec : Spec V) (es : List (ChanEntry V)) (call : ChanCall V) → (of_chan {V = V}).is_straying ((of_chan {V = V}).reply_of (after_all of_chan (opened_channel spec) es) call) ≡ strays_at (spec_kind spec) call
   strays_after spec es call =
       strays_by_kind of_broadcast of_watch (after_all of_chan (opened_channel spec) es) call ∙ ap (λ k. strays_at k call) (kind_after (opened_channel spec) es ∙ kind_opened spec)
 
-  -- a call that isn't of the other kind than the channel has no such fault
+  -- a call of the channel's kind has no such fault
   no_stray : (spec : Spec V) (home : Home (Chan V)) (old new : Pass V) (seen now : List (ChanEntry V)) (call : ChanCall V) → opening_at home ≡ Some (opened_channel spec) → strays_at (spec_kind spec) call ≡ false
       → IsNotMade home old new seen now call NoChannel → ⊥
   no_stray spec home old new seen now call from stays refused =
       let strays = of_opening (λ x. IsFaultAfter x now old.clock call NoChannel) home (opened_channel spec) refused.reason from in
       true≢false (sym strays ∙ (strays_after spec now call ∙ stays))
 
-  -- where a call has no channel, nothing was seen
+  -- a call that strays is refused, and its seat is unchanged
   pub refused_stray : (specs : List (Spec V)) (seat : DeskSeat V) (at : ℕ) (call : ChanCall V) → IsTrue (stray_of strays_at (map spec_kind specs) (row_call at call)) → IsAnswered specs seat seat at call (Err NoChannel)
   refused_stray specs seat at call strays = record {
     made = record {
@@ -118,7 +118,7 @@ module _ {V : Type 0} where
       why None t = refl
       why (Some spec) t = strays_after spec (front_at seat.hands at) call ∙ t
 
-  -- a call strays where there is no channel, and where there is one by its kind
+  -- a call strays if there is no channel; if there is one, that depends on its kind
   pub strays_past : (specs : List (Spec V)) (at : ℕ) (call : ChanCall V) → length specs ≤ at → IsTrue (stray_of strays_at (map spec_kind specs) (row_call at call))
   strays_past specs at call past = let none = slice_get_past specs at past in rw (slice_get-map, none) refl
 
@@ -141,7 +141,7 @@ module _ {V : Type 0} where
   rises_begins s [] rest rises = tt
   rises_begins s (e ∷ f) rest rises = (rises.0, rises_begins e.stamp f rest rises.1)
 
-  -- what begins a front is a front
+  -- a prefix of a front is a front
   pub front_begins : (specs : List (Spec V)) (c : ℕ) (spec : Spec V) (f h : List (ChanEntry V)) → slice_get specs c ≡ Some spec → StartsWith h f → IsFrontOf specs c h → IsFrontOf specs c f
   front_begins specs c spec f h at begins front =
       let book : IsBook of_chan (opened_channel spec) (f ++ begins.0) =
@@ -152,7 +152,7 @@ module _ {V : Type 0} where
         short = omega (arith, length-append f begins.0, book.short);
       })
 
-  -- a seat that looked at one channel, before it is put together again
+  -- a seat whose hand has seen more of one channel, before its parts are put together again
   module _ (seat : DeskSeat V) (pass : Pass V) (others : List (Hand V)) (at : ℕ) (hand h : Hand V) (within : at < length seat.hands) (same : pass ≡ seat.pass) (out : others ≡ remove seat.hands at)
       (is : hand ≡ get_or seat.hands at hand) (kept : IsDeskSeat seat.pass seat.hands) (number : h.number ≡ hand.number) (on : HasGoneOn hand.number hand.front h.front) where
     gone_on : HasGoneOn seat.pass.actor hand.front h.front
@@ -163,7 +163,7 @@ module _ {V : Type 0} where
     pub looked_seat : IsDeskSeat pass (insert others at h)
     looked_seat = subst (λ (z : Pass V × List (Hand V)). IsDeskSeat z.0 (insert z.1 at h)) (λ i. (sym same i, sym out i)) (seat_looked seat.hands at hand h within is seat.pass kept number gone_on)
 
-    -- and after
+    -- and after that
     pub looked : (desk : SeatDesk V) (whole : DeskSeat V) → whole ≡ record { pass = pass; hands = insert others at h } → h.home ≡ hand.home → IsFrontOf desk.specs at h.front → IsSeatOf desk seat
         → IsSeatOf desk whole × HasSeen seat whole × IsElsewhereAsBefore at seat whole × (front_at whole.hands at ≡ h.front)
     looked desk whole put home front of_desk =
@@ -179,14 +179,14 @@ module _ {V : Type 0} where
   pub seen_nothing : (s : DeskSeat V) → HasSeen s s
   seen_nothing s = record { pass = refl; fronts = λ c. quiet_self author_of (s.pass.actor ∷ []) (front_at s.hands c) }
 
-  -- the seat that a call leaves keeps what a seat keeps
+  -- the invariant of a seat holds after a call
   pub seat_after : (pass new : Pass V) (hands : List (Hand V)) (at : ℕ) (hand h : Hand V) (home : Home (Chan V)) (call : ChanCall V) (answer : Result (Answered V) DeskFault) → at < length hands → hand ≡ get_or hands at hand
       → IsDeskSeat pass hands → h.number ≡ hand.number → IfOk answer (IsMade pass new hand.front h.front at call) → IfErr answer (IsNotMade home pass new hand.front h.front call) → IsDeskSeat new (insert (remove hands at) at h)
   seat_after pass new hands at hand h home call (Ok a) within is seat number made refused = seat_called hands at hand h within is pass new call a seat number made
   seat_after pass new hands at hand h home call (Err fault) within is seat number made refused =
       subst (λ (p : Pass V). IsDeskSeat p (insert (remove hands at) at h)) (sym refused.pass) (seat_looked hands at hand h within is pass seat number refused.front)
 
-  -- what a desk answers, from what the hand's call came to
+  -- what a desk returns, from the result of the hand's call
   pub answered : (specs : List (Spec V)) (pass new : Pass V) (hands : List (Hand V)) (at : ℕ) (hand h : Hand V) (home : Home (Chan V)) (spec : Spec V) (call : ChanCall V) (answer : Result (Answered V) DeskFault)
       → at < length hands → hand ≡ get_or hands at hand → slice_get specs at ≡ Some spec → opening_at home ≡ Some (opened_channel spec) → strays_at (spec_kind spec) call ≡ false
       → IsDeskSeat new (insert (remove hands at) at h)

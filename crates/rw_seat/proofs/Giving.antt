@@ -1,4 +1,4 @@
--- Hands that are given to seats one after another, and a desk that grows by a channel at a time.
+-- Hands that are added to seats one after another, and a desk that is opened channel by channel.
 use Rattle.std.proofs.Common.{◌≡◌, ◌≢◌, ℕ, zero, suc, ◌+◌, ◌<◌, ◌≤◌, List, [], ◌∷◌, ◌++◌, map, length, get_or, set, take, drop, All, Some, Result, Ok, Err, IfSome, OnOk, refl, sym, ap, ◌∙◌, subst, inl, inr, arith, append_assoc, append-nil}
 use Rattle.std.specs.Prelude.{slice_get}
 use Rattle.std.proofs.lemmas.Bool.{cases_lt}
@@ -49,7 +49,7 @@ module _ {V : Type 0} (first : List (DeskSeat V)) (all : List (Hand V)) where
     seat_there : slice_get first at ≡ Some s
     seat_there = sym (rest at (omega (arith, longer, last))) ∙ slice_get_read seats (length seats) at s refl within here
 
-    -- the hand that is given out has seen nothing, and the seat has made no call
+    -- the hand that is added has seen nothing, and the seat has made no call
     pub fresh_there : ((a : ℕ) → IfSome (slice_get first a) (λ t. t.pass ≡ fresh_pass a)) → ((a : ℕ) → IfSome (slice_get all a) (λ h. (h.number ≡ a) × (h.front ≡ []))) → (s.pass ≡ fresh_pass x.number) × (x.front ≡ [])
     fresh_there passes hands =
         let hand = subst (λ o. IfSome o (λ h. (h.number ≡ at) × (h.front ≡ []))) hand_there (hands at) in
@@ -76,7 +76,7 @@ module _ {V : Type 0} (first : List (DeskSeat V)) (all : List (Hand V)) where
         beyond : (a : ℕ) → length ys ≤ a → a ≢ at → length xs ≤ a
         beyond a past other = let k = longer in let differs : a ≢ length ys = (λ same. other (same ∙ sym last)) in omega arith
 
--- P where r is no error, and so Q
+-- if P implies Q, P at an `Ok` implies Q at it
 pub on_ok : {A E P Q : Type 0} (r : Result A E) → (P → Q) → OnOk r P → OnOk r Q
 on_ok (Ok a) f p = f p
 on_ok (Err e) f p = tt
@@ -102,7 +102,7 @@ module _ {X : Type 0} (f : ℕ → X) where
   dealt_at n a low = numbers_get 0 n a low ∙ ap (λ k. Some (f k)) {x = 0 + a} {y = a} (omega arith)
 
 module _ {V : Type 0} where
-  -- so many seats that made no call and saw nothing, with a hand for each of these homes
+  -- n seats that made no call and saw nothing, with a hand for each of these homes
   abbrev pub AreFresh : List (Home (Chan V)) → ℕ → List (DeskSeat V) → Type 0
   AreFresh homes n seats = (length seats ≡ n) × ((a : ℕ) → a < n → slice_get seats a ≡ Some (fresh_seat homes a))
 
@@ -118,13 +118,13 @@ module _ {V : Type 0} where
     | inr le ↦ subst (λ o. IfSome o (λ h. (h.number ≡ a) × (h.front ≡ []))) (sym (slice_get_past (map (λ k. fresh_hand k home) (numbers_from 0 n)) a (omega (arith, numbers_length (λ k. fresh_hand k home) 0 n)))) tt
   ])
 
-  -- each seat was given the hand of its number
+  -- each seat got the hand with its number
   pub given_each : (home : Home (Chan V)) (n : ℕ) (seats new : List (DeskSeat V)) (hands : List (Hand V)) → hands ≡ map (λ k. fresh_hand k home) (numbers_from 0 n)
       → ((a : ℕ) (s : DeskSeat V) (h : Hand V) → slice_get seats a ≡ Some s → slice_get hands a ≡ Some h → slice_get new a ≡ Some (with_hand s h))
       → (a : ℕ) (s : DeskSeat V) → a < n → slice_get seats a ≡ Some s → slice_get new a ≡ Some (with_hand s (fresh_hand a home))
   given_each home n seats new hands is each a s low at = each a s (fresh_hand a home) at (ap (λ hs. slice_get hs a) is ∙ dealt_at (λ k. fresh_hand k home) n a low)
 
-  -- so each is a seat with a hand more
+  -- so each is a seat with one more hand
   pub fresh_more : (homes : List (Home (Chan V))) (home : Home (Chan V)) (n : ℕ) (seats new : List (DeskSeat V)) → AreFresh homes n seats → length new ≡ length seats
       → ((a : ℕ) (s : DeskSeat V) → a < n → slice_get seats a ≡ Some s → slice_get new a ≡ Some (with_hand s (fresh_hand a home))) → AreFresh (homes ++ home ∷ []) n new
   fresh_more homes home n seats new fresh same each = (
@@ -147,7 +147,7 @@ module _ {V : Type 0} where
   no_entries (spec ∷ specs) zero = record { legal = tt; ordered = tt; short = omega arith }
   no_entries (spec ∷ specs) (suc c) = no_entries specs c
 
-  -- a fresh seat is the desk's
+  -- a fresh seat is one of the desk
   pub fresh_of : (desk : SeatDesk V) (n : ℕ) (seats : List (DeskSeat V)) → AreFresh desk.homes n seats → All (IsSeatOf desk) seats
   fresh_of desk n seats fresh = λ a d low.
       let there : get_or seats a d ≡ fresh_seat desk.homes a = get_or_from_slice_get seats a (fresh_seat desk.homes a) d (fresh.1 a (omega (arith, fresh.0, low))) in

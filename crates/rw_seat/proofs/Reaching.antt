@@ -1,4 +1,4 @@
--- A hand that is taken out of a seat and put back.
+-- A hand that is removed from a seat and inserted again.
 use Rattle.std.proofs.Common.{◌≡◌, ◌≢◌, ℕ, zero, suc, ◌<◌, List, [], ◌∷◌, ◌++◌, map, length, get_or, set, All, refl, sym, ap, ◌∙◌, subst, inl, inr, arith}
 use Rattle.std.specs.List.{insert, remove}
 use Rattle.std.proofs.lemmas.List.{map-set, get_or-set_same, get_or-set_other, get_or-map, length-map}
@@ -16,7 +16,7 @@ use Rattle.rw_seat.specs.DeskSeats.{Hand, front_at, IsDeskSeat, HasCalled, HasSe
 use Rattle.rw_seat.proofs.Journals.{quiet_self}
 use Rattle.rw_seat.proofs.Owning.{own_still, own_called, kept_here, kept_there}
 
--- what was taken out at a place, and something else put back there, was set
+-- removing an element and inserting another at its place sets it
 pub put_again : {X : Type 0} (xs : List X) (i : ℕ) (y : X) → i < length xs → insert (remove xs i) i y ≡ set xs i y
 put_again [] i y within = absurd (omega arith)
 put_again (x ∷ xs) zero y within = refl
@@ -29,7 +29,7 @@ module _ {V : Type 0} where
   front_grown (x ∷ hands) h zero none = refl
   front_grown (x ∷ hands) h (suc c) none = front_grown hands h c none
 
-  -- a seat keeps what a seat keeps with a hand more that has seen nothing
+  -- the invariant of a seat holds with one more hand that has seen nothing
   pub seat_with_hand : (pass : Pass V) (hands : List (Hand V)) (h : Hand V) → IsDeskSeat pass hands → h.number ≡ pass.actor → h.front ≡ [] → IsDeskSeat pass (hands ++ h ∷ [])
   seat_with_hand pass hands h seat number none = record {
     numbers = All-push (λ (x : Hand V). x.number ≡ pass.actor) hands h seat.numbers number;
@@ -71,7 +71,7 @@ module _ {V : Type 0} (hands : List (Hand V)) (at : ℕ) (hand h : Hand V) (with
     | inr t ↦ subst (P c) (sym (front_there c t.1)) (there c t.1)
   ]
 
-  -- the seat of a hand that has seen more keeps what a seat keeps
+  -- the invariant of a seat holds after a hand has seen more
   pub seat_looked : (pass : Pass V) → IsDeskSeat pass hands → h.number ≡ hand.number → HasGoneOn pass.actor hand.front h.front → IsDeskSeat pass after
   seat_looked pass seat number on =
       let mine : hand.number ≡ pass.actor = subst (λ (x : Hand V). x.number ≡ pass.actor) (sym is) (seat.numbers at hand within) in record {
@@ -81,7 +81,7 @@ module _ {V : Type 0} (hands : List (Hand V)) (at : ℕ) (hand h : Hand V) (with
             (λ c other. seat.own c);
       }
 
-  -- and it has seen more
+  -- and the seat has seen more
   pub has_seen : (pass new : Pass V) → new ≡ pass → HasGoneOn pass.actor hand.front h.front → HasSeen (record { pass = pass; hands = hands }) (record { pass = new; hands = after })
   has_seen pass new same on = record {
     pass = same;
@@ -90,7 +90,7 @@ module _ {V : Type 0} (hands : List (Hand V)) (at : ℕ) (hand h : Hand V) (with
         (λ c other. quiet_self author_of (pass.actor ∷ []) (front_at hands c));
   }
 
-  -- so does the seat of a hand that made a call
+  -- the invariant holds after a hand has made a call
   pub seat_called : (old new : Pass V) (call : ChanCall V) (a : Answered V) → IsDeskSeat old hands → h.number ≡ hand.number → IsMade old new hand.front h.front at call a → IsDeskSeat new after
   seat_called old new call a seat number made =
       let mine : hand.number ≡ old.actor = subst (λ (x : Hand V). x.number ≡ old.actor) (sym is) (seat.numbers at hand within) in

@@ -1,4 +1,4 @@
--- Where its values may cross threads, a seat of a desk may go to another thread, and threads may share the desk.
+-- If its values may cross threads, a seat of a desk may be sent to another thread, and threads may share the desk.
 use denote.RattleType.{RattleType}
 use denote.Param.Send.{IsSend, IsSync, struct_send, struct_sync, recorded_send, recorded_sync, view_send, view_sync, plain_sync}
 use denote.Struct.Declared as Declared

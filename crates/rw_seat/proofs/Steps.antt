@@ -1,4 +1,4 @@
--- Each step of a hand-off keeps its rule.
+-- Each step of a hand-off preserves its rule.
 use Rattle.std.proofs.Common.{◌≡◌, ◌≢◌, ℕ, zero, suc, ◌<◌, eqb, List, [], ◌∷◌, ◌++◌, set, Bool, true, false, true≢false, Option, Some, None, refl, sym, ap, ◌∙◌, subst, inl, inr, ⊎_elim, arith}
 use Rattle.std.specs.Prelude.{slice_index}
 use mathlib.Core.Option.{some, none, some-injective, some-ne-none}
@@ -35,7 +35,7 @@ module _ {B E S : Type 0} (author : E → ℕ) (start : B → S) (journal : B �
   abbrev Taken : List E → St → Type 0
   Taken = IsOut author start journal o
 
-  -- a table with the book b at home, or with its slot out
+  -- a table whose slot has the book b, and one whose slot a seat has
   abbrev home_table : B → List (View E S) → St
   home_table b views = record { words = 0 ∷ []; homes = some (Some b) ∷ []; views = views }
 
@@ -66,13 +66,13 @@ module _ {B E S : Type 0} (author : E → ℕ) (start : B → S) (journal : B �
       only P v p zero u e = subst P (some-injective v u e) p
       only P v p (suc j) u e = absurd (some-ne-none u (sym e))
 
-  -- the seat in hand is no seat whose hand is empty
+  -- the seat that has the book isn't one that hasn't
   not_out : (views : List (View E S)) (i j : ℕ) (h : List E) (ns : List ℕ) (v : View E S) → get_elem? views i ≡ some (view_of ns (Some o) h true []) → get_elem? views j ≡ some v → v.held ≡ false → i ≢ j
   not_out views i j h ns v ei ej idle same =
       let e : some (view_of ns (Some o) h true []) ≡ some v = sym ei ∙ (ap (get_elem? views) same ∙ ej) in
       true≢false (ap (λ (x : View E S). x.held) (some-injective (view_of ns (Some o) h true []) v e) ∙ idle)
 
-  -- a taking
+  -- an acquire
   abbrev Taking : ℕ → ℕ → View E S → St → Type 0
   Taking slots id v s = (w : View E S) × (a : Act (Option B)) × Valid s.homes [] a × Rule (stepped s 0 (either (eqb (slice_index s.words 0) 0) 1 (slice_index s.words 0)) id [] w a)
       × Takes author start journal (step slots 0 0 1 none) (v, []) (slice_index s.words 0) (w, carried_after [] a)
@@ -118,7 +118,7 @@ module _ {B E S : Type 0} (author : E → ℕ) (start : B → S) (journal : B �
   out_is : (s : St) → s.words ≡ 1 ∷ [] → s.homes ≡ none ∷ [] → out_table s.views ≡ s
   out_is s p q i = record { words = sym p i; homes = sym q i; views = s.views }
 
-  -- a taking that wins, and one that loses
+  -- an acquire that succeeds, and one that fails
   pub takes_turn : (slots id n : ℕ) (ns : List ℕ) (v : View E S) → v.numbers ≡ n ∷ ns
       → Allows Rule slots id (v, []) 0 (λ k. either (eqb k 0) 1 k) (Takes author start journal (step slots 0 0 1 none) (v, []))
   takes_turn slots id n ns v is s r deep at fits = ⊎_elim
@@ -127,7 +127,7 @@ module _ {B E S : Type 0} (author : E → ℕ) (start : B → S) (journal : B �
       (λ (p : Taken r.0 s). subst (Taking slots id v) (out_is s p.3 p.4) (take_out slots id v r.0 s.views at (r.0, r.1, inr (p.0, p.1, p.2, refl, refl, p.5, p.6))))
       r.2
 
-  -- a giving back
+  -- a release
   abbrev Giving : ℕ → ℕ → View E S → B → St → Type 0
   Giving slots id v b s = (w : View E S) × (a : Act (Option B)) × Valid s.homes ((0, Some b) ∷ []) a × Rule (stepped s 0 0 id ((0, Some b) ∷ []) w a)
       × Gives author start journal (step slots 0 0 0 none) (v, (0, Some b) ∷ []) 0 (w, carried_after ((0, Some b) ∷ []) a)
@@ -220,7 +220,8 @@ module _ {B E S : Type 0} (author : E → ℕ) (start : B → S) (journal : B �
             r.2,
       )
 
-  -- at the end: where one seat has every number and its hand is empty, the book is at home, from where it started, and fits the seat's front and each old one
+  -- closing: if one seat has every number, and not the book, the slot has the book; it has its start, and fits the seat's front and each
+  -- old one
   pub closes : (id : ℕ) (v : View E S) (ws : List ℕ) (xs : List (Option B)) → v.held ≡ false → ((n : ℕ) → n < seats → IsIn n v.numbers) → Final (Seen Rule id v) ws xs
       → (b : B) × (get_elem? xs 0 ≡ some (Some b)) × Fits author (journal b) v × (start b ≡ o)
   closes id v ws xs idle all end =
@@ -252,7 +253,7 @@ module _ {E S : Type 0} (author : E → ℕ) where
   pub joined_numbers : (v w j : View E S) (a b : ℕ) → j ≡ joined_view v w → v.numbers ≡ a ∷ [] → w.numbers ≡ b ∷ [] → j.numbers ≡ a ∷ (b ∷ [])
   joined_numbers v w j a b is p q = ap (λ (x : View E S). x.numbers) is ∙ (λ i. p i ++ q i)
 
-  -- what the taking after a joining tells of both seats
+  -- what the acquire after a join implies for both seats
   pub met_one : (v w j : View E S) (h : List E) (n : ℕ) → j ≡ joined_view v w → Fits author h j → v.numbers ≡ n ∷ [] → IsQuiet author (n ∷ []) v.front h
   met_one v w j h n is fit p = subst (λ (ns : List ℕ). IsQuiet author ns v.front h) p (subst (Fits author h) is fit).1.2
 

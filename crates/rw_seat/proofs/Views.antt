@@ -33,7 +33,7 @@ module _ {A : Type 0} where
   at_within (x ∷ xs) zero b e = omega arith
   at_within (x ∷ xs) (suc j) b e = let r = at_within xs j b e in omega arith
 
--- where a number goes at a splitting: m stays at id, the others of id go to the place l
+-- where a number goes at a split: m stays at id, the others of id go to the place l
 abbrev Fork : ℕ → ℕ → ℕ → ℕ → ℕ → ℕ → Type 0
 Fork id m l n k j = ((k ≡ id) × (n ≡ m) × (j ≡ id)) ⊎ (((k ≡ id) × (n ≢ m) × (j ≡ l)) ⊎ ((k ≢ id) × (j ≡ k)))
 
@@ -48,7 +48,7 @@ fork_one id m l n k i j (inr (inr a)) (inl b) = absurd (a.0 b.0)
 fork_one id m l n k i j (inr (inr a)) (inr (inl b)) = absurd (a.0 b.0)
 fork_one id m l n k i j (inr (inr a)) (inr (inr b)) = a.1 ∙ sym b.1
 
--- where a number goes at a joining
+-- where a number goes at a join
 abbrev Fuse : ℕ → ℕ → ℕ → ℕ → ℕ → Type 0
 Fuse id other n k j = ((k ≡ other) × (j ≡ id)) ⊎ ((k ≢ other) × (j ≡ k))
 
@@ -62,7 +62,7 @@ fits_spent : {E : Type 0} (S : Type 0) (author : E → ℕ) (h : List E) → Fit
 fits_spent S author h = ((h, refl, λ n i. absurd i), tt)
 
 module _ {E S : Type 0} (author : E → ℕ) where
-  -- where each number of a new view comes from one of an old one, and goes to one place, the new views are apart
+  -- if each number of a new view comes from one of an old one, and goes to one place, the new views are apart
   abbrev Origin : List (View E S) → (ℕ → ℕ → ℕ → Type 0) → ℕ → View E S → Type 0
   Origin old R j u = (n : ℕ) → IsIn n u.numbers → (k : ℕ) × (x : View E S) × (get_elem? old k ≡ some x) × IsIn n x.numbers × R n k j
 
@@ -104,7 +104,7 @@ module _ {E S : Type 0} (author : E → ℕ) where
         started = each_set (λ j u. (n : ℕ) → IsIn n u.numbers → u.start ≡ Some o) views id w (λ j u ne e. agree.started j u e) (λ n i. start ∙ agree.started id v at n (subst (IsIn n) same i));
       }
 
-  -- a fact of each view, after a splitting
+  -- a fact of each view, after a split
   pub each_split : (P : ℕ → View E S → Type 0) (views : List (View E S)) (id : ℕ) (a b : View E S) → ((j : ℕ) (u : View E S) → j ≢ id → get_elem? views j ≡ some u → P j u) → P id a → P (length (set views id a)) b
       → (j : ℕ) (u : View E S) → get_elem? (set views id a ++ b ∷ []) j ≡ some u → P j u
   each_split P views id a b others left right j u e = ⊎_elim

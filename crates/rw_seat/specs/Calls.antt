@@ -1,4 +1,4 @@
--- Calls and looks by one hand, on the book of its channel.
+-- Calls and reads by one hand, on the book of its channel.
 use Rattle.std.specs.Prelude.{◌≡◌, ℕ, ◌<◌, List, IfSome}
 use Rattle.rw_world.specs.declared.channels.Chan.{Chan}
 use Rattle.rw_world.specs.declared.channels.ChanCall.{ChanCall}
@@ -21,7 +21,7 @@ module _ {V : Type 0} where
     pub above : old.clock < answer.stamp
     pub pass : new ≡ with_receipt old channel answer.stamp call answer.reply
 
-  -- it wasn't: the front has gone on, and after it the call has this fault
+  -- it wasn't: the front may have grown, and the call has this fault after it
   pub record IsNotMade (home : Home (Chan V)) (old new : Pass V) (seen now : List (ChanEntry V)) (call : ChanCall V) (fault : DeskFault) : Type 0 where
     pub pass : new ≡ old
     pub front : HasGoneOn old.actor seen now

@@ -18,11 +18,12 @@ pub record DeskSeat (V : Type 0) : Type 0 where
   pub hands : List (Hand V)
 
 module _ {V : Type 0} where
-  -- the front of the hand at channel c; where there is none, nothing was seen
+  -- the front of the hand at channel c, empty if there is none
   abbrev pub front_at : List (Hand V) → ℕ → List (ChanEntry V)
   front_at hands c = get_or (map (λ h. h.front) hands) c []
 
-  -- what a seat keeps: its hands have the actor's number, and on each channel its actor's entries in the front are its receipts there, each once and in order
+  -- the invariant of a seat: its hands have the actor's number; on each channel its actor's entries in the front are its receipts there,
+  -- each once and in order
   pub record IsDeskSeat (pass : Pass V) (hands : List (Hand V)) : Type 0 where
     pub numbers : All (λ h. h.number ≡ pass.actor) hands
     pub own : (c : ℕ) → own_on pass.actor c (front_at hands c) ≡ kept_on c pass.kept
@@ -34,21 +35,21 @@ module _ {V : Type 0} where
   abbrev pub fresh_seat : List (Home (Chan V)) → ℕ → DeskSeat V
   fresh_seat homes actor = record { pass = fresh_pass actor; hands = map (fresh_hand actor) homes }
 
-  -- a seat with one hand more
+  -- a seat with one more hand
   abbrev pub with_hand : DeskSeat V → Hand V → DeskSeat V
   with_hand s h = record { pass = s.pass; hands = s.hands ++ h ∷ [] }
 
-  -- the seat has seen more, and made no call: each front has gone on, with no entry by its actor
+  -- the seat may have seen more, and made no call: each front goes on with no entry by its actor
   pub record HasSeen (old new : DeskSeat V) : Type 0 where
     pub pass : new.pass ≡ old.pass
     pub fronts : (c : ℕ) → HasGoneOn old.pass.actor (front_at old.hands c) (front_at new.hands c)
 
-  -- all but this channel's front is as it was
+  -- each front but this channel's is unchanged
   abbrev pub IsElsewhereAsBefore : ℕ → DeskSeat V → DeskSeat V → Type 0
   IsElsewhereAsBefore channel old new = (c : ℕ) → c ≢ channel → front_at new.hands c ≡ front_at old.hands c
 
-  -- A call was made: its channel's front begins with what the seat had seen there and ends with the call; the seat has its
-  -- receipt, under a stamp above all earlier ones, and its entries in each front are its receipts.
+  -- A call was made. Its channel's front begins with what the seat had seen there and ends with the call. The seat has its receipt, with a
+  -- stamp above all earlier ones. Its entries in each front are its receipts.
   pub record HasCalled (old new : DeskSeat V) (channel : ℕ) (call : ChanCall V) (answer : Answered V) : Type 0 where
     pub front : EndsWithCall old.pass.actor call answer (front_at old.hands channel) (front_at new.hands channel)
     pub above : old.pass.clock < answer.stamp

@@ -7,12 +7,12 @@ pub record Home (S : Type 0) : Type 0 where
   pub table : TableId
   pub start : Option S
 
--- a hand-off, and how many seats it has
+-- a hand-off, and the number of its seats
 pub record HandOff (S : Type 0) : Type 0 where
   pub home : Home S
   pub seats : ℕ
 
--- a seat of a hand-off: its number, whose seat it is, and its front, which is the journal that it has seen
+-- a seat of a hand-off: its number, its hand-off, and its front, which is the journal that it has seen
 pub record HandSeat (E S : Type 0) : Type 0 where
   pub number : ℕ
   pub home : Home S

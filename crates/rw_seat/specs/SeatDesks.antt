@@ -1,4 +1,4 @@
--- Desks whose channels are handed from seat to seat.
+-- Desks with seats, and a hand-off for each channel's book.
 use Rattle.std.specs.Prelude.{◌≡◌, ◌↔◌, ℕ, ◌<◌, ◌≤◌, None, Some, List, [], ◌∷◌, length, map, slice_get, All, MatchOption, MatchResult, IsErrOf, IsTrue, Option, Result}
 use Rattle.std.specs.Option.{option_map}
 use Rattle.rw_law.specs.declared.limits.TheConstants.{MOST_ACTORS}
@@ -18,7 +18,7 @@ use Rattle.rw_seat.specs.Hands.{Home, HandOff}
 use Rattle.rw_seat.specs.Fronts.{IsFaultAfter, IsFrontOf}
 use Rattle.rw_seat.specs.DeskSeats.{DeskSeat, front_at, fresh_seat, HasCalled, HasSeen, IsElsewhereAsBefore}
 
--- what callers see of a desk: what its channels were opened from, how many actors it has, and where each channel's book goes round
+-- what callers see of a desk: the specs of its channels, the number of its actors, and which hand-off each channel's book has
 pub record SeatDesk (V : Type 0) : Type 0 where
   pub specs : List (Spec V)
   pub actors : ℕ
@@ -29,7 +29,7 @@ module _ {V : Type 0} where
   abbrev pub opening_at : Home (Chan V) → Option (ChanShown V)
   opening_at home = option_map (of_chan {V = V}).shown home.start
 
-  -- what a desk keeps: its specs open, it has 1 to 64 actors, and for each spec a hand-off of a book that was opened from it
+  -- the invariant of a desk: its specs open, it has 1 to 64 actors, and for each spec a hand-off of a book that was opened from it
   pub record IsSeatDesk (specs : List (Spec V)) (actors : ℕ) (hand_offs : List (HandOff (Chan V))) : Type 0 where
     pub opens : refusal specs ≡ None
     pub some_actor : 0 < actors
@@ -42,7 +42,7 @@ module _ {V : Type 0} where
     pub homes : map (λ h. h.home) seat.hands ≡ desk.homes
     pub fronts : (c : ℕ) → IsFrontOf desk.specs c (front_at seat.hands c)
 
-  -- a desk of these specs and so many actors, with a seat for each actor, which has made no call and seen no entry
+  -- a desk with these specs and this many actors, with a seat for each actor, which has made no call and seen no entry
   pub record HasOpened (specs : List (Spec V)) (actors : ℕ) (desk : SeatDesk V) (seats : List (DeskSeat V)) : Type 0 where
     pub specs_are : desk.specs ≡ specs
     pub actors_are : desk.actors ≡ actors
@@ -54,7 +54,7 @@ module _ {V : Type 0} where
     pub seen : HasSeen old new
     pub reason : MatchOption (slice_get specs channel) (fault ≡ NoChannel) (λ spec. IsFaultAfter (opened_channel spec) (front_at new.hands channel) old.pass.clock call fault)
 
-  -- What a desk answers to a seat's call. There is no channel for the call exactly by the specs, and a call that has none sees nothing.
+  -- What a desk returns for a seat's call. The fault is `NoChannel` exactly if the call strays by the specs.
   pub record IsAnswered (specs : List (Spec V)) (old new : DeskSeat V) (channel : ℕ) (call : ChanCall V) (answer : Result (Answered V) DeskFault) : Type 0 where
     pub made : MatchResult answer (HasCalled old new channel call) (IsRefused specs old new channel call)
     pub elsewhere : IsElsewhereAsBefore channel old new
@@ -64,7 +64,7 @@ module _ {V : Type 0} where
   abbrev pub passes_in : List (DeskSeat V) → List (Pass V)
   passes_in seats = map (λ s. s.pass) seats
 
-  -- the first seat has seen more, and the others are as they were
+  -- the first seat may have seen more, and the others are unchanged
   abbrev pub FirstHasSeen : List (DeskSeat V) → List (DeskSeat V) → Type 0
   FirstHasSeen [] [] = Unit {0}
   FirstHasSeen (s ∷ ss) (t ∷ ts) = HasSeen s t × (ts ≡ ss)

@@ -1,8 +1,8 @@
-//! What a seat's call answers.
+//! The result of a seat's call.
 
 use rw_world::ChanReply;
 
-/// The last entry of the channel's journal with this call: its reply and its stamp, and how long the journal is with it.
+/// The entry of the call, which ends the channel's journal: its reply, its stamp, and the length of the journal with it.
 #[derive(Clone, Copy, Debug, PartialEq)]
 pub struct Answered<V> {
     pub reply: ChanReply<V>,

@@ -1,4 +1,4 @@
-//! The end of a hand-off.
+//! Closing a hand-off.
 
 ghost use Rattle.std.specs.Prelude.{◌≡◌, ◌<◌, ◌∷◌, [], ℕ, Some, map, IfOk, IfErr, All, MatchBool};
 ghost use Rattle.rw_seat.specs.Journals.{IsIn, IsQuiet};
@@ -32,8 +32,8 @@ impl<B: Keeps + Drop> HandOff<B> {
         true
     }
 
-    /// Ends the hand-off, and gives the book, whose journal begins with all that any seat has seen. Where a seat is missing all
-    /// comes back.
+    /// Closes the hand-off, and returns the book. Its journal begins with all that any seat has seen. If a seat is missing, the
+    /// hand-off and the seats are returned.
     pub fn close(self, seats: Vec<HandSeat<B>>) -> Result<B, (HandOff<B>, Vec<HandSeat<B>>)>
         requires { All (λ s. s.home ≡ self.home) seats.items }
         ensures all { IfOk result (λ book. (n : ℕ) → n < self.seats → IsIn n (map (λ s. s.number) seats.items)) }

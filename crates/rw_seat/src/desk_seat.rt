@@ -35,7 +35,7 @@ impl<V: Payload> Model for DeskSeat<V> {
 }
 
 impl<V: Payload> DeskSeat<V> {
-    /// An actor's seat without hands.
+    /// Makes an actor's seat, without hands.
     pub(crate) fn new(alloc: Global, actor: u32) -> DeskSeat<V>
         requires { actor < MOST_ACTORS }
         ensures { result ≡ record { pass = fresh_pass actor; hands = [] } }
@@ -46,7 +46,7 @@ impl<V: Payload> DeskSeat<V> {
         }
     }
 
-    /// The actor's number.
+    /// Returns the actor's number.
     pub fn actor(&self) -> u32
         ensures actor { result ≡ self.now.pass.actor }
         ensures known { result < MOST_ACTORS }
@@ -54,14 +54,14 @@ impl<V: Payload> DeskSeat<V> {
         self.pass.actor()
     }
 
-    /// The stamp of its last call.
+    /// Returns the stamp of its last call.
     pub fn stamp(&self) -> u64
         ensures { result ≡ self.now.pass.clock }
     {
         self.pass.stamp()
     }
 
-    /// The receipts of its calls, in order.
+    /// Returns the receipts of its calls, in order.
     pub fn kept(&self) -> &[Kept<V>]
         ensures kept { result.now ≡ self.now.pass.kept }
         ensures pass { IsPass self.now.pass.actor self.now.pass.clock result.now }
@@ -70,7 +70,7 @@ impl<V: Payload> DeskSeat<V> {
         self.pass.kept()
     }
 
-    /// Gives a seat that made no call a hand more, which has seen nothing.
+    /// Adds a hand to a seat that has made no call. The hand has seen nothing.
     pub(crate) fn add(&mut self, hand: HandSeat<Book<Chan<V>>>) -> Result<(), NoMemory>
         requires pass { self.old.pass ≡ fresh_pass hand.number }
         requires front { hand.front ≡ [] }
@@ -80,7 +80,7 @@ impl<V: Payload> DeskSeat<V> {
         Ok(())
     }
 
-    /// Takes the seat apart: its pass, its other hands, and its hand at a channel.
+    /// Splits the seat into its pass, its other hands, and its hand at a channel.
     pub(crate) fn reach(
         self,
         at: usize,
@@ -102,7 +102,7 @@ impl<V: Payload> DeskSeat<V> {
         (pass, hands, hand)
     }
 
-    /// Puts a seat together again.
+    /// Puts together what `reach` has split.
     pub(crate) fn whole(
         pass: Pass<V>,
         mut hands: Vec<HandSeat<Book<Chan<V>>>>,

@@ -1,4 +1,4 @@
-//! The hand-off: one book, which seats take by turns.
+//! The hand-off: one book that seats acquire in turn.
 
 ghost use Rattle.std.specs.Prelude.{◌≡◌, ◌<◌, ◌≤◌, ◌∷◌, [], ℕ, Some, length, map, slice_get, vec_capacity, IfOk, All};
 ghost use Rattle.rw_law.specs.declared.limits.TheConstants.{MOST_ACTORS};
@@ -17,7 +17,7 @@ use std::marker::Model;
 use std::snapshot::Snapshot;
 use std::sync::Wait;
 
-/// A book that seats take by turns, and how many seats there are.
+/// A book that seats acquire in turn, and the number of seats.
 #[derive(Drop)]
 pub struct HandOff<B: Keeps + Drop> {
     pub(crate) table: Table<Option<B>, View<B::Entry, B::Start>, Opening<B>, OneBook<B>, Global>,
@@ -63,8 +63,8 @@ impl<B: Keeps> HandSeat<B> {
 }
 
 impl<B: Keeps + Drop> HandOff<B> {
-    /// A hand-off of the book, with the seats 0, 1, .. in order, each of which has seen the book's journal. Where memory is
-    /// refused the book is dropped.
+    /// Opens a hand-off of the book. Returns it with the seats 0, 1, .. in order, each of which has seen the book's journal. If
+    /// an allocation fails, the book is dropped.
     pub fn open(
         alloc: Global,
         book: B,
@@ -113,7 +113,8 @@ impl<B: Keeps + Drop> HandOff<B> {
         });
     }
 
-    /// Waits for the book. Its journal begins with all that the seat has seen, and goes on with no entry by the seat.
+    /// Acquires the book, and blocks while another seat has it. The book's journal begins with all that the seat has seen, and
+    /// goes on with no entry by the seat.
     pub fn take<R: Wait>(&self, rt: &R, seat: HandSeat<B>) -> Lent<'_, B>
         requires { seat.home ≡ self.now.home }
         ensures number { result.number ≡ seat.number }
@@ -132,8 +133,8 @@ impl<B: Keeps + Drop> HandOff<B> {
         }
     }
 
-    /// Waits for the book, for both seats: both have then seen its journal. It begins with what each has seen, and goes on with
-    /// no entry by that seat.
+    /// Acquires the book once for both seats, and releases it. Both have then seen its journal. It begins with what each had
+    /// seen, and goes on with no entry by that seat. Blocks while another seat has the book.
     pub fn meet<R: Wait>(
         &self,
         rt: &R,

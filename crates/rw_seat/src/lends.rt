@@ -1,4 +1,4 @@
-//! The book of a `Lent`, to write on. Its clause names the row of `Lent`, which the file that declares it can't import.
+//! The book of a `Lent`, to write to. Its clause names the row of `Lent`, which the file that declares it can't import.
 
 ghost use Rattle.std.specs.Prelude.{◌≡◌};
 ghost use Rattle.std.specs.Borrow.{sem};
@@ -8,7 +8,7 @@ use crate::lent::Lent;
 use rw_journal::Keeps;
 
 impl<'a, B: Keeps + Drop> Lent<'a, B> {
-    /// The book. What is written through the borrow is in the book when it ends.
+    /// Returns the book. What is written through the borrow is in the book when the borrow ends.
     pub fn book(&mut self) -> &mut B
         ensures* writes_back { sem 𝓛 (LendsBook B.row B.Entry.row B.Start.row B.author B.start B.journal self.entry result) }
         ensures value { result.now ≡ self.old.book }

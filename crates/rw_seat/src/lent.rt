@@ -1,4 +1,4 @@
-//! The book, while a seat has it.
+//! The book while a seat has acquired it.
 
 ghost use Rattle.std.specs.Prelude.{◌≡◌, ◌∷◌, [], Some};
 ghost use Rattle.rw_seat.specs.Journals.{Adds};
@@ -8,7 +8,7 @@ use crate::hand_off::{HandOff, HandSeat};
 use crate::taking::{Chair, put_back};
 use rw_journal::Keeps;
 
-/// The book, lent to a seat. Who drops it keeps the book for ever: no other seat gets it.
+/// The book, lent to a seat. If it is dropped, the book is never released, and no other seat can acquire it.
 #[derive(Drop)]
 pub struct Lent<'a, B: Keeps + Drop> {
     pub(crate) from: &'a HandOff<B>,
@@ -21,7 +21,7 @@ pub struct Lent<'a, B: Keeps + Drop> {
 }
 
 impl<'a, B: Keeps + Drop> Lent<'a, B> {
-    /// Gives the book back. The seat has then seen its whole journal.
+    /// Releases the book. The seat has then seen its whole journal.
     pub fn give(self) -> HandSeat<B>
         requires start { Some (B.start self.book) ≡ self.from.now.home.start }
         requires adds { Adds B.author (self.number ∷ []) self.seat.me.0.front (B.journal self.book) }

@@ -1,8 +1,8 @@
-//! Calls that know their past: channels whose books are handed from seat to seat.
+//! Calls that know their past: seats acquire the channels' books in turn.
 //!
-//! The one contract: what a call's answer gives back is a legal journal that extends all that its caller had seen, and of the
-//! journals of two callers that meet, one extends the other. Start reading at `specs/Rule.antt`, which says what holds of a
-//! hand-off whoever has the book, and go on with `hand_off.rt` and `seat_desk.rt`.
+//! The one contract: after a call, the seat's front is a legal journal that extends all that the seat had seen, and ends with
+//! that call. After two seats meet, one's front extends the other's. Start reading at `specs/Rule.antt`, which says what holds of
+//! a hand-off, whichever seat has the book. Then read `hand_off.rt` and `seat_desk.rt`.
 #![tactic(auto)]
 
 mod answered;

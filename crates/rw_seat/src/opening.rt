@@ -21,8 +21,8 @@ use rw_world::{Chan, OpenFault, Spec, open_channel};
 use std::alloc::Global;
 
 impl<V: Payload> SeatDesk<V> {
-    /// A desk with a channel for each spec, under the numbers 0, 1, 2, .., and a seat for each actor, in the order of their
-    /// numbers.
+    /// Opens a desk with a channel for each spec, numbered 0, 1, 2, .. in order. Returns it with a seat for each actor, in the
+    /// order of their numbers.
     pub fn open(
         alloc: Global,
         specs: &[Spec<V>],
@@ -41,7 +41,7 @@ impl<V: Payload> SeatDesk<V> {
     }
 }
 
-/// Opens a desk of specs that open, and of a good number of actors.
+/// Opens a desk, for specs and a number of actors that `open` doesn't refuse.
 fn open_all<V: Payload>(
     alloc: Global,
     specs: &[Spec<V>],
@@ -71,7 +71,7 @@ fn open_all<V: Payload>(
     Ok((desk, seats))
 }
 
-/// Opens a channel for each spec, and gives each seat a hand of it. Where memory is refused some seats may have got hands.
+/// Opens a channel for each spec, and adds a hand of it to each seat. If an allocation fails, some seats may already have hands.
 fn open_hand_offs<V: Payload>(
     alloc: Global,
     specs: &[Spec<V>],
@@ -97,7 +97,7 @@ fn open_hand_offs<V: Payload>(
     Ok(hand_offs)
 }
 
-/// Opens a channel, and gives each seat a hand of it. Its hand-off comes last, also where memory is refused for a hand.
+/// Opens a channel, and adds a hand of it to each seat. Its hand-off is pushed even if the allocation for a hand fails.
 fn open_to_seats<V: Payload>(
     alloc: Global,
     spec: &Spec<V>,
@@ -121,7 +121,7 @@ fn open_to_seats<V: Payload>(
     hand_out(seats, hands)
 }
 
-/// A seat for each actor, without hands.
+/// Makes a seat for each actor, without hands.
 fn seats_without_hands<V: Payload>(alloc: Global, actors: u32) -> Result<Vec<DeskSeat<V>>, NoMemory>
     requires { actors ≤ MOST_ACTORS }
     ensures { IfOk result (λ seats. (length seats.items ≡ actors) × ((a : ℕ) → a < actors → slice_get seats.items a ≡ Some (record { pass = fresh_pass a; hands = [] }))) }
@@ -133,7 +133,7 @@ fn seats_without_hands<V: Payload>(alloc: Global, actors: u32) -> Result<Vec<Des
     Ok(seats)
 }
 
-/// Opens a channel, and hands its book off.
+/// Opens a channel, and a hand-off of its book.
 fn open_hand_off<V: Payload>(
     alloc: Global,
     spec: &Spec<V>,
@@ -150,7 +150,7 @@ fn open_hand_off<V: Payload>(
     HandOff::open(alloc, book, seats)
 }
 
-/// Gives each hand to the seat of its number. Where memory is refused for a hand, it is dropped.
+/// Adds each hand to the seat with its number. A hand whose allocation fails is dropped.
 fn hand_out<V: Payload>(
     seats: &mut [DeskSeat<V>],
     mut hands: Vec<HandSeat<Book<Chan<V>>>>,

@@ -1,4 +1,4 @@
-//! The rule of the table under a hand-off, and what its steps tell. `specs/Rule.antt` has both in words.
+//! The rule of the table under a hand-off, and the effects of its steps. `specs/Rule.antt` states both.
 
 ghost use Rattle.std.specs.Prelude.{Some};
 ghost use Rattle.rw_seat.specs.Rule.{Kept, Takes, Gives, resting, numbers_from, first_part, other_part, joined_view, spent_view};
@@ -8,7 +8,7 @@ use atomic_table::{Join, Play, Split, TableRule};
 use rw_journal::Keeps;
 use std::marker::PhantomData;
 
-/// One book goes round.
+/// The rule: one book, which seats acquire in turn.
 pub struct OneBook<B> {
     marker: PhantomData<B>,
 }
@@ -19,7 +19,7 @@ impl<B: Keeps> TableRule<Option<B>, View<B::Entry, B::Start>, Opening<B>> for On
     ghost first = { λ key. resting (numbers_from 0 key.seats) (Some (B.start key.book.value)) (B.journal key.book.value) };
 }
 
-/// A taking, which wins or loses.
+/// An acquire, which succeeds or fails.
 pub struct Take<B> {
     marker: PhantomData<B>,
 }
@@ -28,7 +28,7 @@ impl<B: Keeps> Play<Option<B>, View<B::Entry, B::Start>> for Take<B> {
     ghost then = { Takes B.author B.start B.journal };
 }
 
-/// A giving back.
+/// A release.
 pub struct Give<B> {
     marker: PhantomData<B>,
 }
@@ -37,7 +37,7 @@ impl<B: Keeps> Play<Option<B>, View<B::Entry, B::Start>> for Give<B> {
     ghost then = { Gives B.author B.start B.journal };
 }
 
-/// A splitting: the first number stays, the others go.
+/// A split: the first number stays, and the others go to the new seat.
 pub struct Deal;
 
 impl<E, S> Split<View<E, S>> for Deal {
@@ -46,7 +46,7 @@ impl<E, S> Split<View<E, S>> for Deal {
     ghost right = { other_part };
 }
 
-/// A joining.
+/// A join of two seats.
 pub struct Meet;
 
 impl<E, S> Join<View<E, S>> for Meet {

@@ -1,4 +1,4 @@
-//! Whose seats are here, and their receipts beside a run.
+//! Which actors have seats, and the receipts of seats compared with a run.
 
 ghost use Rattle.std.specs.Prelude.{◌≡◌, IfNone, IfSome};
 ghost use Rattle.rw_desk.specs.Closing.{AreAllHere, IsStray, IsStranger, passes_of, receipts_of};
@@ -10,7 +10,7 @@ use rw_desk::{Kept, compare};
 use rw_journal::Run;
 use rw_law::{MOST_ACTORS, Payload};
 
-/// How many of the seats are an actor's.
+/// Returns how many of the seats are an actor's.
 fn seats_of<V: Payload>(seats: &[DeskSeat<V>], actor: u32) -> usize
     ensures { result ≡ passes_of actor (passes_in seats.now) }
 {
@@ -23,7 +23,7 @@ fn seats_of<V: Payload>(seats: &[DeskSeat<V>], actor: u32) -> usize
     count
 }
 
-/// The least of so many actors of whom there isn't exactly one seat, or else the number of a seat that is none of theirs.
+/// Returns the least actor that doesn't have exactly one seat. If each has one, returns the number of a seat that is no actor's.
 pub(crate) fn stranger<V: Payload>(seats: &[DeskSeat<V>], actors: u32) -> Option<u32>
     ensures none { IfNone result (AreAllHere actors (passes_in seats.now)) }
     ensures some { IfSome result (IsStranger actors (passes_in seats.now)) }
@@ -41,7 +41,7 @@ pub(crate) fn stranger<V: Payload>(seats: &[DeskSeat<V>], actors: u32) -> Option
     None
 }
 
-/// The receipts of an actor's first seat; a number without a seat has none.
+/// Returns the receipts of an actor's first seat, or none if it has no seat.
 fn receipts_of<V: Payload>(seats: &[DeskSeat<V>], actor: u32) -> &[Kept<V>]
     ensures { result.now ≡ receipts_of actor (passes_in seats.now) }
 {
@@ -53,7 +53,7 @@ fn receipts_of<V: Payload>(seats: &[DeskSeat<V>], actor: u32) -> &[Kept<V>]
     &[]
 }
 
-/// The least actor whose receipts aren't its entries, and the first place at which they differ.
+/// Returns the least actor whose receipts aren't its entries, and the first place at which they differ.
 pub(crate) fn strayed<V: Payload>(run: &Run<V>, seats: &[DeskSeat<V>]) -> Option<(u32, u64)>
     ensures none { IfNone result (AreAllTheirs (passes_in seats.now) run.now.entries) }
     ensures some { IfSome result (λ r. IsStray (passes_in seats.now) run.now.entries r.0 r.1) }

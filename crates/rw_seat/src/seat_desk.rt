@@ -1,4 +1,4 @@
-//! Desks whose channels are handed from seat to seat: a call's answer says what its caller has seen.
+//! Desks with seats: each channel's book has a hand-off. A call returns how much its caller has seen.
 
 ghost use Rattle.std.specs.Prelude.{◌≡◌, ◌↔◌, ◌≤◌, false, Some, length, map, slice_get, IfNone, IfSome, IsNone, IsTrue};
 ghost use Rattle.rw_world.specs.Channel.{strays_at};
@@ -21,7 +21,7 @@ use rw_world::{Chan, ChanCall, Spec};
 use std::marker::Model;
 use std::sync::Wait;
 
-/// Channels that threads share by reference, each with its book handed from seat to seat, and how many actors there are.
+/// Channels that threads share by reference, each with a hand-off of its book, and the number of actors.
 #[derive(Drop)]
 pub struct SeatDesk<V: Payload> {
     pub(crate) specs: Vec<Spec<V>>,
@@ -41,7 +41,7 @@ impl<V: Payload> Model for SeatDesk<V> {
 }
 
 impl<V: Payload> SeatDesk<V> {
-    /// One call. It waits for the channel's book, and for no value.
+    /// Makes a call. It blocks until it has acquired the channel's book, but never for a value.
     pub fn call<R: Wait>(
         &self,
         rt: &R,
@@ -62,8 +62,8 @@ impl<V: Payload> SeatDesk<V> {
         (DeskSeat::whole(pass, hands, at, hand), answer)
     }
 
-    /// Lets two seats meet on a channel: what the second has then seen of it, the first has seen too. The length of what the
-    /// first has seen is answered. `None`: there is no such channel.
+    /// Lets two seats meet on a channel: the first has then seen all that the second has seen of it. Returns the length of what
+    /// the first has seen, or `None` if there is no such channel.
     pub fn meet<R: Wait>(
         &self,
         rt: &R,
@@ -95,7 +95,7 @@ impl<V: Payload> SeatDesk<V> {
         )
     }
 
-    /// The hand-off of a channel, if there is one for this call.
+    /// Returns the hand-off of a call's channel, or `None` if the call strays.
     fn hand_off(&self, channel: u32, call: &ChanCall<V>) -> Option<&HandOff<Book<Chan<V>>>>
         ensures none { IsNone result ↔ IsTrue (stray_of strays_at (map spec_kind self.now.specs) (row_call channel call.now)) }
         ensures home { IfSome result (λ h. slice_get self.now.homes channel ≡ Some h.now.home) }
@@ -108,7 +108,7 @@ impl<V: Payload> SeatDesk<V> {
         self.hand_off_at(at)
     }
 
-    /// The hand-off of a channel, if there is one.
+    /// Returns the hand-off of a channel, or `None` if there is no such channel.
     pub(crate) fn hand_off_at(&self, at: usize) -> Option<&HandOff<Book<Chan<V>>>>
         ensures none { IsNone result ↔ length self.now.specs ≤ at }
         ensures home { IfSome result (λ h. slice_get self.now.homes at ≡ Some h.now.home) }

@@ -1,4 +1,4 @@
-//! The book's way out of the slot and back.
+//! Acquiring and releasing the book of a hand-off.
 
 ghost use Rattle.std.specs.Prelude.{◌≡◌, ◌∷◌, [], ℕ, List, None, Some, true};
 ghost use Rattle.rw_seat.specs.Journals.{Adds};
@@ -11,19 +11,19 @@ use rw_journal::Keeps;
 use std::hint::spin_loop;
 use std::sync::Wait;
 
-/// The word while the book is at home.
+/// The word while the book is free: the slot has it.
 pub(crate) const FREE: u64 = 0;
 
-/// The word while it is taken.
+/// The word while a seat has the book.
 const TAKEN: u64 = 1;
 
-/// How often a taking that lost looks whether the book is back, before it sleeps.
+/// How many times a failed acquire spins before it parks.
 const LOOKS: u32 = 64;
 
-/// A seat as the table knows it.
+/// A seat of the table, with what the rule knows of it.
 pub(crate) type Chair<B> = Seat<Option<B>, View<<B as Keeps>::Entry, <B as Keeps>::Start>>;
 
-/// One word and one slot, which has the book while it is at home.
+/// The table: one word, and one slot that has the book while it is free.
 pub(crate) type Board<B> = Shared<
     Option<B>,
     View<<B as Keeps>::Entry, <B as Keeps>::Start>,
@@ -31,7 +31,7 @@ pub(crate) type Board<B> = Shared<
     OneBook<B>,
 >;
 
-/// Waits until the book is at home, and takes it.
+/// Acquires the book, and blocks until it is free.
 pub(crate) fn win<B: Keeps, R: Wait>(board: &Board<B>, rt: &R, seat: &mut Chair<B>) -> B
     requires one { (board.now.table_id.words ≡ 1) × (board.now.table_id.slots ≡ 1) }
     requires place { seat.old.table_id ≡ board.now.table_id }
@@ -51,7 +51,7 @@ pub(crate) fn win<B: Keeps, R: Wait>(board: &Board<B>, rt: &R, seat: &mut Chair<
     unreachable!()
 }
 
-/// Looks for a while whether the book has come home, and then sleeps until it does. It may also wake for no reason.
+/// Spins up to `LOOKS` times. If the book isn't free by then, it parks until a release. It may also wake without one.
 fn rest<B: Keeps, R: Wait>(board: &Board<B>, rt: &R)
     requires { board.now.table_id.words ≡ 1 }
 {
@@ -64,7 +64,7 @@ fn rest<B: Keeps, R: Wait>(board: &Board<B>, rt: &R)
     board.park(rt, 0, TAKEN as u32);
 }
 
-/// Gives the book back, and wakes one who sleeps.
+/// Releases the book, and wakes one parked thread.
 pub(crate) fn put_back<B: Keeps + Drop>(board: &Board<B>, seat: &mut Chair<B>, book: B)
     requires one { (board.now.table_id.words ≡ 1) × (board.now.table_id.slots ≡ 1) }
     requires place { seat.old.table_id ≡ board.now.table_id }

@@ -1,4 +1,4 @@
--- A seat of numbers may go to another thread, and threads may share a desk with such seats.
+-- A seat with numbers as its values may be sent to another thread, and threads may share its desk.
 use denote.Builtin.{u64}
 use denote.Param.Send.{IsSend, IsSync, sendable}
 use Rattle.std.specs.contracts.prelude.U64Clone.TheImpl as number

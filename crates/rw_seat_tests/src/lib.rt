@@ -1,8 +1,8 @@
 //! Tests of `rw_seat`: hand-offs and desks with seats, in one thread and in two.
 //!
-//! They stand apart from the other tests, since what they need is little: so they are checked beside those, and not after them.
-//! The one contract is what each test says: what is called, and what is answered and given back at the close.
-//! Start reading at `seats/one_thread.rt`.
+//! They are a separate crate, since they need little. So they are checked beside the other tests, and not after them. The one
+//! contract is what each test states: what is called, and what is returned, also at the close. Start reading at
+//! `seats/one_thread.rt`.
 #![tactic(auto)]
 
 #[cfg(test)]

@@ -1,10 +1,9 @@
 //! Tests: books and runs of worlds, words, scripts, journal texts, sessions, and what the program makes of files.
 //!
-//! Tests stand here, in `rw_channel_tests`, in `rw_desk_tests` and in `rw_seat_tests`, and not beside what they test, since a crate
-//! that holds tests is proved twice. What can be seen as the bytes of a run of the program is none of them: the runs in
-//! `tests/program` show it.
-//! The one contract is the rows themselves: what is called or read, and what is answered, shown or written, from the documentation
-//! and not from the code. Start reading at `texts/rows.rt`, which has a script for each worked row of the channels.
+//! Tests are here, in `rw_channel_tests`, in `rw_desk_tests` and in `rw_seat_tests`, and not beside what they test, since a crate
+//! with tests is proved twice. What a run of the program shows as bytes isn't tested here, but by the runs in `tests/program`.
+//! The one contract is the rows themselves: what is called or read, and what is returned, shown or written. They come from the
+//! documentation, not from the code. Start reading at `texts/rows.rt`, which has a script for each worked row of the channels.
 #![tactic(auto)]
 
 #[cfg(test)]

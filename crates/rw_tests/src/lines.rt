@@ -10,7 +10,7 @@ use std::test::Fail;
 
 const INPUT: &[u8] = b"ab\ncd";
 
-/// Input, what a request for its first line is answered, that line, and what is left.
+/// The input, the result of a request for its first line, that line, and what is left.
 type FirstLine = (&'static [u8], Next, &'static [u8], &'static [u8]);
 
 static FIRST_LINES: [FirstLine; 6] = [
@@ -22,7 +22,7 @@ static FIRST_LINES: [FirstLine; 6] = [
     (b"# a\0", Next::Last, b"# a\0", b""),
 ];
 
-/// A reader that gives so many bytes at a call gives this line.
+/// Asserts that a reader that returns `most` bytes at a call returns this line first.
 fn gives_first_line(
     rt: &impl Abort,
     reader: &mut FailingReader,
@@ -46,14 +46,14 @@ fn reads_lines_of_any_bytes(rt: HostRuntime) {
     }
 }
 
-/// So many letters, LF and one more letter.
+/// Returns this many letters, LF and one more letter.
 fn long_line(alloc: Global, length: usize) -> Result<Vec<u8>, AllocError> {
     let mut input = vec![in alloc; b'x'; length]?;
     input.extend_from_slice(b"\ny")?;
     Ok(input)
 }
 
-/// What a reader answers to two requests for lines, and how long the first line is.
+/// Returns the results of two requests for lines, and how long the first line is.
 fn two_lines<R: Read>(
     reader: &mut R,
     mut allowed: u64,
@@ -64,10 +64,10 @@ fn two_lines<R: Read>(
     ([first, line_of(reader, &mut allowed, line)], length)
 }
 
-/// How long a line is, and how many bytes of it are kept.
+/// How long a line is, and how many bytes of it are stored.
 static LENGTHS: [(usize, usize); 5] = [(255, 255), (256, 256), (257, 257), (258, 257), (700, 257)];
 
-/// A line of so many bytes is answered, with what is kept of it, and then the next.
+/// Asserts that a line of this length is read, with `kept` of its bytes stored, and then the next line.
 fn keeps(rt: &impl Abort, input: &[u8], line: &mut Vec<u8>, length: usize, kept: usize) {
     let (answers, found) = two_lines(&mut FailingReader::new(input, 7, None), 702, line);
     let told = [Ok(Next::Line), Ok(Next::Last)];
@@ -101,7 +101,7 @@ fn stops_at_the_first_byte_too_much(rt: HostRuntime) {
     same(&rt, &5, &enough, &[Ok(Next::Line), Ok(Next::Last)]);
 }
 
-/// Whether a reader answers so to requests for lines.
+/// Whether requests for lines have these results.
 fn answers<R: Read>(reader: &mut R, allowed: &mut u64, line: &mut Vec<u8>, wants: &[Next]) -> bool {
     let mut answers = true;
     for want in wants {
@@ -110,8 +110,8 @@ fn answers<R: Read>(reader: &mut R, allowed: &mut u64, line: &mut Vec<u8>, wants
     answers
 }
 
-/// How many reads go well, what requests for lines are answered before one that fails, and what is left. Six reads give the five
-/// bytes one by one and then the end; the seventh gives the end again.
+/// How many reads succeed, the results of the requests for lines before one that fails, and what is left. Six reads return the
+/// five bytes one by one and then the end. The seventh returns the end again.
 static FAILED_READS: [(u64, &[Next], &[u8]); 7] = [
     (0, &[], b"ab\ncd"),
     (1, &[], b"b\ncd"),
@@ -122,7 +122,7 @@ static FAILED_READS: [(u64, &[Next], &[u8]); 7] = [
     (6, &[Next::Line, Next::Last], b""),
 ];
 
-/// A reader that fails behind so many calls answers so, and leaves this.
+/// Asserts that a reader that fails after this many calls has these results, and leaves these bytes.
 fn fails_behind(rt: &impl Abort, line: &mut Vec<u8>, calls: u64, wants: &[Next], unread: &[u8]) {
     let mut reader = FailingReader::new(INPUT, 1, Some(calls));
     let mut allowed = 5;
@@ -140,7 +140,7 @@ fn stops_at_each_failed_read(rt: HostRuntime) {
     }
 }
 
-/// What a writer answers to the bytes, and, where it takes them all, whether it then takes a flush.
+/// Writes the bytes. Returns the result, and if all were written, whether a flush after that succeeds.
 fn put_and_flush<W: Write>(writer: &mut W, bytes: &[u8]) -> (Result<(), ShortWrite>, Option<bool>) {
     match put(writer, bytes) {
         Ok(()) => (Ok(()), Some(flush(writer).is_ok())),
@@ -148,8 +148,8 @@ fn put_and_flush<W: Write>(writer: &mut W, bytes: &[u8]) -> (Result<(), ShortWri
     }
 }
 
-/// How many bytes a writer takes at a call, how many calls go well, what it answers to the five bytes, which of them it then has,
-/// whether it takes a flush, and how many it took.
+/// How many bytes a writer accepts at a call, how many calls succeed, the result for the five bytes, which of them were written,
+/// whether a flush succeeds, and how many flushes did.
 type Writing = (
     usize,
     Option<u64>,
@@ -159,7 +159,7 @@ type Writing = (
     u64,
 );
 
-/// Five writes take the five bytes one by one; the sixth call is the flush.
+/// Five writes write the five bytes one by one. The sixth call is the flush.
 static WRITINGS: [Writing; 8] = [
     (1, Some(0), Err(ShortWrite { written: 0 }), b"", None, 0),
     (1, Some(1), Err(ShortWrite { written: 1 }), b"a", None, 0),
@@ -178,7 +178,7 @@ static WRITINGS: [Writing; 8] = [
     (0, None, Err(ShortWrite { written: 0 }), b"", None, 0),
 ];
 
-/// A writer answers so.
+/// Asserts that a writer has these results.
 fn takes(
     rt: &impl Abort,
     writer: &mut FailingWriter,
@@ -203,10 +203,10 @@ fn stops_at_each_failed_write(rt: HostRuntime) {
     }
 }
 
-/// How many calls go well, what a writer then answers to the five bytes, which of them it has, and which it has handed on.
+/// How many calls succeed, the result for the five bytes, which of them were written, and which were flushed.
 type Piece = (u64, Result<(), StreamFault>, &'static [u8], &'static [u8]);
 
-/// Five writes take the five bytes one by one, and what was written is handed on by the sixth call alone.
+/// Five writes write the five bytes one by one. They are flushed by the sixth call alone.
 static PIECES: [Piece; 7] = [
     (0, Err(StreamFault::Write), b"", b""),
     (1, Err(StreamFault::Write), b"a", b""),
@@ -217,7 +217,7 @@ static PIECES: [Piece; 7] = [
     (6, Ok(()), INPUT, INPUT),
 ];
 
-/// A writer answers so to the five bytes.
+/// Asserts that a writer has these results for the five bytes.
 fn hands_on(rt: &impl Abort, writer: &mut FailingWriter, (calls, ended, written, handed): &Piece) {
     let answer = put_whole(writer, INPUT);
     let found = (answer, writer.written(), writer.handed_on());

@@ -1,9 +1,9 @@
 //! Calls of books, runs, drafts, walks, texts and lines without their contracts, over any machine, type of values or stream.
 //!
-//! A test says what comes back and needs no clause of what it calls. A proof that meets the contracts of a world's calls at the
-//! values of a test takes minutes; over a type parameter, once for all tests, it takes seconds. What a test owns of a run, a book or
-//! a navigator it hands to `drop` by name, before it compares what it gathered: a proof walks through all that is dropped where a
-//! scope ends, and at each assert before that, and not through a call.
+//! A test states what is returned, and needs no clause of what it calls. A proof that meets the contracts of a world's calls at
+//! the values of a test takes minutes. Over a type parameter, once for all tests, it takes seconds. A test passes its runs, books
+//! and navigators to `drop` before it compares results. A proof goes through all that is dropped where a scope ends, and again at
+//! each assert before that, but not through a call.
 
 ghost use Rattle.std.specs.Prelude.{◌<◌, All};
 
@@ -19,19 +19,19 @@ use std::fmt::{Debug, Display};
 use std::io::Read;
 use std::process::Abort;
 
-/// What is found in a case is what is told of it.
+/// Asserts that what is found in a case is what is expected.
 ///
-/// An assert in a test is proved there, with its branch and its message; this one is proved once, for all tests.
+/// An assert in a test is proved there, with its branch and its message. This one is proved once, for all tests.
 pub fn same<T: PartialEq + Debug>(rt: &impl Abort, case: &impl Display, found: &T, told: &T) {
     assert_eq!(rt; found, told, "{case}");
 }
 
-/// A book of a world that is opened from these specs.
+/// Opens a book of a world with these specs.
 pub fn book_of<V: Copy>(alloc: Global, specs: &[Spec<V>]) -> Result<Book<World<V>>, OpenFault> {
     Ok(Book::open(alloc, open(alloc, specs)?)?)
 }
 
-/// A call by actor 0: the stamp of its receipt, and its reply.
+/// Makes a call by actor 0. Returns the stamp of its receipt, and its reply.
 pub fn take<M: Reversible>(
     book: &mut Book<M>,
     clock: u64,
@@ -46,7 +46,7 @@ pub fn ready<M: Reversible>(book: &mut Book<M>, clock: u64) -> Result<(), TakeFa
     book.ready(clock)
 }
 
-/// The stamp of the entry that is taken back, and the number of those that are left.
+/// Undoes the last call. Returns the stamp of its entry, and how many entries are left.
 pub fn rewind<M: Reversible>(book: &mut Book<M>) -> Option<(u64, u64)> {
     let entry = book.rewind()?;
     Some((entry.stamp, book.len()))
@@ -62,7 +62,7 @@ pub fn run_on<M: Reversible>(
     book.run(calls)
 }
 
-/// A draft of a run of these specs.
+/// Opens a draft of a run of these specs.
 pub fn draft_of<V: Payload>(alloc: Global, specs: &[Spec<V>]) -> Result<RunDraft<V>, OpenFault> {
     RunDraft::open(alloc, specs)
 }
@@ -79,45 +79,45 @@ pub fn push<V: Payload>(
     draft.push(actor, stamp, RowCall { channel, call }, reply)
 }
 
-/// The run of a draft.
+/// Returns the run of a draft.
 pub fn finish<V: Payload>(draft: RunDraft<V>) -> Run<V> {
     draft.finish()
 }
 
-/// The specs of a run.
+/// Returns the specs of a run.
 pub fn specs_of<V: Copy>(run: &Run<V>) -> &[Spec<V>] {
     run.specs()
 }
 
-/// The entries of a run.
+/// Returns the entries of a run.
 pub fn entries_of<V: Copy>(run: &Run<V>) -> &[Entry<World<V>>] {
     run.entries()
 }
 
-/// How many entries a run has, which then goes.
+/// Returns how many entries a run has, and drops the run.
 pub fn length<V: Copy>(run: Run<V>) -> usize {
     let length = run.entries().len();
     drop(run);
     length
 }
 
-/// The world in which a run starts.
+/// Returns the world in which a run starts.
 pub fn start_of<V: Copy>(alloc: Global, run: &Run<V>) -> Result<World<V>, NoMemory> {
     run.start(alloc)
 }
 
-/// A navigator of a run, at place 0.
+/// Opens a navigator of a run, at place 0.
 pub fn navigator_of<V: Copy>(alloc: Global, run: &Run<V>) -> Result<Navigator<World<V>>, NoMemory> {
     Navigator::open(alloc, run.start(alloc)?, run.entries())
 }
 
-/// Makes a move, and answers the place where the navigator then stands.
+/// Makes a move, and returns the navigator's place after it.
 pub fn step<R: Reversible>(navigator: &mut Navigator<R>, to: Move) -> Result<u64, OutOfRange> {
     navigator.step(to)?;
     Ok(navigator.place())
 }
 
-/// Where a navigator stands after a move to the end and after one to the start. It then goes.
+/// Returns a navigator's place after a move to the end, and after one to the start. Drops the navigator.
 pub fn ends<R: Reversible + Drop>(mut navigator: Navigator<R>) -> [Result<u64, OutOfRange>; 2] {
     let places = [
         step(&mut navigator, Move::End),
@@ -136,17 +136,17 @@ pub fn walk<R: Reversible>(
     navigator.walk(alloc, moves)
 }
 
-/// Where a navigator stands, and how many calls its machine had.
+/// Returns a navigator's place, and how many calls its machine had.
 pub fn place_and_turns<R: Reversible>(navigator: &Navigator<R>) -> (u64, u64) {
     (navigator.place(), navigator.turns())
 }
 
-/// What a navigator's machine is at its place.
+/// Returns a navigator's machine, at its place.
 pub fn state<R: Reversible>(navigator: &Navigator<R>) -> &R {
     navigator.state()
 }
 
-/// The index of a condition on entries. Of one on states there is none.
+/// Builds the index of a condition on entries. A condition on states has none.
 pub fn index_of<R: Reversible, P: Probe<R>>(
     alloc: Global,
     navigator: &Navigator<R>,
@@ -158,7 +158,7 @@ pub fn index_of<R: Reversible, P: Probe<R>>(
     Ok(Some(HitIndex::build(alloc, navigator, probe)?))
 }
 
-/// What an index finds below a place, and above it.
+/// Returns what an index finds below a place, and above it.
 pub fn looked_up<R: Reversible, P: Probe<R>>(
     index: &HitIndex<R, P>,
     place: u64,
@@ -166,7 +166,7 @@ pub fn looked_up<R: Reversible, P: Probe<R>>(
     (index.before(place), index.after(place))
 }
 
-/// What the searches find from a place, below it and above it.
+/// Returns what the searches from a place find below it, and above it.
 pub fn searched<R: Reversible, P: Probe<R>>(
     navigator: &mut Navigator<R>,
     probe: &P,
@@ -178,17 +178,18 @@ pub fn searched<R: Reversible, P: Probe<R>>(
     Ok((below, navigator.forward_to(probe)))
 }
 
-/// The run that is read from a journal text.
+/// Reads a run from a journal text.
 pub fn run_in<V: Payload>(alloc: Global, bytes: &[u8]) -> Result<Run<V>, TextFault> {
     read(alloc, bytes)
 }
 
-/// The run that a journal text still holds that may have been cut off, and how many bytes its whole lines have.
+/// Salvages the run of a journal text that may have been cut off. Returns it, and how many bytes the text's whole lines have.
 pub fn salvage_in<V: Payload>(alloc: Global, bytes: &[u8]) -> Result<(Run<V>, u64), TextFault> {
     salvage(alloc, bytes)
 }
 
-/// What the write of a run answers to a writer that takes so many bytes at a call and fails at a call, and what it wrote.
+/// Writes a run to a writer that accepts at most `most` bytes at a call, and fails once, after `calls` calls. Returns the result
+/// of the write, and what was written.
 pub fn written<V: Payload>(
     alloc: Global,
     run: &Run<V>,
@@ -200,12 +201,12 @@ pub fn written<V: Payload>(
     Ok((answer, Vec::from_slice(alloc, writer.written())?))
 }
 
-/// The run that is written and read back.
+/// Writes a run and reads it back.
 pub fn run_again<V: Payload>(alloc: Global, run: &Run<V>) -> Result<Run<V>, NoMemory> {
     round_trip(alloc, run)
 }
 
-/// The next line of a reader.
+/// Reads the next line of a reader.
 pub fn line_of<R: Read>(
     reader: &mut R,
     allowed: &mut u64,

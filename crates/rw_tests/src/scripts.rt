@@ -7,11 +7,11 @@ use std::alloc::{AllocError, Global};
 use std::process::Abort;
 use std::test::Fail;
 
-/// Lines of 64 channels, 64 actors and two steps, behind the first 63 channels.
+/// The lines of a script after those of its first 63 channels: the last of 64 channels, 64 actors and two steps.
 const LAST_LINES: &[u8] =
     b"broadcast 65536\nactors 64\n63 63 subscribe 0 as abcdefghijklmnop\n63 63 drop abcdefghijklmnop\n---\n";
 
-/// A script of 64 channels and 64 actors. What stands behind the mark isn't judged.
+/// Returns a script of 64 channels and 64 actors. What comes after the mark isn't checked.
 fn limits(alloc: Global) -> Result<Vec<u8>, AllocError> {
     let mut script = b"watch 18446744073709551615\n".repeat(alloc, 63)?;
     script.extend_from_slice(LAST_LINES)?;
@@ -22,12 +22,12 @@ fn limits(alloc: Global) -> Result<Vec<u8>, AllocError> {
 /// A step's line, actor, channel and target, and whether it binds a name.
 type Shown = (u64, u32, u32, Option<u32>, bool);
 
-/// What a step shows.
+/// Returns what a step shows.
 fn shown(step: &ScriptStep) -> Shown {
     (step.line, step.actor, step.channel, step.target, step.binds)
 }
 
-/// A script of 64 channels and 64 actors has its specs and its two steps.
+/// Asserts that a script of 64 channels and 64 actors has its specs and its two steps.
 fn has_limits(rt: &impl Abort, script: &Script) -> Result<(), Fail> {
     let (specs, steps) = (script.specs(), script.steps());
     same(
@@ -59,7 +59,7 @@ fn takes_limits(rt: HostRuntime) -> Result<(), Fail> {
     found
 }
 
-/// Takes lines until there are as many steps as there may be.
+/// Reads lines until there are as many steps as there may be.
 fn fill(reader: &mut ScriptReader) -> Result<(), ScriptFault> {
     if reader.lines() > 0 {
         return Ok(());
@@ -75,14 +75,14 @@ fn fill(reader: &mut ScriptReader) -> Result<(), ScriptFault> {
     Ok(())
 }
 
-/// Lines that a reader with all the steps that there may be doesn't take, and why.
+/// Lines that a reader with all the steps that there may be refuses, and why.
 static REFUSED: [(&[u8], ScriptFaultKind); 3] = [
     (b"0 0 drop 9", ScriptFaultKind::TooManySteps),
     (b"0 0 subscribe 9 as r", ScriptFaultKind::NameTaken),
     (b"0 0 drop s", ScriptFaultKind::UnknownName),
 ];
 
-/// A reader with all the steps that there may be takes no further one.
+/// Asserts that a reader with all the steps that there may be refuses further ones.
 fn is_full(rt: &impl Abort, reader: &mut ScriptReader) {
     same(rt, &"lines", &reader.lines(), &1_048_577);
     for (line, kind) in &REFUSED {
@@ -96,7 +96,7 @@ fn is_full(rt: &impl Abort, reader: &mut ScriptReader) {
     }
 }
 
-/// How many steps a script has whose reader is done.
+/// Returns how many steps the script of a reader has.
 fn steps_of(reader: ScriptReader) -> Result<usize, Fail> {
     if reader.lines() > 2_000_000 {
         return Err(Fail::from("too many lines"));

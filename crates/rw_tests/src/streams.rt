@@ -1,6 +1,6 @@
-//! Sessions, and what the program makes of files, without their contracts, over any streams.
+//! Sessions, and what the program does with files, without their contracts, over any streams.
 //!
-//! A test says what comes back and needs no clause of what it calls.
+//! A test states what is returned, and needs no clause of what it calls.
 
 use rw_console::{Outcome, SessionFault, session};
 use rw_program::{check_file, debug_file, record_file, salvage_file, session_on};
@@ -9,7 +9,7 @@ use std::io::{Read, Write};
 use std::sync::Wait;
 use std::thread::Threads;
 
-/// How a session ends.
+/// Returns how a session ends.
 pub fn session_of<R: Read, W: Write>(
     alloc: Global,
     reader: &mut R,
@@ -18,7 +18,7 @@ pub fn session_of<R: Read, W: Write>(
     session(alloc, reader, writer)
 }
 
-/// The status of a session on three streams.
+/// Returns the status of a session on three streams.
 pub fn session_by<R: Read, W: Write, E: Write>(
     alloc: Global,
     input: &mut R,
@@ -28,7 +28,7 @@ pub fn session_by<R: Read, W: Write, E: Write>(
     session_on(alloc, input, out, err)
 }
 
-/// The status of a file's script that is recorded by one thread.
+/// Records a file's script by one thread. Returns the status.
 pub fn recorded<F: Read, W: Write, E: Write, R: Threads + Wait + Sync>(
     rt: &R,
     alloc: Global,
@@ -39,7 +39,7 @@ pub fn recorded<F: Read, W: Write, E: Write, R: Threads + Wait + Sync>(
     record_file(rt, alloc, file, false, out, err)
 }
 
-/// The status of a file's journal that is checked.
+/// Checks a file's journal. Returns the status.
 pub fn checked<F: Read, W: Write, E: Write>(
     alloc: Global,
     file: &mut F,
@@ -49,7 +49,7 @@ pub fn checked<F: Read, W: Write, E: Write>(
     check_file(alloc, file, out, err)
 }
 
-/// The status of a file's journal that is walked.
+/// Walks over a file's journal. Returns the status.
 pub fn debugged<F: Read, R: Read, W: Write, E: Write>(
     alloc: Global,
     file: &mut F,
@@ -60,7 +60,7 @@ pub fn debugged<F: Read, R: Read, W: Write, E: Write>(
     debug_file(alloc, file, input, out, err)
 }
 
-/// The status of what a file's journal still holds.
+/// Salvages a file's journal. Returns the status.
 pub fn salvaged<F: Read, W: Write, E: Write>(
     alloc: Global,
     file: &mut F,

@@ -1,4 +1,4 @@
-//! Texts of runs that are read, written and read again, and texts of none.
+//! Texts of runs that are read, written and read again, and texts that no run has.
 
 mod faults;
 mod round_trips;

@@ -3,7 +3,7 @@
 use crate::plain::same;
 use rw_law::Payload;
 
-/// The value that the word of a value gives.
+/// Returns the value of a value's word.
 fn there_and_back<V: Payload>(value: &V) -> Option<V> {
     V::from_word(value.word())
 }

@@ -101,7 +101,7 @@ static WATCH_REPLIES: [(&[u8], WReply<u64>); 17] = [
     (b"too-many-handles", WReply::TooManyHandles),
 ];
 
-/// The entry of actor 2 on channel 3 with stamp 1.
+/// Makes an entry of actor 2 on channel 3 with stamp 1.
 fn entry_of<V: Copy>(call: ChanCall<V>, reply: ChanReply<V>) -> Entry<World<V>> {
     Entry {
         actor: 2,
@@ -112,7 +112,7 @@ fn entry_of<V: Copy>(call: ChanCall<V>, reply: ChanReply<V>) -> Entry<World<V>> 
     }
 }
 
-/// The line of an entry whose reply is one that is recorded.
+/// Returns the line of an entry, if its reply is one that is recorded.
 fn line_of<'o, V: Payload>(entry: &Entry<World<V>>, out: &'o mut [u8; 256]) -> Option<&'o [u8]> {
     if World::<V>::waits(&entry.reply) || World::<V>::strays(&entry.reply) {
         return None;
@@ -121,7 +121,7 @@ fn line_of<'o, V: Payload>(entry: &Entry<World<V>>, out: &'o mut [u8; 256]) -> O
     out.get(..length)
 }
 
-/// An entry whose reply is one that is recorded is written so.
+/// Asserts that an entry has this line.
 fn is_written<V: Payload>(rt: &impl Abort, entry: Entry<World<V>>, want: &[u8]) {
     let mut out = [0u8; 256];
     let line = line_of(&entry, &mut out);
@@ -129,7 +129,7 @@ fn is_written<V: Payload>(rt: &impl Abort, entry: Entry<World<V>>, want: &[u8]) 
     same(rt, &"a line", &line, &Some(want));
 }
 
-/// The call is written so, and what is written is read as a call that is written so.
+/// Asserts that the call is written as this text, and that the call read from the text is written so too.
 fn is_call<V: Payload>(
     rt: &impl Abort,
     alloc: Global,
@@ -156,7 +156,7 @@ fn reads_and_writes_every_call(rt: HostRuntime) -> Result<(), Fail> {
     Ok(())
 }
 
-/// The reply is read, and is written so.
+/// Asserts that this text is read as the reply, and that the reply is written as the text.
 fn is_reply<V: Payload + PartialEq + Debug>(
     rt: &impl Abort,
     alloc: Global,
@@ -199,7 +199,7 @@ fn longest_line_has_123_bytes(rt: HostRuntime) {
     is_written(&rt, entry, want);
 }
 
-/// The fault of the words of a call.
+/// Returns the fault of the words of a call.
 fn fault_of_call<V: Payload>(broadcast: bool, text: &[u8]) -> Option<WordFault> {
     read_call::<V>(broadcast, text).err()
 }
@@ -253,7 +253,7 @@ fn names_the_first_fault_of_a_call(rt: HostRuntime) {
     }
 }
 
-/// The fault of the words of a reply.
+/// Returns the fault of the words of a reply.
 fn fault_of_reply<V: Payload>(broadcast: bool, text: &[u8]) -> Option<WordFault> {
     read_reply::<V>(broadcast, text).err()
 }

@@ -10,7 +10,7 @@ use std::fmt::Debug;
 use std::process::Abort;
 use std::test::Fail;
 
-/// Makes a call, undoes it and makes it again, on a machine that weighs less than a hundred, and gives both replies.
+/// Makes a call, undoes it and makes it again, on a machine that weighs less than a hundred. Returns both replies.
 fn made_twice<M: Reversible>(
     machine: &mut M,
     call: &M::Call,
@@ -25,7 +25,7 @@ fn made_twice<M: Reversible>(
     Ok((first, second))
 }
 
-/// How many channels a world of these specs has, or why it isn't opened.
+/// Returns how many channels a world of these specs has, or why it isn't opened.
 fn opened<V: Copy>(alloc: Global, specs: &[Spec<V>]) -> Result<usize, OpenFault> {
     let world = open(alloc, specs)?;
     let length = world.len();
@@ -53,7 +53,7 @@ fn refuses_specs(rt: HostRuntime) {
     }
 }
 
-/// A world replies so to calls on its channels, twice.
+/// Asserts that calls on a world's channels get these replies, twice each.
 fn replies<V: Copy + PartialEq + Debug>(
     rt: &impl Abort,
     world: &mut World<V>,
@@ -67,7 +67,7 @@ fn replies<V: Copy + PartialEq + Debug>(
     Ok(())
 }
 
-/// The value of channel 1, if it is a watch.
+/// Returns the value of channel 1, if it is a watch.
 fn value_of<V: Copy>(world: &World<V>) -> Option<V> {
     match world.channel(1) {
         Some(Chan::Watch(watch)) => Some(watch.value()),
@@ -75,7 +75,7 @@ fn value_of<V: Copy>(world: &World<V>) -> Option<V> {
     }
 }
 
-/// The value of channel 1 of a world that was opened from these specs and replied to these calls.
+/// Returns the value of channel 1 of a world that was opened from these specs, after these calls.
 fn value_after<V: Copy + PartialEq + Debug>(
     rt: &impl Abort,
     alloc: Global,
@@ -90,7 +90,7 @@ fn value_after<V: Copy + PartialEq + Debug>(
     Ok(value)
 }
 
-/// Channels, calls on them, and what they reply.
+/// Channels, calls on them, and their replies.
 static CALLS: [(u32, ChanCall<u64>, ChanReply<u64>); 6] = [
     (
         0,

@@ -1,6 +1,6 @@
-//! How long calls of desks take, in nanoseconds, beside the same calls taken into a book.
+//! How long calls of desks take, in nanoseconds, compared with the same calls recorded by a book.
 //!
-//! Start reading at `desks.rt`, which says what is timed, and go on with `playing.rt`, which says how calls are made.
+//! Start reading at `desks.rt`, which says what is timed. Then read `playing.rt`, which says how calls are made.
 
 ghost use Rattle.std.specs.Prelude.{◌≡◌};
 
@@ -27,7 +27,7 @@ use std::sync::Wait;
 use std::thread::Threads;
 use std::time::{Clock, Duration};
 
-/// The most calls of one channel, whose journal has no more entries.
+/// The most calls that are made on one channel. A journal has up to 1,048,576 entries.
 const MOST_CALLS: u64 = 1_000_000;
 
 /// What a broadcast is opened from.
@@ -36,21 +36,21 @@ const BROADCAST: Spec<u64> = Spec::Broadcast(1_024);
 /// What a watch is opened from.
 const WATCH: Spec<u64> = Spec::Watch(0);
 
-/// How many bytes an entry of a channel's journal takes.
+/// Returns how many bytes an entry of a channel's journal takes.
 fn entry_bytes() -> usize
     ensures { result ≡ 88 }
 {
     size_of::<Entry<Chan<u64>>>()
 }
 
-/// How many bytes a receipt takes.
+/// Returns how many bytes a receipt takes.
 fn receipt_bytes() -> usize
     ensures { result ≡ 64 }
 {
     size_of::<Kept<u64>>()
 }
 
-/// Nanoseconds of each call, where so many took this long.
+/// Returns the nanoseconds of each call, if this many took this long.
 fn per_call(all: Duration, calls: u64) -> f64 {
     all.as_secs_f64() * 1e9 / nearest_u64_to_f64(calls)
 }
@@ -61,7 +61,7 @@ fn report(rt: &(impl Print + Eprint), name: &str, time: Duration, calls: u64) ->
     eprintln!(rt; "{:>7.1}  {name}", per_call(time, calls))
 }
 
-/// The same, with the bytes of memory that a call takes.
+/// Prints the same, with the bytes of memory that a call takes.
 fn report_cost(rt: &(impl Print + Eprint), name: &str, cost: Cost, calls: u64) -> io::Result<()> {
     report(rt, name, cost.time, calls)?;
     eprintln!(rt;
@@ -136,7 +136,7 @@ where
     Ok(())
 }
 
-/// Times a close of 8 channels, after an eighth of the calls on each.
+/// Times the close of a desk of 8 channels, after an eighth of the calls on each.
 fn closing<D: Calls + Drop, R: Clock + Wait + Print + Eprint>(
     rt: &R,
     alloc: Global,
@@ -151,7 +151,7 @@ where
     Ok(())
 }
 
-/// Makes these calls, of which there are so many on each kind of channel.
+/// Measures these calls, `count` of them on each kind of channel.
 fn measure_all<
     P: Calls + Sync + Drop,
     S: Seated + Sync + Drop,
@@ -173,7 +173,7 @@ where
     closing::<P, R>(rt, alloc, on_broadcast)
 }
 
-/// Makes so many calls of each workload, but no more than a journal has entries.
+/// Measures `asked` calls of each workload, but at most `MOST_CALLS`.
 pub fn measure<R: Clock + Files + AllocGlobal + Threads + Wait + Sync + Print + Eprint>(
     rt: &R,
     alloc: Global,

@@ -1,5 +1,5 @@
-//! Desks that threads share, as storms and measurements have them: as parameters, so that no proof but those of each `impl` looks
-//! into a desk, a pass or a seat.
+//! Desks that threads share. Storms and measurements are generic over them, so that only the proofs of each `impl` look into a
+//! desk, a pass or a seat.
 
 ghost use Rattle.std.specs.Prelude.{All, IfOk, IfSome};
 
@@ -17,10 +17,10 @@ pub trait Shared {
     /// What an actor makes its calls with: a pass or a seat.
     type Actor;
 
-    /// Whether an actor is one of its own.
+    /// Whether an actor is one of this desk.
     ghost owns: { Self → Self.Actor → Type 0 };
 
-    /// A desk of these specs, with so many actors.
+    /// Opens a desk with these specs and this many actors.
     fn open(
         alloc: Global,
         specs: &[Spec<u64>],
@@ -28,10 +28,10 @@ pub trait Shared {
     ) -> Result<(Self, Vec<Self::Actor>), DeskOpenFault>
         ensures { IfOk result (λ r. All (Self.owns r.0) r.1.items) };
 
-    /// An actor's number, and the receipts of its calls.
+    /// Returns an actor's number, and the receipts of its calls.
     fn known(actor: &Self::Actor) -> (u32, &[Kept<u64>]);
 
-    /// Makes the calls on a channel, and says whether all were made.
+    /// Makes the calls on a channel. Returns whether all were made.
     fn make_all<R: Wait>(
         &self,
         rt: &R,
@@ -45,7 +45,7 @@ pub trait Shared {
 
 /// A desk with passes.
 pub trait Calls: Shared {
-    /// A call that waits where it has to.
+    /// Makes a call, and blocks while its reply would be `Waits`.
     fn wait_call<R: Wait>(
         &self,
         rt: &R,
@@ -54,7 +54,8 @@ pub trait Calls: Shared {
         call: ChanCall<u64>,
     ) -> Result<ChanReply<u64>, DeskFault>;
 
-    /// A call that waits where it has to, or doesn't wait. Some that name a channel's first handles are made by these.
+    /// Makes a call. If `waits` is true, it blocks while its reply would be `Waits`. Some calls by a channel's first handles are
+    /// made by the methods for handles.
     fn make<R: Wait>(
         &self,
         rt: &R,
@@ -64,7 +65,7 @@ pub trait Calls: Shared {
         waits: bool,
     ) -> Result<ChanReply<u64>, DeskFault>;
 
-    /// Closes it.
+    /// Closes the desk.
     fn close(self, alloc: Global, passes: Vec<Self::Actor>) -> Option<Run<u64>>;
 }
 
@@ -72,7 +73,7 @@ pub trait Calls: Shared {
 pub trait Seated: Shared {
     ghost use Rattle.std.specs.Prelude.{All};
 
-    /// One call by a seat.
+    /// Makes a call by a seat.
     fn call<R: Wait>(
         &self,
         rt: &R,
@@ -94,12 +95,12 @@ pub trait Seated: Shared {
         requires { Self.owns self.now one × Self.owns self.now two }
         ensures { Self.owns self.now result.0 × Self.owns self.now result.1 };
 
-    /// Closes it.
+    /// Closes the desk.
     fn close<R: Wait>(self, rt: &R, alloc: Global, seats: Vec<Self::Actor>) -> Option<Run<u64>>
         requires { All (Self.owns self) seats.items };
 }
 
-/// The last of a desk's actors, taken off.
+/// Pops the last of a desk's actors.
 pub fn last_actor<D: Shared>(desk: &D, actors: &mut Vec<D::Actor>) -> Option<D::Actor>
     requires { All (D.owns desk.now) actors.old.items }
     ensures actor { IfSome result (D.owns desk.now) }

@@ -1,13 +1,13 @@
 //! Threads on desks: storms, which look for a call that is lost, and what calls cost.
 //!
-//! `rw_threads storm SEEDS CALLS` makes CALLS calls for each of the seeds 0, 1, .., and has other threads wait for them; then it makes as many
-//! by seats, which meet. Standard output has a line for each of the two, which doesn't tell in which order the threads came; standard error
-//! tells how many calls were recorded.
+//! `rw_threads storm SEEDS CALLS` makes CALLS calls for each of the seeds 0, 1, .., while other threads wait for them. Then it
+//! makes as many by seats, which meet. Standard output has a line for each of the two, which doesn't depend on the order of the
+//! threads. Standard error has how many calls were recorded.
 //!
 //! `rw_threads bench COUNT` makes COUNT calls of each workload. The times go to standard error, with the bytes of an entry, of a receipt,
 //! and of memory in use. Standard output has what was done, which is the same each time.
 //!
-//! With no words both are done, a little of each. Start reading at `storm.rt` and `bench.rt`.
+//! Without arguments it does a little of both. Start reading at `storm.rt` and `bench.rt`.
 #![tactic(auto)]
 
 ghost use Rattle.std.specs.Prelude.{◌≡◌};
@@ -33,19 +33,19 @@ use std::thread::Threads;
 use std::time::{Clock, Duration};
 use storm::{PLAYERS, SEATS, WAITERS, play_seats, play_seed};
 
-/// How many seeds are taken where no number is given.
+/// How many seeds are played if no number is given.
 const DEFAULT_SEEDS: u64 = 2;
 
-/// How many calls are made for each seed where no number is given.
+/// How many calls are made for each seed if no number is given.
 const DEFAULT_CALLS: u64 = 16_000;
 
-/// How many calls of each workload are made where no number is given.
+/// How many calls of each workload are made if no number is given.
 const DEFAULT_COUNT: u64 = 1_000;
 
-/// How often it is looked whether a seed was played, a hundredth of a second apart. A seed takes a second or two.
+/// How many times to check whether a seed was played, a hundredth of a second apart. A seed takes a second or two.
 const MOST_LOOKS: u64 = 10_000;
 
-/// The number at this place of the command line, or else the default.
+/// Returns the number at this place of the command line, or the default.
 fn asked(rt: &(impl Env + Alloc), place: usize, default: u64) -> Result<u64> {
     match env::args(rt)?.nth(place) {
         Some(number) => number
@@ -55,8 +55,8 @@ fn asked(rt: &(impl Env + Alloc), place: usize, default: u64) -> Result<u64> {
     }
 }
 
-/// Plays a seed in a thread of its own. Where that doesn't end in time, somebody waits for a wake-up that was lost: nobody waits
-/// for that thread then, and it ends with the program.
+/// Plays a seed in its own thread. If that doesn't end in time, some thread waits for a wake-up that was lost. The seed's thread
+/// isn't joined then, and ends with the program.
 fn play_in_time<
     D: Calls + Sync + Drop + 'static,
     R: Threads + Wait + Clock + Copy + Send + Sync + 'static,
@@ -80,7 +80,7 @@ where
     bail!("a wait does not end")
 }
 
-/// Makes so many calls for each of so many seeds.
+/// Makes `calls` calls for each of `seeds` seeds.
 fn storms<R: Threads + Wait + Clock + Copy + Send + Sync + Print + Eprint + 'static>(
     rt: &R,
     alloc: Global,

@@ -93,7 +93,7 @@ impl Calls for PassDesk {
                 ),
             ) => { modify(rt, &self.desk, pass, sender, told) }
             (Some(Ends::Watch(_, receiver)), ChanCall::W(WCall::Changed(1))) => {
-                // The condition is met at once, or else never: then the wait lasts until the channel is closed.
+                // The condition holds at once or never. If never, the wait lasts until the channel is closed.
                 let reply = self.desk.w_wait_for(rt, pass, receiver, |_| !waits)?;
                 Ok(ChanReply::W(reply))
             }

@@ -1,8 +1,9 @@
 //! Storms: threads that make many calls of every kind on the channels of one desk, which is then closed. Each actor's receipts
-//! have to be its entries in the run, and who waited for values has to have been told of each that was sent.
+//! have to be its entries in the run. Each actor that waited for values of a broadcast has to have received or missed as many as
+//! were sent.
 //!
-//! Start reading at `play_seed`, and go on with `channels.rt`, which says who acts on which channel, `generator.rt`, which chooses the
-//! players' calls, and `playing.rt`, which has them made.
+//! Start reading at `play_seed`. Then read `channels.rt`, which says who acts on which channel, `generator.rt`, which chooses the
+//! players' calls, and `playing.rt`, which makes them.
 
 ghost use Rattle.std.specs.Prelude.{◌≡◌};
 
@@ -28,7 +29,7 @@ use std::sync::Wait;
 use std::thread::Threads;
 use waiting::were_told;
 
-/// The passes of what was played, and of how many values each actor was told.
+/// Splits what was played into the passes, and how many values each actor was notified of.
 fn parts_of<P: Drop>(
     alloc: Global,
     all: Vec<(P, Option<u64>)>,
@@ -42,7 +43,8 @@ fn parts_of<P: Drop>(
     Ok((passes, told))
 }
 
-/// How many calls were recorded, where the run has all receipts, and each actor was told of what it had to be.
+/// Returns how many calls were recorded. It fails if the receipts aren't the run's entries, a call wasn't made, or a value was
+/// missed.
 fn judged(run: &Run<u64>, receipts: &[Receipts], told: &[Option<u64>]) -> Result<u64> {
     if !agree(run, receipts) {
         bail!("receipts are not the entries");
@@ -53,7 +55,7 @@ fn judged(run: &Run<u64>, receipts: &[Receipts], told: &[Option<u64>]) -> Result
     Ok(run.len())
 }
 
-/// Makes so many calls, chosen from a seed, and answers how many were recorded, with those of the actors that wait.
+/// Makes this many calls, chosen from a seed. Returns how many were recorded, with those of the actors that wait.
 pub fn play_seed<D: Calls + Sync + Drop, R: Threads + Wait + Sync>(
     rt: &R,
     alloc: Global,

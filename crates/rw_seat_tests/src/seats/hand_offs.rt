@@ -1,4 +1,4 @@
-//! Hand-offs of a book by itself.
+//! Hand-offs of a book, without a desk.
 
 ghost use Rattle.std.specs.Prelude.{◌≡◌, ◌<◌, ◌≤◌, All, IfOk, IfSome};
 
@@ -11,7 +11,7 @@ use std::alloc::{AllocError, Global};
 use std::sync::Wait;
 use std::test::Fail;
 
-/// A book of a broadcast. Hand-offs have it as a parameter, so that no proof but those of its one `impl` looks into a book.
+/// A book of a broadcast. The tests are generic over it, so that only the proofs of its one `impl` look into a book.
 trait Recorded: Keeps {
     ghost use Rattle.std.specs.Prelude.{◌≡◌, ◌∷◌, []};
     ghost use Rattle.rw_seat.specs.Journals.{Adds};
@@ -19,7 +19,7 @@ trait Recorded: Keeps {
     /// What its calls carry.
     type Value: Copy;
 
-    /// A book without entries.
+    /// Opens a book without entries.
     fn open(alloc: Global) -> Result<Self, NoMemory>;
 
     /// Sends a value by actor 0.
@@ -27,10 +27,10 @@ trait Recorded: Keeps {
         ensures start { Self.start self.new ≡ Self.start self.old }
         ensures adds { Adds Self.author (0 ∷ []) (Self.journal self.old) (Self.journal self.new) };
 
-    /// Its length.
+    /// Returns its length.
     fn len(&self) -> u64;
 
-    /// The actor of its last entry.
+    /// Returns the actor of its last entry.
     fn last_actor(&self) -> Option<u32>;
 }
 
@@ -60,7 +60,7 @@ impl<V: Payload> Recorded for Book<Chan<V>> {
     }
 }
 
-/// A book with so many seats.
+/// Opens a hand-off of a book, with this many seats.
 fn open<B: Recorded + Drop>(
     alloc: Global,
     seats: u32,
@@ -71,7 +71,7 @@ fn open<B: Recorded + Drop>(
     HandOff::open(alloc, B::open(alloc)?, seats)
 }
 
-/// The last of a hand-off's seats, taken off.
+/// Pops the last of a hand-off's seats.
 fn last_seat<B: Keeps + Drop>(
     hand_off: &HandOff<B>,
     seats: &mut Vec<HandSeat<B>>,
@@ -83,7 +83,7 @@ fn last_seat<B: Keeps + Drop>(
     seats.pop()
 }
 
-/// A hand-off's seats, with one more behind them.
+/// Pushes one more seat onto a hand-off's seats.
 fn with_seat<B: Keeps + Drop>(
     hand_off: &HandOff<B>,
     mut seats: Vec<HandSeat<B>>,
@@ -97,7 +97,7 @@ fn with_seat<B: Keeps + Drop>(
     Ok(seats)
 }
 
-/// Sends a value by seat 0, between a taking and a giving back.
+/// Acquires the book with seat 0, sends a value, and releases the book.
 fn send<B: Recorded + Drop, R: Wait>(
     rt: &R,
     hand_off: &HandOff<B>,
@@ -113,7 +113,7 @@ fn send<B: Recorded + Drop, R: Wait>(
     (lent.give(), sent)
 }
 
-/// The length of the book that a seat takes, and the actor of its last entry.
+/// Acquires the book with a seat, reads its length and the actor of its last entry, and releases it.
 fn look<B: Recorded + Drop, R: Wait>(
     rt: &R,
     hand_off: &HandOff<B>,
@@ -144,7 +144,7 @@ fn close_with<B: Keeps + Drop>(
     Ok(book)
 }
 
-/// Lets two seats meet, and closes a hand-off without the second, which is refused, and then with it.
+/// Lets two seats meet, and closes a hand-off: first without the second seat, which is refused, and then with it.
 fn meet_and_close<B: Keeps + Drop, R: Wait>(
     rt: &R,
     hand_off: HandOff<B>,
@@ -165,7 +165,7 @@ fn meet_and_close<B: Keeps + Drop, R: Wait>(
     close_with(hand_off, seats, two)
 }
 
-/// What a hand-off's one seat is shown, and the length of the book at the end.
+/// Returns what a hand-off's one seat reads, and the length of the book at the close.
 fn looked<B: Recorded + Drop, R: Wait>(
     rt: &R,
     alloc: Global,
@@ -186,10 +186,10 @@ fn hand_off_of_one(rt: HostRuntime) -> Result<(), Fail> {
     Ok(())
 }
 
-/// What seat 0 is answered, what seat 1 is then shown, and the length of the book at the end.
+/// What the send by seat 0 returns, what seat 1 then reads, and the length of the book at the close.
 type Sent<V> = (Result<ChanReply<V>, TakeFault>, (u64, Option<u32>), u64);
 
-/// Sends a value by the first of two seats, and shows the second what it then finds.
+/// Sends a value by the first of two seats, and then reads the book by the second.
 fn sent<B: Recorded + Drop, R: Wait>(
     rt: &R,
     alloc: Global,

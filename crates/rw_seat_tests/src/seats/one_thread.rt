@@ -12,10 +12,10 @@ use std::alloc::{AllocError, Global};
 use std::sync::Wait;
 use std::test::Fail;
 
-/// What a call is answered.
+/// The result of a call.
 type Answer<V> = Result<Answered<V>, DeskFault>;
 
-/// What a call of a broadcast is answered.
+/// Makes the result of a call of a broadcast.
 fn answered(reply: BReply<u64>, stamp: u64, front: u64) -> Answer<u64> {
     Ok(Answered {
         reply: ChanReply::B(reply),
@@ -24,7 +24,7 @@ fn answered(reply: BReply<u64>, stamp: u64, front: u64) -> Answer<u64> {
     })
 }
 
-/// Makes these calls, each of a channel, and keeps the answers.
+/// Makes these calls, each on a channel, and pushes their results.
 fn call_all<D: Seated, R: Wait>(
     rt: &R,
     desk: &D,
@@ -45,8 +45,8 @@ where
     Ok(seat)
 }
 
-/// What the calls of a desk's one seat are answered; the seat's actor, the stamp of its last call, and how many receipts it has;
-/// why the desk doesn't close without it; and the actor, stamp and channel of each call in order.
+/// The results of the calls of a desk's one seat; the seat's actor, the stamp of its last call, and how many receipts it has; why
+/// the desk doesn't close without it; and the actor, stamp and channel of each call in order.
 type Played<V> = (
     Vec<Answer<V>>,
     (u32, u64, usize),
@@ -54,7 +54,7 @@ type Played<V> = (
     Vec<(u32, u64, u32)>,
 );
 
-/// Plays these calls by one seat.
+/// Makes these calls by one seat.
 fn played<D: Seated + Drop, R: Wait>(
     rt: &R,
     alloc: Global,
@@ -132,11 +132,11 @@ fn seat_that_would_wait(rt: HostRuntime) -> Result<(), Fail> {
     Ok(())
 }
 
-/// What the calls of a desk's two seats are answered, how much the first has seen at each of two meetings, and the actor, stamp
-/// and channel of each call in order.
+/// The results of the calls of a desk's two seats, how much the first has seen at each of two meetings, and the actor, stamp and
+/// channel of each call in order.
 type PlayedByTwo<V> = (Vec<Answer<V>>, [Option<u64>; 2], Vec<(u32, u64, u32)>);
 
-/// Plays these calls by the first seat, and those by the second, which then meet on two channels.
+/// Makes `ours` by the first seat and `theirs` by the second. The seats then meet on two channels.
 fn played_by_two<D: Seated + Drop, R: Wait>(
     rt: &R,
     alloc: Global,
@@ -186,7 +186,7 @@ fn seat_of_two_channels(rt: HostRuntime) -> Result<(), Fail> {
     Ok(())
 }
 
-/// The fault of a desk that isn't opened.
+/// Returns the fault of a desk that isn't opened.
 fn refusal<D: Seated + Drop>(
     alloc: Global,
     specs: &[Spec<D::Value>],

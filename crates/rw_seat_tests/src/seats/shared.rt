@@ -11,8 +11,8 @@ use std::alloc::{AllocError, Global};
 use std::sync::Wait;
 use std::test::Fail;
 
-/// What seats make their calls on. Tests have it as a parameter, so that no proof but those of this file looks into a desk or a
-/// seat. Of a desk's contracts it has that a seat stays the desk's.
+/// A desk with seats. Tests are generic over it, so that only the proofs of this file look into a desk or a seat. Of a desk's
+/// contracts it has just that a seat stays one of the desk.
 pub trait Seated {
     ghost use Rattle.std.specs.Prelude.{◌≡◌, All, IfErr, IfOk};
 
@@ -22,10 +22,10 @@ pub trait Seated {
     /// A seat.
     type Seat;
 
-    /// Whether a seat is one of its own.
+    /// Whether a seat is one of this desk.
     ghost owns: { Self → Self.Seat → Type 0 };
 
-    /// A desk with its seats.
+    /// Opens a desk with its seats.
     fn open(
         alloc: Global,
         specs: &[Spec<Self::Value>],
@@ -33,10 +33,10 @@ pub trait Seated {
     ) -> Result<(Self, Vec<Self::Seat>), DeskOpenFault>
         ensures { IfOk result (λ r. All (Self.owns r.0) r.1.items) };
 
-    /// A seat's actor, the stamp of its last call, and how many receipts it has.
+    /// Returns a seat's actor, the stamp of its last call, and how many receipts it has.
     fn known(seat: &Self::Seat) -> (u32, u64, usize);
 
-    /// One call.
+    /// Makes a call.
     fn call<R: Wait>(
         &self,
         rt: &R,
@@ -129,7 +129,7 @@ impl<V: Payload> Seated for SeatDesk<V> {
     }
 }
 
-/// The last of a desk's seats, taken off.
+/// Pops the last of a desk's seats.
 fn last_seat<D: Seated>(desk: &D, seats: &mut Vec<D::Seat>) -> Option<D::Seat>
     requires { All (D.owns desk.now) seats.old.items }
     ensures seat { IfSome result (D.owns desk.now) }
@@ -138,7 +138,7 @@ fn last_seat<D: Seated>(desk: &D, seats: &mut Vec<D::Seat>) -> Option<D::Seat>
     seats.pop()
 }
 
-/// A desk's seats, with one more behind them.
+/// Pushes one more seat onto a desk's seats.
 fn with_seat<D: Seated>(
     desk: &D,
     mut seats: Vec<D::Seat>,
@@ -154,7 +154,7 @@ where
     Ok(seats)
 }
 
-/// A desk of one actor, with its seat.
+/// Opens a desk of one actor, with its seat.
 pub fn open_one<D: Seated + Drop>(
     alloc: Global,
     specs: &[Spec<D::Value>],
@@ -170,7 +170,7 @@ where
     Ok((desk, seat))
 }
 
-/// A desk of two actors, with their seats.
+/// Opens a desk of two actors, with their seats.
 pub fn open_two<D: Seated + Drop>(
     alloc: Global,
     specs: &[Spec<D::Value>],
@@ -189,7 +189,7 @@ where
     Ok((desk, first, second))
 }
 
-/// Closes a desk with these seats and one more: the order of its calls.
+/// Closes a desk with these seats and one more, and returns the order of its calls.
 fn close_with<D: Seated + Drop, R: Wait>(
     rt: &R,
     alloc: Global,
@@ -209,7 +209,7 @@ where
     Ok(order(alloc, &run)?)
 }
 
-/// Closes a desk without its seat, which is refused, and then with it: why it was refused, and the order of the calls.
+/// Closes a desk without its seat, which is refused, and then with it. Returns why it was refused, and the order of the calls.
 pub fn close_late<D: Seated + Drop, R: Wait>(
     rt: &R,
     alloc: Global,
@@ -228,8 +228,8 @@ where
     Ok((fault, order))
 }
 
-/// Lets two seats meet on two channels, and closes the desk with them: how much the first has then seen of each of the two,
-/// and the order of the calls.
+/// Lets two seats meet on two channels, and closes the desk with them. Returns how much the first has seen at each meeting, and
+/// the order of the calls.
 pub fn meet_and_close<D: Seated + Drop, R: Wait>(
     rt: &R,
     alloc: Global,
@@ -249,7 +249,7 @@ where
     Ok(([met, met_again], order))
 }
 
-/// Each entry's actor, stamp and channel.
+/// Returns each entry's actor, stamp and channel.
 fn order<V: Payload>(alloc: Global, run: &Run<V>) -> Result<Vec<(u32, u64, u32)>, AllocError> {
     let mut order = Vec::new(alloc);
     for entry in run.entries() {

@@ -1,4 +1,4 @@
-//! Seats that threads call by.
+//! Seats that make calls in two threads.
 
 use super::shared::{Seated, meet_and_close, open_two};
 use rw_broadcast::BCall;
@@ -10,7 +10,7 @@ use std::test::Fail;
 use std::thread;
 use std::thread::Threads;
 
-/// Sends 100 values by sender 0. Where each front is longer than the one before it, the last one's length is given.
+/// Sends 100 values by sender 0. Returns the length of the last front, if each is longer than the one before it.
 fn send_hundred<D: Seated<Value = u64>, R: Wait>(
     rt: &R,
     desk: &D,
@@ -35,7 +35,7 @@ fn send_hundred<D: Seated<Value = u64>, R: Wait>(
     (seat, if rose { Some(last) } else { None })
 }
 
-/// The same by two seats, in two threads.
+/// Does the same with two seats, in two threads.
 fn send_both<D: Seated<Value = u64> + Sync, R: Threads + Wait + Sync>(
     rt: &R,
     desk: &D,
@@ -54,11 +54,11 @@ where
     )
 }
 
-/// How far each seat's fronts rose, how much the first has seen when they meet, on channel 0 and on one that isn't there, and
-/// the actor, stamp and channel of each call in order.
+/// The length of each seat's last front; how much the first has seen when they meet, on channel 0 and on one that isn't there;
+/// and the actor, stamp and channel of each call in order.
 type Sent = ([Option<u64>; 2], [Option<u64>; 2], Vec<(u32, u64, u32)>);
 
-/// Two seats of a desk send in two threads, and then meet.
+/// Sends with two seats of a desk, in two threads, and then lets the seats meet.
 fn sent<D: Seated<Value = u64> + Sync + Drop, R: Threads + Wait + Sync>(
     rt: &R,
     alloc: Global,
@@ -73,7 +73,7 @@ where
     Ok(([first, second], met, order))
 }
 
-/// How many of the calls are an actor's.
+/// Returns how many of the calls are an actor's.
 fn calls_of(order: &[(u32, u64, u32)], actor: u32) -> usize {
     order.iter().filter(|call| call.0 == actor).count()
 }

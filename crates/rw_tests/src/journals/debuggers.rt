@@ -9,7 +9,8 @@ use rw_navigator::{Debugger, Move, OutOfRange};
 use std::alloc::Global;
 use std::test::Fail;
 
-/// What a debugger of a run answers to the moves from place 0, where it then stands, and how many calls its machine had.
+/// Makes the moves with a debugger of a run, from place 0. Returns their results, the place after them, and how many calls its
+/// machine had.
 fn walked<V: Copy>(
     alloc: Global,
     run: Run<V>,

@@ -11,10 +11,10 @@ use std::alloc::Global;
 use std::process::Abort;
 use std::test::Fail;
 
-/// The stamp after the greatest.
+/// One above the greatest stamp.
 const TOO_LATE: u64 = (1 << 62) + 1;
 
-/// An actor, a stamp and a channel, a call and its reply, and what a draft answers.
+/// An actor, a stamp and a channel, a call and its reply, and the result of the push.
 type Push<V> = (
     u32,
     u64,
@@ -24,7 +24,7 @@ type Push<V> = (
     Result<(), PushFault>,
 );
 
-/// A draft answers these pushes so.
+/// Asserts that these pushes on a draft have these results.
 fn answers<V: Payload>(rt: &impl Abort, draft: &mut RunDraft<V>, pushes: &[Push<V>]) {
     for (actor, stamp, channel, call, reply, answer) in pushes {
         let found = push(draft, *actor, *stamp, *channel, *call, *reply);
@@ -32,7 +32,7 @@ fn answers<V: Payload>(rt: &impl Abort, draft: &mut RunDraft<V>, pushes: &[Push<
     }
 }
 
-/// A run of so many channels has entries of these actors, at these stamps.
+/// Asserts that a run has this many channels, and entries of these actors at these stamps.
 fn has_steps<V: Copy>(rt: &impl Abort, run: &Run<V>, channels: usize, steps: &[(u32, u64)]) {
     let entries = entries_of(run);
     let counts = (specs_of(run).len(), entries.len());
@@ -91,7 +91,7 @@ static PUSHES: [Push<u64>; 17] = [
     (63, 1 << 62, 0, SEND, SENT, Ok(())),
 ];
 
-/// The actors and stamps of those that are pushed.
+/// The actors and stamps of the entries that are pushed.
 static PUSHED: [(u32, u64); 5] = [(0, 1), (1, 1), (0, 2), (0, 3), (63, 1 << 62)];
 
 #[test]
@@ -104,7 +104,7 @@ fn pushes_what_comes_next(rt: HostRuntime) -> Result<(), Fail> {
     Ok(())
 }
 
-/// What a draft of two channels answers to so many pushes of a call and its reply on the first channel, and then to one on each.
+/// Pushes a call and its reply `most` times on the first of two channels, and then once on each. Returns the results.
 fn filled<V: Payload>(
     draft: &mut RunDraft<V>,
     call: ChanCall<V>,
@@ -123,7 +123,7 @@ fn filled<V: Payload>(
     (all, last)
 }
 
-/// How many entries a run has, and where its navigator stands after a move to the end and after one to the start.
+/// Returns how many entries a run has, and its navigator's place after a move to the end and after one to the start.
 fn ends_of<V: Copy>(
     alloc: Global,
     run: &Run<V>,
@@ -151,7 +151,7 @@ fn a_channel_is_full(rt: HostRuntime) -> Result<(), Fail> {
     Ok(())
 }
 
-/// The fault of a draft that isn't opened.
+/// Returns the fault of a draft that isn't opened.
 fn fault_of<V: Payload>(alloc: Global, specs: &[Spec<V>]) -> Option<OpenFault> {
     draft_of(alloc, specs).err()
 }

@@ -10,12 +10,12 @@ use std::alloc::Global;
 use std::process::Abort;
 use std::test::Fail;
 
-/// The condition that a reply begins with this word.
+/// Returns the condition that a reply begins with this word.
 fn replies_with(rt: &impl Abort, word: &[u8]) -> Cond {
     Cond::ReplyKind(ReplyWord::of(word).expect(rt, "a reply has this word"))
 }
 
-/// What the index of a condition finds below and above each of four places of a navigator, which then goes.
+/// Returns what the index of a condition finds below and above each of four places of a navigator. Drops the navigator.
 fn found_in<R: Reversible + Drop, P: Probe<R>>(
     alloc: Global,
     navigator: Navigator<R>,
@@ -35,7 +35,7 @@ fn found_in<R: Reversible + Drop, P: Probe<R>>(
     Ok(found)
 }
 
-/// What the index of a condition finds in a run, below and above each of four places.
+/// Returns what the index of a condition finds in a run, below and above each of four places.
 fn found_at<V: Payload>(
     alloc: Global,
     run: Run<V>,
@@ -78,7 +78,7 @@ fn agrees<R: Reversible, P: Probe<R>>(
     agrees
 }
 
-/// Whether the index of a condition finds what the searches of a navigator find, which then goes.
+/// Whether the index of a condition finds what the searches of a navigator find. Drops the navigator.
 fn finds_all<R: Reversible + Drop, P: Probe<R>>(
     alloc: Global,
     mut navigator: Navigator<R>,
@@ -133,7 +133,7 @@ static SEARCHES: [(&[u8], &[Cond], &[&[u8]]); 3] = [
     ),
 ];
 
-/// The index of a condition finds in the run of a script what searches find.
+/// Asserts that the index of a condition finds in the run of a script what searches find.
 fn is_found(rt: &impl Abort, alloc: Global, script: &[u8], condition: &Cond) -> Result<(), Fail> {
     let run = run_of(alloc, script)?;
     let found = finds_as_searches(alloc, run, condition)?;

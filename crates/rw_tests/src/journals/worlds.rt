@@ -20,13 +20,13 @@ use std::test::Fail;
 /// A channel that retains two values.
 const TWO: [Spec<u64>; 1] = [Spec::Broadcast(2)];
 
-/// A call on a channel of broadcasts.
+/// Returns a call on a broadcast channel.
 fn on<V>(channel: u32, call: BCall<V>) -> RowCall<ChanCall<V>> {
     let call = ChanCall::B(call);
     RowCall { channel, call }
 }
 
-/// Actor 0's sending of a value on a channel.
+/// Returns a send of a value on a channel, by actor 0.
 fn send(channel: u32, value: u64) -> (u32, RowCall<ChanCall<u64>>)
     ensures { result.0 ≡ 0 }
 {
@@ -36,10 +36,10 @@ fn send(channel: u32, value: u64) -> (u32, RowCall<ChanCall<u64>>)
 /// The stamp of a call's receipt, and its reply.
 type Taken<M> = Result<(u64, <M as Reversible>::Reply), TakeFault>;
 
-/// What a book answers.
+/// The results of `answers`.
 type Answers<M> = (bool, [Taken<M>; 2], Option<(u64, u64)>, Taken<M>);
 
-/// What a book answers to a request for room at a clock, to a call there, twice, to a rewind, and to that call again at no clock.
+/// Makes room in a book at a clock, makes a call there twice, rewinds, and makes the call again at clock 0. Returns the results.
 fn answers<M: Reversible>(book: &mut Book<M>, clock: u64, call: M::Call) -> Answers<M> {
     (
         ready(book, clock).is_ok(),
@@ -49,7 +49,7 @@ fn answers<M: Reversible>(book: &mut Book<M>, clock: u64, call: M::Call) -> Answ
     )
 }
 
-/// What a book answers to a run of calls, and then to those. It then goes.
+/// Runs calls on a book, and then makes those of `answers`. Returns the results, and drops the book.
 fn played<M: Reversible + Drop>(
     mut book: Book<M>,
     calls: &[(u32, M::Call)],
@@ -77,8 +77,8 @@ fn takes_and_rewinds(rt: HostRuntime) -> Result<(), Fail> {
     Ok(())
 }
 
-/// Whether a book takes a call so often, each time with this reply and the next stamp, and what it then answers to the call and to a
-/// rewind, twice. It then goes.
+/// Returns whether a book records a call `most` times, each time with this reply and the next stamp. Then makes the call and
+/// rewinds, twice, and returns those results too. Drops the book.
 fn filled<M: Reversible + Drop>(
     mut book: Book<M>,
     call: M::Call,
@@ -114,7 +114,7 @@ fn a_full_book_takes_no_entry(rt: HostRuntime) -> Result<(), Fail> {
     Ok(())
 }
 
-/// Whether each reader of a channel answers what the documentation says of its opening.
+/// Whether each reader of a channel returns what the documentation says of its opening.
 fn is_opening(spec: &Spec<u64>, channel: Option<&Chan<u64>>) -> bool {
     match (spec, channel) {
         (Spec::Broadcast(_), Some(Chan::Broadcast(machine))) => {
@@ -127,7 +127,7 @@ fn is_opening(spec: &Spec<u64>, channel: Option<&Chan<u64>>) -> bool {
     }
 }
 
-/// What shows the openings of channels. Tests have it as a parameter, so that no proof but that of its `impl` looks into a world.
+/// What shows the openings of channels. Tests are generic over it, so that only the proof of its `impl` looks into a world.
 trait Opened {
     /// Whether each channel shows its opening.
     fn is_opened(&self, specs: &[Spec<u64>]) -> bool;
@@ -143,14 +143,15 @@ impl Opened for World<u64> {
     }
 }
 
-/// Whether a world shows the openings. It then goes.
+/// Whether a world shows the openings. Drops the world.
 fn is_opened<W: Opened + Drop>(world: W, specs: &[Spec<u64>]) -> bool {
     let is_opened = world.is_opened(specs);
     drop(world);
     is_opened
 }
 
-/// Whether a navigator shows the openings at place 0, before and after it goes to the end, and where it then stands. It then goes.
+/// Returns whether a navigator shows the openings at place 0, before and after it goes to the end, and its place after each of
+/// the two moves. Drops the navigator.
 fn comes_back<R: Reversible + Opened + Drop>(
     mut navigator: Navigator<R>,
     specs: &[Spec<u64>],
@@ -165,7 +166,7 @@ fn comes_back<R: Reversible + Opened + Drop>(
     ([before, after], places)
 }
 
-/// A run starts as its place 0.
+/// Asserts that a run starts as its place 0.
 fn starts(
     rt: &impl Abort,
     alloc: Global,
@@ -192,15 +193,15 @@ fn a_run_starts_as_its_place_0(rt: HostRuntime) -> Result<(), Fail> {
     Ok(())
 }
 
-/// What the broadcast on channel 0 has sent and retains, and where its receiver 1 stands.
+/// What the broadcast on channel 0 has sent and retains, and the position of its receiver 1.
 type Shown<V> = Option<(u64, Option<V>, Option<V>, Option<u64>)>;
 
-/// What shows a broadcast. Tests have it as a parameter, so that no proof but that of its `impl` looks into a world.
+/// What shows a broadcast. Tests are generic over it, so that only the proof of its `impl` looks into a world.
 trait Showing {
     /// What the channel carries.
     type Value: Copy;
 
-    /// What is shown of the channel.
+    /// Returns what is shown of the channel.
     fn shown(&self) -> Shown<Self::Value>;
 }
 
@@ -220,7 +221,7 @@ impl<V: Copy> Showing for World<V> {
     }
 }
 
-/// Where a navigator says that it stands at a place, and what its machine shows there.
+/// Moves a navigator to a place. Returns the place that it reports, and what its machine shows there.
 fn visit<R: Reversible + Showing>(
     navigator: &mut Navigator<R>,
     place: u64,
@@ -229,14 +230,14 @@ fn visit<R: Reversible + Showing>(
     (stands, state(navigator).shown())
 }
 
-/// What a navigator answers to moves, where it then stands, and how many calls its machine had; and its visits to four places.
+/// The results of a navigator's moves, its place after them, and how many calls its machine had; and its visits to four places.
 type Walked<V> = (
     Vec<Result<(), OutOfRange>>,
     (u64, u64),
     [(Result<u64, OutOfRange>, Shown<V>); 4],
 );
 
-/// What a navigator answers, which then goes.
+/// Makes the moves with a navigator, and visits four places. Returns the results, and drops the navigator.
 fn walked_by<R: Reversible + Showing + Drop>(
     alloc: Global,
     mut navigator: Navigator<R>,
@@ -255,7 +256,7 @@ fn walked_by<R: Reversible + Showing + Drop>(
     Ok((answers?, end, visits))
 }
 
-/// What a navigator of a run answers.
+/// Does the same with a navigator of a run.
 fn walked<V: Copy>(
     alloc: Global,
     run: Run<V>,
@@ -276,7 +277,7 @@ pub static MOVES: [Move; 5] = [
     Move::End,
 ];
 
-/// What those moves are answered.
+/// The results of those moves.
 pub static ANSWERS: [Result<(), OutOfRange>; 5] = [
     Err(OutOfRange),
     Err(OutOfRange),

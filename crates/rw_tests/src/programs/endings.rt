@@ -5,10 +5,10 @@ use rw_devices::FailingWriter;
 use std::fmt::Display;
 use std::process::Abort;
 
-/// A status, what is handed on, and what is told.
+/// A status, the output that was flushed, and what was written to the stream for errors.
 pub type Ending = (u8, &'static [u8], &'static [u8]);
 
-/// A run with this status ends so.
+/// Asserts that a run ends in this way.
 pub fn ends_as(
     rt: &impl Abort,
     case: &impl Display,

@@ -15,7 +15,7 @@ pub const SCRIPT: &[u8] = b"broadcast 4\n0 0 send 0 7\n0 0 try-recv 1\n0 0 drop 
 pub const JOURNAL: &[u8] =
     b"ttd-journal 2\nbroadcast 4\nsteps\n1 0 0 send 0 7 = sent 1\n2 0 0 try-recv 1 = value 7\n3 0 0 drop 0 = dropped\nend\n";
 
-/// What two whole entry lines and a part of a third still hold.
+/// How a salvage of two whole entry lines and a part of a third ends.
 static SALVAGED: Ending = (
     0,
     b"ttd-journal 2\nbroadcast 4\nsteps\n1 0 0 send 0 7 = sent 1\n2 0 0 try-recv 1 = value 7\nend\n",
@@ -47,8 +47,9 @@ fn debugs_journals(rt: HostRuntime) {
     ends_as(&rt, &"debug", status, &out, &err, &DEBUGGED);
 }
 
-/// Whether a run over streams that fail behind so many calls is whole. If not, no earlier one was, a front of what is to be written
-/// stands, and the fault is told: of a read, up to this call, or of a write.
+/// Whether a run over streams that fail after this many calls is complete. If not, it asserts that no earlier run was, that a
+/// prefix of the output was written, and that the fault is reported: a read fault up to call `reads`, and a write fault after
+/// that.
 fn is_whole(
     rt: &impl Abort,
     (calls, reads, done): (u64, u64, bool),
@@ -69,7 +70,7 @@ fn is_whole(
     is_whole
 }
 
-/// Whether the record of the script is whole. Eight reads give the script, and a ninth its end.
+/// Whether the script is recorded completely. Eight reads return the script, and a ninth its end.
 fn is_recorded<R: Abort + Threads + Wait + Sync>(
     rt: &R,
     alloc: Global,
@@ -92,7 +93,7 @@ fn each_read_and_each_write_fails(rt: HostRuntime) {
     assert!(rt; done);
 }
 
-/// Whether the check of the journal is whole. Sixteen reads give the journal, and one more its end.
+/// Whether the journal is checked completely. Sixteen reads return the journal, and one more its end.
 fn is_checked(rt: &impl Abort, alloc: Global, calls: u64, done: bool) -> bool {
     let mut file = FailingReader::new(JOURNAL, 7, Some(calls));
     let mut out = FailingWriter::new(alloc, 3, Some(calls / 9));
@@ -110,10 +111,12 @@ fn each_read_and_each_write_of_a_check_fails(rt: HostRuntime) {
     assert!(rt; done);
 }
 
-/// How many writes go well, and how many bytes of the told line they take. Three bytes a write: five writes take the line.
+/// How many writes succeed, and how many bytes of the line they write. Each writes three bytes at most, so five writes write the
+/// line.
 static WRITES: [(u64, usize); 6] = [(0, 0), (1, 3), (2, 6), (3, 9), (4, 12), (5, 13)];
 
-/// A script that would wait is told so, and recorded up to there, to a writer for errors that takes so many bytes of the line.
+/// Asserts that a script that would wait is recorded up to there, and reported to a stream for errors that accepts `length` bytes
+/// of the line.
 fn is_told<R: Abort + Threads + Wait + Sync>(rt: &R, alloc: Global, calls: u64, length: usize) {
     let mut file = FailingReader::new(b"broadcast 2\n0 0 recv 1\n", 64, None);
     let mut out = FailingWriter::new(alloc, 64, None);

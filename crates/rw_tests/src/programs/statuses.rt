@@ -1,4 +1,4 @@
-//! Statuses, and what a run says on its three streams.
+//! Statuses, and what a run writes on its three streams.
 
 use super::endings::{Ending, ends_as};
 use crate::plain::same;
@@ -15,7 +15,7 @@ const REFUSED: Outcome = Outcome::Refused(ScriptFault {
     kind: ScriptFaultKind::NoChannels,
 });
 
-/// How a session ends, its status, and what is said of it.
+/// How a session ends, its status, and the line that reports it.
 static STATUSES: [(Result<Outcome, SessionFault>, u8, &str); 7] = [
     (Ok(Outcome::Done), 0, ""),
     (Ok(REFUSED), 1, ""),
@@ -34,7 +34,7 @@ fn answers_statuses(rt: HostRuntime) {
     }
 }
 
-/// What is read, how many reads and writes go well, and how the run ends.
+/// The input, how many reads and writes succeed, and how the run ends.
 type Case = (&'static [u8], Option<u64>, Option<u64>, Ending);
 
 const WALK: &[u8] = b"broadcast 2\n0 0 send 0 1\n---\nback\n";
@@ -57,7 +57,7 @@ static CASES: [Case; 5] = [
     (WALK, None, Some(0), (4, b"", b"write fault\n")),
 ];
 
-/// A run on three streams ends so.
+/// Asserts that a run on three streams ends in this way.
 fn is_run(rt: &impl Abort, alloc: Global, (input, reads, writes, ending): &Case) {
     let mut reader = FailingReader::new(input, 64, *reads);
     let mut out = FailingWriter::new(alloc, 64, *writes);

@@ -1,4 +1,4 @@
-//! The words of the command line: what those that are taken lead to, and what the others are told.
+//! The words of the command line: what accepted words lead to, and what is printed for others.
 
 use super::endings::Ending;
 use super::files::{JOURNAL, SCRIPT};
@@ -29,7 +29,7 @@ static ASKED: [(&[&str], Asked<'static>); 9] = [
         &["/bin/other", "record", "a b"],
         Asked::Over(Verb::Record, "a b"),
     ),
-    // The flag stands on either side of the path.
+    // The flag may be on either side of the path.
     (&["ttd", "record", "x", "--threads"], Asked::Threads("x")),
     (&["ttd", "record", "--threads", "x"], Asked::Threads("x")),
     (
@@ -42,14 +42,14 @@ static ASKED: [(&[&str], Asked<'static>); 9] = [
         Asked::Over(Verb::Debug, "../y.txt"),
     ),
     (&["ttd", "salvage", "x"], Asked::Over(Verb::Salvage, "x")),
-    // Behind two dashes a word is a path, whatever it begins with.
+    // After two dashes a word is a path, whatever it begins with.
     (
         &["ttd", "check", "--", "--help"],
         Asked::Over(Verb::Check, "--help"),
     ),
 ];
 
-/// The words ask for this.
+/// Asserts that the words ask for this.
 fn ask_for(rt: &impl Abort, alloc: Global, words: &[String], asked: &Asked<'static>) {
     match read_words(alloc, words) {
         Ok(read) => same(rt, &"words", &read, asked),
@@ -67,7 +67,7 @@ fn words_are_taken(rt: HostRuntime) -> Result<(), Fail> {
     Ok(())
 }
 
-/// The words, what the file and standard input have, and how the run ends.
+/// The words, the contents of the file and of standard input, and how the run ends.
 type Case = (
     &'static [&'static str],
     &'static [u8],
@@ -117,7 +117,7 @@ static CASES: [Case; 8] = [
     ),
 ];
 
-/// What the words lead to.
+/// Runs what the words ask for.
 fn led_to<T: Threads + Wait + Sync, F: Read + Drop, R: Read, W: Write>(
     rt: &T,
     alloc: Global,
@@ -134,13 +134,13 @@ fn led_to<T: Threads + Wait + Sync, F: Read + Drop, R: Read, W: Write>(
     }
 }
 
-/// A run that has ended is told and written so.
+/// Asserts that a run that has ended has this status, output and line.
 fn has_ended(rt: &impl Abort, ended: &Ended, out: &FailingWriter, ending: &Ending) {
     let found = (ended.status(), out.handed_on(), ended.line().as_bytes());
     same(rt, &"words", &found, ending);
 }
 
-/// The words lead to this ending.
+/// Asserts that the words lead to this ending.
 fn lead_to<T: Abort + Threads + Wait + Sync>(
     rt: &T,
     alloc: Global,

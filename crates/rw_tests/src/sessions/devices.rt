@@ -12,8 +12,8 @@ const INPUT: &[u8] =
 const REPORT: &[u8] =
     b"would wait 4\n#1 1 0 0 send 0 1 = sent 1\n#2 2 0 0 try-recv 1 = value 1\nplace 2 of 2\nchannel 0 broadcast capacity 2 sent 1 queued 0 made 2 open\nwindow 1\nsenders 0\nreceiver 1 position 1 unread 0 lag 0\n{\"channels\":[{\"capacity\":2,\"closed\":false,\"kind\":\"broadcast\",\"made\":2,\"queued\":0,\"receivers\":[{\"handle\":1,\"lag\":0,\"position\":1,\"unread\":0}],\"senders\":[0],\"sent\":1,\"window\":[1]}],\"len\":2,\"place\":2}\nplace 1 of 2\n#1 1 0 0 send 0 1 = sent 1\nhit 2 of 2\nno hit, place 2 of 2\nbad command\n";
 
-/// Whether a session over devices that fail behind so many calls is whole. If not, it ends with this fault, no earlier one was whole,
-/// and a front of the report stands.
+/// Whether a session over devices that fail after this many calls is complete. If not, it asserts that it ends with this fault,
+/// that no earlier one was complete, and that a prefix of the report was written.
 fn is_whole(
     rt: &impl Abort,
     calls: u64,
@@ -21,7 +21,7 @@ fn is_whole(
     (ended, fault): (Result<Outcome, SessionFault>, SessionFault),
     writer: &FailingWriter,
 ) -> bool {
-    // Handed on once for the line that would wait, and once for each command.
+    // Flushed once for the line that would wait, and once for each command.
     let is_flushed = writer.handed_on() == REPORT && writer.flushes() == 10;
     let is_whole = ended == Ok(Outcome::Waited(4)) && is_flushed;
     let is_front = !done && REPORT.starts_with(writer.written());

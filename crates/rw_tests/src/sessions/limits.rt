@@ -6,7 +6,7 @@ use rw_console::SessionFault;
 use rw_devices::FailingWriter;
 use std::io;
 
-/// LF without end.
+/// A reader of LF without end.
 #[derive(Drop)]
 struct EndlessLines;
 

@@ -17,14 +17,14 @@ use std::alloc::Global;
 use std::fmt::Display;
 use std::process::Abort;
 
-/// Each fault says its text.
+/// Asserts that each fault has its text.
 fn say<F: Display>(rt: &impl Abort, alloc: Global, faults: &[(F, &str)]) {
     for (fault, text) in faults {
         says(rt, alloc, fault, text);
     }
 }
 
-/// The fault says this text.
+/// Asserts that the fault has this text.
 fn says<F: Display>(rt: &impl Abort, alloc: Global, fault: &F, text: &str) {
     let said = format!(in alloc; "{fault}").unwrap_or_else(|_| String::new(alloc));
     same(rt, &"a fault", &said.as_str(), &text);

@@ -6,7 +6,7 @@ use rw_law::Payload;
 use std::alloc::Global;
 use std::test::Fail;
 
-/// How many entries the run has that is read back.
+/// Reads a run, writes it and reads it back. Returns how many entries it then has.
 fn entries_read_back<V: Payload>(alloc: Global, text: &[u8]) -> Result<usize, Fail> {
     let run: Run<V> = run_in(alloc, text)?;
     let again = run_again(alloc, &run);

@@ -1,4 +1,4 @@
-//! The runs of scripts, written as text, read again, and the same.
+//! The runs of scripts, which stay the same when they are written as text and read again.
 
 use crate::plain::{entries_of, run_in, same, specs_of, written};
 use rw_journal::Run;
@@ -21,7 +21,7 @@ pub const UNREAD: &[u8] =
 /// Two actors, each on a channel.
 pub const TWO_CHANNELS: &[u8] = b"broadcast 2\nwatch 5\nactors 2\n0 0 send 0 1\n1 1 send 0 6\n";
 
-/// A script for each row: what it is about, its lines, and how many entries its run has. That of the handle limit is
+/// A script for each row: what it is about, its lines, and how many entries its run has. The one of the handle limit is
 /// `handle_limit`.
 pub static SCRIPTS: [(&str, &[u8], u64); 20] = [
     ("empty_session", b"broadcast 4\n", 0),
@@ -110,7 +110,7 @@ pub static SCRIPTS: [(&str, &[u8], u64); 20] = [
     ),
 ];
 
-/// All the senders that a channel makes, two that it doesn't, and a drop in between.
+/// Returns a script that makes all the senders that a channel makes, and two that it doesn't, with a drop in between.
 pub fn handle_limit(alloc: Global) -> Result<Vec<u8>, Fail> {
     let mut script = Vec::from_slice(alloc, b"broadcast 1\n")?;
     for _ in 0..65_535u32 {
@@ -120,14 +120,14 @@ pub fn handle_limit(alloc: Global) -> Result<Vec<u8>, Fail> {
     Ok(script)
 }
 
-/// The run of a script. Without a contract the tests' proofs stay short.
+/// Returns the run of a script. It has no contract, so that the tests' proofs stay short.
 pub fn run_of(alloc: Global, script: &[u8]) -> Result<Run<u64>, Fail> {
     let script = Script::read(alloc, script)?;
     let (run, _) = run_one(alloc, &script)?;
     Ok(run)
 }
 
-/// An entry is the same as another in all that it holds.
+/// Asserts that two entries are the same in all that they have.
 fn is_same<V: Copy + PartialEq + Debug>(
     rt: &impl Abort,
     name: &str,
@@ -149,7 +149,7 @@ fn is_same<V: Copy + PartialEq + Debug>(
     );
 }
 
-/// Compares two runs in all that they hold, and counts their entries.
+/// Asserts that two runs are the same in all that they have, and that they have this many entries.
 fn compare<V: Copy + PartialEq + Debug>(
     rt: &impl Abort,
     name: &str,
@@ -165,7 +165,7 @@ fn compare<V: Copy + PartialEq + Debug>(
     }
 }
 
-/// Writes a run, reads it again, and writes what was read.
+/// Writes a run, reads it again, and writes what was read. Asserts that run and text are the same.
 fn write_and_read<V: Payload + PartialEq + Debug>(
     rt: &impl Abort,
     alloc: Global,
@@ -186,7 +186,7 @@ fn write_and_read<V: Payload + PartialEq + Debug>(
     Ok(())
 }
 
-/// The run of a script has so many entries, and is the same when it is written and read again.
+/// Asserts that the run of a script has this many entries, and is the same when it is written and read again.
 fn is_kept(
     rt: &impl Abort,
     alloc: Global,

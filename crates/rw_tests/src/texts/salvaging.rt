@@ -10,19 +10,19 @@ use std::alloc::{AllocError, Global};
 use std::process::Abort;
 use std::test::Fail;
 
-/// How many entries a text holds, and how many bytes its whole lines have.
+/// Salvages a text. Returns how many entries it has, and how many bytes its whole lines have.
 fn held<V: Payload>(alloc: Global, text: &[u8]) -> Result<(usize, u64), TextFault> {
     let (run, count): (Run<V>, u64) = salvage_in(alloc, text)?;
     Ok((length(run), count))
 }
 
-/// How many entries a text has that isn't cut off.
+/// Reads a text that isn't cut off. Returns how many entries it has.
 fn read_whole<V: Payload>(alloc: Global, text: &[u8]) -> Result<usize, TextFault> {
     let run: Run<V> = run_in(alloc, text)?;
     Ok(length(run))
 }
 
-/// What the first so many bytes of the small text hold.
+/// Returns what a salvage of the first n bytes of the small text finds.
 fn held_by_front(n: usize) -> Result<(usize, u64), TextFault> {
     match n {
         0..=31 => Err(TextFault::Truncated),
@@ -43,7 +43,8 @@ fn a_text_is_cut_at_each_byte(rt: HostRuntime) {
     }
 }
 
-/// How many bytes of the small text are kept, with what in place of which part, what stands behind them, and what is found.
+/// How many bytes of the small text are left, the part of it that is replaced, what replaces it, how many letters come after, and
+/// the fault.
 type Damage = (usize, &'static str, &'static str, usize, TextFault);
 
 static DAMAGES: [Damage; 9] = [
@@ -58,15 +59,15 @@ static DAMAGES: [Damage; 9] = [
         0,
         TextFault::LimitExceeded(5),
     ),
-    // Behind the line `end`.
+    // After the line `end`.
     (110, "#", "", 1, TextFault::Malformed(8)),
-    // Behind no line `steps`.
+    // Without a line `steps`.
     (14, "broadcast", "broadcasts", 0, TextFault::Truncated),
     (26, "broadcast", "broadcasts", 0, TextFault::Truncated),
     (27, "broadcast", "broadcasts", 0, TextFault::Malformed(2)),
 ];
 
-/// The first so many bytes of the small text, with this part in place of another, and so many letters behind it.
+/// Returns the first n bytes of the small text, with `to` in place of `from`, and this many letters after them.
 fn damaged(
     alloc: Global,
     n: usize,
@@ -82,10 +83,10 @@ fn damaged(
     Ok(text)
 }
 
-/// What a text still holds, and how many entries it has that isn't cut off.
+/// What a salvage of a text finds, and how many entries are read from it.
 type Held = (Result<(usize, u64), TextFault>, Result<usize, TextFault>);
 
-/// What these bytes hold.
+/// Salvages these bytes, and reads them.
 fn held_and_read(alloc: Global, text: &[u8]) -> Held {
     (held::<u64>(alloc, text), read_whole::<u64>(alloc, text))
 }
@@ -110,7 +111,7 @@ fn other_damage_is_answered_as_where_it_is_read(rt: HostRuntime) -> Result<(), F
     Ok(())
 }
 
-/// A script of 200 calls on three channels.
+/// Returns a script of 200 calls on three channels.
 fn long_script(alloc: Global) -> Result<Vec<u8>, Fail> {
     let mut script = Vec::from_slice(alloc, b"broadcast 4\nwatch 5\nbroadcast 2\n")?;
     for i in 0..50u64 {
@@ -122,14 +123,14 @@ fn long_script(alloc: Global) -> Result<Vec<u8>, Fail> {
     Ok(script)
 }
 
-/// How many whole lines these bytes have, and those lines.
+/// Returns how many whole lines these bytes have, and those lines.
 fn lines_of(bytes: &[u8]) -> (usize, &[u8]) {
     let count = bytes.iter().filter(|b| **b == b'\n').count();
     let length = bytes.iter().rposition(|b| *b == b'\n').map_or(0, |i| i + 1);
     (count, bytes.get(..length).unwrap_or(bytes))
 }
 
-/// What is written of the run that a text holds, and how many bytes of the text say it.
+/// Salvages the run of a text and writes it. Returns what is written, and how many bytes the text's whole lines have.
 fn written_of<V: Payload>(alloc: Global, text: &[u8]) -> Result<(Vec<u8>, u64), Fail> {
     let (run, count): (Run<V>, u64) = salvage_in(alloc, text)?;
     let text = text_of(alloc, &run);
@@ -137,14 +138,14 @@ fn written_of<V: Payload>(alloc: Global, text: &[u8]) -> Result<(Vec<u8>, u64), 
     Ok((text?, count))
 }
 
-/// The text of a run.
+/// Returns the text of a run.
 fn text_of<V: Payload>(alloc: Global, run: &Run<V>) -> Result<Vec<u8>, Fail> {
     let (answer, text) = written(alloc, run, 4096, None)?;
     answer?;
     Ok(text)
 }
 
-/// A front of a long text holds the entries of its whole lines, behind so many lines of its opening.
+/// Asserts that a prefix of a long text has the entries of its whole lines, after the lines of its opening.
 fn is_read_back(rt: &impl Abort, alloc: Global, text: &[u8], opening: usize) -> Result<(), Fail> {
     let (count, lines) = lines_of(text);
     if count < opening {
@@ -165,7 +166,7 @@ fn is_read_back(rt: &impl Abort, alloc: Global, text: &[u8], opening: usize) -> 
     Ok(())
 }
 
-/// The text of the run of a long script.
+/// Returns the text of the run of a long script.
 fn long_text(alloc: Global) -> Result<Vec<u8>, Fail> {
     let run = run_of(alloc, &long_script(alloc)?)?;
     let text = text_of(alloc, &run);

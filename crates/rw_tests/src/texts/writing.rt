@@ -20,7 +20,7 @@ pub const OLD: &[u8] =
 const LARGE: &[u8] =
     b"ttd-journal 2\nbroadcast 3\nwatch 1\nsteps\n1 0 0 send 0 1 = sent 1\n1 1 1 drop 1 = dropped\n2 0 0 send 0 2 = sent 1\n3 0 0 send 0 3 = sent 1\n4 0 0 send 0 4 = sent 1\n5 0 0 send 0 5 = sent 1\n6 0 0 try-recv 1 = lagged 1\n6 1 1 is-closed 0 = flag yes\n7 0 0 sender-len 0 = count 4\n7 1 1 closed 0 = done\n8 1 1 send 0 2 = no-receivers 2\n9 1 1 send-replace 0 3 = old 1\n10 1 1 modify 0 5 no = told no\n11 1 1 subscribe 0 = new 2\n12 1 1 borrow 2 = value 5\n13 63 0 subscribe 9 = unknown\nend\n";
 
-/// What the write of the run answers that a text holds, and what it wrote.
+/// Reads a text and writes its run. Returns the result of the write, and what was written.
 fn rewritten<V: Payload>(
     alloc: Global,
     text: &[u8],
@@ -33,7 +33,8 @@ fn rewritten<V: Payload>(
     Ok(answered?)
 }
 
-/// The write of the run of a text answers so, and writes this, to a writer that takes so many bytes at a call and fails at a call.
+/// Asserts that the write of a text's run has this result, and writes these bytes. The writer accepts at most `most` bytes at a
+/// call, and fails once, after `calls` calls.
 fn is_written(
     rt: &impl Abort,
     alloc: Global,
@@ -47,7 +48,7 @@ fn is_written(
     Ok(())
 }
 
-/// Texts, and those that are written of their runs. An old text is written in the new version.
+/// Texts, and the texts that are written for their runs. An old text is written in the new version.
 static TEXTS: [(&[u8], &[u8]); 3] = [(SMALL, SMALL), (LARGE, LARGE), (OLD, SMALL)];
 
 #[test]

@@ -5,7 +5,7 @@ use rw_watch::WCall;
 use rw_world::{ChanCall, Spec};
 use std::alloc::{AllocError, Global};
 
-/// The call of this number on a channel: a send under an even number, and under an odd one a receiver's try-recv or update.
+/// Returns the call with this number on a channel: a send for an even number, and a receiver's try-recv or update for an odd one.
 fn pair(spec: &Spec<u64>, i: u64) -> ChanCall<u64> {
     match (spec, i % 2) {
         (Spec::Broadcast(_), 0) => ChanCall::B(BCall::Send(0, i)),
@@ -15,7 +15,7 @@ fn pair(spec: &Spec<u64>, i: u64) -> ChanCall<u64> {
     }
 }
 
-/// So many calls on a channel: sends, each followed by a receiver's try-recv or update.
+/// Returns this many calls on a channel: sends, each followed by a receiver's try-recv or update.
 pub fn pairs(
     alloc: Global,
     spec: &Spec<u64>,

@@ -1,4 +1,4 @@
-//! What is timed of desks.
+//! What is timed: books, desks, and closing a desk.
 
 ghost use Rattle.std.specs.Prelude.{◌≡◌, false, IfOk};
 ghost use Rattle.rw_world.specs.Openings.{has_bad_capacity};
@@ -16,7 +16,7 @@ use std::sync::Wait;
 use std::thread::Threads;
 use std::time::{Clock, Duration, Instant};
 
-/// A desk of one channel, with its only actor.
+/// Opens a desk of one channel, with its only actor.
 fn open_one<D: Shared + Drop>(alloc: Global, spec: Spec<u64>) -> Result<(D, D::Actor)>
 where
     D::Actor: Drop,
@@ -31,7 +31,7 @@ where
     Ok((desk, actor))
 }
 
-/// A desk with its two actors.
+/// Opens a desk, with its two actors.
 fn open_two<D: Shared + Drop>(alloc: Global, specs: &[Spec<u64>]) -> Result<(D, D::Actor, D::Actor)>
 where
     D::Actor: Drop,
@@ -47,7 +47,7 @@ where
     Ok((desk, first, second))
 }
 
-/// A book of a channel.
+/// Opens a book of a channel.
 fn book_of<V: Payload>(alloc: Global, spec: &Spec<V>) -> Result<Book<Chan<V>>, NoMemory>
     requires { has_bad_capacity spec.now ≡ false }
 {
@@ -55,7 +55,7 @@ fn book_of<V: Payload>(alloc: Global, spec: &Spec<V>) -> Result<Book<Chan<V>>, N
     Book::open(alloc, channel)
 }
 
-/// What it costs that a book takes the calls.
+/// Measures the cost of recording the calls in a book.
 pub fn cost_of_book<V: Payload>(
     rt: &(impl Clock + Files + AllocGlobal),
     alloc: Global,
@@ -72,7 +72,7 @@ pub fn cost_of_book<V: Payload>(
     cost
 }
 
-/// What it costs that this book takes the calls.
+/// Measures the cost of recording the calls in this book.
 fn cost_of_taking<V: Payload>(
     rt: &(impl Clock + Files + AllocGlobal),
     book: &mut Book<Chan<V>>,
@@ -87,7 +87,7 @@ fn cost_of_taking<V: Payload>(
     start.cost(rt)
 }
 
-/// What it costs that one thread makes the calls on a desk of one channel.
+/// Measures the cost of making the calls in one thread, on a desk of one channel.
 pub fn cost_of_desk<D: Shared + Drop>(
     rt: &(impl Clock + Files + AllocGlobal + Wait),
     alloc: Global,
@@ -106,7 +106,7 @@ where
     start.cost(rt)
 }
 
-/// How long two threads make the calls, each on a broadcast of its own.
+/// Measures how long two threads take to make the calls, each on its own broadcast.
 pub fn time_apart<D: Shared + Sync + Drop, R: Clock + Threads + Wait + Sync>(
     rt: &R,
     alloc: Global,
@@ -123,7 +123,7 @@ where
     Ok(begin.elapsed(rt)?)
 }
 
-/// How long it takes to send so many values in one thread and receive them in another.
+/// Measures how long it takes to send this many values in one thread and receive them in another.
 pub fn time_beside<D: Calls + Sync + Drop, R: Clock + Threads + Wait + Sync>(
     rt: &R,
     alloc: Global,
@@ -140,7 +140,7 @@ where
     Ok(begin.elapsed(rt)?)
 }
 
-/// Has each actor make the calls on a channel of its own, and says whether all were made.
+/// Makes the calls by each actor, on its own channel. Returns whether all were made.
 fn make_each<D: Calls, R: Wait>(
     rt: &R,
     desk: &D,
@@ -158,7 +158,8 @@ fn make_each<D: Calls, R: Wait>(
     true
 }
 
-/// How long a desk of 8 channels takes to close, and how many entries it had. Each actor makes the calls on a channel of its own.
+/// Measures how long a desk of 8 channels takes to close. Returns that, and how many entries it had. Each actor makes the calls
+/// on its own channel.
 pub fn time_closing<D: Calls + Drop>(
     rt: &(impl Clock + Wait),
     alloc: Global,

@@ -1,4 +1,4 @@
-//! The threads that make the calls that are timed.
+//! The threads that make the timed calls.
 
 use crate::desks::{Calls, Shared};
 use rw_broadcast::{BCall, BReply};
@@ -7,7 +7,7 @@ use std::sync::Wait;
 use std::thread;
 use std::thread::Threads;
 
-/// Makes the calls on channel 0 and on channel 1, each in a thread of its own.
+/// Makes the calls on channel 0 and on channel 1, each in its own thread.
 pub fn make_apart<D: Shared + Sync, R: Threads + Wait + Sync>(
     rt: &R,
     desk: &D,
@@ -43,7 +43,7 @@ where
     back
 }
 
-/// Sends so many values, and drops the sender.
+/// Sends this many values, and drops the sender.
 fn send_all<D: Calls, R: Wait>(rt: &R, desk: &D, pass: &mut D::Actor, count: u64) {
     for i in 0..count {
         let _ = desk.wait_call(rt, pass, 0, ChanCall::B(BCall::Send(0, i)));
@@ -51,7 +51,7 @@ fn send_all<D: Calls, R: Wait>(rt: &R, desk: &D, pass: &mut D::Actor, count: u64
     let _ = desk.wait_call(rt, pass, 0, ChanCall::B(BCall::DropHandle(0)));
 }
 
-/// Receives until the channel is closed, and says whether it was.
+/// Receives until the channel is closed. Returns whether it was.
 fn receive_all<D: Calls, R: Wait>(rt: &R, desk: &D, pass: &mut D::Actor) -> bool {
     for _ in 0..u64::MAX {
         match desk.wait_call(rt, pass, 0, ChanCall::B(BCall::Recv(1))) {
@@ -63,7 +63,7 @@ fn receive_all<D: Calls, R: Wait>(rt: &R, desk: &D, pass: &mut D::Actor) -> bool
     false
 }
 
-/// Sends so many values in one thread, and receives them in another, which waits.
+/// Sends this many values in one thread, and receives them in another, which waits.
 pub fn send_beside<D: Calls + Sync, R: Threads + Wait + Sync>(
     rt: &R,
     desk: &D,

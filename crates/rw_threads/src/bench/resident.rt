@@ -5,7 +5,7 @@ use std::fs;
 use std::rt::Files;
 use std::time::{Clock, Duration, Instant};
 
-/// The bytes of a page, in which the system counts a process's memory.
+/// The bytes of a page. The system counts a process's memory in pages.
 const PAGE: u64 = 4_096;
 
 /// How long calls took, and by how many bytes of memory in use the process grew.
@@ -23,14 +23,14 @@ pub struct Start {
 }
 
 impl Start {
-    /// What is so now.
+    /// Returns the time and the memory in use now.
     pub fn now(rt: &(impl Clock + Files + AllocGlobal)) -> Result<Start> {
         let bytes = resident_bytes(rt)?;
         let time = Instant::now(rt)?;
         Ok(Start { time, bytes })
     }
 
-    /// What it cost since.
+    /// Returns the cost since then.
     pub fn cost(&self, rt: &(impl Clock + Files + AllocGlobal)) -> Result<Cost> {
         let time = self.time.elapsed(rt)?;
         let bytes = resident_bytes(rt)?.saturating_sub(self.bytes);
@@ -38,7 +38,7 @@ impl Start {
     }
 }
 
-/// How many bytes of the process's memory are in use: a page that was never touched isn't.
+/// Returns how many bytes of the process's memory are in use. A page that was never touched isn't.
 fn resident_bytes(rt: &(impl Files + AllocGlobal)) -> Result<u64> {
     let counts = fs::read_to_string(rt, "/proc/self/statm")?;
     let pages = counts

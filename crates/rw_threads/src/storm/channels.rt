@@ -1,8 +1,8 @@
 //! The channels of a storm, and the actors on them.
 //!
-//! Players make calls of every kind on the first four channels, with handles that any of them may name and drop. On the other three
-//! each player has a handle of its own, which it drops at its end, and others wait there: for values, and for that end. So each
-//! wait ends, since players wait for nobody.
+//! Players make calls of every kind on the first four channels, with handles that any of them may name and drop. On the other
+//! three each player has its own handle, which it drops at its end. Others wait there, for values and for the channel's close. So
+//! each wait ends, since players wait for nobody.
 
 use rw_broadcast::BCall;
 use rw_watch::WCall;
@@ -17,7 +17,7 @@ pub const AWAITED_BROADCAST: u32 = 4;
 /// The watch whose changes are awaited. Each player has a sender of it.
 pub const AWAITED_WATCH: u32 = 5;
 
-/// The watch whose end is awaited by senders. Each player has a receiver of it.
+/// The watch whose close is awaited by senders. Each player has a receiver of it.
 pub const LEFT_WATCH: u32 = 6;
 
 /// What the channels are opened from.
@@ -37,33 +37,33 @@ pub const PLAYERS: u32 = 8;
 /// How many actors wait: two on each of the last three channels.
 pub const WAITERS: u32 = 6;
 
-/// The number of the handle that a player has on each of the last three channels.
+/// Returns the number of the handle that a player has on each of the last three channels.
 pub fn own_handle(player: u32) -> u32 {
     player.saturating_add(3)
 }
 
-/// What makes the second waiter's handle on each of the last three channels, which is handle 2 there.
+/// The calls that make the second waiter's handle on each of the last three channels, which is handle 2 there.
 pub const SECOND_HANDLES: [(u32, ChanCall<u64>); 3] = [
     (AWAITED_BROADCAST, ChanCall::B(BCall::Subscribe(0))),
     (AWAITED_WATCH, ChanCall::W(WCall::Subscribe(0))),
     (LEFT_WATCH, ChanCall::W(WCall::CloneSender(0))),
 ];
 
-/// What makes a player's own handles.
+/// The calls that make a player's handles.
 pub const OWN_HANDLES: [(u32, ChanCall<u64>); 3] = [
     (AWAITED_BROADCAST, ChanCall::B(BCall::CloneSender(0))),
     (AWAITED_WATCH, ChanCall::W(WCall::CloneSender(0))),
     (LEFT_WATCH, ChanCall::W(WCall::Subscribe(0))),
 ];
 
-/// What drops those first handles that would keep the last three channels from their end.
+/// The calls that drop those first handles that would keep the last three channels open.
 pub const FIRST_DROPS: [(u32, ChanCall<u64>); 3] = [
     (AWAITED_BROADCAST, ChanCall::B(BCall::DropHandle(0))),
     (AWAITED_WATCH, ChanCall::W(WCall::DropHandle(0))),
     (LEFT_WATCH, ChanCall::W(WCall::DropHandle(1))),
 ];
 
-/// What drops a player's own handles.
+/// Returns the calls that drop a player's handles.
 pub fn own_drops(player: u32) -> [(u32, ChanCall<u64>); 3] {
     let own = own_handle(player);
     [
@@ -73,8 +73,8 @@ pub fn own_drops(player: u32) -> [(u32, ChanCall<u64>); 3] {
     ]
 }
 
-/// The channel that a waiter waits for, and the call that it makes until it is at its end: the first of two by the handle that
-/// the channel has from the beginning, the second by the number of another.
+/// Returns the channel that a waiter waits for, and the call that it makes until the channel is closed. The first of its two
+/// waiters uses a handle that the channel has from the beginning, and the second uses handle 2.
 pub fn awaited_by(waiter: u32) -> (u32, ChanCall<u64>) {
     match waiter {
         0 => (AWAITED_BROADCAST, ChanCall::B(BCall::Recv(1))),

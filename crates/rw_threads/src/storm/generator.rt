@@ -11,27 +11,27 @@ use rw_broadcast::{BCall, BReply};
 use rw_watch::{WCall, WReply};
 use rw_world::{ChanCall, ChanReply};
 
-/// A call that is to be made.
+/// A call to make.
 #[derive(Clone, Copy)]
 pub struct Choice {
     pub channel: u32,
     pub call: ChanCall<u64>,
-    /// Whether it is made by a call that waits. No call is that might have to wait.
+    /// Whether it is made by a method that blocks. That is never so for a call that may have to wait.
     pub waits: bool,
 }
 
-/// What chooses the calls of one player.
+/// Chooses the calls of one player.
 #[derive(Drop)]
 pub struct Generator {
     words: Xoshiro256PlusPlus,
     // The player's own handle of each channel that others wait for.
     own: u32,
-    // Of each channel that is played on the numbers of handles that this player may name: they are below this.
+    // For each channel that is played on, the player may name the handles below this number.
     handles: [u32; PLAYED],
 }
 
 impl Generator {
-    /// The generator of a player.
+    /// Makes the generator of a player.
     pub fn new(seed: u64, player: u32) -> Generator {
         let mut words = Xoshiro256PlusPlus::seed_from_u64(seed);
         for _ in 0..player {
@@ -44,7 +44,7 @@ impl Generator {
         }
     }
 
-    /// The next call: a value for those that wait, or any call on a channel that is played on.
+    /// Chooses the next call: a send to those that wait, or any call on a channel that is played on.
     pub fn choose(&mut self) -> Choice {
         let word = self.words.next_u64();
         let value = self.words.next_u64();
@@ -63,7 +63,7 @@ impl Generator {
         }
     }
 
-    /// Any call on a channel that is played on.
+    /// Chooses any call on a channel that is played on.
     fn any_call(&mut self, channel: usize, value: u64) -> ChanCall<u64> {
         let handle = self.handle(channel);
         let kind = self.words.next_u64();
@@ -75,7 +75,7 @@ impl Generator {
         spared(channel, call)
     }
 
-    /// A handle of a channel: one of the first four, or any, or one that nobody may have made yet.
+    /// Chooses a handle of a channel: one of the first four, or any, perhaps one that isn't made yet.
     fn handle(&mut self, channel: usize) -> u32 {
         let word = self.words.next_u64();
         let below = match self.handles.get(channel) {
@@ -85,7 +85,7 @@ impl Generator {
         ((word >> 1) % u64::from(below.max(1))) as u32
     }
 
-    /// Hears of a reply, so that later calls name the handle that it made.
+    /// Records a reply, so that later calls may name the handle that it made.
     pub fn hear(&mut self, channel: u32, reply: &ChanReply<u64>) {
         if let ChanReply::B(BReply::New(number)) | ChanReply::W(WReply::New(number)) = reply {
             if let Some(below) = self.handles.get_mut(channel as usize) {
@@ -95,7 +95,7 @@ impl Generator {
     }
 }
 
-/// A call of a broadcast with this handle.
+/// Returns a call of a broadcast with this handle.
 fn to_broadcast(kind: u64, handle: u32, value: u64) -> BCall<u64>
     ensures { handle_of result ≡ handle }
 {
@@ -116,7 +116,7 @@ fn to_broadcast(kind: u64, handle: u32, value: u64) -> BCall<u64>
     }
 }
 
-/// A call of a watch with this handle.
+/// Returns a call of a watch with this handle.
 fn to_watch(kind: u64, handle: u32, value: u64) -> WCall<u64>
     ensures { handle_at_watch result ≡ handle }
 {
@@ -144,7 +144,7 @@ fn to_watch(kind: u64, handle: u32, value: u64) -> WCall<u64>
     }
 }
 
-/// The first two handles of channels 0 and 1 aren't dropped, so that these stay open. The others may close.
+/// Spares the first two handles of channels 0 and 1 from a drop, so that these stay open. The others may close.
 fn spared(channel: usize, call: ChanCall<u64>) -> ChanCall<u64> {
     match call {
         ChanCall::B(BCall::DropHandle(handle)) if channel < 2 && handle < 2 => {

@@ -1,4 +1,4 @@
-//! What the player of a seat keeps of its answers, and whether these fit each other and the run.
+//! What the player of a seat records of its results, and whether these fit each other and the run.
 
 ghost use Rattle.std.specs.Prelude.{◌≡◌};
 
@@ -15,20 +15,20 @@ const CHANNELS: usize = SPECS.len();
 /// How many seats play.
 pub const SEATS: u32 = 4;
 
-/// What chooses a player's calls, and what was answered.
+/// A player's generator of calls, and what its calls returned.
 #[derive(Drop)]
 pub struct Notes {
     generator: Generator,
-    // The last front of each channel that was told, by a call's answer or at a meeting.
+    // The length of the last known front of each channel, from a call's result or a meeting.
     seen: [u64; CHANNELS],
-    // The front of each call that was made, in order.
+    // The length of the front after each call that was made, in order.
     fronts: Vec<u64>,
-    // Whether each answer was one that may follow those before it.
+    // Whether each result may follow those before it.
     fits: bool,
 }
 
 impl Notes {
-    /// The notes of a player before its first call.
+    /// Makes the notes of a player before its first call.
     pub fn new(alloc: Global, seed: u64, player: u32) -> Notes {
         Notes {
             generator: Generator::new(seed, player),
@@ -38,12 +38,12 @@ impl Notes {
         }
     }
 
-    /// The next call.
+    /// Chooses the next call.
     pub fn choose(&mut self) -> Choice {
         self.generator.choose()
     }
 
-    /// Hears of a call's answer. Its front has to be above what was seen of the channel.
+    /// Records a call's result. Its front has to be longer than what was seen of the channel.
     pub fn hear(&mut self, channel: u32, answer: Result<Answered<u64>, DeskFault>) {
         match (answer, self.seen.get_mut(channel as usize)) {
             (Ok(answered), Some(seen)) => {
@@ -57,7 +57,7 @@ impl Notes {
         }
     }
 
-    /// Hears of a meeting with another. What is seen then has to be at least what each had seen.
+    /// Records a meeting with another. What is seen then has to be at least as long as what each had seen.
     pub fn hear_of_meeting(&mut self, other: &Notes, channel: u32, length: Option<u64>) {
         let at = channel as usize;
         match (length, self.seen.get_mut(at), other.seen.get(at)) {
@@ -71,7 +71,7 @@ impl Notes {
     }
 }
 
-/// How many entries of the run each actor made, where the front of each entry's answer was its place in its channel's journal.
+/// Returns how many entries of the run each actor made, if the front of each call is its entry's place in its channel's journal.
 fn calls_in_place(run: &Run<u64>, notes: &[Notes]) -> Option<[usize; SEATS as usize]> {
     let mut lengths = [0u64; CHANNELS];
     let mut made = [0usize; SEATS as usize];
@@ -88,8 +88,8 @@ fn calls_in_place(run: &Run<u64>, notes: &[Notes]) -> Option<[usize; SEATS as us
     Some(made)
 }
 
-/// Whether each answer's front was the place of its entry in its channel's journal, and all answers fit. The notes are in the
-/// order of the actors' numbers.
+/// Whether the front of each call is its entry's place in its channel's journal, and all results fit. The notes are in the order
+/// of the actors' numbers.
 pub fn are_places(run: &Run<u64>, notes: &[Notes]) -> bool {
     let Some(made) = calls_in_place(run, notes) else {
         return false;

@@ -12,7 +12,7 @@ use std::sync::Wait;
 use std::thread;
 use std::thread::Threads;
 
-/// Makes these calls, without waiting, whatever becomes of them. Says whether all were made.
+/// Makes these calls without waiting, and continues after a fault. Returns whether all were made.
 fn make_all<D: Calls, R: Wait>(
     rt: &R,
     desk: &D,
@@ -26,7 +26,7 @@ fn make_all<D: Calls, R: Wait>(
     all
 }
 
-/// Makes the handles that waiters and players need, and drops those that would keep a channel from its end.
+/// Makes the handles that waiters and players need, and drops those that would keep a channel open.
 pub fn prepare<D: Calls, R: Wait>(rt: &R, desk: &D, pass: &mut D::Actor) -> bool {
     let mut all = make_all(rt, desk, pass, &SECOND_HANDLES);
     for _ in 0..PLAYERS {
@@ -54,7 +54,7 @@ fn make_calls<D: Calls, R: Wait>(
     Ok(())
 }
 
-/// What a player does: its calls, and then, whatever became of them, it drops its own handles.
+/// Makes a player's calls, and then drops its handles, even after a fault.
 fn play<D: Calls, R: Wait>(
     rt: &R,
     desk: &D,
@@ -73,8 +73,8 @@ fn play<D: Calls, R: Wait>(
     }
 }
 
-/// What an actor's thread does: it plays, or it waits. Its pass is given back, beside how many values it was told of; `None` where not
-/// all its calls were made.
+/// Runs an actor's thread, which plays or waits. Returns its pass, and how many values it was notified of, or `None` if not all
+/// its calls were made.
 fn act<D: Calls, R: Wait>(
     rt: &R,
     desk: &D,
@@ -90,8 +90,8 @@ fn act<D: Calls, R: Wait>(
     (pass, told)
 }
 
-/// Has each actor act in a thread of its own, and gives the passes back, with what each was told. The players' threads are started first,
-/// and the waiters' only where all of these were.
+/// Runs each actor in its own thread. Returns the passes, with how many values each actor was notified of. The players' threads
+/// are started first, and the waiters' only if all of those were.
 pub fn act_all<D: Calls + Sync, R: Threads + Wait + Sync>(
     rt: &R,
     alloc: Global,

@@ -1,4 +1,4 @@
-//! The receipts of actors beside the entries of the run.
+//! The receipts of actors compared with the entries of the run.
 
 ghost use Rattle.std.specs.Prelude.{◌≡◌, ◌↔◌, All, IsTrue};
 ghost use Rattle.rw_desk.specs.Settling.{projection};

@@ -1,5 +1,5 @@
 //! The storm of a desk with seats: four seats make calls, two in each of two threads, and the two of a thread meet in between.
-//! Each two of them share a thread in one of three rounds.
+//! Any two of them share a thread in one of three rounds.
 
 ghost use Rattle.std.specs.Prelude.{All, IfOk, IfSome};
 
@@ -18,17 +18,17 @@ use std::thread::Threads;
 /// How many rounds there are.
 const ROUNDS: u64 = 3;
 
-/// After so many calls of each seat two seats meet.
+/// After this many calls of each seat, two seats meet.
 const BETWEEN_MEETINGS: u64 = 16;
 
-/// A seat, and what its player keeps of its answers.
+/// A seat, and what its player records of its results.
 #[derive(Drop)]
 struct Player<S> {
     seat: S,
     notes: Notes,
 }
 
-/// One call by a player's seat.
+/// Makes a call by a player's seat.
 fn call<D: Seated, R: Wait>(
     rt: &R,
     desk: &D,
@@ -73,7 +73,7 @@ fn prepare<D: Seated, R: Wait>(rt: &R, desk: &D, player: Player<D::Actor>) -> Pl
     player
 }
 
-/// The next call of a player.
+/// Makes the next call of a player.
 fn play<D: Seated, R: Wait>(rt: &R, desk: &D, player: Player<D::Actor>) -> Player<D::Actor>
     requires { D.owns desk.now player.seat }
     ensures { D.owns desk.now result.seat }
@@ -118,7 +118,8 @@ fn meet<D: Seated, R: Wait>(
     (one, two)
 }
 
-/// Makes so many calls by each of two seats, in turn. In between they meet, on one channel after the other, and on one that isn't there.
+/// Makes this many calls by each of two seats, in turn. In between they meet, on one channel after another, and on one that isn't
+/// there.
 fn play_pair<D: Seated, R: Wait>(
     rt: &R,
     desk: &D,
@@ -139,7 +140,7 @@ fn play_pair<D: Seated, R: Wait>(
     pair
 }
 
-/// The same by two pairs, each in a thread of its own.
+/// Does the same for two pairs, each in its own thread.
 fn play_pairs<D: Seated + Sync, R: Threads + Wait + Sync>(
     rt: &R,
     desk: &D,
@@ -164,7 +165,7 @@ where
     )
 }
 
-/// Plays all rounds, with so many calls of each seat in each. At the end the players are paired as at the beginning.
+/// Plays all rounds, with this many calls of each seat in each. At the end the players are paired as at the beginning.
 fn play_rounds<D: Seated + Sync, R: Threads + Wait + Sync>(
     rt: &R,
     desk: &D,
@@ -190,7 +191,7 @@ where
     (one, two)
 }
 
-/// The player of a seat.
+/// Makes the player of a seat.
 fn player_of<D: Shared>(desk: &D, alloc: Global, seed: u64, seat: D::Actor) -> Player<D::Actor>
     requires { D.owns desk.now seat }
     ensures { D.owns desk.now result.seat }
@@ -202,7 +203,7 @@ fn player_of<D: Shared>(desk: &D, alloc: Global, seed: u64, seat: D::Actor) -> P
     }
 }
 
-/// The players of a desk's last two seats, which are taken off.
+/// Pops a desk's last two seats, and makes their players.
 fn last_pair<D: Shared>(
     desk: &D,
     alloc: Global,
@@ -222,7 +223,7 @@ where
     Some((first, second))
 }
 
-/// A desk's seats with that of a player behind them, whose notes go behind the others.
+/// Pushes a player's seat onto a desk's seats, and its notes onto the others.
 fn with_player<D: Shared>(
     desk: &D,
     mut seats: Vec<D::Actor>,
@@ -241,7 +242,7 @@ where
     Ok(seats)
 }
 
-/// A desk's seats with those of a pair behind them, whose notes go behind the others.
+/// Pushes a pair's seats onto a desk's seats, and their notes onto the others.
 fn with_pair<D: Shared>(
     desk: &D,
     seats: Vec<D::Actor>,
@@ -259,7 +260,7 @@ where
     with_player(desk, seats, notes, two)
 }
 
-/// Has the seats of a desk play, and gives them back, with the notes in their order.
+/// Plays the seats of a desk, and returns them in order, with their notes.
 fn play_all<D: Seated + Sync, R: Threads + Wait + Sync>(
     rt: &R,
     alloc: Global,
@@ -289,7 +290,7 @@ where
     Ok((seats, notes))
 }
 
-/// How many calls were recorded, where the run has all receipts, and each front is its entry's place.
+/// Returns how many calls were recorded. It fails if the receipts aren't the run's entries, or a front isn't its entry's place.
 fn judged(run: &Run<u64>, receipts: &[Receipts], notes: &[Notes]) -> Result<u64> {
     if !agree(run, receipts) {
         bail!("receipts of seats are not the entries");
@@ -300,7 +301,7 @@ fn judged(run: &Run<u64>, receipts: &[Receipts], notes: &[Notes]) -> Result<u64>
     Ok(run.len())
 }
 
-/// Makes so many calls, chosen from a seed, and answers how many were recorded.
+/// Makes this many calls, chosen from a seed. Returns how many were recorded.
 pub fn play_seats<D: Seated + Sync + Drop, R: Threads + Wait + Sync>(
     rt: &R,
     alloc: Global,

@@ -1,4 +1,4 @@
-//! The actors of a storm that wait, each until its channel is at its end.
+//! The actors of a storm that wait, each until its channel is closed.
 
 use super::channels::{AWAITED_BROADCAST, PLAYERS, awaited_by};
 use crate::desks::Calls;
@@ -11,15 +11,15 @@ use std::sync::Wait;
 /// How a wait ended.
 #[derive(Clone, Copy)]
 enum Woken {
-    /// By so many values, received or missed.
+    /// By this many values, received or missed.
     Told(u64),
-    /// By the channel's end.
+    /// By the channel's close.
     AtEnd,
-    /// By what no waiter should be answered.
+    /// By a reply that no waiter should get.
     Astray,
 }
 
-/// How the wait of this call ended, which was answered so.
+/// Returns how the wait of this call ended, from its reply.
 fn woken_by(call: &ChanCall<u64>, reply: &ChanReply<u64>) -> Woken {
     match (call, reply) {
         (ChanCall::B(_), ChanReply::B(BReply::Value(_))) => Woken::Told(1),
@@ -32,7 +32,7 @@ fn woken_by(call: &ChanCall<u64>, reply: &ChanReply<u64>) -> Woken {
     }
 }
 
-/// Waits again and again until the channel is at its end, and answers of how many values the waiter was told.
+/// Waits repeatedly until the channel is closed. Returns how many values the waiter was notified of.
 pub fn wait_for_end<D: Calls, R: Wait>(
     rt: &R,
     desk: &D,
@@ -52,7 +52,7 @@ pub fn wait_for_end<D: Calls, R: Wait>(
     None
 }
 
-/// How many values were sent on the broadcast whose values are awaited.
+/// Returns how many values were sent on the broadcast whose values are awaited.
 fn sent(run: &Run<u64>) -> u64 {
     let mut values = 0u64;
     for entry in run.entries() {
@@ -64,7 +64,7 @@ fn sent(run: &Run<u64>) -> u64 {
     values
 }
 
-/// Whether each actor did all that it had to, and the two that received were told of every value that was sent.
+/// Whether each actor did all that it had to, and the two receivers of the broadcast were notified of every value that was sent.
 pub fn were_told(run: &Run<u64>, told: &[Option<u64>]) -> bool {
     let sent = sent(run);
     for (actor, values) in told.iter().enumerate() {

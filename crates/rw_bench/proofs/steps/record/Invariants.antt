@@ -2,7 +2,7 @@ use Rattle.std.proofs.Common.{◌≡◌, ◌++◌, take}
 use Rattle.rw_bench.specs.Calls.{calls_of}
 use Rattle.rw_bench.proofs.steps.record.Given as goal
 
--- the calls so far were taken
+-- the calls so far were recorded
 abbrev pub invariant-loop-call : goal.invariant-loop-call
 invariant-loop-call g l =
     record {

@@ -1,5 +1,5 @@
 use Rattle.rw_desk.proofs.desk.Desk.b_try_recv.Goals as goal
 
--- it is what the call of the channel answers
+-- it is what the call of the channel returns
 pub returns : goal.returns
 returns g c = c.b_call.ensures
