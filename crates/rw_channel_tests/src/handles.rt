@@ -1,4 +1,5 @@
 //! The life of a small table.
+use crate::comparing::same;
 use rw_handles::{Found, HandleFault, Kind, Table};
 use std::test::Fail;
 
@@ -18,13 +19,33 @@ fn a_short_life(rt: HostRuntime) -> Result<(), Fail> {
     table.unmake();
     let left = (table.made(), alive(&table));
     drop(table);
-    assert_eq!(rt; (has_room, made, left), (true, [0, 1], (1, [1, 0, 0])));
+    same(
+        &rt,
+        &"a short life",
+        &(has_room, made, left),
+        &(true, [0, 1], (1, [1, 0, 0])),
+    );
     let kept = (Kind::Receiver, 5);
-    assert_eq!(rt; found, (Found::Handle(kept.0, kept.1), kept));
-    assert_eq!(rt; undropped, (Some(5), Some(Kind::Receiver), 2));
-    assert_eq!(rt; values, [Some(7), None, Some(7)]);
+    same(
+        &rt,
+        &"found",
+        &found,
+        &(Found::Handle(kept.0, kept.1), kept),
+    );
+    same(
+        &rt,
+        &"undropped",
+        &undropped,
+        &(Some(5), Some(Kind::Receiver), 2),
+    );
+    same(&rt, &"values", &values, &[Some(7), None, Some(7)]);
     let faults = [HandleFault::WrongKind, HandleFault::Unknown].map(Err);
-    assert_eq!(rt; (looks, gone), (faults, (Err(HandleFault::Gone), None)));
+    same(
+        &rt,
+        &"a short life",
+        &(looks, gone),
+        &(faults, (Err(HandleFault::Gone), None)),
+    );
     Ok(())
 }
 
@@ -50,10 +71,15 @@ fn a_weak_handle(rt: HostRuntime) -> Result<(), Fail> {
     let dropped = table.drop_one(2);
     let gone = (table.look(2, Kind::Weak), alive(&table));
     drop(table);
-    assert_eq!(rt; (made, dropped), ((2, [1, 1, 1]), (Kind::Weak, 0)));
+    same(
+        &rt,
+        &"a weak handle",
+        &(made, dropped),
+        &((2, [1, 1, 1]), (Kind::Weak, 0)),
+    );
     let refused = Err(HandleFault::WrongKind);
-    assert_eq!(rt; looks, [Ok(()), refused, refused]);
-    assert_eq!(rt; gone, (Err(HandleFault::Gone), [1, 1, 0]));
+    same(&rt, &"looks", &looks, &[Ok(()), refused, refused]);
+    same(&rt, &"gone", &gone, &(Err(HandleFault::Gone), [1, 1, 0]));
     Ok(())
 }
 
@@ -64,7 +90,7 @@ fn the_first_two(rt: HostRuntime) -> Result<(), Fail> {
     drop(table);
     let sender = Found::Handle(Kind::Sender, 3);
     let receiver = Found::Handle(Kind::Receiver, 4);
-    assert_eq!(rt; found, (2, sender, receiver));
+    same(&rt, &"found", &found, &(2, sender, receiver));
     Ok(())
 }
 

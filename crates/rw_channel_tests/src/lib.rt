@@ -11,6 +11,8 @@ pub mod cell;
 #[cfg(test)]
 mod channels;
 #[cfg(test)]
+mod comparing;
+#[cfg(test)]
 mod handles;
 #[cfg(test)]
 mod journals;

@@ -1,6 +1,7 @@
 //! A small ring, and rings compared with a plain list of the last values.
 ghost use Rattle.std.specs.Prelude.{◌<◌};
 
+use crate::comparing::same;
 use rw_law::NoMemory;
 use rw_ring::Ring;
 use std::process::Abort;
@@ -9,18 +10,24 @@ use std::test::Fail;
 #[test]
 fn ring_of_two(rt: HostRuntime) -> Result<(), Fail> {
     let mut ring: Ring<u64> = Ring::new(rt.alloc(), 2)?;
-    assert_eq!(rt;
-        [ring.put(1), ring.put(2), ring.put(3)],
-        [None, None, Some(1)]
+    same(
+        &rt,
+        &"ring of two",
+        &[ring.put(1), ring.put(2), ring.put(3)],
+        &[None, None, Some(1)],
     );
-    assert_eq!(rt;
-        ([ring.at(0), ring.at(1)], ring.oldest()),
-        ([None, Some(2)], 1)
+    same(
+        &rt,
+        &"ring of two",
+        &([ring.at(0), ring.at(1)], ring.oldest()),
+        &([None, Some(2)], 1),
     );
     ring.unput(Some(1));
-    assert_eq!(rt;
-        ([ring.at(0), ring.at(2)], ring.count()),
-        ([Some(1), None], 2)
+    same(
+        &rt,
+        &"ring of two",
+        &([ring.at(0), ring.at(2)], ring.count()),
+        &([Some(1), None], 2),
     );
     Ok(())
 }
@@ -85,7 +92,12 @@ fn rings_keep_what_a_plain_list_keeps(rt: HostRuntime) -> Result<(), Fail> {
             take(&rt, &mut ring, &mut plain, &mut evictions, step)?;
         }
         assert!(rt; agree(&ring, &plain));
-        assert_eq!(rt; ring.count(), 0);
+        same(
+            &rt,
+            &"rings keep what a plain list keeps",
+            &ring.count(),
+            &0,
+        );
     }
     Ok(())
 }
@@ -101,10 +113,11 @@ fn take(
     if step % 3 < 2 && step < 18 {
         assert!(rt; ring.count() < 1000 && plain.count < 1000);
         let evicted = ring.put(100 + step);
-        assert_eq!(rt; plain.put(100 + step)?, evicted);
+        same(rt, &"take", &plain.put(100 + step)?, &evicted);
         evictions.push(evicted)?;
     } else if let Some(evicted) = evictions.pop() {
         assert!(rt; 0 < ring.count());
+        // The proof takes from this assert what `unput` requires.
         assert_eq!(rt; evicted.is_some(), ring.capacity() < ring.count());
         ring.unput(evicted);
         plain.unput(evicted)?;

@@ -4,6 +4,7 @@ mod adding;
 mod metering;
 mod parity;
 
+use crate::comparing::same;
 use adding::Adder;
 use metering::Metered;
 use parity::Parity;
@@ -44,7 +45,12 @@ fn the_machine_had_as_many_calls_as_places_were_passed(rt: HostRuntime) -> Resul
     let mut navigator = opened?;
     counts_its_turns(&rt, &mut navigator);
     drop(navigator);
-    assert_eq!(rt; played.calls(), 3);
+    same(
+        &rt,
+        &"the machine had as many calls as places were passed",
+        &played.calls(),
+        &3,
+    );
     Ok(())
 }
 
@@ -65,7 +71,12 @@ fn counts_its_turns(rt: &impl Abort, navigator: &mut Navigator<Metered<Adder>>) 
             navigator.turns(),
             navigator.state().calls(),
         ];
-        assert_eq!(rt; (answered, counts), (answer, [place, turns, turns]));
+        same(
+            rt,
+            &"counts its turns",
+            &(answered, counts),
+            &(answer, [place, turns, turns]),
+        );
     }
 }
 
@@ -83,17 +94,24 @@ fn walks_by_moves_and_refuses_those_out_of_range(rt: HostRuntime) -> Result<(), 
     let sum = navigator.state().sum();
     refuses(&rt, &mut navigator);
     drop(navigator);
-    assert_eq!(rt;
-        walked?.as_slice(),
-        [Err(OutOfRange), Err(OutOfRange), Ok(()), Ok(()), Ok(())].as_slice()
+    same(
+        &rt,
+        &"walks by moves and refuses those out of range",
+        &walked?.as_slice(),
+        &[Err(OutOfRange), Err(OutOfRange), Ok(()), Ok(()), Ok(())].as_slice(),
     );
-    assert_eq!(rt; sum, 28);
+    same(&rt, &"sum", &sum, &28);
     Ok(())
 }
 
 /// Moves out of the range of seven entries are refused, and change nothing.
 fn refuses(rt: &impl Abort, navigator: &mut Navigator<Adder>) {
-    assert_eq!(rt; (navigator.place(), navigator.turns()), (7, 15));
+    same(
+        rt,
+        &"refuses",
+        &(navigator.place(), navigator.turns()),
+        &(7, 15),
+    );
     for to in [
         Move::Forward(u64::MAX),
         Move::Back(u64::MAX),
@@ -101,9 +119,11 @@ fn refuses(rt: &impl Abort, navigator: &mut Navigator<Adder>) {
         Move::Goto(8),
     ] {
         let answer = navigator.step(to);
-        assert_eq!(rt;
-            (answer, navigator.place(), navigator.turns()),
-            (Err(OutOfRange), 7, 15)
+        same(
+            rt,
+            &"refuses",
+            &(answer, navigator.place(), navigator.turns()),
+            &(Err(OutOfRange), 7, 15),
         );
     }
 }

@@ -1,5 +1,6 @@
 //! Scripts that a thread for each actor plays. In the tables `/` stands for a line's end.
 
+use crate::comparing::same;
 use crate::flags::is_set_in_time;
 use rw_journal::Run;
 use rw_law::{Entry, NoMemory, Payload, Reversible};
@@ -128,7 +129,7 @@ fn plays_to<G: Gate + Sync, R: Threads + Wait + Sync + Abort>(
     want: &str,
 ) -> Result<(), Fail> {
     let text = played(rt, alloc, script, gate)?;
-    assert_eq!(rt; text.as_slice(), want.as_bytes());
+    same(rt, &"plays to", &text.as_slice(), &want.as_bytes());
     Ok(())
 }
 

@@ -14,31 +14,29 @@ use rw_world::{Chan, ChanCall, ChanReply, RowCall, Spec, World, open};
 
 type Ticker = Book<World<u64>>;
 
-/// Makes a call on channel 0, the broadcast, and records it as actor 0's.
+/// Makes a call on a channel, and records it as actor 0's.
+fn make(ticker: &mut Ticker, channel: u32, call: ChanCall<u64>) -> Result<ChanReply<u64>>
+    ensures { ticker.new.opening ≡ ticker.old.opening }
+{
+    let receipt = ticker.take(0, 0, RowCall { channel, call })?;
+    Ok(receipt.reply)
+}
+
+/// Makes a call on channel 0, the broadcast.
 fn prices(ticker: &mut Ticker, call: BCall<u64>) -> Result<BReply<u64>>
     ensures { ticker.new.opening ≡ ticker.old.opening }
 {
-    let call = RowCall {
-        channel: 0,
-        call: ChanCall::B(call),
-    };
-    let receipt = ticker.take(0, 0, call)?;
-    match receipt.reply {
+    match make(ticker, 0, ChanCall::B(call))? {
         ChanReply::B(reply) => Ok(reply),
         reply => bail!("no reply of a broadcast: {reply:?}"),
     }
 }
 
-/// Makes a call on channel 1, the watch, and records it as actor 0's.
+/// Makes a call on channel 1, the watch.
 fn last(ticker: &mut Ticker, call: WCall<u64>) -> Result<WReply<u64>>
     ensures { ticker.new.opening ≡ ticker.old.opening }
 {
-    let call = RowCall {
-        channel: 1,
-        call: ChanCall::W(call),
-    };
-    let receipt = ticker.take(0, 0, call)?;
-    match receipt.reply {
+    match make(ticker, 1, ChanCall::W(call))? {
         ChanReply::W(reply) => Ok(reply),
         reply => bail!("no reply of a watch: {reply:?}"),
     }

@@ -4,15 +4,13 @@
 //! clauses of `next_line` define exactly which bytes were read and which line they make, even where reading stops within a
 //! line. Those of `put` define exactly which bytes were written, even where writing stops before the last.
 //! Start reading at `specs/Lines.antt`, which defines the lines of bytes, and then at `lines.rt`.
-//! Readers and writers that fail are in `rw_devices`; the tests with them are in `rw_tests`.
+//! Readers and writers that fail are in `rw_devices`, and the tests in `rw_tests`.
 #![tactic(auto)]
 
 mod bytes;
 mod lines;
 mod numerals;
 mod streams;
-#[cfg(test)]
-mod tests;
 mod tokens;
 
 pub use bytes::{put_bytes, put_number, put_small_number};

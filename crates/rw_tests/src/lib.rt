@@ -23,6 +23,8 @@ mod streams;
 #[cfg(test)]
 mod texts;
 #[cfg(test)]
+mod tokens;
+#[cfg(test)]
 mod values;
 #[cfg(test)]
 mod words;

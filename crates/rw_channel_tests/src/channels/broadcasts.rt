@@ -2,6 +2,7 @@
 ghost use Rattle.std.specs.Prelude.{◌<◌, length};
 
 use crate::channels::playing::{Expected, play, record_and_walk};
+use crate::comparing::same;
 use rw_broadcast::{BCall, BReply, Broadcast, Refusal};
 use rw_fixtures::broadcasts::{Place, opening};
 use rw_handles::{HandleFault, Kind};
@@ -268,7 +269,7 @@ fn upgraded_senders(rt: HostRuntime) {
         (BReply::WrongKind, Err(refused)),
     ];
     for (reply, sender) in replies {
-        assert_eq!(rt; reply.upgraded(), sender);
+        same(&rt, &"upgraded senders", &reply.upgraded(), &sender);
     }
 }
 

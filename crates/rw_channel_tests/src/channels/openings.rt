@@ -1,5 +1,6 @@
 //! Openings of both channels, the room of a watch, and sizes.
 
+use crate::comparing::same;
 use rw_broadcast::{BCall, BPatch, BReply, Broadcast, OpenFault};
 use rw_law::Reversible;
 use rw_watch::{WCall, WPatch, WReply, Watch};
@@ -15,7 +16,12 @@ fn capacities_of_openings(rt: HostRuntime) -> Result<(), Fail> {
         (65_537, Err(OpenFault::BadCapacity)),
     ] {
         let opened: Result<Broadcast<u64>, OpenFault> = Broadcast::open(rt.alloc(), asked);
-        assert_eq!(rt; opened.map(|machine| machine.capacity()), retained);
+        same(
+            &rt,
+            &"capacities of openings",
+            &opened.map(|machine| machine.capacity()),
+            &retained,
+        );
     }
     Ok(())
 }
@@ -29,7 +35,7 @@ fn room_grows_call_by_call(rt: HostRuntime) -> Result<(), Fail> {
         assert!(rt; machine.weight() < machine.limit());
         let (reply, _patch) = machine.apply(&WCall::Subscribe(0));
         assert!(rt; !Watch::<u64>::waits(&reply) && !Watch::<u64>::strays(&reply));
-        assert_eq!(rt; reply, WReply::New(number));
+        same(&rt, &"reply", &reply, &WReply::New(number));
     }
     Ok(())
 }
@@ -39,5 +45,10 @@ fn calls_replies_and_patches_are_small(rt: HostRuntime) {
     let calls = [size_of::<BCall<u64>>(), size_of::<WCall<u64>>()];
     let replies = [size_of::<BReply<u64>>(), size_of::<WReply<u64>>()];
     let patches = [size_of::<BPatch<u64>>(), size_of::<WPatch<u64>>()];
-    assert_eq!(rt; [calls, replies, patches], [[16, 16], [16, 16], [16, 16]]);
+    same(
+        &rt,
+        &"calls replies and patches are small",
+        &[calls, replies, patches],
+        &[[16, 16], [16, 16], [16, 16]],
+    );
 }

@@ -2,6 +2,7 @@
 //! back and forward again.
 ghost use Rattle.std.specs.Prelude.{◌≡◌, ◌+◌, ◌<◌, ◌≤◌, ◌^◌, IfOk, length};
 
+use crate::comparing::same;
 use rw_fixtures::Shows;
 use rw_journal::{Book, TakeFault};
 use rw_law::{NoMemory, Reversible};
@@ -51,7 +52,7 @@ where
     if let [first, rest @ ..] = steps {
         let _known = machine.weight();
         let (reply, patch) = machine.apply(&first.call);
-        assert_eq!(rt; reply, first.reply);
+        same(rt, &"reply", &reply, &first.reply);
         is_at(rt, machine, first);
         make_and_undo(rt, machine, rest);
         is_at(rt, machine, first);
@@ -98,7 +99,7 @@ where
     } else {
         Some(step.reply)
     };
-    assert_eq!(rt; taken, wanted);
+    same(rt, &"taken", &taken, &wanted);
     Ok(())
 }
 
@@ -119,7 +120,7 @@ where
     let opening = walked.place();
     recorded.ready(steps.len() as u64)?;
     make_and_undo(rt, &mut recorded, steps);
-    assert_eq!(rt; recorded.place(), opening);
+    same(rt, &"play", &recorded.place(), &opening);
     record_and_walk(rt, alloc, recorded, walked, steps)
 }
 
@@ -153,15 +154,22 @@ fn walk<M: Reversible + Shows>(
     opening: M::Place,
     steps: &[Expected<M::Call, M::Reply, M::Place>],
 ) {
-    assert_eq!(rt; navigator.step(Move::End), Ok(()));
+    same(rt, &"walk", &navigator.step(Move::End), &Ok(()));
     walk_back(rt, navigator, steps);
-    assert_eq!(rt;
-        (navigator.place(), navigator.state().place()),
-        (0, opening)
+    same(
+        rt,
+        &"walk",
+        &(navigator.place(), navigator.state().place()),
+        &(0, opening),
     );
     walk_on(rt, navigator, steps);
     let len = navigator.len();
-    assert_eq!(rt; (navigator.place(), navigator.turns() / 3), (len, len));
+    same(
+        rt,
+        &"walk",
+        &(navigator.place(), navigator.turns() / 3),
+        &(len, len),
+    );
 }
 
 /// Walks back over each recorded step, from its place.
@@ -173,7 +181,7 @@ fn walk_back<M: Reversible + Shows>(
     for step in steps.iter().rev() {
         if !M::waits(&step.reply) {
             is_at(rt, navigator.state(), step);
-            assert_eq!(rt; navigator.step(Move::Back(1)), Ok(()));
+            same(rt, &"walk back", &navigator.step(Move::Back(1)), &Ok(()));
         }
     }
 }
@@ -186,7 +194,7 @@ fn walk_on<M: Reversible + Shows>(
 ) {
     for step in steps {
         if !M::waits(&step.reply) {
-            assert_eq!(rt; navigator.step(Move::Forward(1)), Ok(()));
+            same(rt, &"walk on", &navigator.step(Move::Forward(1)), &Ok(()));
             is_at(rt, navigator.state(), step);
         }
     }
@@ -199,6 +207,6 @@ fn is_at<M: Reversible + Shows>(
     step: &Expected<M::Call, M::Reply, M::Place>,
 ) {
     if let Some(place) = step.place {
-        assert_eq!(rt; machine.place(), place);
+        same(rt, &"is at", &machine.place(), &place);
     }
 }

@@ -2,6 +2,7 @@
 ghost use Rattle.std.specs.Prelude.{◌<◌, length};
 
 use crate::channels::playing::{Expected, play};
+use crate::comparing::same;
 use rw_fixtures::Shows;
 use rw_fixtures::watches::{Place, opening};
 use rw_handles::Kind;
@@ -16,7 +17,7 @@ fn play_at(rt: &impl Abort, alloc: Global, init: u64, steps: &[Wanted]) -> Resul
 {
     let recorded = Watch::open(alloc, init)?;
     let walked = Watch::open(alloc, init)?;
-    assert_eq!(rt; walked.place(), opening(init));
+    same(rt, &"play at", &walked.place(), &opening(init));
     play(rt, alloc, recorded, walked, steps)
 }
 

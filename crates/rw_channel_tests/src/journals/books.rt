@@ -1,6 +1,7 @@
 //! Books of a small machine.
 
 use crate::cell::{Call, Cell, Reply};
+use crate::comparing::same;
 use rw_journal::{Book, TakeFault};
 use rw_law::Entry;
 use std::process::Abort;
@@ -42,12 +43,19 @@ fn takes_and_rewinds(rt: HostRuntime) -> Result<(), Fail> {
     let is_empty = book.is_empty();
     drop(book);
     let (waits, strays) = (Err(TakeFault::Waits), Err(TakeFault::NoChannel));
-    assert_eq!(rt;
-        answers,
-        [Ok((1, 0)), Ok((10, 1)), waits, strays, Ok((11, 7))]
+    same(
+        &rt,
+        &"answers",
+        &answers,
+        &[Ok((1, 0)), Ok((10, 1)), waits, strays, Ok((11, 7))],
     );
-    assert_eq!(rt; entries, [Some((11, 7)), Some((10, 1)), Some((1, 0)), None]);
-    assert_eq!(rt; (len, is_empty), (3, true));
+    same(
+        &rt,
+        &"entries",
+        &entries,
+        &[Some((11, 7)), Some((10, 1)), Some((1, 0)), None],
+    );
+    same(&rt, &"takes and rewinds", &(len, is_empty), &(3, true));
     Ok(())
 }
 
@@ -62,16 +70,21 @@ fn runs_up_to_a_fault(rt: HostRuntime) -> Result<(), Fail> {
     let (cell, entries) = book.into_parts();
     has_entries(&rt, &entries, &[(0, 1), (63, 2), (5, 3)]);
     drop(entries);
-    assert_eq!(rt; ran, [Err((2, TakeFault::NoChannel)), Ok(())]);
-    assert_eq!(rt; (stamp, cell.value()), (Some(2), 3));
+    same(&rt, &"ran", &ran, &[Err((2, TakeFault::NoChannel)), Ok(())]);
+    same(
+        &rt,
+        &"runs up to a fault",
+        &(stamp, cell.value()),
+        &(Some(2), 3),
+    );
     Ok(())
 }
 
 /// Asserts that the entries have these actors and stamps.
 fn has_entries(rt: &impl Abort, entries: &[Entry<Cell>], wanted: &[(u32, u64)]) {
-    assert_eq!(rt; entries.len(), wanted.len());
+    same(rt, &"has entries", &entries.len(), &wanted.len());
     for (entry, wanted) in entries.iter().zip(wanted) {
-        assert_eq!(rt; (entry.actor, entry.stamp), *wanted);
+        same(rt, &"has entries", &(entry.actor, entry.stamp), &*wanted);
     }
 }
 
@@ -94,8 +107,18 @@ fn ends_its_stamps(rt: &impl Abort, book: &mut Book<Cell>) {
         (0, full),
         (u64::MAX, full),
     ] {
-        assert_eq!(rt; book.ready(clock).is_ok(), answer.is_ok());
-        assert_eq!(rt; take(book, clock, Call::Set(1)), answer);
+        same(
+            rt,
+            &"ends its stamps",
+            &book.ready(clock).is_ok(),
+            &answer.is_ok(),
+        );
+        same(
+            rt,
+            &"ends its stamps",
+            &take(book, clock, Call::Set(1)),
+            &answer,
+        );
     }
 }
 
@@ -117,9 +140,14 @@ fn runs_out_of_room(rt: &impl Abort, book: &mut Book<Cell>) {
         assert!(rt; take(book, 0, Call::Set(i)).is_ok());
     }
     let refused = Err(TakeFault::NoMemory);
-    assert_eq!(rt; book.ready(0), refused);
+    same(rt, &"runs out of room", &book.ready(0), &refused);
     for answer in [refused.map(|()| (0, 0)), Ok((20, 18))] {
-        assert_eq!(rt; take(book, 0, Call::Set(20)), answer);
-        assert_eq!(rt; rewind(book), Some((20, 18)));
+        same(
+            rt,
+            &"runs out of room",
+            &take(book, 0, Call::Set(20)),
+            &answer,
+        );
+        same(rt, &"runs out of room", &rewind(book), &Some((20, 18)));
     }
 }

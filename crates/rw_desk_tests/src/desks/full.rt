@@ -4,6 +4,7 @@ use super::plain::{
     OfBoth, b_receiver_count, b_send, call, open_both, receipts, run_of_one, w_send,
 };
 use super::shared::length_of;
+use crate::comparing::same;
 use rw_broadcast::{BCall, BReply};
 use rw_desk::{BTx, Desk, DeskFault, Pass};
 use rw_law::Entry;
@@ -17,7 +18,7 @@ use std::test::Fail;
 fn fill<R: Wait + Abort>(rt: &R, desk: &Desk<u64>, pass: &mut Pass<u64>, sender: &BTx) {
     for value in 1..=1_048_576 {
         let sent = b_send(desk, rt, pass, sender, value);
-        assert_eq!(rt; sent, Ok(BReply::Sent(1)));
+        same(rt, &"sent", &sent, &Ok(BReply::Sent(1)));
     }
 }
 
@@ -28,13 +29,15 @@ fn is_full<R: Wait + Abort>(rt: &R, desk: &Desk<u64>, pass: &mut Pass<u64>, send
         b_send(desk, rt, pass, sender, 9),
         b_receiver_count(desk, rt, pass, sender),
     ];
-    assert_eq!(rt; answers, [full, full]);
+    same(rt, &"answers", &answers, &[full, full]);
     let borrow = ChanCall::W(WCall::Borrow(1));
     let strayed = call(desk, rt, pass, 0, borrow);
-    assert_eq!(rt; strayed, Err(DeskFault::NoChannel));
-    assert_eq!(rt;
-        (pass.stamp(), receipts(pass).len()),
-        (1_048_576, 1_048_576)
+    same(rt, &"strayed", &strayed, &Err(DeskFault::NoChannel));
+    same(
+        rt,
+        &"is full",
+        &(pass.stamp(), receipts(pass).len()),
+        &(1_048_576, 1_048_576),
     );
 }
 
@@ -43,10 +46,30 @@ fn ends_on_both(rt: &impl Abort, entries: &[Entry<World<u64>>]) -> Result<(), Fa
     let [.., last, other] = entries else {
         return Err(Fail::from("no two entries"));
     };
-    assert_eq!(rt; (last.stamp, last.call.channel), (1_048_576, 0));
-    assert_eq!(rt; last.call.call, ChanCall::B(BCall::Send(0, 1_048_576)));
-    assert_eq!(rt; (other.stamp, other.call.channel), (1_048_577, 1));
-    assert_eq!(rt; other.reply, ChanReply::W(WReply::Stored));
+    same(
+        rt,
+        &"ends on both",
+        &(last.stamp, last.call.channel),
+        &(1_048_576, 0),
+    );
+    same(
+        rt,
+        &"ends on both",
+        &last.call.call,
+        &ChanCall::B(BCall::Send(0, 1_048_576)),
+    );
+    same(
+        rt,
+        &"ends on both",
+        &(other.stamp, other.call.channel),
+        &(1_048_577, 1),
+    );
+    same(
+        rt,
+        &"ends on both",
+        &other.reply,
+        &ChanReply::W(WReply::Stored),
+    );
     Ok(())
 }
 
@@ -57,7 +80,12 @@ fn fills_one<R: Wait + Abort>(rt: &R, open: &mut OfBoth) {
     is_full(rt, desk, pass, sender);
     is_full(rt, desk, pass, sender);
     let stored = w_send(desk, rt, pass, &open.writer, 2);
-    assert_eq!(rt; (stored, pass.stamp()), (Ok(WReply::Stored), 1_048_577));
+    same(
+        rt,
+        &"fills one",
+        &(stored, pass.stamp()),
+        &(Ok(WReply::Stored), 1_048_577),
+    );
 }
 
 #[test]
@@ -67,6 +95,11 @@ fn a_full_channel_of_a_desk(rt: HostRuntime) -> Result<(), Fail> {
     fills_one(&rt, &mut open);
     let run = run_of_one(alloc, open.desk, open.pass)?;
     let ends = ends_on_both(&rt, run.entries());
-    assert_eq!(rt; length_of(run), 1_048_577);
+    same(
+        &rt,
+        &"a full channel of a desk",
+        &length_of(run),
+        &1_048_577,
+    );
     ends
 }

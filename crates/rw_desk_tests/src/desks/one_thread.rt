@@ -6,10 +6,11 @@ mod handles;
 
 use super::plain::{
     OfBoth, OfBroadcast, OfWatch, b_receiver_len, b_recv, b_send, b_try_recv, both_ends, call,
-    close, differs, open, open_both, open_broadcast, open_watch, order, receipts, run_of,
-    run_of_one, run_with, w_drop_sender, w_send, w_send_if_modified, w_wait_for, wait_call,
+    close, differs, last_three, open, open_both, open_broadcast, open_watch, order, receipts,
+    run_of, run_of_one, run_with, w_drop_sender, w_send, w_send_if_modified, w_wait_for, wait_call,
 };
 use super::shared::{desk_of_two, length_of, run_of_two};
+use crate::comparing::same;
 use rw_broadcast::{BCall, BReply};
 use rw_desk::{BTx, CloseFault, Desk, DeskFault, DeskOpenFault, Kept, Pass, WRx, WTx};
 use rw_journal::Run;
@@ -28,13 +29,20 @@ fn answers_to_one_actor<R: Wait + Abort>(rt: &R, open: &mut OfBroadcast) {
         b_try_recv(desk, rt, pass, &open.receiver),
         b_try_recv(desk, rt, pass, &open.receiver),
     ];
-    assert_eq!(rt;
-        answers,
-        [Ok(BReply::Sent(1)), Ok(BReply::Value(4)), Ok(BReply::Empty)]
+    same(
+        rt,
+        &"answers",
+        &answers,
+        &[Ok(BReply::Sent(1)), Ok(BReply::Value(4)), Ok(BReply::Empty)],
     );
     let recv = ChanCall::B(BCall::Recv(1));
     let refused = [call(desk, rt, pass, 0, recv), call(desk, rt, pass, 1, recv)];
-    assert_eq!(rt; refused, [Err(DeskFault::Waits), Err(DeskFault::NoChannel)]);
+    same(
+        rt,
+        &"refused",
+        &refused,
+        &[Err(DeskFault::Waits), Err(DeskFault::NoChannel)],
+    );
 }
 
 /// The fault of a close without the pass, and the stamps and channels of the run of the next close, with it.
@@ -62,14 +70,19 @@ fn desk_of_one_actor(rt: HostRuntime) -> Result<(), Fail> {
     let mut open = open_broadcast(alloc, &[Spec::Broadcast(2)])?;
     answers_to_one_actor(&rt, &mut open);
     let (fault, order) = closes(alloc, open.desk, open.pass)?;
-    assert_eq!(rt; fault, CloseFault::Stranger(0));
-    assert_eq!(rt; order.as_slice(), [(1, 0), (2, 0), (3, 0)].as_slice());
+    same(&rt, &"fault", &fault, &CloseFault::Stranger(0));
+    same(
+        &rt,
+        &"desk of one actor",
+        &order.as_slice(),
+        &[(1, 0), (2, 0), (3, 0)].as_slice(),
+    );
     Ok(())
 }
 
 /// Where these receipts differ from the run, and fewer and other ones.
 fn differs_at(rt: &impl Abort, run: &Run<u64>, kept: &[Kept<u64>]) -> Result<(), Fail> {
-    assert_eq!(rt; differs(run, 0, kept), None);
+    same(rt, &"differs at", &differs(run, 0, kept), &None);
     let [first, second, third] = kept else {
         return Err(Fail::from("not three receipts"));
     };
@@ -81,7 +94,7 @@ fn differs_at(rt: &impl Abort, run: &Run<u64>, kept: &[Kept<u64>]) -> Result<(),
         differs(run, 0, &[*first, *second]),
         differs(run, 0, &[*first, other, *third]),
     ];
-    assert_eq!(rt; places, [Some(2), Some(1)]);
+    same(rt, &"places", &places, &[Some(2), Some(1)]);
     Ok(())
 }
 
@@ -136,7 +149,12 @@ fn desks_that_are_not_opened(rt: HostRuntime) -> Result<(), Fail> {
     ];
     let no_channels = Some(DeskOpenFault::World(OpenFault::NoChannels));
     let bad_actors = Some(DeskOpenFault::BadActors);
-    assert_eq!(rt; faults, [bad_actors, bad_actors, no_channels]);
+    same(
+        &rt,
+        &"faults",
+        &faults,
+        &[bad_actors, bad_actors, no_channels],
+    );
     Ok(())
 }
 
@@ -152,7 +170,12 @@ fn lengths_without_calls(alloc: Global) -> Result<(u64, usize), Fail> {
 
 #[test]
 fn desk_without_calls(rt: HostRuntime) -> Result<(), Fail> {
-    assert_eq!(rt; lengths_without_calls(rt.alloc())?, (0, 64));
+    same(
+        &rt,
+        &"desk without calls",
+        &lengths_without_calls(rt.alloc())?,
+        &(0, 64),
+    );
     Ok(())
 }
 
@@ -188,12 +211,17 @@ fn heeds<R: Wait + Abort>(rt: &R, open: &mut OfTwo, heed: u64, next: u64) {
     let desk = &open.desk;
     for _ in 0..3 {
         let sent = b_send(desk, rt, &mut open.first, &open.sender, 1);
-        assert_eq!(rt; sent, Ok(BReply::Sent(1)));
+        same(rt, &"sent", &sent, &Ok(BReply::Sent(1)));
     }
     let second = &mut open.second;
     second.heed(heed);
     let stored = w_send(desk, rt, second, &open.writer, 6);
-    assert_eq!(rt; (stored, second.stamp()), (Ok(WReply::Stored), next));
+    same(
+        rt,
+        &"heeds",
+        &(stored, second.stamp()),
+        &(Ok(WReply::Stored), next),
+    );
 }
 
 /// The stamps and channels of the run of a desk of two actors, of whom the second heeds a stamp.
@@ -201,24 +229,29 @@ fn order_heeding<R: Wait + Abort>(
     rt: &R,
     alloc: Global,
     heed: u64,
+    next: u64,
 ) -> Result<Vec<(u64, u32)>, Fail> {
     let mut open = open_of_two(alloc)?;
-    heeds(rt, &mut open, heed, heed + 1);
+    heeds(rt, &mut open, heed, next);
     let run = run_of_two(alloc, open.desk, open.first, open.second)?;
     Ok(order(alloc, run)?)
 }
 
 #[test]
 fn heeded_stamps(rt: HostRuntime) -> Result<(), Fail> {
-    let heeded = order_heeding(&rt, rt.alloc(), 3)?;
-    assert_eq!(rt;
-        heeded.as_slice(),
-        [(1, 0), (2, 0), (3, 0), (4, 1)].as_slice()
+    let heeded = order_heeding(&rt, rt.alloc(), 3, 4)?;
+    same(
+        &rt,
+        &"heeded stamps",
+        &heeded.as_slice(),
+        &[(1, 0), (2, 0), (3, 0), (4, 1)].as_slice(),
     );
-    let unheeded = order_heeding(&rt, rt.alloc(), 0)?;
-    assert_eq!(rt;
-        unheeded.as_slice(),
-        [(1, 0), (1, 1), (2, 0), (3, 0)].as_slice()
+    let unheeded = order_heeding(&rt, rt.alloc(), 0, 1)?;
+    same(
+        &rt,
+        &"heeded stamps",
+        &unheeded.as_slice(),
+        &[(1, 0), (1, 1), (2, 0), (3, 0)].as_slice(),
     );
     Ok(())
 }
@@ -226,24 +259,13 @@ fn heeded_stamps(rt: HostRuntime) -> Result<(), Fail> {
 /// The only writer is dropped.
 fn drops_a_writer<R: Wait + Abort>(rt: &R, desk: &Desk<u64>, pass: &mut Pass<u64>, writer: WTx) {
     let dropped = w_drop_sender(desk, rt, pass, writer);
-    assert_eq!(rt; dropped, Ok(WReply::Dropped));
+    same(rt, &"dropped", &dropped, &Ok(WReply::Dropped));
 }
 
 /// Nobody waits for a value of a watch that is closed.
 fn is_closed<R: Wait + Abort>(rt: &R, desk: &Desk<u64>, pass: &mut Pass<u64>, reader: &WRx) {
     let answer = w_wait_for(desk, rt, pass, reader, |value| *value == 2);
-    assert_eq!(rt; answer, Ok(WReply::Closed));
-}
-
-/// These are the receipts of a watch's calls.
-fn are_receipts(rt: &impl Abort, kept: &[Kept<u64>], wanted: [(WCall<u64>, WReply<u64>); 3]) {
-    assert_eq!(rt; kept.len(), 3);
-    for (kept, (call, reply)) in kept.iter().zip(wanted) {
-        assert_eq!(rt;
-            (kept.call, kept.reply),
-            (ChanCall::W(call), ChanReply::W(reply))
-        );
-    }
+    same(rt, &"answer", &answer, &Ok(WReply::Closed));
 }
 
 #[test]
@@ -257,13 +279,15 @@ fn wait_for_a_value_of_a_closed_watch(rt: HostRuntime) -> Result<(), Fail> {
     } = open_watch(alloc, &[Spec::Watch(1)])?;
     drops_a_writer(&rt, &desk, &mut pass, writer);
     is_closed(&rt, &desk, &mut pass, &reader);
+    let found = (receipts(&pass).len(), last_three(receipts(&pass)));
+    drop(run_of_one(alloc, desk, pass)?);
     let wanted = [
         (WCall::DropHandle(0), WReply::Dropped),
         (WCall::Update(1), WReply::Value(1)),
         (WCall::Changed(1), WReply::Closed),
-    ];
-    are_receipts(&rt, receipts(&pass), wanted);
-    drop(run_of_one(alloc, desk, pass)?);
+    ]
+    .map(|(call, reply)| (ChanCall::W(call), ChanReply::W(reply)));
+    same(&rt, &"receipts", &found, &(3, Some(wanted)));
     Ok(())
 }
 
@@ -272,7 +296,7 @@ fn overfills<R: Wait + Abort>(rt: &R, open: &mut OfBroadcast) {
     let (desk, pass, receiver) = (&open.desk, &mut open.pass, &open.receiver);
     for value in 0..=65_536 {
         let sent = b_send(desk, rt, pass, &open.sender, value);
-        assert_eq!(rt; sent, Ok(BReply::Sent(1)));
+        same(rt, &"sent", &sent, &Ok(BReply::Sent(1)));
     }
     let answers = [
         b_receiver_len(desk, rt, pass, receiver),
@@ -280,14 +304,16 @@ fn overfills<R: Wait + Abort>(rt: &R, open: &mut OfBroadcast) {
         b_try_recv(desk, rt, pass, receiver),
         b_try_recv(desk, rt, pass, receiver),
     ];
-    assert_eq!(rt;
-        answers,
-        [
+    same(
+        rt,
+        &"answers",
+        &answers,
+        &[
             Ok(BReply::Count(65_537)),
             Ok(BReply::Lagged(1)),
             Ok(BReply::Value(1)),
-            Ok(BReply::Value(2))
-        ]
+            Ok(BReply::Value(2)),
+        ],
     );
 }
 
@@ -307,21 +333,31 @@ fn has_no_stamp<R: Wait + Abort>(rt: &R, open: &mut OfBoth) {
         b_send(desk, rt, pass, &open.sender, 4),
         b_recv(desk, rt, pass, &open.receiver),
     ];
-    assert_eq!(rt; answers, [Err(full), Err(full)]);
+    same(rt, &"answers", &answers, &[Err(full), Err(full)]);
     let mut was_called = false;
     let modified = w_send_if_modified(desk, rt, pass, &open.writer, |_| {
         was_called = true;
         true
     });
-    assert_eq!(rt; (modified, was_called), (Err(full), false));
+    same(
+        rt,
+        &"has no stamp",
+        &(modified, was_called),
+        &(Err(full), false),
+    );
     let waited = w_wait_for(desk, rt, pass, &open.reader, |_| true);
-    assert_eq!(rt; waited, Err(full));
+    same(rt, &"waited", &waited, &Err(full));
     let recv = ChanCall::B(BCall::Recv(1));
     let answers = [
         wait_call(desk, rt, pass, 0, recv),
         call(desk, rt, pass, 1, recv),
     ];
-    assert_eq!(rt; answers, [Err(full), Err(DeskFault::NoChannel)]);
+    same(
+        rt,
+        &"answers",
+        &answers,
+        &[Err(full), Err(DeskFault::NoChannel)],
+    );
 }
 
 /// A writer comes back where its drop is refused for want of a stamp, and nothing was recorded.
@@ -336,9 +372,11 @@ fn comes_back<R: Wait + Abort>(
         Ok(_) => None,
         Err((fault, writer)) => Some((fault, writer.number())),
     };
-    assert_eq!(rt;
-        (back, pass.stamp(), receipts(pass).len()),
-        (Some((DeskFault::JournalFull, 0)), heeded, 0)
+    same(
+        rt,
+        &"comes back",
+        &(back, pass.stamp(), receipts(pass).len()),
+        &(Some((DeskFault::JournalFull, 0)), heeded, 0),
     );
 }
 
@@ -349,7 +387,7 @@ fn records_nothing<R: Wait + Abort>(rt: &R, alloc: Global, heeded: u64) -> Resul
     has_no_stamp(rt, &mut open);
     comes_back(rt, &open.desk, &mut open.pass, open.writer, heeded);
     let run = run_of_one(alloc, open.desk, open.pass)?;
-    assert_eq!(rt; length_of(run), 0);
+    same(rt, &"records nothing", &length_of(run), &0);
     Ok(())
 }
 

@@ -1,5 +1,6 @@
 //! Passes on books of one channel.
 
+use crate::comparing::same;
 use rw_broadcast::{BCall, BReply};
 use rw_desk::{DeskFault, Kept, Pass};
 use rw_journal::Book;
@@ -15,34 +16,49 @@ fn broadcast_book(alloc: Global) -> Result<Book<Chan<u64>>, NoMemory> {
     Book::open(alloc, open_channel(alloc, &Spec::Broadcast(2))?)
 }
 
-/// A value is sent and received; a call strays, and one would wait. The book and the pass have the two that are recorded.
-fn records(rt: &impl Abort, book: &mut Book<Chan<u64>>, pass: &mut Pass<u64>) {
-    for (call, answer) in [
-        (
-            ChanCall::B(BCall::Send(0, 4)),
-            Ok(ChanReply::B(BReply::Sent(1))),
-        ),
-        (
-            ChanCall::B(BCall::TryRecv(1)),
-            Ok(ChanReply::B(BReply::Value(4))),
-        ),
-        (ChanCall::W(WCall::Borrow(1)), Err(DeskFault::NoChannel)),
-        (ChanCall::B(BCall::Recv(1)), Err(DeskFault::Waits)),
-    ] {
-        assert_eq!(rt; pass.record(book, 7, call), answer);
-    }
-    assert_eq!(rt; (pass.actor(), pass.stamp()), (5, 2));
-    assert_eq!(rt; (book.len(), pass.kept().len()), (2, 2));
+/// A book of a watch of 7.
+fn watch_book(alloc: Global) -> Result<Book<Chan<u64>>, NoMemory> {
+    Book::open(alloc, open_channel(alloc, &Spec::Watch(7))?)
 }
 
-/// The receipts are those of these two entries.
-fn keeps(rt: &impl Abort, entries: &[Entry<Chan<u64>>], kept: &[Kept<u64>]) {
-    let stamps = [1, 2];
-    for ((entry, kept), stamp) in entries.iter().zip(kept).zip(stamps) {
-        assert_eq!(rt; (entry.actor, entry.stamp), (5, stamp));
-        assert_eq!(rt; (kept.channel, kept.stamp), (7, stamp));
-        assert_eq!(rt; (kept.call, kept.reply), (entry.call, entry.reply));
-    }
+/// Records a call by a pass.
+fn record(
+    book: &mut Book<Chan<u64>>,
+    pass: &mut Pass<u64>,
+    channel: u32,
+    call: ChanCall<u64>,
+) -> Result<ChanReply<u64>, DeskFault> {
+    pass.record(book, channel, call)
+}
+
+/// A value is sent and received; a call strays, and one would wait. The book and the pass have the two that are recorded.
+fn records(rt: &impl Abort, book: &mut Book<Chan<u64>>, pass: &mut Pass<u64>) {
+    let answers = [
+        record(book, pass, 7, ChanCall::B(BCall::Send(0, 4))),
+        record(book, pass, 7, ChanCall::B(BCall::TryRecv(1))),
+        record(book, pass, 7, ChanCall::W(WCall::Borrow(1))),
+        record(book, pass, 7, ChanCall::B(BCall::Recv(1))),
+    ];
+    let wanted = [
+        Ok(ChanReply::B(BReply::Sent(1))),
+        Ok(ChanReply::B(BReply::Value(4))),
+        Err(DeskFault::NoChannel),
+        Err(DeskFault::Waits),
+    ];
+    same(rt, &"answers", &answers, &wanted);
+    let counts = (pass.actor(), pass.stamp(), book.len(), pass.kept().len());
+    same(rt, &"counts", &counts, &(5, 2, 2, 2));
+}
+
+/// The actor, the channel and the stamp of the receipt at a place, if it is that of the entry there.
+fn receipt_at(
+    entries: &[Entry<Chan<u64>>],
+    kept: &[Kept<u64>],
+    at: usize,
+) -> Option<(u32, u32, u64)> {
+    let (entry, kept) = (entries.get(at)?, kept.get(at)?);
+    let is_its = (kept.call, kept.reply, kept.stamp) == (entry.call, entry.reply, entry.stamp);
+    is_its.then_some((entry.actor, kept.channel, kept.stamp))
 }
 
 #[test]
@@ -50,39 +66,52 @@ fn a_pass_keeps_what_it_recorded(rt: HostRuntime) -> Result<(), Fail> {
     let mut book = broadcast_book(rt.alloc())?;
     let mut pass = Pass::<u64>::new(rt.alloc(), 5);
     records(&rt, &mut book, &mut pass);
-    keeps(&rt, book.entries(), pass.kept());
+    let found = [
+        receipt_at(book.entries(), pass.kept(), 0),
+        receipt_at(book.entries(), pass.kept(), 1),
+    ];
     drop(book);
     drop(pass);
+    same(
+        &rt,
+        &"receipts",
+        &found,
+        &[Some((5, 7, 1)), Some((5, 7, 2))],
+    );
     Ok(())
+}
+
+/// A pass that has heeded a stamp after which there is none records no call, and keeps its clock.
+fn records_nothing(rt: &impl Abort, book: &mut Book<Chan<u64>>, pass: &mut Pass<u64>, heeded: u64) {
+    pass.heed(heeded);
+    let clock = pass.stamp();
+    // A stray call isn't one for a full journal.
+    let answers = [
+        record(book, pass, 0, ChanCall::B(BCall::ReceiverCount(0))),
+        record(book, pass, 0, ChanCall::W(WCall::Borrow(1))),
+    ];
+    let faults = [Err(DeskFault::JournalFull), Err(DeskFault::NoChannel)];
+    same(rt, &"answers", &answers, &faults);
+    let counts = (pass.stamp(), pass.kept().len(), book.len());
+    same(rt, &"counts", &counts, &(clock, 1, 1));
 }
 
 /// The last stamp is given, and then none, whatever is heeded.
 fn ends_its_clock(rt: &impl Abort, book: &mut Book<Chan<u64>>, pass: &mut Pass<u64>) {
-    let receiver_count = ChanCall::B(BCall::ReceiverCount(0));
-    let one = ChanReply::B(BReply::Count(1));
     pass.heed((1 << 62) - 1);
     pass.heed(3);
-    assert_eq!(rt; pass.stamp(), (1 << 62) - 1);
-    assert_eq!(rt; pass.record(book, 0, receiver_count), Ok(one));
+    same(rt, &"heeded", &pass.stamp(), &((1 << 62) - 1));
+    let counted = record(book, pass, 0, ChanCall::B(BCall::ReceiverCount(0)));
+    same(
+        rt,
+        &"counted",
+        &counted,
+        &Ok(ChanReply::B(BReply::Count(1))),
+    );
     for heeded in [0, 1 << 62, u64::MAX] {
-        pass.heed(heeded);
-        let clock = pass.stamp();
-        // A stray call isn't one for a full journal.
-        let stray = ChanCall::W(WCall::Borrow(1));
-        let answers = [
-            pass.record(book, 0, receiver_count),
-            pass.record(book, 0, stray),
-        ];
-        assert_eq!(rt;
-            answers,
-            [Err(DeskFault::JournalFull), Err(DeskFault::NoChannel)]
-        );
-        assert_eq!(rt;
-            (pass.stamp(), pass.kept().len(), book.len()),
-            (clock, 1, 1)
-        );
+        records_nothing(rt, book, pass, heeded);
     }
-    assert_eq!(rt; pass.stamp(), u64::MAX);
+    same(rt, &"at last", &pass.stamp(), &u64::MAX);
 }
 
 #[test]
@@ -97,15 +126,13 @@ fn the_clock_ends_at_two_to_the_62(rt: HostRuntime) -> Result<(), Fail> {
 
 #[test]
 fn a_refused_call_is_recorded(rt: HostRuntime) -> Result<(), Fail> {
-    let alloc = rt.alloc();
-    let mut book = Book::open(alloc, open_channel(alloc, &Spec::Watch(7u64))?)?;
-    let mut pass = Pass::new(alloc, 63);
-    let closed = ChanReply::W(WReply::Unknown);
-    let call = ChanCall::W(WCall::Borrow(9));
-    let answer = pass.record(&mut book, 0, call);
+    let mut book = watch_book(rt.alloc())?;
+    let mut pass = Pass::<u64>::new(rt.alloc(), 63);
+    let answer = record(&mut book, &mut pass, 0, ChanCall::W(WCall::Borrow(9)));
     let stamp = pass.stamp();
     drop(book);
     drop(pass);
-    assert_eq!(rt; (answer, stamp), (Ok(closed), 1));
+    let unknown = Ok(ChanReply::W(WReply::Unknown));
+    same(&rt, &"a refused call", &(answer, stamp), &(unknown, 1));
     Ok(())
 }

@@ -214,6 +214,18 @@ pub fn receipts(pass: &Pass<u64>) -> &[Kept<u64>] {
     pass.kept()
 }
 
+/// The calls and replies of the last three receipts.
+pub fn last_three(kept: &[Kept<u64>]) -> Option<[(ChanCall<u64>, ChanReply<u64>); 3]> {
+    let [.., first, second, third] = kept else {
+        return None;
+    };
+    Some([
+        (first.call, first.reply),
+        (second.call, second.reply),
+        (third.call, third.reply),
+    ])
+}
+
 /// The least place at which receipts and entries differ.
 pub fn differs(run: &Run<u64>, actor: u32, kept: &[Kept<u64>]) -> Option<u64> {
     compare(run, actor, kept)

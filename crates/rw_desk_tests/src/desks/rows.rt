@@ -2,6 +2,7 @@
 
 use super::plain::{call, open_one, run_of_one};
 use super::shared::length_of;
+use crate::comparing::same;
 use rw_broadcast::BCall;
 use rw_desk::{CloseFault, Desk, Ends, Pass};
 use rw_watch::WCall;
@@ -184,7 +185,7 @@ fn make_all<R: Wait + Abort>(
         let (words, reply) = line.split_once('=').ok_or("no reply")?;
         let (call, reply) = line_of(broadcast, words, reply)?;
         let made = hands.make(rt, desk, pass, words, call)?;
-        assert_eq!(rt; made, reply, "{line}");
+        same(rt, &line, &made, &reply);
     }
     Ok(())
 }
@@ -212,7 +213,7 @@ fn length_at_close(alloc: Global, desk: Desk<u64>, pass: Pass<u64>) -> Result<u6
 
 /// A run has as many entries as its row has lines.
 fn is_long_as(rt: &impl Abort, length: u64, row: &str) {
-    assert_eq!(rt; length, row.split('/').count() as u64);
+    same(rt, &"length", &length, &(row.split('/').count() as u64));
 }
 
 /// Plays a row on a desk of one channel, a broadcast or not, which then closes.
@@ -259,7 +260,7 @@ fn call_all<R: Wait + Abort>(
     for line in row.split('/') {
         let (words, reply) = line.split_once('=').ok_or("no reply")?;
         let (asked, reply) = line_of(true, words, reply)?;
-        assert_eq!(rt; call(desk, rt, pass, 0, asked)?, reply, "{line}");
+        same(rt, &line, &call(desk, rt, pass, 0, asked)?, &reply);
     }
     Ok(())
 }

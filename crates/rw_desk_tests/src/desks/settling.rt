@@ -2,6 +2,7 @@
 
 ghost use Rattle.std.specs.Prelude.{◌≡◌, ◌≤◌, length};
 
+use crate::comparing::same;
 use crate::journals::by_channel::settled;
 use rw_broadcast::BCall;
 use rw_desk::{CloseFault, DeskFault, Pass, compare};
@@ -81,7 +82,7 @@ fn settles_with(rt: &impl Abort, alloc: Global, passes: &[Pass<u64>; 1]) -> Resu
         (&TWICE, Err(CloseFault::Strayed(5, 1))),
     ] {
         let settled = settle_row(alloc, &[Spec::Broadcast(2)], steps, passes)?;
-        assert_eq!(rt; settled, answer);
+        same(rt, &"settled", &settled, &answer);
     }
     Ok(())
 }

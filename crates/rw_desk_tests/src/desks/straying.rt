@@ -4,6 +4,7 @@
 
 use super::plain::{call, close, open};
 use super::shared::length_of;
+use crate::comparing::same;
 use rw_broadcast::BCall;
 use rw_desk::{CloseFault, Desk, Pass};
 use rw_world::{ChanCall, Spec};
@@ -191,7 +192,12 @@ fn passes_of_another_desk(rt: HostRuntime) -> Result<(), Fail> {
         Ok(2),
         Ok(3),
     ];
-    assert_eq!(rt; shown.closes.as_slice(), wanted.as_slice());
+    same(
+        &rt,
+        &"passes of another desk",
+        &shown.closes.as_slice(),
+        &wanted.as_slice(),
+    );
     Ok(())
 }
 
@@ -211,7 +217,12 @@ fn a_pass_at_two_desks(rt: HostRuntime) -> Result<(), Fail> {
         Err(CloseFault::Strayed(1, 2)),
         Err(CloseFault::Strayed(1, 0)),
     ];
-    assert_eq!(rt; shown.closes.as_slice(), wanted.as_slice());
+    same(
+        &rt,
+        &"a pass at two desks",
+        &shown.closes.as_slice(),
+        &wanted.as_slice(),
+    );
     Ok(())
 }
 
@@ -243,7 +254,17 @@ fn entries_out_of_order(rt: HostRuntime) -> Result<(), Fail> {
     // It doesn't close with any passes.
     let shown = played(&rt, rt.alloc(), &calls, &[(0, 0), (0, 0)])?;
     let strayed = Err(CloseFault::Strayed(1, 1));
-    assert_eq!(rt; shown.clocks.as_slice(), [1, 1, 2, 2, 2].as_slice());
-    assert_eq!(rt; shown.closes.as_slice(), [strayed, strayed].as_slice());
+    same(
+        &rt,
+        &"entries out of order",
+        &shown.clocks.as_slice(),
+        &[1, 1, 2, 2, 2].as_slice(),
+    );
+    same(
+        &rt,
+        &"entries out of order",
+        &shown.closes.as_slice(),
+        &[strayed, strayed].as_slice(),
+    );
     Ok(())
 }

@@ -1,7 +1,8 @@
 //! Desks that threads share.
 
-use super::plain::{receipts, w_peek};
+use super::plain::{last_three, receipts, w_peek};
 use super::shared::{Calls, desk_of_two, length_of, run_of_two};
+use crate::comparing::same;
 use crate::flags::is_set_in_time;
 use rw_broadcast::{BCall, BReply};
 use rw_desk::{BRx, BTx, Desk, Ends, Pass, WRx, WTx};
@@ -25,7 +26,7 @@ fn peeks<R: Wait + Abort>(
     value: u64,
 ) {
     let peeked = w_peek(desk, rt, pass, sender);
-    assert_eq!(rt; peeked, Ok(WReply::Value(value)));
+    same(rt, &"peeked", &peeked, &Ok(WReply::Value(value)));
 }
 
 /// An entry of a run: its stamp, its channel, its actor and its reply.
@@ -49,7 +50,7 @@ fn has_entries(
 ) -> Result<(), Fail> {
     let shown = shown(alloc, &run);
     drop(run);
-    assert_eq!(rt; shown?.as_slice(), wanted);
+    same(rt, &"has entries", &shown?.as_slice(), &wanted);
     Ok(())
 }
 
@@ -101,7 +102,7 @@ fn closures_of_two_threads(rt: HostRuntime) -> Result<(), Fail> {
     };
     peeks(&rt, &desk, &mut first, sender, 2000);
     let run = run_of_two(alloc, desk, second, first)?;
-    assert_eq!(rt; length_of(run), 2001);
+    same(&rt, &"closures of two threads", &length_of(run), &2001);
     Ok(())
 }
 
@@ -333,15 +334,6 @@ fn roles(mut ends: Vec<Ends>) -> Option<(Waits, Ending)> {
     Some((waits, ending))
 }
 
-/// The last receipts of a pass are of these calls and replies, the last first.
-fn kept_last(rt: &impl Abort, pass: &Pass<u64>, last_first: &[(ChanCall<u64>, ChanReply<u64>)]) {
-    let receipts = receipts(pass);
-    assert!(rt; receipts.len() >= last_first.len());
-    for (kept, wanted) in receipts.iter().rev().zip(last_first) {
-        assert_eq!(rt; (kept.call, kept.reply), *wanted);
-    }
-}
-
 #[test]
 fn waits_that_another_thread_ends(rt: HostRuntime) -> Result<(), Fail> {
     let specs = [Spec::Watch(0), Spec::Broadcast(2), Spec::Watch(0)];
@@ -353,17 +345,19 @@ fn waits_that_another_thread_ends(rt: HostRuntime) -> Result<(), Fail> {
     let back = wait_beside(&rt, &desk, first, &mut second, &waits, ending);
     drop(desk);
     let first = back.ok_or("no thread")?;
-    let last_first = [
-        (
-            ChanCall::W(WCall::AwaitClosed(0)),
-            ChanReply::W(WReply::Done),
-        ),
-        (ChanCall::B(BCall::Recv(1)), ChanReply::B(BReply::Closed)),
+    let last = last_three(receipts(&first));
+    drop(first);
+    let wanted = [
         (
             ChanCall::W(WCall::Update(1)),
             ChanReply::W(WReply::Value(3)),
         ),
+        (ChanCall::B(BCall::Recv(1)), ChanReply::B(BReply::Closed)),
+        (
+            ChanCall::W(WCall::AwaitClosed(0)),
+            ChanReply::W(WReply::Done),
+        ),
     ];
-    kept_last(&rt, &first, &last_first);
+    same(&rt, &"receipts", &last, &Some(wanted));
     Ok(())
 }

@@ -1,6 +1,7 @@
 //! Journals of two channels, merged.
 
 use super::by_channel::merged;
+use crate::comparing::same;
 use crate::desks::plain::order;
 use rw_broadcast::BCall;
 use rw_journal::MergeFault;
@@ -49,7 +50,7 @@ fn is_order(
         Ok(order) => Ok(order.as_slice()),
         Err(fault) => Err(*fault),
     };
-    assert_eq!(rt; found, wanted);
+    same(rt, &"found", &found, &wanted);
 }
 
 /// Merges the journals of a case.

@@ -2,6 +2,7 @@
 
 ghost use Rattle.std.specs.Prelude.{◌≡◌, ◌<◌, ◌≤◌, All, IfOk, IfSome};
 
+use crate::comparing::same;
 use rw_broadcast::{BCall, BReply};
 use rw_journal::{Book, Keeps, TakeFault};
 use rw_law::{NoMemory, Payload};
@@ -182,7 +183,7 @@ fn looked<B: Recorded + Drop, R: Wait>(
 #[test]
 fn hand_off_of_one(rt: HostRuntime) -> Result<(), Fail> {
     let looked = looked::<Book<Chan<u64>>, _>(&rt, rt.alloc())?;
-    assert_eq!(rt; looked, ((0, None), 0));
+    same(&rt, &"looked", &looked, &((0, None), 0));
     Ok(())
 }
 
@@ -214,6 +215,11 @@ fn sent<B: Recorded + Drop, R: Wait>(
 #[test]
 fn second_seat_finds_the_entry(rt: HostRuntime) -> Result<(), Fail> {
     let sent = sent::<Book<Chan<u64>>, _>(&rt, rt.alloc(), 4)?;
-    assert_eq!(rt; sent, (Ok(ChanReply::B(BReply::Sent(1))), (1, Some(0)), 1));
+    same(
+        &rt,
+        &"sent",
+        &sent,
+        &(Ok(ChanReply::B(BReply::Sent(1))), (1, Some(0)), 1),
+    );
     Ok(())
 }

@@ -3,6 +3,7 @@
 ghost use Rattle.std.specs.Prelude.{IfOk};
 
 use super::shared::{Seated, close_late, meet_and_close, open_one, open_two};
+use crate::comparing::same;
 use rw_broadcast::{BCall, BReply};
 use rw_desk::{CloseFault, DeskFault, DeskOpenFault};
 use rw_seat::{Answered, SeatDesk};
@@ -88,14 +89,16 @@ fn seat_desk_of_one(rt: HostRuntime) -> Result<(), Fail> {
         answered(BReply::Sent(1), 1, 1),
         answered(BReply::Value(4), 2, 2),
     ];
-    assert_eq!(rt;
-        (answers.as_slice(), known, fault, order.as_slice()),
-        (
+    same(
+        &rt,
+        &"seat desk of one",
+        &(answers.as_slice(), known, fault, order.as_slice()),
+        &(
             wanted.as_slice(),
             (0, 2, 2),
             CloseFault::Stranger(0),
-            [(0, 1, 0), (0, 2, 0)].as_slice()
-        )
+            [(0, 1, 0), (0, 2, 0)].as_slice(),
+        ),
     );
     Ok(())
 }
@@ -120,14 +123,16 @@ fn seat_that_would_wait(rt: HostRuntime) -> Result<(), Fail> {
         Err(DeskFault::NoChannel),
         Err(DeskFault::NoChannel),
     ];
-    assert_eq!(rt;
-        (answers.as_slice(), known, fault, order.as_slice()),
-        (
+    same(
+        &rt,
+        &"seat that would wait",
+        &(answers.as_slice(), known, fault, order.as_slice()),
+        &(
             wanted.as_slice(),
             (0, 1, 1),
             CloseFault::Stranger(0),
-            [(0, 1, 0)].as_slice()
-        )
+            [(0, 1, 0)].as_slice(),
+        ),
     );
     Ok(())
 }
@@ -175,13 +180,15 @@ fn seat_of_two_channels(rt: HostRuntime) -> Result<(), Fail> {
         front: 1,
     };
     let wanted = [answered(BReply::Sent(1), 1, 1), Ok(stored)];
-    assert_eq!(rt;
-        (answers.as_slice(), met, order.as_slice()),
-        (
+    same(
+        &rt,
+        &"seat of two channels",
+        &(answers.as_slice(), met, order.as_slice()),
+        &(
             wanted.as_slice(),
             [Some(1), None],
-            [(0, 1, 0), (1, 1, 1)].as_slice()
-        )
+            [(0, 1, 0), (1, 1, 1)].as_slice(),
+        ),
     );
     Ok(())
 }
@@ -213,6 +220,11 @@ fn seat_desks_that_are_not_opened(rt: HostRuntime) -> Result<(), Fail> {
     ];
     let no_channels = DeskOpenFault::World(OpenFault::NoChannels);
     let bad_actors = DeskOpenFault::BadActors;
-    assert_eq!(rt; faults, [bad_actors, bad_actors, no_channels]);
+    same(
+        &rt,
+        &"faults",
+        &faults,
+        &[bad_actors, bad_actors, no_channels],
+    );
     Ok(())
 }

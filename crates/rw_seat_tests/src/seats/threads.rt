@@ -1,6 +1,7 @@
 //! Seats that make calls in two threads.
 
 use super::shared::{Seated, meet_and_close, open_two};
+use crate::comparing::same;
 use rw_broadcast::BCall;
 use rw_seat::SeatDesk;
 use rw_world::{ChanCall, Spec};
@@ -85,10 +86,17 @@ fn seats_of_two_threads(rt: HostRuntime) -> Result<(), Fail> {
     let [Some(first), Some(second)] = rose else {
         return Err(Fail::from("a front that doesn't rise"));
     };
-    assert_eq!(rt; (first.max(second), met), (200, [Some(200), None]));
-    assert_eq!(rt;
-        (order.len(), calls_of(&order, 0), calls_of(&order, 1)),
-        (200, 100, 100)
+    same(
+        &rt,
+        &"seats of two threads",
+        &(first.max(second), met),
+        &(200, [Some(200), None]),
+    );
+    same(
+        &rt,
+        &"seats of two threads",
+        &(order.len(), calls_of(&order, 0), calls_of(&order, 1)),
+        &(200, 100, 100),
     );
     Ok(())
 }

@@ -1,5 +1,6 @@
 //! Handles at a desk of one actor: clones, as many as there may be, and those that are gone or another desk's.
 
+use crate::comparing::same;
 use crate::desks::plain::{
     OfBoth, OfBroadcast, OfWatch, b_clone_sender, b_drop_sender, b_receiver_count, b_recv, b_send,
     broadcast_ends, call, open_both, open_broadcast, open_one, open_watch, receipts,
@@ -17,19 +18,21 @@ use std::test::Fail;
 /// What a writer's clone stores is read and waited for.
 fn writes<R: Wait + Abort>(rt: &R, open: &mut OfBoth, second: &WTx) {
     let (desk, pass, reader) = (&open.desk, &mut open.pass, &open.reader);
-    assert_eq!(rt; (second.channel(), second.number()), (1, 2));
+    same(rt, &"writes", &(second.channel(), second.number()), &(1, 2));
     let answers = [
         w_send_modify(desk, rt, pass, second, |value| *value = 4),
         w_update(desk, rt, pass, reader),
         w_wait_for(desk, rt, pass, reader, |value| *value == 4),
     ];
-    assert_eq!(rt;
-        answers,
-        [
+    same(
+        rt,
+        &"answers",
+        &answers,
+        &[
             Ok(WReply::Told(true)),
             Ok(WReply::Value(4)),
-            Ok(WReply::Value(4))
-        ]
+            Ok(WReply::Value(4)),
+        ],
     );
 }
 
@@ -45,9 +48,9 @@ fn clones_a_writer<R: Wait + Abort>(rt: &R, open: &mut OfBoth) -> Result<(), &'s
 
 /// A sender's clone counts the receivers.
 fn counts<R: Wait + Abort>(rt: &R, open: &mut OfBoth, other: &BTx) {
-    assert_eq!(rt; (other.channel(), other.number()), (0, 2));
+    same(rt, &"counts", &(other.channel(), other.number()), &(0, 2));
     let count = b_receiver_count(&open.desk, rt, &mut open.pass, other);
-    assert_eq!(rt; count, Ok(BReply::Count(1)));
+    same(rt, &"count", &count, &Ok(BReply::Count(1)));
 }
 
 /// Clones the sender, and counts the receivers by the clone.
@@ -74,19 +77,29 @@ fn senders_that_are_cloned(rt: HostRuntime) -> Result<(), Fail> {
 fn closures_are_left<R: Wait + Abort>(rt: &R, open: &mut OfWatch) {
     let (desk, pass, writer) = (&open.desk, &mut open.pass, &open.writer);
     let dropped = call(desk, rt, pass, 0, ChanCall::W(WCall::DropHandle(0)));
-    assert_eq!(rt; dropped, Ok(ChanReply::W(WReply::Dropped)));
+    same(rt, &"dropped", &dropped, &Ok(ChanReply::W(WReply::Dropped)));
     let mut was_called = false;
     let gone = w_send_if_modified(desk, rt, pass, writer, |value| {
         was_called = true;
         *value = 9;
         true
     });
-    assert_eq!(rt; (gone, was_called), (Ok(WReply::Gone), false));
+    same(
+        rt,
+        &"closures are left",
+        &(gone, was_called),
+        &(Ok(WReply::Gone), false),
+    );
     let gone = w_send_modify(desk, rt, pass, writer, |value| {
         was_called = true;
         *value = 9;
     });
-    assert_eq!(rt; (gone, was_called), (Ok(WReply::Gone), false));
+    same(
+        rt,
+        &"closures are left",
+        &(gone, was_called),
+        &(Ok(WReply::Gone), false),
+    );
 }
 
 /// The last two calls are modifications that change nothing.
@@ -99,7 +112,12 @@ fn last_two_are_unchanged(rt: &impl Abort, kept: &[Kept<u64>]) -> Result<(), Fai
         handle: 0,
         value: 4,
     });
-    assert_eq!(rt; [first.call, second.call], [unchanged, unchanged]);
+    same(
+        rt,
+        &"last two are unchanged",
+        &[first.call, second.call],
+        &[unchanged, unchanged],
+    );
     Ok(())
 }
 
@@ -121,7 +139,7 @@ fn last_clone<R: Wait + Abort>(rt: &R, open: &mut OfBroadcast) -> Result<BTx, Fa
         let Ok(Made::New(clone)) = made else {
             return Err(Fail::from("no clone"));
         };
-        assert_eq!(rt; clone.number(), number);
+        same(rt, &"last clone", &clone.number(), &number);
         last = Some(clone);
     }
     Ok(last.ok_or("no clone")?)
@@ -130,7 +148,12 @@ fn last_clone<R: Wait + Abort>(rt: &R, open: &mut OfBroadcast) -> Result<BTx, Fa
 /// There is no further clone.
 fn has_no_clone<R: Wait + Abort>(rt: &R, open: &mut OfBroadcast) {
     let refused = b_clone_sender(&open.desk, rt, &mut open.pass, &open.sender);
-    assert_eq!(rt; refused, Ok(Made::Refused(BReply::TooManyHandles)));
+    same(
+        rt,
+        &"refused",
+        &refused,
+        &Ok(Made::Refused(BReply::TooManyHandles)),
+    );
 }
 
 /// There is no clone beyond the limit, even after one was dropped.
@@ -138,7 +161,7 @@ fn clones_to_the_limit<R: Wait + Abort>(rt: &R, open: &mut OfBroadcast) -> Resul
     let last = last_clone(rt, open)?;
     has_no_clone(rt, open);
     let dropped = b_drop_sender(&open.desk, rt, &mut open.pass, last);
-    assert_eq!(rt; dropped, Ok(BReply::Dropped));
+    same(rt, &"dropped", &dropped, &Ok(BReply::Dropped));
     has_no_clone(rt, open);
     Ok(())
 }
@@ -161,22 +184,22 @@ fn are_handles_by_number<R: Wait + Abort>(
 ) {
     let (desk, pass) = (&open.desk, &mut open.pass);
     let sent = b_send(desk, rt, pass, second, 1);
-    assert_eq!(rt; sent, Ok(BReply::Unknown));
+    same(rt, &"sent", &sent, &Ok(BReply::Unknown));
     let subscribe = ChanCall::B(BCall::Subscribe(0));
     let made = call(desk, rt, pass, 0, subscribe);
-    assert_eq!(rt; made, Ok(ChanReply::B(BReply::New(2))));
+    same(rt, &"made", &made, &Ok(ChanReply::B(BReply::New(2))));
     let sent = b_send(desk, rt, pass, second, 1);
-    assert_eq!(rt; sent, Ok(BReply::WrongKind));
+    same(rt, &"sent", &sent, &Ok(BReply::WrongKind));
     let dropped = call(desk, rt, pass, 0, ChanCall::B(BCall::DropHandle(1)));
-    assert_eq!(rt; dropped, Ok(ChanReply::B(BReply::Dropped)));
+    same(rt, &"dropped", &dropped, &Ok(ChanReply::B(BReply::Dropped)));
     let received = b_recv(desk, rt, pass, receiver);
-    assert_eq!(rt; received, Ok(BReply::Gone));
+    same(rt, &"received", &received, &Ok(BReply::Gone));
 }
 
 /// A sender of a channel that this desk doesn't have sends nothing.
 fn sends_nothing<R: Wait + Abort>(rt: &R, open: &mut OfBroadcast, beyond: &BTx) {
     let sent = b_send(&open.desk, rt, &mut open.pass, beyond, 1);
-    assert_eq!(rt; sent, Err(DeskFault::NoChannel));
+    same(rt, &"sent", &sent, &Err(DeskFault::NoChannel));
 }
 
 /// It isn't dropped either, and comes back.
@@ -185,7 +208,12 @@ fn comes_back<R: Wait + Abort>(rt: &R, open: &mut OfBroadcast, beyond: BTx) -> R
     let Err((fault, back)) = dropped else {
         return Err(Fail::from("dropped"));
     };
-    assert_eq!(rt; (fault, back.channel()), (DeskFault::NoChannel, 1));
+    same(
+        rt,
+        &"comes back",
+        &(fault, back.channel()),
+        &(DeskFault::NoChannel, 1),
+    );
     Ok(())
 }
 
