@@ -1,8 +1,9 @@
 //! The proved core behind its C functions. All `unsafe` of this crate is here and in the files of `proved/`.
 //!
-//! The declarations below are those of the exports of `crates/rw_ffi` in the repository. Only the tests compare the two. The types here
-//! uphold what the exports require: a [`Channel`] always holds a channel and a [`Cut`] a cut, each is passed to one call at a time
-//! (`&mut`), and the number of an actor is an [`Actor`], which is below 64.
+//! The declarations below are those of the exports of `crates/rw_ffi` in the repository. No proof compares the two. Tests do so by text:
+//! `tests/docs/exports` the functions and structs, `tests/docs/numbers` the numbers of replies and faults. The types here uphold what the
+//! exports require: a [`Channel`] always holds a channel and a [`Cut`] a cut, each is passed to one call at a time (`&mut`), and the number
+//! of an actor is an [`Actor`], which is below 64.
 #![allow(unsafe_code)]
 
 mod beside;
