@@ -9,13 +9,16 @@ use std::sync::Arc;
 use std::task::{Context, Poll};
 use std::thread;
 
-/// The number of a recorder, and the current actor as that recorder numbers it. No recorder has the number 0.
-type Known = (u64, Actor);
+/// The number of a recorder, and the number that it has given to the current actor.
+type CachedActor = (u64, Actor);
 
-const NOBODY: Known = (0, Actor::FIRST);
+/// No recorder has the number 0.
+const NOT_CACHED: CachedActor = (0, Actor::FIRST);
 
 thread_local! {
-    static KNOWN: Cell<Known> = const { Cell::new(NOBODY) };
+    // The result of the last lookup.
+    static CACHED: Cell<CachedActor> = const { Cell::new(NOT_CACHED) };
+    // The name of the future that this thread polls or drops, if it has one.
     static NAME: RefCell<Option<Arc<str>>> = const { RefCell::new(None) };
 }
 
@@ -26,15 +29,15 @@ pub(crate) struct Actors {
     numbers: HashMap<String, Actor>,
 }
 
-/// Returns the current actor for the recorder with this number. `find` looks it up, unless it is known from the last call.
+/// Returns the current actor for the recorder with this number. Unless it is cached, `find` looks it up.
 #[inline]
 pub(crate) fn current(recorder: u64, find: impl FnOnce() -> Actor) -> Actor {
-    let (known, actor) = KNOWN.get();
-    if known == recorder {
+    let (cached_for, actor) = CACHED.get();
+    if cached_for == recorder {
         return actor;
     }
     let actor = find();
-    KNOWN.set((recorder, actor));
+    CACHED.set((recorder, actor));
     actor
 }
 
@@ -102,7 +105,7 @@ impl Actors {
 pub fn named<F: Future>(name: &str, future: F) -> Named<F> {
     Named {
         name: Some(name.into()),
-        known: NOBODY,
+        cached: NOT_CACHED,
         future: Some(Box::pin(future)),
     }
 }
@@ -127,30 +130,33 @@ pub fn named<F: Future>(name: &str, future: F) -> Named<F> {
 #[must_use = "futures do nothing unless polled"]
 pub struct Named<F> {
     name: Option<Arc<str>>,
-    known: Known,
+    cached: CachedActor,
     // `None` once this is dropped.
     future: Option<Pin<Box<F>>>,
 }
 
-/// Swaps a future's name and actor with those of the thread. At the end of a thread its name may be gone.
-fn swap<F>(future: &mut Named<F>) {
-    future.known = KNOWN.replace(future.known);
-    let _ = NAME.try_with(|name| std::mem::swap(&mut *name.borrow_mut(), &mut future.name));
-}
-
-/// Gives this thread's calls the name of a future, until this is dropped, also by a panic.
-struct Under<'a, F>(&'a mut Named<F>);
-
-impl<'a, F> Under<'a, F> {
-    fn name_of(future: &'a mut Named<F>) -> Under<'a, F> {
-        swap(future);
-        Under(future)
+impl<F> Named<F> {
+    /// Swaps the name and the cached actor of this future with those of the thread.
+    fn swap_with_thread(&mut self) {
+        self.cached = CACHED.replace(self.cached);
+        // At the end of a thread, `NAME` may be destroyed before the future is dropped.
+        let _ = NAME.try_with(|name| std::mem::swap(&mut *name.borrow_mut(), &mut self.name));
     }
 }
 
-impl<F> Drop for Under<'_, F> {
+/// While this is alive, the calls of this thread are made under the future's name. It is dropped also if the future panics.
+struct NameGuard<'a, F>(&'a mut Named<F>);
+
+impl<'a, F> NameGuard<'a, F> {
+    fn new(future: &'a mut Named<F>) -> NameGuard<'a, F> {
+        future.swap_with_thread();
+        NameGuard(future)
+    }
+}
+
+impl<F> Drop for NameGuard<'_, F> {
     fn drop(&mut self) {
-        swap(self.0);
+        self.0.swap_with_thread();
     }
 }
 
@@ -158,8 +164,8 @@ impl<F: Future> Future for Named<F> {
     type Output = F::Output;
 
     fn poll(mut self: Pin<&mut Self>, context: &mut Context<'_>) -> Poll<F::Output> {
-        let under = Under::name_of(&mut self);
-        let future = under.0.future.as_mut().expect("a future that is alive");
+        let guard = NameGuard::new(&mut self);
+        let future = guard.0.future.as_mut().expect("a future that is alive");
         future.as_mut().poll(context)
     }
 }
@@ -167,8 +173,8 @@ impl<F: Future> Future for Named<F> {
 impl<F> Drop for Named<F> {
     /// Drops the future under its name, so that the drop's calls are recorded for its actor, also if it is cancelled.
     fn drop(&mut self) {
-        let under = Under::name_of(self);
-        under.0.future = None;
+        let guard = NameGuard::new(self);
+        guard.0.future = None;
     }
 }
 

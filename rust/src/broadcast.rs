@@ -66,21 +66,18 @@ pub use receiver::Receiver;
 pub use sender::Sender;
 pub use weak::WeakSender;
 
-use crate::line::{Inner, Tap};
-use crate::proved::{self, Beside, OpenFault, Reply};
-use crate::recorder::{Recorder, Show};
-use std::sync::{Arc, OnceLock};
+use crate::channel::{Channel, ChannelState};
+use crate::handle::ChannelHandle;
+use crate::lock::lock;
+use crate::proved::{CoreChannel, GuardedBy, OpenFault};
+use crate::recorder::Recorder;
 use values::Values;
 
 /// The greatest capacity.
 const MOST_CAPACITY: usize = 65_536;
 
-struct Channel<T> {
-    tap: Tap,
-    // Guarded by the tap's lock.
-    values: Beside<Inner, Values<T>>,
-    show: OnceLock<Show<T>>,
-}
+/// What each sender, weak sender and receiver is.
+type BroadcastHandle<T> = ChannelHandle<T, GuardedBy<ChannelState, Values<T>>>;
 
 /// Creates a broadcast channel with this capacity, and returns its first sender and its first receiver.
 ///
@@ -106,48 +103,23 @@ struct Channel<T> {
 /// ```
 #[track_caller]
 pub fn channel<T: Clone>(capacity: usize) -> (Sender<T>, Receiver<T>) {
-    let channel = open(capacity);
-    (
-        Sender {
-            channel: channel.clone(),
-            handle: 0,
-        },
-        Receiver { channel, handle: 1 },
-    )
+    open(capacity)
 }
 
 #[track_caller]
-fn open<T>(capacity: usize) -> Arc<Channel<T>> {
+fn open<T>(capacity: usize) -> (Sender<T>, Receiver<T>) {
     assert!(capacity > 0, "a broadcast has a capacity of 1 or more");
     assert!(
         capacity <= MOST_CAPACITY,
         "yovanelum: a broadcast has a capacity of 65536 at most"
     );
-    let channel = match proved::Channel::broadcast(capacity as u32) {
-        Ok(channel) => channel,
+    let core = match CoreChannel::broadcast(capacity as u32) {
+        Ok(core) => core,
         Err(OpenFault::BadCapacity) => unreachable!("the capacity is 1 to 65536"),
         Err(OpenFault::NoMemory) => panic!("yovanelum: no memory for a channel"),
     };
-    let tap = Recorder::current().0.add(channel, 0);
-    let values = tap.line.beside(Values::new(capacity));
-    Arc::new(Channel {
-        tap,
-        values,
-        show: OnceLock::new(),
-    })
-}
-
-/// Returns the number of the handle that a call has created.
-fn made(reply: Reply) -> u32 {
-    match reply {
-        Reply::New(handle) => handle,
-        reply => unreachable!("{reply:?}"),
-    }
-}
-
-fn count(reply: Reply) -> usize {
-    match reply {
-        Reply::Count(n) => n as usize,
-        reply => unreachable!("{reply:?}"),
-    }
+    let recorded = Recorder::current().0.add(core, 0);
+    let values = GuardedBy::new(&*lock(&recorded.state), Values::new(capacity));
+    let (sender, receiver) = ChannelHandle::first_two(Channel::new(recorded, values));
+    (Sender { handle: sender }, Receiver { handle: receiver })
 }

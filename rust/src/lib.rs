@@ -127,17 +127,22 @@
 #![deny(unsafe_code)]
 
 mod actors;
+mod block_on;
 pub mod broadcast;
-mod line;
+mod channel;
+mod handle;
+mod lock;
 mod names;
 mod proved;
 mod recorder;
+mod reply;
 mod wait;
+mod wakers;
 pub mod watch;
 
 pub use actors::{Named, named};
+pub use block_on::block_on;
 pub use recorder::{Entered, ForTest, Handle, Recorder};
-pub use wait::block_on;
 
 // Runs the programs of the README.
 #[cfg(doctest)]

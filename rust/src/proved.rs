@@ -2,16 +2,18 @@
 //!
 //! The declarations below are those of the exports of `crates/rw_ffi` in the repository. No proof compares the two. Tests do so by text:
 //! `tests/docs/exports` the functions and structs, `tests/docs/numbers` the numbers of replies and faults. The types here uphold what the
-//! exports require: a [`Channel`] always holds a channel and a [`Cut`] a cut, each is passed to one call at a time (`&mut`), and the number
-//! of an actor is an [`Actor`], which is below 64.
+//! exports require: a [`CoreChannel`] always holds a channel and a [`Cut`] a cut, each is passed to one call at a time (`&mut`), and the
+//! number of an actor is an [`Actor`], which is below 64.
 #![allow(unsafe_code)]
 
-mod beside;
+mod guarded_by;
 mod heap;
 #[cfg(test)]
 mod tests;
 
-pub(crate) use beside::Beside;
+pub(crate) use guarded_by::GuardedBy;
+
+use crate::reply::Reply;
 use std::fmt;
 use std::ptr;
 
@@ -92,30 +94,6 @@ pub(crate) struct Caller {
     pub(crate) clock: u64,
 }
 
-/// What a call returns.
-#[derive(Clone, Copy, Debug, PartialEq, Eq)]
-pub(crate) enum Reply {
-    Sent(u64),
-    NoReceivers,
-    Value(u64),
-    Lagged(u64),
-    Empty,
-    Closed,
-    Waits,
-    New(u32),
-    Dropped,
-    Count(u64),
-    TooManyHandles,
-    Stored,
-    Old,
-    Told(bool),
-    Flag(bool),
-    Done,
-    JournalFull,
-    NoMemory,
-    NoSender,
-}
-
 impl Answer {
     #[inline]
     fn reply(self) -> Reply {
@@ -148,10 +126,10 @@ impl Answer {
 }
 
 /// A channel of the core with its journal.
-pub(crate) struct Channel(Held);
+pub(crate) struct CoreChannel(Held);
 
 // SAFETY: it is proved in `crates/rw_ffi` that what a `Held` owns may be sent to another thread.
-unsafe impl Send for Channel {}
+unsafe impl Send for CoreChannel {}
 
 /// Why a channel isn't opened.
 #[derive(Clone, Copy, Debug, PartialEq, Eq)]
@@ -160,26 +138,26 @@ pub(crate) enum OpenFault {
     NoMemory,
 }
 
-impl Channel {
+impl CoreChannel {
     /// Opens a broadcast with sender 0 and receiver 1.
-    pub(crate) fn broadcast(capacity: u32) -> Result<Channel, OpenFault> {
+    pub(crate) fn broadcast(capacity: u32) -> Result<CoreChannel, OpenFault> {
         let mut held = Held(ptr::null_mut());
         // SAFETY: nothing is held.
         let code = unsafe { yovanelum_open_broadcast(&mut held, capacity) };
-        Channel::opened(held, code)
+        CoreChannel::opened(held, code)
     }
 
     /// Opens a watch with sender 0 and receiver 1.
-    pub(crate) fn watch(value: u64) -> Result<Channel, OpenFault> {
+    pub(crate) fn watch(value: u64) -> Result<CoreChannel, OpenFault> {
         let mut held = Held(ptr::null_mut());
         // SAFETY: nothing is held.
         let code = unsafe { yovanelum_open_watch(&mut held, value) };
-        Channel::opened(held, code)
+        CoreChannel::opened(held, code)
     }
 
-    fn opened(held: Held, code: u32) -> Result<Channel, OpenFault> {
+    fn opened(held: Held, code: u32) -> Result<CoreChannel, OpenFault> {
         match code {
-            0 => Ok(Channel(held)),
+            0 => Ok(CoreChannel(held)),
             1 => Err(OpenFault::BadCapacity),
             _ => Err(OpenFault::NoMemory),
         }
@@ -236,12 +214,15 @@ impl Channel {
     }
 }
 
-impl Drop for Channel {
+impl Drop for CoreChannel {
     fn drop(&mut self) {
         // SAFETY: a channel is held, and isn't used again.
         unsafe { yovanelum_free(&mut self.0) }
     }
 }
+
+/// A call by the number of a handle, such as [`CoreChannel::broadcast_subscribe`].
+pub(crate) type Call = fn(&mut CoreChannel, Caller, u32) -> Reply;
 
 /// The calls of the core by name: each becomes a declaration and a method.
 macro_rules! calls {
@@ -250,7 +231,7 @@ macro_rules! calls {
             $(fn $export(held: &mut Held, actor: u32, clock: u64, $($arg: $type),*) -> Answer;)*
         }
 
-        impl Channel {
+        impl CoreChannel {
             $($(#[$doc])*
             #[inline]
             pub(crate) fn $method(&mut self, caller: Caller, $($arg: $type),*) -> Reply {
@@ -326,7 +307,7 @@ impl Cut {
     }
 
     /// Adds a channel, with its entries before the first that is stamped above `last`.
-    pub(crate) fn add(&mut self, channel: &mut Channel, last: u64) -> Result<(), CutFault> {
+    pub(crate) fn add(&mut self, channel: &mut CoreChannel, last: u64) -> Result<(), CutFault> {
         // SAFETY: a cut and a channel are held.
         fault_of(unsafe { yovanelum_cut_add(&mut self.0, &mut channel.0, last) })
     }

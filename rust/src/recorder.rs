@@ -1,28 +1,24 @@
 //! Recorders. The channels of a recorder make one run, with one journal.
 
+mod current;
 mod for_test;
+mod handle;
 mod shared;
 
+pub use current::Entered;
 pub use for_test::ForTest;
+pub use handle::Handle;
+pub(crate) use handle::TextOf;
 pub(crate) use shared::Shared;
 
-use crate::line::Tap;
+use crate::lock::lock;
 use crate::names;
-use crate::proved::Cut;
-use crate::wait::lock;
-use std::cell::RefCell;
+use crate::proved::{Cut, CutFault};
 use std::io;
 use std::path::Path;
+use std::sync::Arc;
 use std::sync::atomic::Ordering;
-use std::sync::{Arc, Mutex};
 use std::{fmt, fs};
-
-static INSTALLED: Mutex<Option<Recorder>> = Mutex::new(None);
-
-thread_local! {
-    // The recorders that are entered, each with the number of its guard. The numbers rise.
-    static ENTERED: RefCell<Vec<(u64, Recorder)>> = const { RefCell::new(Vec::new()) };
-}
 
 /// Records the calls on the channels that belong to it, as one run.
 ///
@@ -76,7 +72,7 @@ impl Default for Recorder {
 impl fmt::Debug for Recorder {
     fn fmt(&self, f: &mut fmt::Formatter<'_>) -> fmt::Result {
         f.debug_struct("Recorder")
-            .field("channels", &lock(&self.0.lines).len())
+            .field("channels", &lock(&self.0.channels).len())
             .finish_non_exhaustive()
     }
 }
@@ -161,15 +157,7 @@ impl Recorder {
     /// ```
     #[must_use = "dropped at once, it changes nothing"]
     pub fn enter(&self) -> Entered {
-        let guard = ENTERED.with_borrow_mut(|entered| {
-            let guard = entered.last().map_or(0, |(last, _)| last + 1);
-            entered.push((guard, self.clone()));
-            guard
-        });
-        Entered {
-            guard,
-            _stays: std::marker::PhantomData,
-        }
+        current::enter(self)
     }
 
     /// Installs the recorder for the process: channels that any thread creates belong to it, unless a recorder is entered on that thread.
@@ -193,7 +181,7 @@ impl Recorder {
     /// assert!(recorder.journal().unwrap().contains("send 0 0 = sent 1"));
     /// ```
     pub fn install(&self) {
-        *lock(&INSTALLED) = Some(self.clone());
+        current::install(self);
     }
 
     /// Returns the recorder to which the channel of this sender or receiver belongs.
@@ -212,23 +200,7 @@ impl Recorder {
     /// assert!(recorder.journal().unwrap().contains("send 0 0 = sent 1"));
     /// ```
     pub fn of<H: Handle>(handle: &H) -> Recorder {
-        Recorder(handle.tap().recorder.clone())
-    }
-
-    /// Returns the recorder of the channels that this thread creates now.
-    pub(crate) fn current() -> Recorder {
-        let entered = ENTERED
-            .try_with(|entered| {
-                entered
-                    .borrow()
-                    .last()
-                    .map(|(_, recorder)| recorder.clone())
-            })
-            .ok()
-            .flatten();
-        entered
-            .or_else(|| lock(&INSTALLED).clone())
-            .unwrap_or_default()
+        Recorder(handle.recorded().recorder.clone())
     }
 
     /// Ends the recording of questions, so that a loop that polls does not fill the journal. Returns the recorder, for the next call.
@@ -274,7 +246,7 @@ impl Recorder {
     /// assert!(recorder.names().contains(r#"{"0": "prices", "1": "state of the exchange"}"#));
     /// ```
     pub fn name<H: Handle>(&self, handle: &H, name: &str) -> &Recorder {
-        handle.tap().line.set_name(name);
+        lock(&handle.recorded().state).name = Some(name.to_string());
         self
     }
 
@@ -306,7 +278,7 @@ impl Recorder {
         handle: &H,
         text: impl Fn(&H::Value) -> String + Send + Sync + 'static,
     ) -> &Recorder {
-        handle.show(Box::new(text));
+        handle.set_text_of(Box::new(text));
         self
     }
 
@@ -345,11 +317,12 @@ impl Recorder {
         String::from_utf8(text).map_err(io::Error::other)
     }
 
-    fn cut(&self, last: u64) -> Result<Vec<u8>, crate::proved::CutFault> {
-        let lines = lock(&self.0.lines).clone();
+    /// Returns the text of what all channels have recorded up to this stamp.
+    fn cut(&self, last: u64) -> Result<Vec<u8>, CutFault> {
+        let channels = lock(&self.0.channels).clone();
         let mut cut = Cut::new()?;
-        for line in lines {
-            line.add_to(&mut cut, last)?;
+        for channel in channels {
+            cut.add(&mut lock(&channel).core, last)?;
         }
         cut.text()
     }
@@ -380,17 +353,17 @@ impl Recorder {
     /// ```
     pub fn names(&self) -> String {
         let actors = lock(&self.0.actors).names();
-        let lines = lock(&self.0.lines).clone();
-        let channels = (0..)
-            .zip(&lines)
-            .filter_map(|(number, line)| Some((number, line.name()?)));
+        let channels = lock(&self.0.channels).clone();
+        let channel_names = (0..)
+            .zip(&channels)
+            .filter_map(|(number, channel)| Some((number, lock(channel).name.clone()?)));
         let values = (0..)
-            .zip(&lines)
-            .map(|(number, line)| (number, line.texts()))
+            .zip(&channels)
+            .map(|(number, channel)| (number, lock(channel).texts.clone()))
             .filter(|(_, texts)| !texts.is_empty());
         names::document(
             &names::texts((0..).zip(actors)),
-            &names::texts(channels),
+            &names::texts(channel_names),
             &names::object(values, |out, texts| out.push_str(&names::texts(texts))),
         )
     }
@@ -446,8 +419,9 @@ impl Recorder {
     /// assert_eq!(recorder.len(), 3);
     /// ```
     pub fn len(&self) -> u64 {
-        let lines = lock(&self.0.lines).clone();
-        lines.iter().map(|line| line.entries()).sum()
+        let channels = lock(&self.0.channels).clone();
+        let entries = channels.iter().map(|channel| lock(channel).core.entries());
+        entries.sum()
     }
 
     /// Returns `true` if no call is recorded.
@@ -466,91 +440,5 @@ impl Recorder {
     /// ```
     pub fn is_empty(&self) -> bool {
         self.len() == 0
-    }
-}
-
-/// A sender or a receiver, of either kind of channel.
-///
-/// [`Recorder::name`], [`Recorder::show`] and [`Recorder::of`] take any. It is implemented for the senders and receivers of
-/// [`broadcast`](crate::broadcast) and [`watch`](crate::watch), weak senders included, and cannot be implemented for other types.
-///
-/// # Examples
-///
-/// A function that names a channel and shows its values, for tests with many channels:
-///
-/// ```
-/// use std::fmt::Debug;
-/// use yovanelum::{Handle, Recorder, broadcast, watch};
-///
-/// fn describe<H: Handle<Value: Debug>>(recorder: &Recorder, handle: &H, name: &str) {
-///     recorder.name(handle, name).show(handle, |value| format!("{value:?}"));
-/// }
-///
-/// let recorder = Recorder::new();
-/// let _entered = recorder.enter();
-/// let (prices, _chart) = broadcast::channel(2);
-/// let (_state, rx) = watch::channel(Some("open"));
-/// describe(&recorder, &prices, "prices");
-/// describe(&recorder, &rx, "state");
-/// prices.send(101).unwrap();
-/// let names = recorder.names();
-/// assert!(names.contains(r#"{"0": "prices", "1": "state"}"#));
-/// assert!(names.contains(r#"{"0": {"0": "101"}, "1": {"0": "Some(\"open\")"}}"#));
-/// ```
-pub trait Handle: sealed::Tapped {
-    /// The type of the channel's values.
-    type Value;
-
-    #[doc(hidden)]
-    fn show(&self, text: Show<Self::Value>);
-}
-
-/// The function that returns the text of a value.
-pub(crate) type Show<T> = Box<dyn Fn(&T) -> String + Send + Sync>;
-
-pub(crate) mod sealed {
-    /// Only this crate's handles implement it.
-    pub trait Tapped {
-        #[doc(hidden)]
-        fn tap(&self) -> &super::Tap;
-    }
-}
-
-/// Guard returned by [`Recorder::enter`], which enters the recorder on this thread until it is dropped.
-///
-/// Guards may be dropped in any order. Of the recorders whose guards are alive, the one that was entered last gets the channels. A guard
-/// cannot be sent to another thread.
-///
-/// # Examples
-///
-/// ```
-/// use yovanelum::{Entered, Recorder, broadcast};
-///
-/// let (all, orders_only) = (Recorder::new(), Recorder::new());
-/// let _all: Entered = all.enter();
-/// let entered: Entered = orders_only.enter();
-/// let (orders, _mailer) = broadcast::channel(4);
-/// drop(entered);
-/// let (refunds, _clerk) = broadcast::channel(4);
-/// orders.send(7).unwrap();
-/// refunds.send(8).unwrap();
-/// refunds.send(9).unwrap();
-/// assert_eq!((orders_only.len(), all.len()), (1, 2));
-/// ```
-#[derive(Debug)]
-pub struct Entered {
-    guard: u64,
-    // Not `Send`: a guard belongs to its thread.
-    _stays: std::marker::PhantomData<*const ()>,
-}
-
-impl Drop for Entered {
-    fn drop(&mut self) {
-        let left = ENTERED.with_borrow_mut(|entered| {
-            let place = entered.iter().position(|(guard, _)| *guard == self.guard)?;
-            Some(entered.remove(place))
-        });
-        // It may be the last handle of its recorder. Wakers are then dropped too, which may run user code, so nothing is borrowed here.
-        drop(left);
     }
 }

@@ -45,52 +45,26 @@
 //! assert_eq!(worker.join().unwrap().last(), Some(&"log = debug"));
 //! ```
 
+mod borrowed;
 pub mod error;
-mod look;
 mod receiver;
 mod sender;
+mod value;
 
-pub use look::Ref;
+pub use borrowed::Ref;
 pub use receiver::Receiver;
 pub use sender::Sender;
 
-use crate::line::{Tap, Turn};
-use crate::proved::{self, Reply};
-use crate::recorder::{Recorder, Show};
-use crate::wait::Woken;
-use std::panic::{self, AssertUnwindSafe};
-use std::sync::atomic::{AtomicUsize, Ordering};
-use std::sync::{
-    Arc, LockResult, OnceLock, PoisonError, RwLock, RwLockReadGuard, RwLockWriteGuard,
-    TryLockError, TryLockResult,
-};
-use std::{fmt, thread};
+use crate::channel::{Channel, LockedChannel};
+use crate::handle::{ChannelHandle, Kind};
+use crate::lock::lock;
+use crate::proved::CoreChannel;
+use crate::recorder::{Recorder, TextOf};
+use crate::wait::WaitFor;
+use value::ValueLock;
 
-struct Channel<T> {
-    tap: Tap,
-    // Locked before the tap. As in tokio, a `Ref` of the value blocks senders.
-    value: RwLock<T>,
-    // The thread whose user code runs while it has locked the value, or 0. If that code locked the value too, it would wait forever.
-    changer: AtomicUsize,
-    show: OnceLock<Show<T>>,
-}
-
-/// Returns a number that no other live thread has, and that isn't 0.
-fn thread_number() -> usize {
-    thread_local! {
-        static PLACE: u8 = const { 0 };
-    }
-    PLACE.with(|place| std::ptr::from_ref(place).addr())
-}
-
-/// Returns the guard, if the lock was free. A poisoned lock is used all the same.
-fn free<G>(tried: TryLockResult<G>) -> Option<G> {
-    match tried {
-        Ok(locked) => Some(locked),
-        Err(TryLockError::Poisoned(locked)) => Some(locked.into_inner()),
-        Err(TryLockError::WouldBlock) => None,
-    }
-}
+/// What each sender and receiver is.
+type WatchHandle<T> = ChannelHandle<T, ValueLock<T>>;
 
 /// Creates a watch channel that holds this value, and returns its first sender and its first receiver.
 ///
@@ -109,122 +83,63 @@ fn free<G>(tried: TryLockResult<G>) -> Option<G> {
 /// assert_eq!(*rx.borrow_and_update(), "log = debug");
 /// ```
 pub fn channel<T>(init: T) -> (Sender<T>, Receiver<T>) {
-    let channel = open(init);
-    (
-        Sender {
-            channel: channel.clone(),
-            handle: 0,
-        },
-        Receiver { channel, handle: 1 },
-    )
-}
-
-fn open<T>(init: T) -> Arc<Channel<T>> {
     // The core knows each value by a number. The first one has 0.
-    let Ok(channel) = proved::Channel::watch(0) else {
+    let Ok(core) = CoreChannel::watch(0) else {
         panic!("yovanelum: no memory for a channel");
     };
-    let tap = Recorder::current().0.add(channel, 1);
-    Arc::new(Channel {
-        tap,
-        value: RwLock::new(init),
-        changer: AtomicUsize::new(0),
-        show: OnceLock::new(),
-    })
+    let recorded = Recorder::current().0.add(core, 1);
+    let channel = Channel::new(recorded, ValueLock::new(init));
+    let (sender, receiver) = ChannelHandle::first_two(channel);
+    (Sender { handle: sender }, Receiver { handle: receiver })
 }
 
-/// Returns the number of the handle that a call has created.
-fn made(reply: Reply) -> u32 {
-    match reply {
-        Reply::New(handle) => handle,
-        reply => unreachable!("{reply:?}"),
-    }
-}
-
-/// Makes a call with the number of a new value. If it notifies receivers, those that wait are returned with the reply. They are to be woken
-/// once the value is stored and no lock is held, since a waker may look at it.
-fn put(
-    turn: &mut Turn<'_>,
-    text: Option<String>,
-    call: impl Fn(&mut proved::Channel, proved::Caller, u64) -> Reply,
-) -> (Reply, Woken) {
-    let number = turn.next_value();
-    let reply = turn.call(|channel, caller| call(channel, caller, number));
-    turn.keep_text(number, text);
-    let woken = match reply {
-        Reply::Stored | Reply::Old | Reply::Told(true) => turn.waiting_receivers(),
-        _ => Woken::default(),
-    };
-    (reply, woken)
-}
-
-impl<T> Channel<T> {
-    fn read(&self) -> RwLockReadGuard<'_, T> {
-        free(self.value.try_read()).unwrap_or_else(|| self.wait(RwLock::read))
+impl<T> WatchHandle<T> {
+    /// Returns a reference to the value, without marking the value as seen.
+    fn borrow(&self) -> Ref<'_, T> {
+        self.borrow_by(|channel| {
+            if !channel.recorder.is_quiet() {
+                channel.call(CoreChannel::watch_borrow);
+            }
+        })
     }
 
-    fn write(&self) -> RwLockWriteGuard<'_, T> {
-        free(self.value.try_write()).unwrap_or_else(|| self.wait(RwLock::write))
+    /// Returns a reference to the value, and marks the value as seen.
+    fn borrow_and_update(&self) -> Ref<'_, T> {
+        self.borrow_by(|channel| {
+            channel.call(CoreChannel::watch_update);
+        })
     }
 
-    #[cold]
-    fn wait<'a, G>(&'a self, lock: impl FnOnce(&'a RwLock<T>) -> LockResult<G>) -> G {
-        assert!(
-            self.changer.load(Ordering::Relaxed) != thread_number(),
-            "yovanelum: a closure that changes a watch, or a text of what it has changed, uses that watch"
-        );
-        lock(&self.value).unwrap_or_else(PoisonError::into_inner)
-    }
-
-    /// Runs user code while this thread has locked the value. If the code panics, its panic is returned.
-    fn with_value<R>(&self, run: impl FnOnce() -> R) -> thread::Result<R> {
-        self.changer.store(thread_number(), Ordering::Relaxed);
-        let outcome = panic::catch_unwind(AssertUnwindSafe(run));
-        self.changer.store(0, Ordering::Relaxed);
-        outcome
-    }
-
-    fn text(&self, value: &T) -> Option<String> {
-        self.show.get().map(|show| show(value))
-    }
-
-    /// Returns a reference to the value for a handle, without marking the value as seen.
-    fn look(&self, handle: u32, is_receiver: bool) -> Ref<'_, T> {
-        let inner = self.read();
-        let mut turn = self.tap.turn();
-        let has_changed = is_receiver && !turn.ask(|channel| channel.seen(handle));
-        if !self.tap.recorder.is_quiet() {
-            turn.call(|channel, caller| channel.watch_borrow(caller, handle));
-        }
-        drop(turn);
+    /// Locks the value before the channel. So the value that is returned is the one that the call reads.
+    fn borrow_by(&self, call: impl FnOnce(&mut LockedChannel<'_>)) -> Ref<'_, T> {
+        let inner = self.channel.values.read();
+        let mut channel = self.lock();
+        let has_changed = self.has_changed(&mut channel);
+        call(&mut channel);
+        drop(channel);
         Ref { inner, has_changed }
     }
 
-    fn show(&self, show: Show<T>) {
+    /// Returns `true` if this is a receiver that has yet to see the value.
+    fn has_changed(&self, channel: &mut LockedChannel<'_>) -> bool {
+        self.kind == Kind::Receiver && !channel.core().seen(self.number)
+    }
+
+    /// Waits until there is a value that this receiver has not seen, and marks it as seen.
+    async fn changed(&self) -> Result<(), error::RecvError> {
+        self.wait(WaitFor::Value, |channel| {
+            channel.call(CoreChannel::watch_changed).changed()
+        })
+        .await
+    }
+
+    fn set_text_of(&self, text_of: TextOf<T>) {
         // The first value, if it is still the last, gets its text now. It stays in the channel, so it is locked while its text is made.
-        let value = self.read();
-        let text = show(&value);
-        if self.show.set(show).is_ok() {
-            self.tap.line.keep_first_text(text);
+        let value = self.channel.values.read();
+        let text = text_of(&value);
+        if self.channel.set_text_of(text_of) {
+            lock(&self.recorded().state).keep_first_text(text);
         }
         drop(value);
     }
-
-    fn same(self: &Arc<Self>, other: &Arc<Self>) -> bool {
-        Arc::ptr_eq(self, other)
-    }
-}
-
-/// Formats a handle with the value of its channel, unless a sender has locked the value.
-fn debug<T: fmt::Debug>(
-    name: &str,
-    channel: &Channel<T>,
-    f: &mut fmt::Formatter<'_>,
-) -> fmt::Result {
-    let mut shown = f.debug_struct(name);
-    match channel.value.try_read() {
-        Ok(value) => shown.field("value", &*value),
-        Err(_) => shown.field("value", &format_args!("<locked>")),
-    };
-    shown.finish_non_exhaustive()
 }

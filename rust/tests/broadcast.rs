@@ -2,6 +2,7 @@
 
 mod support;
 
+use std::panic::{RefUnwindSafe, UnwindSafe};
 use std::sync::Arc;
 use std::sync::atomic::{AtomicUsize, Ordering};
 use std::task::{Context, Poll, Wake, Waker};
@@ -266,6 +267,15 @@ fn handles_and_futures_cross_threads_as_tokios_do() {
     sync(&rx);
     send(&tx.closed());
     send(&rx.recv());
+}
+
+#[test]
+fn handles_are_unwind_safe_for_values_of_all_types() {
+    fn unwind_safe<T: UnwindSafe + RefUnwindSafe>(_: &T) {}
+    let (tx, rx) = broadcast::channel::<std::cell::Cell<u8>>(4);
+    unwind_safe(&tx);
+    unwind_safe(&rx);
+    unwind_safe(&tx.downgrade());
 }
 
 #[test]

@@ -3,7 +3,7 @@
 mod support;
 
 use std::cell::Cell;
-use std::panic::{AssertUnwindSafe, catch_unwind};
+use std::panic::{AssertUnwindSafe, RefUnwindSafe, UnwindSafe, catch_unwind};
 use std::thread;
 use support::poll_once;
 use yovanelum::watch::{self, error::SendError};
@@ -232,4 +232,12 @@ fn handles_and_futures_cross_threads_as_tokios_do() {
     send(&tx.closed());
     send(&rx.changed());
     send(&rx.wait_for(|_| true));
+}
+
+#[test]
+fn handles_are_unwind_safe_for_values_of_all_types() {
+    fn unwind_safe<T: UnwindSafe + RefUnwindSafe>(_: &T) {}
+    let (tx, rx) = watch::channel(Cell::new(0));
+    unwind_safe(&tx);
+    unwind_safe(&rx);
 }

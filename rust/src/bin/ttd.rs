@@ -50,15 +50,15 @@ mod linked {
     ///
     /// # Safety
     ///
-    /// `room` has `len` bytes.
+    /// `buffer` has `len` bytes.
     #[unsafe(no_mangle)]
-    unsafe extern "C" fn rattle_arg(index: usize, room: *mut u8, len: usize) -> isize {
+    unsafe extern "C" fn rattle_arg(index: usize, buffer: *mut u8, len: usize) -> isize {
         let Some(word) = env::args_os().nth(index) else {
             return -1;
         };
         let word = word.as_bytes();
         // SAFETY: no more bytes are copied than both have.
-        unsafe { ptr::copy_nonoverlapping(word.as_ptr(), room, word.len().min(len)) };
+        unsafe { ptr::copy_nonoverlapping(word.as_ptr(), buffer, word.len().min(len)) };
         match word.len() <= len {
             true => word.len() as isize,
             false => -2,

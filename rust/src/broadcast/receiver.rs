@@ -1,16 +1,15 @@
 //! The receiving half of a broadcast channel.
 
+use super::BroadcastHandle;
 use super::error::{RecvError, TryRecvError};
 use super::values::Value;
-use super::{Channel, count, made};
-use crate::line::{For, Tap, Turn, Waiting};
-use crate::proved::{self, Reply};
-use crate::recorder::{Handle, Show, sealed};
-use crate::wait::block_on;
+use crate::block_on;
+use crate::channel::{LockedChannel, RecordedChannel};
+use crate::handle::Kind;
+use crate::proved::CoreChannel;
+use crate::recorder::{Handle, TextOf};
+use crate::wait::WaitFor;
 use std::fmt;
-use std::future::poll_fn;
-use std::panic::{RefUnwindSafe, UnwindSafe};
-use std::sync::Arc;
 
 /// The receiving half of a broadcast channel.
 ///
@@ -40,12 +39,8 @@ use std::sync::Arc;
 /// assert_eq!(logger.join().unwrap(), ["user created", "user deleted"]);
 /// ```
 pub struct Receiver<T> {
-    pub(super) channel: Arc<Channel<T>>,
-    pub(super) handle: u32,
+    pub(super) handle: BroadcastHandle<T>,
 }
-
-/// The result of a receive, before the value is cloned.
-type Got<T> = Result<Value<T>, TryRecvError>;
 
 impl<T> Receiver<T> {
     /// Returns the number of values that were sent to this receiver and that it has yet to receive.
@@ -67,11 +62,10 @@ impl<T> Receiver<T> {
     /// assert_eq!(chart.len(), 2);
     /// ```
     pub fn len(&self) -> usize {
-        let tap = &self.channel.tap;
-        if tap.recorder.is_quiet() {
-            return tap.ask(|channel| channel.unread(self.handle)) as usize;
-        }
-        count(tap.call(|channel, caller| channel.broadcast_receiver_len(caller, self.handle)))
+        self.handle
+            .ask_count(CoreChannel::broadcast_receiver_len, |core, rx| {
+                core.unread(rx)
+            })
     }
 
     /// Returns `true` if this receiver has received everything that was sent to it, as in tokio: if [`len`](Receiver::len) is 0.
@@ -105,7 +99,7 @@ impl<T> Receiver<T> {
     /// assert!(!mailer.same_channel(&other));
     /// ```
     pub fn same_channel(&self, other: &Self) -> bool {
-        Arc::ptr_eq(&self.channel, &other.channel)
+        self.handle.same_channel(&other.handle)
     }
 
     /// Returns the number of senders that are alive, as in tokio. Weak senders are not counted. It is not recorded.
@@ -122,7 +116,7 @@ impl<T> Receiver<T> {
     /// assert_eq!(listener.sender_strong_count(), 0);
     /// ```
     pub fn sender_strong_count(&self) -> usize {
-        self.channel.tap.ask(|channel| channel.senders()) as usize
+        self.handle.count(CoreChannel::senders)
     }
 
     /// Returns the number of weak senders that are alive, as in tokio. It is not recorded.
@@ -139,7 +133,7 @@ impl<T> Receiver<T> {
     /// assert_eq!(listener.sender_weak_count(), 0);
     /// ```
     pub fn sender_weak_count(&self) -> usize {
-        self.channel.tap.ask(|channel| channel.weak_senders()) as usize
+        self.handle.count(CoreChannel::weak_senders)
     }
 
     /// Returns `true` if the channel is closed.
@@ -162,20 +156,9 @@ impl<T> Receiver<T> {
         self.sender_strong_count() == 0
     }
 
-    /// Makes a receive call. Returns `None` if it would wait.
-    fn receive(
-        &self,
-        turn: &mut Turn<'_>,
-        call: impl Fn(&mut proved::Channel, proved::Caller, u32) -> Reply,
-    ) -> Option<Got<T>> {
-        match turn.call(|channel, caller| call(channel, caller, self.handle)) {
-            Reply::Value(number) => Some(Ok(turn.reach(&self.channel.values).get(number))),
-            Reply::Lagged(n) => Some(Err(TryRecvError::Lagged(n))),
-            Reply::Empty => Some(Err(TryRecvError::Empty)),
-            Reply::Closed => Some(Err(TryRecvError::Closed)),
-            Reply::Waits => None,
-            reply => unreachable!("{reply:?}"),
-        }
+    /// Returns the value that this receiver has received, not yet cloned.
+    fn take(&self, channel: &mut LockedChannel<'_>, number: u64) -> Value<T> {
+        channel.guarded(&self.handle.channel.values).take(number)
     }
 }
 
@@ -202,14 +185,10 @@ impl<T: Clone> Receiver<T> {
     /// assert_eq!(chart.try_recv(), Ok(101));
     /// ```
     pub fn resubscribe(&self) -> Receiver<T> {
-        let handle = made(
-            self.channel
-                .tap
-                .call(|channel, caller| channel.broadcast_resubscribe(caller, self.handle)),
-        );
         Receiver {
-            channel: self.channel.clone(),
-            handle,
+            handle: self
+                .handle
+                .create(Kind::Receiver, CoreChannel::broadcast_resubscribe),
         }
     }
 
@@ -260,21 +239,11 @@ impl<T: Clone> Receiver<T> {
     /// });
     /// ```
     pub async fn recv(&mut self) -> Result<T, RecvError> {
-        let mut waiting = Waiting::new(&self.channel.tap, For::Value);
-        let got = poll_fn(|context| {
-            waiting.poll(context, |turn| {
-                self.receive(turn, proved::Channel::broadcast_recv)
-            })
-        })
-        .await;
-        match got {
-            Ok(value) => Ok(value.cloned()),
-            Err(TryRecvError::Lagged(n)) => Err(RecvError::Lagged(n)),
-            Err(TryRecvError::Closed) => Err(RecvError::Closed),
-            Err(TryRecvError::Empty) => {
-                unreachable!("a receive that waits isn't told that there is nothing")
-            }
-        }
+        let received = self.handle.wait(WaitFor::Value, |channel| {
+            let reply = channel.call(CoreChannel::broadcast_recv);
+            reply.received().map_ok(|number| self.take(channel, number))
+        });
+        received.await.map(Value::cloned)
     }
 
     /// Receives the next value if there is one, without waiting.
@@ -300,11 +269,13 @@ impl<T: Clone> Receiver<T> {
     /// assert_eq!(listener.try_recv(), Err(TryRecvError::Closed));
     /// ```
     pub fn try_recv(&mut self) -> Result<T, TryRecvError> {
-        let mut turn = self.channel.tap.turn();
-        let got = self.receive(&mut turn, proved::Channel::broadcast_try_recv);
-        drop(turn);
-        got.expect("a receive that doesn't wait is answered")
-            .map(Value::cloned)
+        let mut channel = self.handle.lock();
+        let reply = channel.call(CoreChannel::broadcast_try_recv);
+        let received = reply
+            .received_at_once()
+            .map(|number| self.take(&mut channel, number));
+        drop(channel);
+        received.map(Value::cloned)
     }
 
     /// Receives the next value, and blocks the current thread until there is one.
@@ -334,18 +305,13 @@ impl<T: Clone> Receiver<T> {
 
 impl<T> Drop for Receiver<T> {
     fn drop(&mut self) {
-        let mut turn = self.channel.tap.turn();
-        let unread = turn.ask(|channel| channel.unread(self.handle));
-        turn.call(|channel, caller| channel.broadcast_drop(caller, self.handle));
-        let unwanted = turn.reach(&self.channel.values).leave(unread);
-        let is_last = turn.ask(|channel| channel.receivers()) == 0;
-        let woken = if is_last {
-            turn.waiting_senders()
-        } else {
-            Default::default()
-        };
-        drop(turn);
-        woken.wake();
+        let mut channel = self.handle.lock();
+        let unread = channel.core().unread(self.handle.number);
+        let wakers = channel.drop_handle(Kind::Receiver, CoreChannel::broadcast_drop);
+        let values = channel.guarded(&self.handle.channel.values);
+        let unwanted = values.drop_receiver(unread);
+        drop(channel);
+        wakers.wake();
         drop(unwanted);
     }
 }
@@ -356,20 +322,14 @@ impl<T> fmt::Debug for Receiver<T> {
     }
 }
 
-// A panic in user code leaves no channel half changed: none of that code runs while the channel is locked.
-impl<T> UnwindSafe for Receiver<T> {}
-impl<T> RefUnwindSafe for Receiver<T> {}
-
-impl<T> sealed::Tapped for Receiver<T> {
-    fn tap(&self) -> &Tap {
-        &self.channel.tap
-    }
-}
-
 impl<T> Handle for Receiver<T> {
     type Value = T;
 
-    fn show(&self, text: Show<T>) {
-        let _ = self.channel.show.set(text);
+    fn recorded(&self) -> &RecordedChannel {
+        self.handle.recorded()
+    }
+
+    fn set_text_of(&self, text_of: TextOf<T>) {
+        self.handle.channel.set_text_of(text_of);
     }
 }

@@ -1,14 +1,14 @@
 //! The sending half of a broadcast channel.
 
 use super::error::SendError;
-use super::{Channel, Receiver, WeakSender, count, made, open};
-use crate::line::{For, Tap, Waiting};
-use crate::proved::Reply;
-use crate::recorder::{Handle, Show, sealed};
+use super::{BroadcastHandle, Receiver, WeakSender, open};
+use crate::channel::RecordedChannel;
+use crate::handle::Kind;
+use crate::proved::CoreChannel;
+use crate::recorder::{Handle, TextOf};
+use crate::wait::WaitFor;
 use std::fmt;
-use std::future::poll_fn;
-use std::panic::{RefUnwindSafe, UnwindSafe};
-use std::sync::Arc;
+use std::task::Poll;
 
 /// The sending half of a broadcast channel.
 ///
@@ -34,8 +34,7 @@ use std::sync::Arc;
 /// assert_eq!(done, ["backup", "mail"]);
 /// ```
 pub struct Sender<T> {
-    pub(super) channel: Arc<Channel<T>>,
-    pub(super) handle: u32,
+    pub(super) handle: BroadcastHandle<T>,
 }
 
 impl<T> Sender<T> {
@@ -61,12 +60,10 @@ impl<T> Sender<T> {
     /// ```
     #[track_caller]
     pub fn new(capacity: usize) -> Sender<T> {
-        let channel = open(capacity);
-        // The core opens each channel with a receiver. Nothing was sent to it, so it has no values to drop.
-        channel
-            .tap
-            .call(|channel, caller| channel.broadcast_drop(caller, 1));
-        Sender { channel, handle: 0 }
+        // The core opens each channel with a receiver.
+        let (sender, receiver) = open(capacity);
+        drop(receiver);
+        sender
     }
 
     /// Sends a value to all receivers of the channel, and returns how many there are.
@@ -96,25 +93,19 @@ impl<T> Sender<T> {
     /// assert_eq!(late.try_recv(), Ok(103));
     /// ```
     pub fn send(&self, value: T) -> Result<usize, SendError<T>> {
-        let channel = &*self.channel;
-        let text = channel.show.get().map(|show| show(&value));
-        let mut turn = channel.tap.turn();
-        let number = turn.next_value();
-        let reply =
-            turn.call(|channel, caller| channel.broadcast_send(caller, self.handle, number));
-        turn.keep_text(number, text);
-        match reply {
-            Reply::Sent(receivers) => {
-                let evicted = turn.reach(&channel.values).push(number, value, receivers);
-                let woken = turn.waiting_receivers();
-                drop(turn);
-                woken.wake();
-                drop(evicted);
-                Ok(receivers as usize)
-            }
-            Reply::NoReceivers => Err(SendError(value)),
-            reply => unreachable!("{reply:?}"),
-        }
+        let text = self.handle.channel.text(&value);
+        let mut channel = self.handle.lock();
+        let (number, reply) = channel.send(text, CoreChannel::broadcast_send);
+        let Some(receivers) = reply.sent() else {
+            return Err(SendError(value));
+        };
+        let values = channel.guarded(&self.handle.channel.values);
+        let overwritten = values.push(number, value, receivers);
+        let wakers = channel.take_wakers(WaitFor::Value);
+        drop(channel);
+        wakers.wake();
+        drop(overwritten);
+        Ok(receivers as usize)
     }
 
     /// Creates a receiver, which receives the values that are sent after this call.
@@ -139,14 +130,10 @@ impl<T> Sender<T> {
     /// assert_eq!(chart.try_recv(), Ok(101));
     /// ```
     pub fn subscribe(&self) -> Receiver<T> {
-        let handle = made(
-            self.channel
-                .tap
-                .call(|channel, caller| channel.broadcast_subscribe(caller, self.handle)),
-        );
         Receiver {
-            channel: self.channel.clone(),
-            handle,
+            handle: self
+                .handle
+                .create(Kind::Receiver, CoreChannel::broadcast_subscribe),
         }
     }
 
@@ -173,12 +160,10 @@ impl<T> Sender<T> {
     /// ```
     #[must_use = "a weak sender that isn't used does nothing"]
     pub fn downgrade(&self) -> WeakSender<T> {
-        let tap = &self.channel.tap;
-        let handle =
-            made(tap.call(|channel, caller| channel.broadcast_downgrade(caller, self.handle)));
         WeakSender {
-            channel: self.channel.clone(),
-            handle,
+            handle: self
+                .handle
+                .create(Kind::WeakSender, CoreChannel::broadcast_downgrade),
         }
     }
 
@@ -202,11 +187,8 @@ impl<T> Sender<T> {
     /// assert_eq!(prices.len(), 0);
     /// ```
     pub fn len(&self) -> usize {
-        let tap = &self.channel.tap;
-        if tap.recorder.is_quiet() {
-            return tap.ask(|channel| channel.queued()) as usize;
-        }
-        count(tap.call(|channel, caller| channel.broadcast_sender_len(caller, self.handle)))
+        self.handle
+            .ask_count(CoreChannel::broadcast_sender_len, |core, _| core.queued())
     }
 
     /// Returns `true` if no value is queued, as in tokio: if [`len`](Sender::len) is 0.
@@ -244,11 +226,10 @@ impl<T> Sender<T> {
     /// assert_eq!(bus.receiver_count(), 0);
     /// ```
     pub fn receiver_count(&self) -> usize {
-        let tap = &self.channel.tap;
-        if tap.recorder.is_quiet() {
-            return tap.ask(|channel| channel.receivers()) as usize;
-        }
-        count(tap.call(|channel, caller| channel.broadcast_receiver_count(caller, self.handle)))
+        self.handle
+            .ask_count(CoreChannel::broadcast_receiver_count, |core, _| {
+                core.receivers()
+            })
     }
 
     /// Returns `true` if both senders belong to the same channel, as in tokio. It is not recorded.
@@ -264,7 +245,7 @@ impl<T> Sender<T> {
     /// assert!(!orders.same_channel(&refunds));
     /// ```
     pub fn same_channel(&self, other: &Self) -> bool {
-        Arc::ptr_eq(&self.channel, &other.channel)
+        self.handle.same_channel(&other.handle)
     }
 
     /// Waits until the channel has no receiver.
@@ -286,17 +267,15 @@ impl<T> Sender<T> {
     /// window.join().unwrap();
     /// ```
     pub async fn closed(&self) {
-        let mut waiting = Waiting::new(&self.channel.tap, For::NoReceiver);
-        poll_fn(|context| {
-            waiting.poll(context, |turn| {
-                if turn.ask(|channel| channel.receivers()) > 0 {
-                    return None;
+        self.handle
+            .wait(WaitFor::NoReceiver, |channel| {
+                if channel.core().receivers() > 0 {
+                    return Poll::Pending;
                 }
-                turn.call(|channel, caller| channel.broadcast_receiver_count(caller, self.handle));
-                Some(())
+                channel.call(CoreChannel::broadcast_receiver_count);
+                Poll::Ready(())
             })
-        })
-        .await
+            .await
     }
 
     /// Returns the number of senders that are alive, as in tokio. Weak senders are not counted. It is not recorded.
@@ -314,7 +293,7 @@ impl<T> Sender<T> {
     /// assert_eq!(bus.strong_count(), 1);
     /// ```
     pub fn strong_count(&self) -> usize {
-        self.channel.tap.ask(|channel| channel.senders()) as usize
+        self.handle.count(CoreChannel::senders)
     }
 
     /// Returns the number of weak senders that are alive, as in tokio. It is not recorded.
@@ -332,7 +311,7 @@ impl<T> Sender<T> {
     /// assert_eq!(bus.weak_count(), 0);
     /// ```
     pub fn weak_count(&self) -> usize {
-        self.channel.tap.ask(|channel| channel.weak_senders()) as usize
+        self.handle.count(CoreChannel::weak_senders)
     }
 }
 
@@ -343,27 +322,17 @@ impl<T> Clone for Sender<T> {
     ///
     /// Panics if the channel has created 65,536 senders, weak senders and receivers, dropped ones included.
     fn clone(&self) -> Sender<T> {
-        let handle = made(
-            self.channel
-                .tap
-                .call(|channel, caller| channel.broadcast_clone_sender(caller, self.handle)),
-        );
         Sender {
-            channel: self.channel.clone(),
-            handle,
+            handle: self
+                .handle
+                .create(Kind::Sender, CoreChannel::broadcast_clone_sender),
         }
     }
 }
 
 impl<T> Drop for Sender<T> {
     fn drop(&mut self) {
-        let mut turn = self.channel.tap.turn();
-        turn.call(|channel, caller| channel.broadcast_drop(caller, self.handle));
-        if turn.ask(|channel| channel.senders()) == 0 {
-            let woken = turn.waiting_receivers();
-            drop(turn);
-            woken.wake();
-        }
+        self.handle.drop_by(CoreChannel::broadcast_drop);
     }
 }
 
@@ -373,20 +342,14 @@ impl<T> fmt::Debug for Sender<T> {
     }
 }
 
-// A panic in user code leaves no channel half changed: none of that code runs while the channel is locked.
-impl<T> UnwindSafe for Sender<T> {}
-impl<T> RefUnwindSafe for Sender<T> {}
-
-impl<T> sealed::Tapped for Sender<T> {
-    fn tap(&self) -> &Tap {
-        &self.channel.tap
-    }
-}
-
 impl<T> Handle for Sender<T> {
     type Value = T;
 
-    fn show(&self, text: Show<T>) {
-        let _ = self.channel.show.set(text);
+    fn recorded(&self) -> &RecordedChannel {
+        self.handle.recorded()
+    }
+
+    fn set_text_of(&self, text_of: TextOf<T>) {
+        self.handle.channel.set_text_of(text_of);
     }
 }

@@ -1,8 +1,7 @@
 //! The values of a broadcast. The core knows only their numbers.
 
+use crate::lock::lock;
 use std::sync::{Arc, Mutex};
-
-use crate::wait::lock;
 
 /// A value that receivers have yet to receive.
 pub(super) enum Value<T> {
@@ -29,9 +28,9 @@ fn clone_of_shared<T: Clone>(value: Arc<Mutex<T>>) -> T {
 
 /// The values that a receiver may still receive.
 pub(super) struct Values<T> {
-    // The capacity, rounded up to a power of two.
-    most: usize,
-    // Grows with each send up to `most` slots. From then on it is a ring, in which the newest value overwrites the oldest.
+    // Rounded up to a power of two.
+    capacity: usize,
+    // Grows with each send up to the capacity. From then on it is a ring, in which the newest value overwrites the oldest.
     slots: Vec<Slot<T>>,
     // The index of the oldest slot.
     first: usize,
@@ -40,18 +39,18 @@ pub(super) struct Values<T> {
 struct Slot<T> {
     // The number of the value in the core.
     number: u64,
-    // How many receivers have yet to receive the value. At 0 the value is dropped, as in tokio, and its slot stays until it is evicted.
+    // How many receivers have yet to receive the value. At 0 the value is dropped, as in tokio, and its slot stays until it is overwritten.
     // The core could compute this only from every handle, so it is counted here.
-    rest: u64,
+    receivers: u64,
     value: Option<Value<T>>,
 }
 
 impl<T> Slot<T> {
     /// Returns the value for one receiver, and counts one receiver less.
-    fn get(&mut self) -> Option<Value<T>> {
-        self.rest -= 1;
+    fn take(&mut self) -> Option<Value<T>> {
+        self.receivers -= 1;
         match &self.value {
-            Some(Value::Shared(value)) if self.rest > 0 => Some(Value::Shared(value.clone())),
+            Some(Value::Shared(value)) if self.receivers > 0 => Some(Value::Shared(value.clone())),
             _ => self.value.take(),
         }
     }
@@ -61,78 +60,78 @@ impl<T> Values<T> {
     /// Creates an empty store of as many values as the channel retains. Memory is allocated as they are sent.
     pub(super) fn new(capacity: usize) -> Values<T> {
         Values {
-            most: capacity.next_power_of_two(),
+            capacity: capacity.next_power_of_two(),
             slots: Vec::new(),
             first: 0,
         }
     }
 
-    /// Stores a value that was sent to this many receivers. Returns the value that it evicts, to be dropped while no lock is held.
+    /// Stores a value that was sent to this many receivers. Returns the value that it overwrites, to be dropped while no lock is held.
     #[inline]
     pub(super) fn push(&mut self, number: u64, value: T, receivers: u64) -> Option<Value<T>> {
         let value = match receivers {
             1 => Value::Own(value),
             _ => Value::Shared(Arc::new(Mutex::new(value))),
         };
-        if self.slots.len() < self.most {
+        if self.slots.len() < self.capacity {
             self.slots.push(Slot {
                 number,
-                rest: receivers,
+                receivers,
                 value: Some(value),
             });
             return None;
         }
         let slot = &mut self.slots[self.first];
-        self.first = (self.first + 1) & (self.most - 1);
+        self.first = (self.first + 1) & (self.capacity - 1);
         slot.number = number;
-        slot.rest = receivers;
+        slot.receivers = receivers;
         slot.value.replace(value)
     }
 
     /// Returns the value with this number, for a receiver that has yet to receive it.
     #[inline]
-    pub(super) fn get(&mut self, number: u64) -> Value<T> {
-        let at = self.place(number);
-        let value = self.slots[at].get();
+    pub(super) fn take(&mut self, number: u64) -> Value<T> {
+        let index = self.index_of(number);
+        let value = self.slots[index].take();
         value.expect("a value that a receiver has yet to get")
     }
 
     /// Returns the index of the slot that has this many older ones.
     #[inline]
-    fn at(&self, age: usize) -> usize {
-        (self.first + age) & (self.most - 1)
+    fn index_at(&self, age: usize) -> usize {
+        (self.first + age) & (self.capacity - 1)
     }
 
     /// Returns the index of the value with this number. Numbers rise by one, or by more where sends failed in between.
     #[inline]
-    fn place(&self, number: u64) -> usize {
+    fn index_of(&self, number: u64) -> usize {
         let oldest = self.slots[self.first].number;
-        let guess = self.at((number - oldest) as usize);
+        let guess = self.index_at((number - oldest) as usize);
         match self.slots.get(guess) {
             Some(slot) if slot.number == number => guess,
-            _ => self.find(number),
+            _ => self.search(number),
         }
     }
 
     /// Finds the index of the value with this number by binary search.
     #[cold]
-    fn find(&self, number: u64) -> usize {
+    fn search(&self, number: u64) -> usize {
         let (newer, older) = self.slots.split_at(self.first);
         match older.binary_search_by_key(&number, |slot| slot.number) {
-            Ok(place) => self.first + place,
+            Ok(index) => self.first + index,
             Err(_) => newer.partition_point(|slot| slot.number < number),
         }
     }
 
     /// Removes a dropped receiver from the counts of its unread values. Returns the values that no receiver has yet to receive.
-    pub(super) fn leave(&mut self, unread: u64) -> Vec<Value<T>> {
+    pub(super) fn drop_receiver(&mut self, unread: u64) -> Vec<Value<T>> {
         let count = self.slots.len();
         let mut unwanted = Vec::new();
         for age in count - count.min(unread as usize)..count {
-            let at = self.at(age);
-            let slot = &mut self.slots[at];
-            slot.rest -= 1;
-            if slot.rest == 0 {
+            let index = self.index_at(age);
+            let slot = &mut self.slots[index];
+            slot.receivers -= 1;
+            if slot.receivers == 0 {
                 unwanted.extend(slot.value.take());
             }
         }
@@ -151,11 +150,11 @@ mod tests {
     fn values_are_found_by_their_numbers_also_where_some_are_left_out() {
         let mut values = Values::new(4);
         for (sent, number) in SENT.iter().enumerate() {
-            let evicted = values.push(*number, number * 10, 2).map(Value::cloned);
+            let overwritten = values.push(*number, number * 10, 2).map(Value::cloned);
             let expected = sent.checked_sub(4).map(|before| SENT[before] * 10);
-            assert_eq!(evicted, expected, "at {number}");
+            assert_eq!(overwritten, expected, "at {number}");
             for kept in &SENT[sent.saturating_sub(3)..=sent] {
-                assert_eq!(values.slots[values.place(*kept)].number, *kept);
+                assert_eq!(values.slots[values.index_of(*kept)].number, *kept);
             }
         }
     }
@@ -166,9 +165,13 @@ mod tests {
         for number in 0..3 {
             assert!(values.push(number, (), 2).is_none_or(|_| number == 2));
         }
-        values.get(1).cloned();
-        assert_eq!(values.leave(2).len(), 1, "the value 1, which the other has");
-        values.get(2).cloned();
+        values.take(1).cloned();
+        assert_eq!(
+            values.drop_receiver(2).len(),
+            1,
+            "the value 1, which the other has"
+        );
+        values.take(2).cloned();
         assert!(values.slots.iter().all(|slot| slot.value.is_none()));
     }
 }

@@ -1,12 +1,11 @@
 //! Senders that do not keep a broadcast channel open.
 
-use super::{Channel, Sender, made};
-use crate::line::Tap;
-use crate::proved::Reply;
-use crate::recorder::{Handle, Show, sealed};
+use super::{BroadcastHandle, Sender};
+use crate::channel::RecordedChannel;
+use crate::handle::Kind;
+use crate::proved::CoreChannel;
+use crate::recorder::{Handle, TextOf};
 use std::fmt;
-use std::panic::{RefUnwindSafe, UnwindSafe};
-use std::sync::Arc;
 
 /// A sender that does not keep the channel open.
 ///
@@ -31,8 +30,7 @@ use std::sync::Arc;
 /// assert!(plugin.upgrade().is_none());
 /// ```
 pub struct WeakSender<T> {
-    pub(super) channel: Arc<Channel<T>>,
-    pub(super) handle: u32,
+    pub(super) handle: BroadcastHandle<T>,
 }
 
 impl<T> WeakSender<T> {
@@ -61,14 +59,13 @@ impl<T> WeakSender<T> {
     /// ```
     #[must_use]
     pub fn upgrade(&self) -> Option<Sender<T>> {
-        let tap = &self.channel.tap;
-        match tap.call(|channel, caller| channel.broadcast_upgrade(caller, self.handle)) {
-            Reply::NoSender => None,
-            reply => Some(Sender {
-                channel: self.channel.clone(),
-                handle: made(reply),
-            }),
-        }
+        let number = self
+            .handle
+            .call(CoreChannel::broadcast_upgrade)
+            .upgraded()?;
+        Some(Sender {
+            handle: self.handle.sibling(Kind::Sender, number),
+        })
     }
 
     /// Returns the number of senders that are alive, as in tokio. Weak senders are not counted. It is not recorded.
@@ -85,7 +82,7 @@ impl<T> WeakSender<T> {
     /// assert_eq!(weak.strong_count(), 0);
     /// ```
     pub fn strong_count(&self) -> usize {
-        self.channel.tap.ask(|channel| channel.senders()) as usize
+        self.handle.count(CoreChannel::senders)
     }
 
     /// Returns the number of weak senders that are alive, this one included, as in tokio. It is not recorded.
@@ -103,7 +100,7 @@ impl<T> WeakSender<T> {
     /// assert_eq!(weak.weak_count(), 1);
     /// ```
     pub fn weak_count(&self) -> usize {
-        self.channel.tap.ask(|channel| channel.weak_senders()) as usize
+        self.handle.count(CoreChannel::weak_senders)
     }
 }
 
@@ -114,21 +111,17 @@ impl<T> Clone for WeakSender<T> {
     ///
     /// Panics if the channel has created 65,536 senders, weak senders and receivers, dropped ones included.
     fn clone(&self) -> WeakSender<T> {
-        let tap = &self.channel.tap;
-        let handle =
-            made(tap.call(|channel, caller| channel.broadcast_clone_weak(caller, self.handle)));
         WeakSender {
-            channel: self.channel.clone(),
-            handle,
+            handle: self
+                .handle
+                .create(Kind::WeakSender, CoreChannel::broadcast_clone_weak),
         }
     }
 }
 
 impl<T> Drop for WeakSender<T> {
     fn drop(&mut self) {
-        self.channel
-            .tap
-            .call(|channel, caller| channel.broadcast_drop(caller, self.handle));
+        self.handle.drop_by(CoreChannel::broadcast_drop);
     }
 }
 
@@ -138,20 +131,14 @@ impl<T> fmt::Debug for WeakSender<T> {
     }
 }
 
-// A panic in user code leaves no channel half changed: none of that code runs while the channel is locked.
-impl<T> UnwindSafe for WeakSender<T> {}
-impl<T> RefUnwindSafe for WeakSender<T> {}
-
-impl<T> sealed::Tapped for WeakSender<T> {
-    fn tap(&self) -> &Tap {
-        &self.channel.tap
-    }
-}
-
 impl<T> Handle for WeakSender<T> {
     type Value = T;
 
-    fn show(&self, text: Show<T>) {
-        let _ = self.channel.show.set(text);
+    fn recorded(&self) -> &RecordedChannel {
+        self.handle.recorded()
+    }
+
+    fn set_text_of(&self, text_of: TextOf<T>) {
+        self.handle.channel.set_text_of(text_of);
     }
 }

@@ -27,13 +27,13 @@ impl Tried {
     };
 }
 
-fn layout(room: usize) -> Option<Layout> {
-    Layout::from_size_align(room.checked_add(ALIGN)?, ALIGN).ok()
+fn layout_of(size: usize) -> Option<Layout> {
+    Layout::from_size_align(size.checked_add(ALIGN)?, ALIGN).ok()
 }
 
 /// Allocates a block of this size.
-fn allot(room: usize) -> Tried {
-    let Some(layout) = layout(room) else {
+fn allocate(size: usize) -> Tried {
+    let Some(layout) = layout_of(size) else {
         return Tried::NO_MEMORY;
     };
     // SAFETY: the size isn't 0.
@@ -41,12 +41,12 @@ fn allot(room: usize) -> Tried {
     if block.is_null() {
         return Tried::NO_MEMORY;
     }
-    if room >= LARGE {
-        ask_for_large_pages(block, room);
+    if size >= LARGE {
+        ask_for_large_pages(block, size);
     }
     // SAFETY: the block begins with 16 bytes for its size, and its alignment is 16.
     unsafe {
-        block.cast::<usize>().write(room);
+        block.cast::<usize>().write(size);
         Tried {
             ok: true,
             p: block.add(ALIGN),
@@ -89,7 +89,7 @@ unsafe fn block_of(p: *mut u8) -> (*mut u8, usize) {
 /// Any size and alignment that the core requests is allowed.
 #[unsafe(no_mangle)]
 pub(super) unsafe extern "C" fn rattle_alloc(size: usize, _align: usize) -> Tried {
-    allot(size)
+    allocate(size)
 }
 
 /// # Safety
@@ -103,17 +103,17 @@ pub(super) unsafe extern "C" fn rattle_realloc(
     _align: usize,
 ) -> Tried {
     // SAFETY: `p` is the pointer of a block.
-    let (_, room) = unsafe { block_of(p) };
-    if new <= room && new >= LARGE {
+    let (_, size) = unsafe { block_of(p) };
+    if new <= size && new >= LARGE {
         return Tried { ok: true, p };
     }
     if new < LARGE {
         // SAFETY: `p` is the pointer of a block.
         return unsafe { resized(p, new) };
     }
-    let mut moved = allot(new.max(JOURNAL));
+    let mut moved = allocate(new.max(JOURNAL));
     if !moved.ok {
-        moved = allot(new);
+        moved = allocate(new);
     }
     if moved.ok {
         // SAFETY: both blocks have at least this many bytes, and they don't overlap.
@@ -133,8 +133,8 @@ pub(super) unsafe extern "C" fn rattle_realloc(
 unsafe fn resized(p: *mut u8, new: usize) -> Tried {
     // SAFETY: `p` is the pointer of a block, which has its header.
     unsafe {
-        let (block, room) = block_of(p);
-        let (Some(old), Some(wanted)) = (layout(room), layout(new)) else {
+        let (block, size) = block_of(p);
+        let (Some(old), Some(wanted)) = (layout_of(size), layout_of(new)) else {
             return Tried::NO_MEMORY;
         };
         let block = realloc(block, old, wanted.size());
@@ -156,10 +156,10 @@ unsafe fn resized(p: *mut u8, new: usize) -> Tried {
 pub(super) unsafe extern "C" fn rattle_dealloc(p: *mut u8) {
     // SAFETY: the block's header has the size that it was allocated with.
     unsafe {
-        let (block, room) = block_of(p);
+        let (block, size) = block_of(p);
         dealloc(
             block,
-            Layout::from_size_align_unchecked(room + ALIGN, ALIGN),
+            Layout::from_size_align_unchecked(size + ALIGN, ALIGN),
         );
     }
 }

@@ -1,7 +1,8 @@
 //! Tests of the declarations and the heap alone: what the tests in `tests/` reach late or not at all. `rust/test` runs them under valgrind.
 
 use super::heap::{JOURNAL, LARGE, rattle_alloc, rattle_dealloc, rattle_realloc};
-use super::{Actor, Caller, Channel, Cut, Found, Held, Reply};
+use super::{Actor, Caller, CoreChannel, Cut, Found, Held};
+use crate::reply::Reply;
 
 // The crate itself doesn't use a receiver's position.
 unsafe extern "C" {
@@ -17,7 +18,7 @@ fn caller(clock: u64) -> Caller {
 
 #[test]
 fn questions_leave_no_entry() {
-    let mut channel = Channel::broadcast(4).unwrap();
+    let mut channel = CoreChannel::broadcast(4).unwrap();
     assert_eq!(channel.queued(), 0);
     for value in 0..6 {
         assert_eq!(
@@ -32,7 +33,7 @@ fn questions_leave_no_entry() {
         channel.receivers(),
     );
     assert_eq!((counts, channel.entries()), ((1, 0, 1), 6));
-    let mut watch = Channel::watch(7).unwrap();
+    let mut watch = CoreChannel::watch(7).unwrap();
     assert!(watch.seen(1));
     assert_eq!(watch.watch_send(caller(0), 0, 8), Reply::Stored);
     assert_eq!((watch.seen(1), watch.entries()), (false, 1));
@@ -40,11 +41,11 @@ fn questions_leave_no_entry() {
 
 #[test]
 fn a_position_is_that_of_a_live_receiver() {
-    let position = |channel: &mut Channel, receiver| {
+    let position = |channel: &mut CoreChannel, receiver| {
         // SAFETY: a channel is held.
         unsafe { yovanelum_position(&mut channel.0, receiver) }.number()
     };
-    let mut channel = Channel::broadcast(2).unwrap();
+    let mut channel = CoreChannel::broadcast(2).unwrap();
     for value in 7..10 {
         assert_eq!(
             channel.broadcast_send(caller(value), 0, value),
@@ -62,12 +63,12 @@ fn a_position_is_that_of_a_live_receiver() {
     for nobody in [0, 3] {
         assert_eq!(position(&mut channel, nobody), None);
     }
-    assert_eq!(position(&mut Channel::watch(7).unwrap(), 1), None);
+    assert_eq!(position(&mut CoreChannel::watch(7).unwrap(), 1), None);
 }
 
 #[test]
 fn where_recording_ended_calls_go_on_without_entries() {
-    let mut channel = Channel::broadcast(2).unwrap();
+    let mut channel = CoreChannel::broadcast(2).unwrap();
     assert_eq!(channel.broadcast_send(caller(0), 0, 5), Reply::Sent(1));
     channel.end();
     assert_eq!(channel.broadcast_send(caller(1), 0, 6), Reply::Sent(1));
@@ -86,7 +87,7 @@ fn where_recording_ended_calls_go_on_without_entries() {
 #[test]
 fn a_journal_and_its_text_grow_past_a_large_block() {
     const CALLS: u64 = 60_000;
-    let mut channel = Channel::broadcast(1).unwrap();
+    let mut channel = CoreChannel::broadcast(1).unwrap();
     for value in 0..CALLS {
         assert_eq!(
             channel.broadcast_send(caller(value), 0, value),

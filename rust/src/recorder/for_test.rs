@@ -41,15 +41,15 @@ impl Deref for ForTest {
 impl Drop for ForTest {
     fn drop(&mut self) {
         if thread::panicking() || env::var_os("YOVANELUM_KEEP").is_some() {
-            self.keep();
+            self.write_journal();
         }
     }
 }
 
 impl ForTest {
-    fn keep(&self) {
+    fn write_journal(&self) {
         // An absolute path, since the reader may be in another folder, such as that of a workspace.
-        let target = target();
+        let target = target_folder();
         let folder = path::absolute(&target).unwrap_or(target).join("yovanelum");
         // A name with a path separator is one file too.
         let path = folder.join(format!("{}.journal", self.name.replace('/', "_")));
@@ -71,7 +71,7 @@ impl ForTest {
 const PAGE: &str = concat!(env!("CARGO_MANIFEST_DIR"), "/built/yovanelum.html");
 
 /// Returns the folder `target` of the build that this program is from, or else that of the working folder.
-fn target() -> PathBuf {
+fn target_folder() -> PathBuf {
     if let Some(folder) = env::var_os("CARGO_TARGET_DIR") {
         return folder.into();
     }

@@ -1,9 +1,9 @@
 //! What the channels of a recorder share.
 
 use crate::actors::{self, Actors};
-use crate::line::{Line, Tap};
-use crate::proved::{Actor, Channel};
-use crate::wait::lock;
+use crate::channel::{ChannelState, RecordedChannel};
+use crate::lock::lock;
+use crate::proved::{Actor, CoreChannel};
 use std::sync::atomic::{AtomicBool, AtomicU64, Ordering};
 use std::sync::{Arc, Mutex};
 
@@ -13,7 +13,7 @@ const MOST_CHANNELS: usize = 64;
 /// The value of `end` while recording continues.
 const NEVER: u64 = u64::MAX;
 
-static IDS: AtomicU64 = AtomicU64::new(1);
+static NEXT_ID: AtomicU64 = AtomicU64::new(1);
 
 /// Counts calls. Each takes a number under its channel's lock, and passes it to the core as its clock. Every call of every thread writes
 /// it, so it shares no cache line with other data.
@@ -30,7 +30,7 @@ pub(crate) struct Shared {
     end: AtomicU64,
     pub(super) is_quiet: AtomicBool,
     has_too_many: AtomicBool,
-    pub(super) lines: Mutex<Vec<Arc<Line>>>,
+    pub(super) channels: Mutex<Vec<Arc<Mutex<ChannelState>>>>,
     pub(super) actors: Mutex<Actors>,
 }
 
@@ -38,13 +38,13 @@ impl Shared {
     /// Creates the shared part of a recorder without channels.
     pub(super) fn new() -> Shared {
         Shared {
-            id: IDS.fetch_add(1, Ordering::Relaxed),
+            id: NEXT_ID.fetch_add(1, Ordering::Relaxed),
             clock: Clock(AtomicU64::new(0)),
             has_several: AtomicBool::new(false),
             end: AtomicU64::new(NEVER),
             is_quiet: AtomicBool::new(false),
             has_too_many: AtomicBool::new(false),
-            lines: Mutex::default(),
+            channels: Mutex::default(),
             actors: Mutex::default(),
         }
     }
@@ -107,28 +107,29 @@ impl Shared {
     }
 
     /// Adds a channel that was opened with this many values to the run. The 65th channel and later ones are not recorded.
-    pub(crate) fn add(self: &Arc<Shared>, channel: Channel, values: u64) -> Tap {
-        let line = Arc::new(Line::new(channel, values));
-        let mut lines = lock(&self.lines);
-        let count = lines.len();
-        if let [first] = &lines[..] {
-            first.locked(|| self.has_several.store(true, Ordering::Relaxed));
+    pub(crate) fn add(self: &Arc<Shared>, core: CoreChannel, value_count: u64) -> RecordedChannel {
+        let state = Arc::new(Mutex::new(ChannelState::new(core, value_count)));
+        let mut channels = lock(&self.channels);
+        let count = channels.len();
+        if let [first] = &channels[..] {
+            let _first = lock(first);
+            self.has_several.store(true, Ordering::Relaxed);
         }
         if count < MOST_CHANNELS {
-            lines.push(line.clone());
+            channels.push(state.clone());
         }
-        drop(lines);
+        drop(channels);
         if count >= MOST_CHANNELS {
-            line.end();
+            lock(&state).end_recording();
             if !self.has_too_many.swap(true, Ordering::Relaxed) {
                 eprintln!(
                     "yovanelum: a run has 64 channels; this channel is recorded by none, nor are those made later"
                 );
             }
         }
-        Tap {
+        RecordedChannel {
             recorder: self.clone(),
-            line,
+            state,
         }
     }
 }

@@ -56,7 +56,7 @@ impl<T> Error for SendError<T> {}
 /// assert_eq!(reloaded(&mut rx).unwrap_err().to_string(), "channel closed");
 /// ```
 #[derive(Debug, Clone)]
-pub struct RecvError(pub(super) ());
+pub struct RecvError(pub(crate) ());
 
 impl fmt::Display for RecvError {
     fn fmt(&self, f: &mut fmt::Formatter<'_>) -> fmt::Result {

@@ -1,14 +1,12 @@
 //! The receiving half of a watch channel.
 
 use super::error::RecvError;
-use super::{Channel, Ref, debug, made};
-use crate::line::{For, Tap, Waiting};
-use crate::proved::Reply;
-use crate::recorder::{Handle, Show, sealed};
+use super::{Ref, WatchHandle};
+use crate::channel::RecordedChannel;
+use crate::handle::Kind;
+use crate::proved::CoreChannel;
+use crate::recorder::{Handle, TextOf};
 use std::fmt;
-use std::future::poll_fn;
-use std::panic::{RefUnwindSafe, UnwindSafe};
-use std::sync::Arc;
 
 /// The receiving half of a watch channel.
 ///
@@ -33,8 +31,7 @@ use std::sync::Arc;
 /// assert!(other.borrow_and_update().has_changed());
 /// ```
 pub struct Receiver<T> {
-    pub(super) channel: Arc<Channel<T>>,
-    pub(super) handle: u32,
+    pub(super) handle: WatchHandle<T>,
 }
 
 impl<T> Receiver<T> {
@@ -55,7 +52,7 @@ impl<T> Receiver<T> {
     /// assert!(rx.has_changed().unwrap());
     /// ```
     pub fn borrow(&self) -> Ref<'_, T> {
-        self.channel.look(self.handle, true)
+        self.handle.borrow()
     }
 
     /// Returns a reference to the last value, and marks the value as seen.
@@ -74,16 +71,7 @@ impl<T> Receiver<T> {
     /// assert!(!rx.has_changed().unwrap());
     /// ```
     pub fn borrow_and_update(&mut self) -> Ref<'_, T> {
-        self.update()
-    }
-
-    fn update(&self) -> Ref<'_, T> {
-        let inner = self.channel.read();
-        let mut turn = self.channel.tap.turn();
-        let has_changed = !turn.ask(|channel| channel.seen(self.handle));
-        turn.call(|channel, caller| channel.watch_update(caller, self.handle));
-        drop(turn);
-        Ref { inner, has_changed }
+        self.handle.borrow_and_update()
     }
 
     /// Returns `true` if there is a value that this receiver has not seen.
@@ -109,20 +97,13 @@ impl<T> Receiver<T> {
     /// assert_eq!(*rx.borrow(), "log = info");
     /// ```
     pub fn has_changed(&self) -> Result<bool, RecvError> {
-        let tap = &self.channel.tap;
-        if tap.recorder.is_quiet() {
-            let mut turn = tap.turn();
-            let is_open = turn.ask(|channel| channel.senders()) > 0;
-            return if is_open {
-                Ok(!turn.ask(|channel| channel.seen(self.handle)))
-            } else {
-                Err(RecvError(()))
-            };
+        let mut channel = self.handle.lock();
+        if !channel.recorder.is_quiet() {
+            return channel.call(CoreChannel::watch_has_changed).has_changed();
         }
-        match tap.call(|channel, caller| channel.watch_has_changed(caller, self.handle)) {
-            Reply::Flag(has_changed) => Ok(has_changed),
-            Reply::Closed => Err(RecvError(())),
-            reply => unreachable!("{reply:?}"),
+        match channel.core().senders() {
+            0 => Err(RecvError(())),
+            _ => Ok(self.handle.has_changed(&mut channel)),
         }
     }
 
@@ -144,9 +125,7 @@ impl<T> Receiver<T> {
     /// assert!(!rx.has_changed().unwrap());
     /// ```
     pub fn mark_changed(&mut self) {
-        self.channel
-            .tap
-            .call(|channel, caller| channel.watch_mark_changed(caller, self.handle));
+        self.handle.call(CoreChannel::watch_mark_changed);
     }
 
     /// Marks the last value as seen by this receiver.
@@ -166,9 +145,7 @@ impl<T> Receiver<T> {
     /// assert!(rx.has_changed().unwrap());
     /// ```
     pub fn mark_unchanged(&mut self) {
-        self.channel
-            .tap
-            .call(|channel, caller| channel.watch_mark_unchanged(caller, self.handle));
+        self.handle.call(CoreChannel::watch_mark_unchanged);
     }
 
     /// Waits until there is a value that this receiver has not seen, and marks it as seen.
@@ -202,22 +179,7 @@ impl<T> Receiver<T> {
     /// exchange.join().unwrap();
     /// ```
     pub async fn changed(&mut self) -> Result<(), RecvError> {
-        self.wait().await
-    }
-
-    async fn wait(&self) -> Result<(), RecvError> {
-        let mut waiting = Waiting::new(&self.channel.tap, For::Value);
-        poll_fn(|context| {
-            waiting.poll(context, |turn| {
-                match turn.call(|channel, caller| channel.watch_changed(caller, self.handle)) {
-                    Reply::Done => Some(Ok(())),
-                    Reply::Closed => Some(Err(RecvError(()))),
-                    Reply::Waits => None,
-                    reply => unreachable!("{reply:?}"),
-                }
-            })
-        })
-        .await
+        self.handle.changed().await
     }
 
     /// Waits until the closure returns `true` for the value, and returns a reference to that value.
@@ -261,12 +223,12 @@ impl<T> Receiver<T> {
     ) -> Result<Ref<'_, T>, RecvError> {
         loop {
             {
-                let value = self.update();
+                let value = self.handle.borrow_and_update();
                 if f(&value) {
                     return Ok(value);
                 }
             }
-            self.wait().await?;
+            self.handle.changed().await?;
         }
     }
 
@@ -283,7 +245,7 @@ impl<T> Receiver<T> {
     /// assert!(!rx.same_channel(&other));
     /// ```
     pub fn same_channel(&self, other: &Self) -> bool {
-        self.channel.same(&other.channel)
+        self.handle.same_channel(&other.handle)
     }
 }
 
@@ -294,50 +256,34 @@ impl<T> Clone for Receiver<T> {
     ///
     /// Panics if the channel has created 65,536 senders and receivers, dropped ones included.
     fn clone(&self) -> Receiver<T> {
-        let handle = made(
-            self.channel
-                .tap
-                .call(|channel, caller| channel.watch_clone_receiver(caller, self.handle)),
-        );
         Receiver {
-            channel: self.channel.clone(),
-            handle,
+            handle: self
+                .handle
+                .create(Kind::Receiver, CoreChannel::watch_clone_receiver),
         }
     }
 }
 
 impl<T> Drop for Receiver<T> {
     fn drop(&mut self) {
-        let mut turn = self.channel.tap.turn();
-        turn.call(|channel, caller| channel.watch_drop(caller, self.handle));
-        if turn.ask(|channel| channel.receivers()) == 0 {
-            let woken = turn.waiting_senders();
-            drop(turn);
-            woken.wake();
-        }
+        self.handle.drop_by(CoreChannel::watch_drop);
     }
 }
 
 impl<T: fmt::Debug> fmt::Debug for Receiver<T> {
     fn fmt(&self, f: &mut fmt::Formatter<'_>) -> fmt::Result {
-        debug("Receiver", &self.channel, f)
-    }
-}
-
-// A panic in user code leaves no channel half changed: the value is what the closure has left, as in tokio.
-impl<T> UnwindSafe for Receiver<T> {}
-impl<T> RefUnwindSafe for Receiver<T> {}
-
-impl<T> sealed::Tapped for Receiver<T> {
-    fn tap(&self) -> &Tap {
-        &self.channel.tap
+        self.handle.channel.values.fmt_handle("Receiver", f)
     }
 }
 
 impl<T> Handle for Receiver<T> {
     type Value = T;
 
-    fn show(&self, text: Show<T>) {
-        self.channel.show(text);
+    fn recorded(&self) -> &RecordedChannel {
+        self.handle.recorded()
+    }
+
+    fn set_text_of(&self, text_of: TextOf<T>) {
+        self.handle.set_text_of(text_of);
     }
 }

@@ -1,15 +1,15 @@
 //! The sending half of a watch channel.
 
 use super::error::SendError;
-use super::{Channel, Receiver, Ref, debug, free, made, open, put};
-use crate::line::{For, Tap, Turn, Waiting};
-use crate::proved::Reply;
-use crate::recorder::{Handle, Show, sealed};
-use crate::wait::Woken;
-use std::future::poll_fn;
-use std::panic::{self, RefUnwindSafe, UnwindSafe};
-use std::sync::Arc;
-use std::{fmt, mem};
+use super::{Receiver, Ref, WatchHandle, channel};
+use crate::channel::RecordedChannel;
+use crate::handle::Kind;
+use crate::proved::{Caller, CoreChannel};
+use crate::recorder::{Handle, TextOf};
+use crate::reply::Reply;
+use crate::wait::WaitFor;
+use crate::wakers::Wakers;
+use std::{fmt, mem, panic};
 
 /// The sending half of a watch channel.
 ///
@@ -33,8 +33,7 @@ use std::{fmt, mem};
 /// assert_eq!(*rx.borrow(), 30);
 /// ```
 pub struct Sender<T> {
-    pub(super) channel: Arc<Channel<T>>,
-    pub(super) handle: u32,
+    pub(super) handle: WatchHandle<T>,
 }
 
 impl<T> Sender<T> {
@@ -55,12 +54,10 @@ impl<T> Sender<T> {
     /// assert_eq!(*rx.borrow(), "log = info");
     /// ```
     pub fn new(init: T) -> Sender<T> {
-        let channel = open(init);
         // The core opens each channel with a receiver.
-        channel
-            .tap
-            .call(|channel, caller| channel.watch_drop(caller, 1));
-        Sender { channel, handle: 0 }
+        let (sender, receiver) = channel(init);
+        drop(receiver);
+        sender
     }
 
     /// Replaces the value and notifies all receivers.
@@ -86,45 +83,36 @@ impl<T> Sender<T> {
     /// assert_eq!(*config.subscribe().borrow(), "log = debug");
     /// ```
     pub fn send(&self, value: T) -> Result<(), SendError<T>> {
-        let channel = &*self.channel;
-        let mut text = channel.text(&value);
-        let mut now = match free(channel.value.try_write()) {
-            Some(now) => now,
+        let mut text = self.handle.channel.text(&value);
+        let lock = &self.handle.channel.values;
+        let mut stored = match lock.try_write() {
+            Some(stored) => stored,
             // The value is locked, perhaps by this thread. Without receivers the send changes nothing, so it doesn't wait.
             None if self.send_is_refused(&mut text) => return Err(SendError(value)),
-            None => channel.write(),
+            None => lock.write(),
         };
-        let (reply, woken) = self.put_sent(&mut channel.tap.turn(), text);
-        match reply {
-            Reply::Stored => {
-                let before = mem::replace(&mut *now, value);
-                drop(now);
-                woken.wake();
-                drop(before);
-                Ok(())
-            }
-            Reply::NoReceivers => {
-                drop(now);
-                Err(SendError(value))
-            }
-            reply => unreachable!("{reply:?}"),
+        let mut channel = self.handle.lock();
+        let (_, reply) = channel.send(text, CoreChannel::watch_send);
+        if reply == Reply::NoReceivers {
+            return Err(SendError(value));
         }
-    }
-
-    fn put_sent(&self, turn: &mut Turn<'_>, text: Option<String>) -> (Reply, Woken) {
-        put(turn, text, |channel, caller, number| {
-            channel.watch_send(caller, self.handle, number)
-        })
+        let wakers = channel.take_wakers(WaitFor::Value);
+        drop(channel);
+        let before = mem::replace(&mut *stored, value);
+        drop(stored);
+        wakers.wake();
+        drop(before);
+        Ok(())
     }
 
     /// If there is no receiver, makes the send, which is then refused, and returns `true`. The check and the send are under one lock.
     #[cold]
     fn send_is_refused(&self, text: &mut Option<String>) -> bool {
-        let mut turn = self.channel.tap.turn();
-        if turn.ask(|channel| channel.receivers()) > 0 {
+        let mut channel = self.handle.lock();
+        if channel.core().receivers() > 0 {
             return false;
         }
-        let (reply, _) = self.put_sent(&mut turn, text.take());
+        let (_, reply) = channel.send(text.take(), CoreChannel::watch_send);
         assert_eq!(reply, Reply::NoReceivers);
         true
     }
@@ -205,23 +193,23 @@ impl<T> Sender<T> {
     where
         F: FnOnce(&mut T) -> bool,
     {
-        let channel = &*self.channel;
-        let mut now = channel.write();
-        let outcome = channel.with_value(|| modify(&mut now));
-        let told = matches!(outcome, Ok(true));
+        let lock = &self.handle.channel.values;
+        let mut value = lock.write();
+        let result = lock.run_locked(|| modify(&mut value));
+        let notify = matches!(result, Ok(true));
         // The value has changed, so the core and the receivers are notified even if the function for its text panics.
-        let (text, refused) = match channel.with_value(|| channel.text(&now)) {
+        let (text, text_panic) = match lock.run_locked(|| self.handle.channel.text(&value)) {
             Ok(text) => (text, None),
             Err(panicked) => (None, Some(panicked)),
         };
-        let (_, woken) = put(&mut channel.tap.turn(), text, |channel, caller, number| {
-            channel.watch_modify(caller, told, self.handle, number)
+        let wakers = self.make_send(text, notify, |core, caller, sender, number| {
+            core.watch_modify(caller, notify, sender, number)
         });
-        drop(now);
-        woken.wake();
-        match (outcome, refused) {
+        drop(value);
+        wakers.wake();
+        match (result, text_panic) {
             (Err(panicked), _) | (Ok(_), Some(panicked)) => panic::resume_unwind(panicked),
-            (Ok(told), None) => told,
+            (Ok(is_modified), None) => is_modified,
         }
     }
 
@@ -241,16 +229,29 @@ impl<T> Sender<T> {
     /// assert_eq!(*config.subscribe().borrow(), "log = debug");
     /// ```
     pub fn send_replace(&self, value: T) -> T {
-        let channel = &*self.channel;
-        let text = channel.text(&value);
-        let mut now = channel.write();
-        let (_, woken) = put(&mut channel.tap.turn(), text, |channel, caller, number| {
-            channel.watch_send_replace(caller, self.handle, number)
-        });
-        let before = mem::replace(&mut *now, value);
-        drop(now);
-        woken.wake();
+        let text = self.handle.channel.text(&value);
+        let mut stored = self.handle.channel.values.write();
+        let wakers = self.make_send(text, true, CoreChannel::watch_send_replace);
+        let before = mem::replace(&mut *stored, value);
+        drop(stored);
+        wakers.wake();
         before
+    }
+
+    /// Makes a call with a new value. Returns the receivers that wait for one, if they are notified. They are to be woken once the value is
+    /// stored and no lock is held, since a waker may look at it.
+    fn make_send(
+        &self,
+        text: Option<String>,
+        notify: bool,
+        call: impl Fn(&mut CoreChannel, Caller, u32, u64) -> Reply,
+    ) -> Wakers {
+        let mut channel = self.handle.lock();
+        channel.send(text, call);
+        match notify {
+            true => channel.take_wakers(WaitFor::Value),
+            false => Wakers::default(),
+        }
     }
 
     /// Returns a reference to the last value.
@@ -268,7 +269,7 @@ impl<T> Sender<T> {
     /// assert_eq!(*config.borrow(), "log = debug");
     /// ```
     pub fn borrow(&self) -> Ref<'_, T> {
-        self.channel.look(self.handle, false)
+        self.handle.borrow()
     }
 
     /// Returns `true` if the channel has no receiver.
@@ -288,12 +289,10 @@ impl<T> Sender<T> {
     /// assert!(!config.is_closed());
     /// ```
     pub fn is_closed(&self) -> bool {
-        let tap = &self.channel.tap;
-        if tap.recorder.is_quiet() {
-            return tap.ask(|channel| channel.receivers()) == 0;
-        }
-        tap.call(|channel, caller| channel.watch_is_closed(caller, self.handle))
-            == Reply::Flag(true)
+        let reply = self.handle.ask(CoreChannel::watch_is_closed, |core, _| {
+            Reply::Flag(core.receivers() == 0)
+        });
+        reply == Reply::Flag(true)
     }
 
     /// Waits until the channel has no receiver.
@@ -319,17 +318,11 @@ impl<T> Sender<T> {
     /// window.join().unwrap();
     /// ```
     pub async fn closed(&self) {
-        let mut waiting = Waiting::new(&self.channel.tap, For::NoReceiver);
-        poll_fn(|context| {
-            waiting.poll(context, |turn| {
-                match turn.call(|channel, caller| channel.watch_closed(caller, self.handle)) {
-                    Reply::Done => Some(()),
-                    Reply::Waits => None,
-                    reply => unreachable!("{reply:?}"),
-                }
+        self.handle
+            .wait(WaitFor::NoReceiver, |channel| {
+                channel.call(CoreChannel::watch_closed).closed()
             })
-        })
-        .await
+            .await
     }
 
     /// Creates a receiver, which has seen the value that the channel holds.
@@ -355,14 +348,10 @@ impl<T> Sender<T> {
     /// assert!(rx.has_changed().unwrap());
     /// ```
     pub fn subscribe(&self) -> Receiver<T> {
-        let handle = made(
-            self.channel
-                .tap
-                .call(|channel, caller| channel.watch_subscribe(caller, self.handle)),
-        );
         Receiver {
-            channel: self.channel.clone(),
-            handle,
+            handle: self
+                .handle
+                .create(Kind::Receiver, CoreChannel::watch_subscribe),
         }
     }
 
@@ -380,14 +369,10 @@ impl<T> Sender<T> {
     /// assert_eq!(config.receiver_count(), 0);
     /// ```
     pub fn receiver_count(&self) -> usize {
-        let tap = &self.channel.tap;
-        if tap.recorder.is_quiet() {
-            return tap.ask(|channel| channel.receivers()) as usize;
-        }
-        match tap.call(|channel, caller| channel.watch_receiver_count(caller, self.handle)) {
-            Reply::Count(n) => n as usize,
-            reply => unreachable!("{reply:?}"),
-        }
+        self.handle
+            .ask_count(CoreChannel::watch_receiver_count, |core, _| {
+                core.receivers()
+            })
     }
 
     /// Returns the number of senders that are alive, as in tokio. It is not recorded.
@@ -404,7 +389,7 @@ impl<T> Sender<T> {
     /// assert_eq!(config.sender_count(), 1);
     /// ```
     pub fn sender_count(&self) -> usize {
-        self.channel.tap.ask(|channel| channel.senders()) as usize
+        self.handle.count(CoreChannel::senders)
     }
 
     /// Returns `true` if both senders belong to the same channel, as in tokio. It is not recorded.
@@ -420,7 +405,7 @@ impl<T> Sender<T> {
     /// assert!(!config.same_channel(&state));
     /// ```
     pub fn same_channel(&self, other: &Self) -> bool {
-        self.channel.same(&other.channel)
+        self.handle.same_channel(&other.handle)
     }
 }
 
@@ -431,14 +416,10 @@ impl<T> Clone for Sender<T> {
     ///
     /// Panics if the channel has created 65,536 senders and receivers, dropped ones included.
     fn clone(&self) -> Sender<T> {
-        let handle = made(
-            self.channel
-                .tap
-                .call(|channel, caller| channel.watch_clone_sender(caller, self.handle)),
-        );
         Sender {
-            channel: self.channel.clone(),
-            handle,
+            handle: self
+                .handle
+                .create(Kind::Sender, CoreChannel::watch_clone_sender),
         }
     }
 }
@@ -451,36 +432,24 @@ impl<T: Default> Default for Sender<T> {
 
 impl<T> Drop for Sender<T> {
     fn drop(&mut self) {
-        let mut turn = self.channel.tap.turn();
-        turn.call(|channel, caller| channel.watch_drop(caller, self.handle));
-        if turn.ask(|channel| channel.senders()) == 0 {
-            let woken = turn.waiting_receivers();
-            drop(turn);
-            woken.wake();
-        }
+        self.handle.drop_by(CoreChannel::watch_drop);
     }
 }
 
 impl<T: fmt::Debug> fmt::Debug for Sender<T> {
     fn fmt(&self, f: &mut fmt::Formatter<'_>) -> fmt::Result {
-        debug("Sender", &self.channel, f)
-    }
-}
-
-// A panic in user code leaves no channel half changed: the value is what the closure has left, as in tokio.
-impl<T> UnwindSafe for Sender<T> {}
-impl<T> RefUnwindSafe for Sender<T> {}
-
-impl<T> sealed::Tapped for Sender<T> {
-    fn tap(&self) -> &Tap {
-        &self.channel.tap
+        self.handle.channel.values.fmt_handle("Sender", f)
     }
 }
 
 impl<T> Handle for Sender<T> {
     type Value = T;
 
-    fn show(&self, text: Show<T>) {
-        self.channel.show(text);
+    fn recorded(&self) -> &RecordedChannel {
+        self.handle.recorded()
+    }
+
+    fn set_text_of(&self, text_of: TextOf<T>) {
+        self.handle.set_text_of(text_of);
     }
 }

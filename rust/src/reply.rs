@@ -1,0 +1,135 @@
+//! What the core replies to a call, and what each reply means to the caller.
+
+use crate::broadcast::error::{RecvError, TryRecvError};
+use crate::watch;
+use std::task::Poll;
+
+/// What a call returns.
+#[derive(Clone, Copy, Debug, PartialEq, Eq)]
+pub(crate) enum Reply {
+    Sent(u64),
+    NoReceivers,
+    Value(u64),
+    Lagged(u64),
+    Empty,
+    Closed,
+    Waits,
+    New(u32),
+    Dropped,
+    Count(u64),
+    TooManyHandles,
+    Stored,
+    Old,
+    Told(bool),
+    Flag(bool),
+    Done,
+    JournalFull,
+    NoMemory,
+    NoSender,
+}
+
+/// Each of these methods is for the calls that have no other replies. That is proved of the core.
+impl Reply {
+    /// Panics if the call was not made. Nothing has changed then.
+    #[inline]
+    pub(crate) fn expect_made(self) -> Reply {
+        match self {
+            Reply::JournalFull | Reply::NoMemory => panic!("yovanelum: no memory for a call"),
+            Reply::TooManyHandles => panic!(
+                "yovanelum: a channel makes at most 65536 senders, weak senders and receivers"
+            ),
+            reply => reply,
+        }
+    }
+
+    /// Returns the number of the handle that the call has created.
+    pub(crate) fn new_handle(self) -> u32 {
+        match self {
+            Reply::New(handle) => handle,
+            reply => reply.unexpected(),
+        }
+    }
+
+    /// Returns the number of the sender that the upgrade of a weak sender has created, or `None` if no sender is alive.
+    pub(crate) fn upgraded(self) -> Option<u32> {
+        match self {
+            Reply::New(handle) => Some(handle),
+            Reply::NoSender => None,
+            reply => reply.unexpected(),
+        }
+    }
+
+    pub(crate) fn count(self) -> usize {
+        match self {
+            Reply::Count(count) => count as usize,
+            reply => reply.unexpected(),
+        }
+    }
+
+    /// Returns how many receivers the value was sent to, or `None` if there is none.
+    #[inline]
+    pub(crate) fn sent(self) -> Option<u64> {
+        match self {
+            Reply::Sent(receivers) => Some(receivers),
+            Reply::NoReceivers => None,
+            reply => reply.unexpected(),
+        }
+    }
+
+    /// Returns the number of the value that a receive has received.
+    #[inline]
+    pub(crate) fn received(self) -> Poll<Result<u64, RecvError>> {
+        match self {
+            Reply::Value(number) => Poll::Ready(Ok(number)),
+            Reply::Lagged(count) => Poll::Ready(Err(RecvError::Lagged(count))),
+            Reply::Closed => Poll::Ready(Err(RecvError::Closed)),
+            Reply::Waits => Poll::Pending,
+            reply => reply.unexpected(),
+        }
+    }
+
+    /// Returns the number of the value that a receive which doesn't wait has received.
+    #[inline]
+    pub(crate) fn received_at_once(self) -> Result<u64, TryRecvError> {
+        match self {
+            Reply::Value(number) => Ok(number),
+            Reply::Lagged(count) => Err(TryRecvError::Lagged(count)),
+            Reply::Closed => Err(TryRecvError::Closed),
+            Reply::Empty => Err(TryRecvError::Empty),
+            reply => reply.unexpected(),
+        }
+    }
+
+    /// Returns whether the receiver of a watch has yet to see its value.
+    pub(crate) fn has_changed(self) -> Result<bool, watch::error::RecvError> {
+        match self {
+            Reply::Flag(has_changed) => Ok(has_changed),
+            Reply::Closed => Err(watch::error::RecvError(())),
+            reply => reply.unexpected(),
+        }
+    }
+
+    /// Returns whether the wait for a new value of a watch is over.
+    pub(crate) fn changed(self) -> Poll<Result<(), watch::error::RecvError>> {
+        match self {
+            Reply::Done => Poll::Ready(Ok(())),
+            Reply::Closed => Poll::Ready(Err(watch::error::RecvError(()))),
+            Reply::Waits => Poll::Pending,
+            reply => reply.unexpected(),
+        }
+    }
+
+    /// Returns whether the wait until no receiver is alive is over.
+    pub(crate) fn closed(self) -> Poll<()> {
+        match self {
+            Reply::Done => Poll::Ready(()),
+            Reply::Waits => Poll::Pending,
+            reply => reply.unexpected(),
+        }
+    }
+
+    #[cold]
+    fn unexpected(self) -> ! {
+        unreachable!("{self:?}")
+    }
+}
