@@ -6,11 +6,11 @@
 //!
 //! # Getting started
 //!
-//! Add the crate to the dependencies of the tests:
+//! Add the crate to the dependencies of the tests. It is not on crates.io yet, so it is used by its path:
 //!
 //! ```toml
 //! [dev-dependencies]
-//! yovanelum = "0.1"
+//! yovanelum = { path = "../yovanelum/rust" }
 //! ```
 //!
 //! Use its channels where the code is built for tests:
@@ -76,9 +76,9 @@
 //!
 //! # Finding the step
 //!
-//! `cargo install yovanelum` installs the command `ttd`. It reads a journal, and commands from its standard input. Which call made the
-//! audit lag? The audit is receiver 1 of channel 0, since all numbers count from 0 in the order of creation, and `channel` creates sender 0
-//! and receiver 1. `rback` searches backwards from the end:
+//! `cargo install --path ../yovanelum/rust` installs the command `ttd`. It reads a journal, and commands from its standard input. Which
+//! call made the audit lag? The audit is receiver 1 of channel 0, since all numbers count from 0 in the order of creation, and `channel`
+//! creates sender 0 and receiver 1. `rback` searches backwards from the end:
 //!
 //! ```text
 //! $ printf 'rback lagging 0 1\nstep\nstate\n' | ttd debug target/yovanelum/slow_audit.journal
