@@ -15,14 +15,42 @@
 extern "C" {
 #endif
 
-/* A channel with its journal, or null. Pass it to one call at a time. C neither reads, writes nor copies the pointer. */
+/* A channel with its journal, or null. Pass it to one call at a time. C writes the null pointer before it is opened, and otherwise neither
+   reads, writes nor copies the pointer. */
 struct Held { void *channel; };
 
-/* What channels have recorded up to one stamp, or null. It stays on its thread. */
+/* What channels have recorded up to one stamp, or null, for which the same holds. It stays on its thread. */
 struct HeldCut { void *cut; };
 
-/* What a call returns: a kind of reply, and the number that the reply carries. docs/use/CALLS.md has the kinds, 0 to 22. */
+/* What a call returns: a kind of reply, and the number that the reply carries, or 0. */
 struct Answer { uint32_t kind; uint64_t number; };
+
+/* The kinds. Each has the name of its reply in docs/use/CALLS.md, which says what it means and what its number is. */
+enum YovanelumKind {
+  YOVANELUM_SENT = 0,
+  YOVANELUM_NO_RECEIVERS = 1,
+  YOVANELUM_VALUE = 2,
+  YOVANELUM_LAGGED = 3,
+  YOVANELUM_EMPTY = 4,
+  YOVANELUM_CLOSED = 5,
+  YOVANELUM_WAITS = 6,
+  YOVANELUM_NEW = 7,
+  YOVANELUM_DROPPED = 8,
+  YOVANELUM_COUNT = 9,
+  YOVANELUM_UNKNOWN = 10,
+  YOVANELUM_GONE = 11,
+  YOVANELUM_WRONG_KIND = 12,
+  YOVANELUM_TOO_MANY_HANDLES = 13,
+  YOVANELUM_STORED = 14,
+  YOVANELUM_OLD = 15,
+  YOVANELUM_TOLD = 16,
+  YOVANELUM_FLAG = 17,
+  YOVANELUM_DONE = 18,
+  YOVANELUM_NO_CHANNEL = 19,
+  YOVANELUM_JOURNAL_FULL = 20,
+  YOVANELUM_NO_MEMORY = 21,
+  YOVANELUM_NO_SENDER = 22
+};
 
 /* An optional number: 1 and the number, or 0 and 0. */
 struct Found { uint32_t is_some; uint64_t number; };
@@ -38,8 +66,9 @@ void yovanelum_end(struct Held *held);
 /* Frees the channel with its journal. Nothing is held then. */
 void yovanelum_free(struct Held *held);
 
-/* A call: its actor is below 64, and it is stamped one above the greater of `clock` and the channel's last stamp. If it isn't made (the
-   journal is full, no memory, it would wait, or the channel is of the other kind), the channel is unchanged. */
+/* A call: its actor is below 64, and it is stamped one above the greater of `clock` and the channel's last stamp. A program with one channel
+   passes clock 0; docs/use/FOREIGN.md says what one with several passes. If the call isn't made (the journal is full, no memory, it would wait,
+   or the channel is of the other kind), the channel is unchanged. */
 typedef struct Answer YovanelumCall(struct Held *held, uint32_t actor, uint64_t clock, uint32_t handle);
 typedef struct Answer YovanelumSend(struct Held *held, uint32_t actor, uint64_t clock, uint32_t sender, uint64_t value);
 
@@ -83,8 +112,8 @@ struct Found yovanelum_seen(struct Held *held, uint32_t receiver);
 /* Opens a cut without channels. `cut` must be null. Returns false if there is no memory. */
 bool yovanelum_cut_open(struct HeldCut *cut);
 
-/* Adds a channel, with its entries before the first that is stamped above `last`. Returns 0; 4 if the cut has 64 channels already; or 2 if
-   there is no memory. After 4 and 2 the cut is unchanged. */
+/* Adds a channel, with copies of its entries before the first that is stamped above `last`; UINT64_MAX takes all. Returns 0; 4 if the cut has
+   64 channels already; or 2 if there is no memory. After 4 and 2 the cut is unchanged. */
 uint32_t yovanelum_cut_add(struct HeldCut *cut, struct Held *held, uint64_t last);
 
 /* Makes the journal text of the run of these channels. Returns 0; 3 if there is no channel; 5 if the stamps don't put the entries into one
@@ -98,8 +127,9 @@ bool yovanelum_cut_text(struct HeldCut *cut, uint8_t *room, size_t len);
 /* Frees the cut. Nothing is held then. */
 void yovanelum_cut_free(struct HeldCut *cut);
 
-/* The heap, which the program defines. Blocks are aligned to 16 bytes. A resized block keeps its first `old` bytes, and it may have more
-   than that. If there is no memory, the block is unchanged. */
+/* The heap, which the program defines: `malloc`, `realloc` and `free` serve. A size is less than 2^63, an alignment is 16 at most, and no block that
+   is passed is null. Blocks are aligned to 16 bytes. A resized block keeps its first `old` bytes, and it may have more than that. If there is
+   no memory, the block is unchanged. */
 struct Tried { bool is_there; void *block; };
 struct Tried rattle_alloc(size_t size, size_t align);
 struct Tried rattle_realloc(void *block, size_t old, size_t new_size, size_t align);
