@@ -1,6 +1,6 @@
 //! Tests of passes and desks: in one thread and in several, by handles, full, straying and settled, and scripts that threads play.
 //!
-//! They stand apart from the other tests, since they need no journal text and nothing of the program: so they are checked beside it.
+//! They are in a crate of their own, since they need no journal text and nothing of the program: so they are proved beside it.
 //! The one contract is what each test says: what is called, and what is answered, kept by a pass and recorded at the close.
 //! Start reading at `desks/one_thread.rt`.
 #![tactic(auto)]

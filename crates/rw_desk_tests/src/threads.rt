@@ -35,7 +35,7 @@ impl Gate for Held {
     }
 }
 
-/// Holds the calls 0 of the actors 0 and 1 until both threads have come to them.
+/// Holds the calls 0 of the actors 0 and 1 until both threads have reached them.
 #[derive(Drop)]
 struct Meeting {
     first: AtomicBool,
@@ -168,7 +168,7 @@ fn threads_wait_and_use_names(rt: HostRuntime) -> Result<(), Fail> {
             "broadcast 2/actors 2/0 0 recv 1/1 0 send 0 5",
             "1 1 0 send 0 5 = sent 1/2 0 0 recv 1 = value 5/",
         ),
-        // Names of two actors: each stands for the handle that its own line made.
+        // Names of two actors: each names the handle that its own line made.
         (
             "broadcast 4/watch 3/actors 2/0 0 subscribe 0 as a/1 1 clone-receiver 1 as b/0 0 send 0 7/0 0 try-recv a/1 1 drop b",
             "1 0 0 subscribe 0 = new 2/1 1 1 clone-receiver 1 = new 2/2 0 0 send 0 7 = sent 2/2 1 1 drop 2 = dropped/3 0 0 try-recv 2 = value 7/",

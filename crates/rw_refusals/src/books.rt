@@ -20,7 +20,7 @@ fn open_book(alloc: Global) -> Result<Book<World<u64>>, OpenFault> {
     Ok(Book::open(alloc, open(alloc, &SPECS)?)?)
 }
 
-/// The same, asked for again.
+/// The same, with retries.
 fn new_book(alloc: Global, met: &mut Met) -> Result<Book<World<u64>>, NoMemory> {
     for _ in 0..TRIES {
         match open_book(alloc) {
@@ -31,7 +31,7 @@ fn new_book(alloc: Global, met: &mut Met) -> Result<Book<World<u64>>, NoMemory> 
     Err(NoMemory)
 }
 
-/// Takes a call by an actor with clock 0, and answers its stamp and its reply.
+/// Records a call by an actor with clock 0, and returns its stamp and its reply.
 fn take<M: Shows>(
     met: &mut Met,
     book: &mut Book<M>,
@@ -67,7 +67,7 @@ fn ready<M: Shows>(met: &mut Met, book: &mut Book<M>) -> Result<(), TakeFault> {
     Err(TakeFault::NoMemory)
 }
 
-/// Runs calls on a book, and answers where it stopped. The calls before a refusal stand, and the others are asked for again.
+/// Runs calls on a book, and returns where it stopped. The calls before a refusal stay recorded, and the others are retried.
 fn run<M: Shows>(
     met: &mut Met,
     book: &mut Book<M>,

@@ -1,4 +1,4 @@
-//! Calls at a desk, asked for again: by a handle, or by the numbers of a channel and a handle.
+//! Calls at a desk, retried: by a handle, or by the numbers of a channel and a handle.
 
 use crate::met::{Met, TRIES};
 use crate::passes::held;
@@ -8,7 +8,7 @@ use std::io;
 use std::sync::Wait;
 use support_desks::{Hand, call_by, drop_hand};
 
-/// What a call answers, and whether a closure was called for it.
+/// The result of a call, and whether a closure was called for it.
 pub type Made = (Result<ChanReply<u64>, DeskFault>, bool);
 
 /// Who makes calls.
@@ -82,7 +82,7 @@ pub fn ask<C: Caller, R: Wait>(
     Err(DeskFault::NoMemory)
 }
 
-/// Makes these calls, each by a pass of its own, and prints what they answer.
+/// Makes these calls, each by a pass of its own, and prints their results.
 pub fn ask_all<C: Caller, R: Wait + Print>(
     rt: &R,
     met: &mut Met,

@@ -41,7 +41,7 @@ fn receipts_in(passes: &[Pass<u64>]) -> usize {
     count
 }
 
-/// Closes a desk. At a refusal desk and passes come back, and are handed in once more. At another fault they are dropped.
+/// Closes a desk. At a refusal the desk and the passes are returned, and it is closed again. At another fault they are dropped.
 fn close(
     alloc: Global,
     met: &mut Met,
@@ -125,7 +125,7 @@ fn call_broadcast<R: Wait + Print>(
     Ok(())
 }
 
-/// Calls by one pass on both channels, each of which may wait. They are as many that the pass and both books have to grow.
+/// Calls by one pass on both channels, each of which may wait. There are so many that the pass and both books have to grow.
 fn call_both<R: Wait + Print>(
     rt: &R,
     met: &mut Met,

@@ -71,7 +71,7 @@ fn open<B: Recorded + Drop>(alloc: Global) -> Result<Opened<B>, NoMemory>
     HandOff::open(alloc, B::open(alloc)?, 2)
 }
 
-/// The same, asked for again.
+/// The same, with retries.
 fn new_hand_off<B: Recorded + Drop>(alloc: Global, met: &mut Met) -> Result<Opened<B>, NoMemory>
     ensures { IfOk result (λ r. All (λ s. s.home ≡ r.0.home) r.1.items) }
 {
@@ -147,7 +147,7 @@ fn send<B: Recorded + Drop, R: Wait>(
     (lent.give(), sent)
 }
 
-/// Sends a value by seat 0, so often that the book has to grow, and answers how many receivers it was sent to at last.
+/// Sends a value by seat 0, so often that the book has to grow, and returns the last reply.
 fn send_all<B: Recorded + Drop, R: Wait>(
     rt: &R,
     met: &mut Met,
@@ -182,7 +182,7 @@ fn look<B: Recorded + Drop, R: Wait>(
     (lent.give(), length)
 }
 
-/// Closes a hand-off with these seats and one more. It takes no memory.
+/// Closes a hand-off with these seats and one more. It allocates nothing.
 fn close_with<B: Recorded + Drop>(
     hand_off: HandOff<B>,
     seats: Vec<HandSeat<B>>,

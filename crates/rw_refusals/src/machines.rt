@@ -18,7 +18,7 @@ pub const SPECS: [Spec<u64>; 2] = [Spec::Broadcast(2), Spec::Watch(7)];
 /// For how many calls a machine is made ready at once.
 const AHEAD: u64 = 3;
 
-/// A weight that no machine comes to here.
+/// A weight that no machine reaches here.
 const MUCH: u64 = 1_000;
 
 /// A call of a world's channel 0, the broadcast.
@@ -62,7 +62,7 @@ fn make<M: Shows>(met: &mut Met, machine: &mut M, call: &M::Call) -> Result<M::R
     Ok(reply)
 }
 
-/// Makes calls, and prints what each answers.
+/// Makes calls, and prints the reply of each.
 fn make_all<M: Shows>(
     rt: &impl Print,
     met: &mut Met,

@@ -1,7 +1,7 @@
-//! Calls of the library that ask for memory, each asked again where memory is refused.
+//! Calls of the library that ask for memory, each retried where memory is refused.
 //!
-//! What is printed is the same whichever request is refused, and at each refusal all has to stand as before. `./refusals` has each
-//! request refused in turn. Standard error tells how many refusals the calls answered.
+//! What is printed is the same whichever request is refused, and a refusal must change nothing. `./refusals` has each
+//! request refused in turn. Standard error has the number of refusals that the calls returned.
 //! Start reading at `met.rt`, which says what is kept of refusals.
 #![tactic(auto)]
 

@@ -29,7 +29,7 @@ impl Met {
         self.lost
     }
 
-    /// A call answered that memory was refused, and all stands as before, or not.
+    /// Counts a call that returned a refusal of memory, and whether it changed nothing.
     pub fn refused(&mut self, kept: bool) {
         self.answered = self.answered.saturating_add(1);
         if !kept {

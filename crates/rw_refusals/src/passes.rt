@@ -22,7 +22,7 @@ pub fn held<V: Copy>(pass: &Pass<V>) -> (usize, u64) {
     (pass.kept().len(), pass.stamp())
 }
 
-/// The pass of actor 0, without receipts. It takes no memory.
+/// Returns the pass of actor 0, without receipts. It allocates nothing.
 pub fn new_pass<V: Copy>(alloc: Global) -> Pass<V> {
     Pass::new(alloc, 0)
 }
@@ -35,7 +35,7 @@ pub fn open_book<V: Copy>(alloc: Global, spec: &Spec<V>) -> Result<Book<Chan<V>>
     Book::open(alloc, open_channel(alloc, spec)?)
 }
 
-/// The same, asked for again. The channel is dropped at a refusal.
+/// The same, with retries. The channel is dropped at a refusal.
 fn new_book<V: Copy>(
     alloc: Global,
     met: &mut Met,

@@ -6,14 +6,14 @@ use rw_watch::Watch;
 use rw_world::{Chan, World};
 use std::fmt::Debug;
 
-/// A machine of which something is compared.
+/// A machine that can be compared before and after a refusal.
 pub trait Shows: Reversible {
     type Place: Copy + PartialEq + Debug;
 
     fn place(&self) -> Self::Place;
 }
 
-/// How a channel stands: its handles, its values sent or changes told, its oldest retained value or its value, and how many values
+/// What is compared of a channel: its handles, its sends or notified changes, its oldest retained value or its value, and how many values
 /// receiver 1 has yet to receive, or that it has yet to see one.
 #[derive(Clone, Copy, Debug, PartialEq)]
 pub struct ChannelPlace {
@@ -71,7 +71,7 @@ impl Shows for World<u64> {
     }
 }
 
-/// How many handles a channel made, and how many values were sent or changes told.
+/// Returns how many handles a channel made, and how many values were sent or changes notified.
 pub fn counted<V: Copy>(channel: &Chan<V>) -> (u32, u64) {
     match channel {
         Chan::Broadcast(machine) => (machine.made(), machine.sent()),

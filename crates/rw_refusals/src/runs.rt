@@ -56,7 +56,7 @@ fn push<V: Payload>(
     Err(PushFault::NoMemory)
 }
 
-/// The run of a draft. It takes no memory.
+/// Returns the run of a draft. It allocates nothing.
 fn finish<V: Payload>(draft: RunDraft<V>) -> Run<V> {
     draft.finish()
 }
@@ -108,7 +108,7 @@ pub fn build(alloc: Global, met: &mut Met) -> Option<Run<u64>> {
     Some(finish(draft))
 }
 
-/// Prints how a run's channels stand before its first entry.
+/// Prints what a run's channels show before its first entry.
 fn say_start(rt: &impl Print, alloc: Global, met: &mut Met, run: &Run<u64>) -> io::Result<()> {
     let Ok(world) = start(alloc, met, run) else {
         return println!(rt; "  isn't started");

@@ -44,7 +44,7 @@ const LINES: [&[u8]; 14] = [
     b"0 0 recv slow",
 ];
 
-/// Whether memory was refused. The line is then one that stands in the script.
+/// Whether memory was refused. The line is then one of the script.
 fn is_refused(fault: ScriptFault) -> bool {
     matches!(fault.kind, ScriptFaultKind::NoMemory)
 }
@@ -84,7 +84,7 @@ fn read_lines(alloc: Global, met: &mut Met, lines: &[&[u8]]) -> ScriptReader {
     reader
 }
 
-/// The script of these lines. It takes no memory.
+/// Returns the script of these lines. It allocates nothing.
 fn finished(reader: ScriptReader) -> Result<Script, ScriptFault> {
     let line = reader.lines();
     if line > MOST_STEPS as u64 {

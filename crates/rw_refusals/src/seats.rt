@@ -51,7 +51,7 @@ trait Seated {
         requires { Self.owns self.now seat }
         ensures { Self.owns self.now result.0 };
 
-    /// Lets two seats meet on a channel. It takes no memory.
+    /// Lets two seats meet on a channel. It allocates nothing.
     fn meet<R: Wait>(
         &self,
         rt: &R,
@@ -62,7 +62,7 @@ trait Seated {
         requires { Self.owns self.now one × Self.owns self.now two }
         ensures { Self.owns self.now result.0 × Self.owns self.now result.1 };
 
-    /// Closes a desk, and answers how long its run is. Otherwise desk and seats come back.
+    /// Closes a desk, and returns the length of its run. At a fault the desk and the seats are returned.
     fn close<R: Wait>(
         self,
         rt: &R,
@@ -193,7 +193,7 @@ where
     Ok(seats)
 }
 
-/// One call, asked for again. At a refusal the seat has the receipts and the clock that it had.
+/// Makes a call, with one retry. At a refusal the seat has the receipts and the clock that it had.
 fn ask<D: Seated, R: Wait>(
     rt: &R,
     met: &mut Met,
@@ -215,7 +215,7 @@ fn ask<D: Seated, R: Wait>(
     }
 }
 
-/// Makes calls by a seat, and prints what each answers.
+/// Makes calls by a seat, and prints the result of each.
 fn call_all<D: Seated, R: Wait + Print>(
     rt: &R,
     met: &mut Met,
@@ -268,7 +268,7 @@ fn receipts_in<D: Seated>(seats: &[D::Seat]) -> usize {
     count
 }
 
-/// Closes a desk, and answers how long its run is. At a refusal desk and seats come back, and are handed in once more.
+/// Closes a desk, and returns the length of its run. At a refusal the desk and the seats are returned, and it is closed again.
 fn ask_close<D: Seated + Drop, R: Wait>(
     rt: &R,
     alloc: Global,

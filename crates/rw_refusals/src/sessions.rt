@@ -37,7 +37,7 @@ const REFUSED: &[u8] = b"broadcast 2
 0 0 shout 0
 ";
 
-/// Commands over a run. Where there is no memory for the index of a search, the answers are the same.
+/// Commands over a run. Without memory for the index of a search, the results are the same.
 const COMMANDS: &[u8] = b"list
 state
 state json
@@ -68,7 +68,7 @@ fn session_once(alloc: Global, input: &[u8]) -> (FailingWriter, Result<Outcome, 
     (writer, ended)
 }
 
-/// The same, asked for again. What was written before a refusal is the front of what is written the next time.
+/// The same, with retries. What was written before a refusal is a prefix of what is written the next time.
 fn ask_session(
     alloc: Global,
     met: &mut Met,
@@ -96,7 +96,7 @@ fn debug_once(
     (writer, ended)
 }
 
-/// The same, asked for again. The run stays.
+/// The same, with retries. The run is unchanged.
 fn ask_debug(
     alloc: Global,
     met: &mut Met,

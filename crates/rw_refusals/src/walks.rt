@@ -20,7 +20,7 @@ trait Walker {
     /// Its place, and how many calls it has made and taken back.
     fn stands(&self) -> (u64, u64);
 
-    /// Makes the moves, and answers what each answered.
+    /// Makes the moves, and returns the result of each.
     fn walk(
         &mut self,
         alloc: Global,
@@ -89,7 +89,7 @@ fn open_navigator<V: Copy>(alloc: Global, run: &Run<V>) -> Result<Navigator<Worl
     Navigator::open(alloc, run.start(alloc)?, run.entries())
 }
 
-/// The same, asked for again.
+/// The same, with retries.
 fn new_navigator<V: Copy>(
     alloc: Global,
     met: &mut Met,
@@ -119,7 +119,7 @@ fn open_over<V: Copy>(alloc: Global, run: &Run<V>) -> Result<Navigator<World<V>>
     }
 }
 
-/// The same, asked for again.
+/// The same, with retries.
 fn new_over<V: Copy>(
     alloc: Global,
     met: &mut Met,
@@ -151,7 +151,7 @@ fn new_debugger<V: Copy>(
     Err(NoMemory)
 }
 
-/// Makes the moves, asked for again.
+/// Makes the moves, with retries.
 fn walk<W: Walker>(
     alloc: Global,
     met: &mut Met,
@@ -167,7 +167,7 @@ fn walk<W: Walker>(
     Err(NoMemory)
 }
 
-/// What an index of a condition finds next to a place, asked for again.
+/// Returns what an index of a condition finds next to a place, with retries.
 fn around<W: Walker>(
     alloc: Global,
     met: &mut Met,

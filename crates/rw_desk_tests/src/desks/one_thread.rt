@@ -1,6 +1,6 @@
 //! Desks of one actor, and what is refused.
 //!
-//! An assert is proved once more for each desk, pass or handle that its function drops: so most stand in functions that borrow them.
+//! An assert is proved once more for each desk, pass or handle that its function drops: so most are in functions that borrow them.
 
 mod handles;
 

@@ -402,7 +402,7 @@ pub fn w_send_modify<R: Wait, F: FnOnce(&mut u64)>(
     desk.w_send_modify(rt, pass, sender, f)
 }
 
-/// Stores what f makes of the value of a watch channel, told or not.
+/// Stores what `f` makes of the value of a watch channel, with or without notification.
 pub fn w_send_if_modified<R: Wait, F: FnOnce(&mut u64) -> bool>(
     desk: &Desk<u64>,
     rt: &R,
@@ -415,7 +415,7 @@ pub fn w_send_if_modified<R: Wait, F: FnOnce(&mut u64) -> bool>(
     desk.w_send_if_modified(rt, pass, sender, f)
 }
 
-/// Waits for a value of which f is true.
+/// Waits for a value for which `f` returns `true`.
 pub fn w_wait_for<R: Wait, F: Fn(&u64) -> bool>(
     desk: &Desk<u64>,
     rt: &R,

@@ -79,7 +79,7 @@ static WATCHES: [(u64, &str); 6] = [
         1,
         "drop 1=dropped/is-closed 0=flag yes/closed 0=done/receiver-count 0=count 0/send 0 2=no-receivers 2/borrow 0=value 1/send-replace 0 3=old 1/subscribe 0=new 2/has-changed 2=flag no/borrow 2=value 3",
     ),
-    // A modification that isn't told.
+    // A modification without notification.
     (
         1,
         "modify 0 5 no=told no/borrow 1=value 5/has-changed 1=flag no",
@@ -89,7 +89,7 @@ static WATCHES: [(u64, &str); 6] = [
         4,
         "mark-changed 1=done/mark-changed 1=done/clone-receiver 1=new 2/mark-unchanged 1=done/has-changed 1=flag no/has-changed 2=flag yes/changed 2=done",
     ),
-    // A modification that is told.
+    // A modification with notification.
     (
         7,
         "drop 1=dropped/modify 0 9 yes=told yes/subscribe 0=new 2/has-changed 2=flag no/borrow 2=value 9",

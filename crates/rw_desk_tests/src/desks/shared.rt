@@ -98,7 +98,7 @@ pub trait Calls {
         value: u64,
     ) -> Result<WReply<u64>, DeskFault>;
 
-    /// Stores what f makes of the value of a watch channel, told or not.
+    /// Stores what `f` makes of the value of a watch channel, with or without notification.
     fn w_send_if_modified<R: Wait, F: FnOnce(&mut u64) -> bool>(
         &self,
         rt: &R,
@@ -108,7 +108,7 @@ pub trait Calls {
     ) -> Result<WReply<u64>, DeskFault>
         requires { F.IsAlwaysCallable f };
 
-    /// Waits for a value of which f is true.
+    /// Waits for a value for which `f` returns `true`.
     fn w_wait_for<R: Wait, F: Fn(&u64) -> bool>(
         &self,
         rt: &R,

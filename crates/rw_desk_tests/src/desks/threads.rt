@@ -242,7 +242,7 @@ fn calls_of_two_threads_on_two_channels(rt: HostRuntime) -> Result<(), Fail> {
     };
     let run = run_of_two(alloc, desk, first, second)?;
     assert!(rt; in_time);
-    // The send came later, and stands first: by its stamp, and then by its channel.
+    // The send came later, and is first in the run: by its stamp, and then by its channel.
     let wanted = [
         (1, 0, 0, ChanReply::B(BReply::Sent(1))),
         (1, 1, 1, ChanReply::W(WReply::Stored)),

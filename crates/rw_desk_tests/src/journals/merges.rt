@@ -11,7 +11,7 @@ use std::process::Abort;
 use std::test::Fail;
 use support_desks::StampedCall;
 
-/// Calls that each state answers alike, by these actors and at these stamps.
+/// Calls with the same reply in each state, by these actors and at these stamps.
 fn steps(alloc: Global, marks: &[(u32, u64)]) -> Result<Vec<StampedCall<u64>>, AllocError> {
     let mut steps = Vec::new(alloc);
     for (actor, stamp) in marks {
