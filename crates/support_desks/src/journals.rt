@@ -5,10 +5,10 @@ ghost use Rattle.rw_world.specs.Openings.{has_bad_capacity, refusal};
 ghost use Rattle.rw_journal.specs.Merge.{AreJournalsOf, lists};
 ghost use Rattle.rw_desk.specs.Closing.{AreJournalsFrom, IsJournalFrom};
 
-use rw_fixtures::record;
 use rw_law::{Entry, NoMemory};
 use rw_world::{Chan, ChanCall, OpenFault, Spec, open_channel, refusal_of};
 use std::alloc::Global;
+use support_fixtures::record;
 
 /// A call, by its actor and at its stamp.
 pub type StampedCall<V> = (u32, u64, ChanCall<V>);

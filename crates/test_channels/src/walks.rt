@@ -1,0 +1,193 @@
+//! Walks and searches over journals of a small machine.
+
+mod adding;
+mod metering;
+mod parity;
+
+use crate::comparing::same;
+use adding::Adder;
+use metering::Metered;
+use parity::Parity;
+use rw_law::NoMemory;
+use rw_navigator::{Move, Navigator, OutOfRange};
+use std::alloc::Global;
+use std::process::Abort;
+use std::test::Fail;
+use support_fixtures::record;
+
+/// Calls by actor 0, with their stamps.
+const ONE_TO_SEVEN: [(u32, u64, u64); 7] = [
+    (0, 1, 1),
+    (0, 2, 2),
+    (0, 3, 3),
+    (0, 4, 4),
+    (0, 5, 5),
+    (0, 6, 6),
+    (0, 7, 7),
+];
+
+/// Returns a navigator at the opening of an adder that makes these calls.
+fn at_opening(alloc: Global) -> Result<Navigator<Adder>, NoMemory> {
+    let mut played = Adder::new();
+    let entries = record(alloc, &mut played, &ONE_TO_SEVEN)?;
+    let opened = Navigator::open(alloc, Adder::new(), &entries);
+    drop(entries);
+    opened
+}
+
+#[test]
+fn the_machine_had_as_many_calls_as_places_were_passed(rt: HostRuntime) -> Result<(), Fail> {
+    let mut played = Metered::new(Adder::new());
+    let entries = record(rt.alloc(), &mut played, &[(0, 1, 3), (0, 2, 1), (0, 3, 4)])?;
+    let start = Metered::new(Adder::new());
+    let opened = Navigator::open(rt.alloc(), start, &entries);
+    drop(entries);
+    let mut navigator = opened?;
+    counts_its_turns(&rt, &mut navigator);
+    drop(navigator);
+    same(
+        &rt,
+        &"the machine had as many calls as places were passed",
+        &played.calls(),
+        &3,
+    );
+    Ok(())
+}
+
+/// Each move has this result, and the machine had as many calls as the navigator counts.
+fn counts_its_turns(rt: &impl Abort, navigator: &mut Navigator<Metered<Adder>>) {
+    for (to, answer, place, turns) in [
+        (Move::End, Ok(()), 3, 3),
+        (Move::Back(1), Ok(()), 2, 4),
+        (Move::Goto(0), Ok(()), 0, 6),
+        (Move::Forward(2), Ok(()), 2, 8),
+        (Move::Back(7), Err(OutOfRange), 2, 8),
+        (Move::Start, Ok(()), 0, 10),
+        (Move::Goto(3), Ok(()), 3, 13),
+    ] {
+        let answered = navigator.step(to);
+        let counts = [
+            navigator.place(),
+            navigator.turns(),
+            navigator.state().calls(),
+        ];
+        same(
+            rt,
+            &"counts its turns",
+            &(answered, counts),
+            &(answer, [place, turns, turns]),
+        );
+    }
+}
+
+#[test]
+fn walks_by_moves_and_refuses_those_out_of_range(rt: HostRuntime) -> Result<(), Fail> {
+    let mut navigator = at_opening(rt.alloc())?;
+    let moves = [
+        Move::Back(5),
+        Move::Forward(9),
+        Move::Goto(4),
+        Move::Start,
+        Move::End,
+    ];
+    let walked = navigator.walk(rt.alloc(), &moves);
+    let sum = navigator.state().sum();
+    refuses(&rt, &mut navigator);
+    drop(navigator);
+    same(
+        &rt,
+        &"walks by moves and refuses those out of range",
+        &walked?.as_slice(),
+        &[Err(OutOfRange), Err(OutOfRange), Ok(()), Ok(()), Ok(())].as_slice(),
+    );
+    same(&rt, &"sum", &sum, &28);
+    Ok(())
+}
+
+/// Moves out of the range of seven entries are refused, and change nothing.
+fn refuses(rt: &impl Abort, navigator: &mut Navigator<Adder>) {
+    same(
+        rt,
+        &"refuses",
+        &(navigator.place(), navigator.turns()),
+        &(7, 15),
+    );
+    for to in [
+        Move::Forward(u64::MAX),
+        Move::Back(u64::MAX),
+        Move::Goto(u64::MAX),
+        Move::Goto(8),
+    ] {
+        let answer = navigator.step(to);
+        same(
+            rt,
+            &"refuses",
+            &(answer, navigator.place(), navigator.turns()),
+            &(Err(OutOfRange), 7, 15),
+        );
+    }
+}
+
+const EVEN_AMOUNT: Parity = Parity {
+    of_amount: true,
+    remainder: 0,
+};
+
+const EVEN_SUM: Parity = Parity {
+    of_amount: false,
+    remainder: 0,
+};
+
+const ODD_SUM: Parity = Parity {
+    of_amount: false,
+    remainder: 1,
+};
+
+/// A condition, a place, and the nearest hits below it and above it. The sums at the places 0 to 7 are 0, 1, 3, 6, 10, 15, 21, 28.
+const NEAREST: [(Parity, u64, Option<u64>, Option<u64>); 12] = [
+    (EVEN_AMOUNT, 0, None, Some(2)),
+    (EVEN_AMOUNT, 2, None, Some(4)),
+    (EVEN_AMOUNT, 6, Some(4), None),
+    (EVEN_AMOUNT, 7, Some(6), None),
+    (EVEN_SUM, 0, None, Some(3)),
+    (EVEN_SUM, 3, None, Some(7)),
+    (EVEN_SUM, 4, Some(3), Some(7)),
+    (EVEN_SUM, 7, Some(3), None),
+    (ODD_SUM, 0, None, Some(1)),
+    (ODD_SUM, 1, None, Some(5)),
+    (ODD_SUM, 6, Some(5), None),
+    (ODD_SUM, 7, Some(5), None),
+];
+
+#[test]
+fn finds_the_nearest_hit_in_each_direction(rt: HostRuntime) -> Result<(), Fail> {
+    let mut navigator = at_opening(rt.alloc())?;
+    for (probe, from, below, above) in NEAREST {
+        finds(&rt, &mut navigator, probe, from, below, above);
+    }
+    drop(navigator);
+    Ok(())
+}
+
+/// Searches for a condition from a place, in each direction. The navigator is then at the hit, or where it was.
+fn finds(
+    rt: &impl Abort,
+    navigator: &mut Navigator<Adder>,
+    probe: Parity,
+    from: u64,
+    below: Option<u64>,
+    above: Option<u64>,
+) {
+    let gone = navigator.step(Move::Goto(from));
+    let back = (gone, navigator.back_to(&probe), navigator.place());
+    let gone = navigator.step(Move::Goto(from));
+    let on = (gone, navigator.forward_to(&probe), navigator.place());
+    assert_eq!(rt;
+        (back, on),
+        (
+            (Ok(()), below, below.unwrap_or(from)),
+            (Ok(()), above, above.unwrap_or(from))
+        ),
+        "{probe:?} from {from}"
+    );
+}

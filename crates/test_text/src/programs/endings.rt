@@ -1,0 +1,21 @@
+//! How runs of the program end.
+
+use crate::plain::same;
+use std::fmt::Display;
+use std::process::Abort;
+use support_devices::FailingWriter;
+
+/// A status, the output that was flushed, and what was written to the stream for errors.
+pub type Ending = (u8, &'static [u8], &'static [u8]);
+
+/// Asserts that a run ends in this way.
+pub fn ends_as(
+    rt: &impl Abort,
+    case: &impl Display,
+    status: u8,
+    out: &FailingWriter,
+    err: &FailingWriter,
+    ending: &Ending,
+) {
+    same(rt, case, &(status, out.handed_on(), err.written()), ending);
+}

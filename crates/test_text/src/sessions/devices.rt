@@ -1,0 +1,66 @@
+//! Readers and writers that fail at one call.
+
+use crate::plain::same;
+use crate::streams::session_of;
+use rw_console::{Outcome, SessionFault};
+use std::process::Abort;
+use support_devices::{FailingReader, FailingWriter};
+
+const INPUT: &[u8] =
+    b"broadcast 2\n0 0 send 0 1\n0 0 try-recv 1\n0 0 recv 1\n---\nlist\nstate\nstate json\nback\nstep\nrforward reply value\nrback closed 0\nlost\nquit\n";
+
+const REPORT: &[u8] =
+    b"would wait 4\n#1 1 0 0 send 0 1 = sent 1\n#2 2 0 0 try-recv 1 = value 1\nplace 2 of 2\nchannel 0 broadcast capacity 2 sent 1 queued 0 made 2 open\nwindow 1\nsenders 0\nreceiver 1 position 1 unread 0 lag 0\n{\"channels\":[{\"capacity\":2,\"closed\":false,\"kind\":\"broadcast\",\"made\":2,\"queued\":0,\"receivers\":[{\"handle\":1,\"lag\":0,\"position\":1,\"unread\":0}],\"senders\":[0],\"sent\":1,\"window\":[1]}],\"len\":2,\"place\":2}\nplace 1 of 2\n#1 1 0 0 send 0 1 = sent 1\nhit 2 of 2\nno hit, place 2 of 2\nbad command\n";
+
+/// Whether a session over devices that fail after this many calls is complete. If not, it asserts that it ends with this fault,
+/// that no earlier one was complete, and that a prefix of the report was written.
+fn is_whole(
+    rt: &impl Abort,
+    calls: u64,
+    done: bool,
+    (ended, fault): (Result<Outcome, SessionFault>, SessionFault),
+    writer: &FailingWriter,
+) -> bool {
+    // Flushed once for the line that would wait, and once for each command.
+    let is_flushed = writer.handed_on() == REPORT && writer.flushes() == 10;
+    let is_whole = ended == Ok(Outcome::Waited(4)) && is_flushed;
+    let is_front = !done && REPORT.starts_with(writer.written());
+    let has_failed = ended == Err(fault) && is_front;
+    assert!(rt; is_whole || has_failed, "{calls}");
+    is_whole
+}
+
+#[test]
+fn each_read_fails(rt: HostRuntime) {
+    let mut done = false;
+    for k in 0..200u64 {
+        let mut reader = FailingReader::new(INPUT, 1, Some(k));
+        let mut writer = FailingWriter::new(rt.alloc(), 4096, None);
+        let ended = session_of(rt.alloc(), &mut reader, &mut writer);
+        done = is_whole(&rt, k, done, (ended, SessionFault::Read), &writer);
+        drop(writer);
+    }
+    assert!(rt; done);
+}
+
+#[test]
+fn each_write_fails(rt: HostRuntime) {
+    let mut done = false;
+    for k in 0..200u64 {
+        let mut reader = FailingReader::new(INPUT, 64, None);
+        let mut writer = FailingWriter::new(rt.alloc(), 5, Some(k));
+        let ended = session_of(rt.alloc(), &mut reader, &mut writer);
+        done = is_whole(&rt, k, done, (ended, SessionFault::Write), &writer);
+        drop(writer);
+    }
+    assert!(rt; done);
+}
+
+#[test]
+fn a_writer_that_takes_nothing(rt: HostRuntime) {
+    let mut reader = FailingReader::new(INPUT, 64, None);
+    let mut writer = FailingWriter::new(rt.alloc(), 0, None);
+    let ended = session_of(rt.alloc(), &mut reader, &mut writer);
+    let told = (Err(SessionFault::Write), b"".as_slice());
+    same(&rt, &"a session", &(ended, writer.written()), &told);
+}

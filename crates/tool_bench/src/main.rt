@@ -1,0 +1,135 @@
+//! How long a step takes, in nanoseconds: of a machine alone, of a book that records its calls, and of a navigator that redoes
+//! and undoes them.
+//!
+//! `tool_bench COUNT` makes COUNT steps of each workload, or 1,000. The times go to standard error, with the bytes of an entry and
+//! those that handles, retained values and channels take. Standard output has the result of each workload, which is the same each
+//! time.
+//! Start reading at `workloads.rt`, which says what is done. Then read `measure.rt`, which says what is timed, and `memory.rt`,
+//! which says what memory is counted.
+#![tactic(auto)]
+
+ghost use Rattle.std.specs.Prelude.{◌≡◌};
+
+mod channels;
+mod measure;
+mod memory;
+mod steps;
+mod workloads;
+
+use anyhow::{Context, Result};
+use channels::{on_broadcast, on_watch, on_world};
+use measure::Measured;
+use memory::report_memory;
+use rw_law::Entry;
+use rw_world::{Spec, World};
+use std::alloc::Global;
+use std::env::{self, Env};
+use std::fmt::Debug;
+use std::io;
+use std::num::nearest_u64_to_f64;
+use std::time::{Clock, Duration};
+use workloads::{BroadcastWork, MOST_STEPS, WatchWork, to_broadcast, to_watch};
+
+/// How many steps are made if no number is given.
+const DEFAULT_STEPS: u64 = 1_000;
+
+/// Returns how many steps the command line asks for.
+fn asked_steps(rt: &(impl Env + Alloc)) -> Result<u64> {
+    match env::args(rt)?.nth(1) {
+        Some(count) => count.parse::<u64>().context("COUNT must be a number"),
+        None => Ok(DEFAULT_STEPS),
+    }
+}
+
+/// Returns how many bytes an entry of a world's journal takes. A journal has up to a million of them.
+fn entry_bytes() -> usize
+    ensures { result ≡ 96 }
+{
+    size_of::<Entry<World<u64>>>()
+}
+
+/// Returns the nanoseconds of each step, if this many took this long.
+fn per_step(all: Duration, steps: u64) -> f64 {
+    all.as_secs_f64() * 1e9 / nearest_u64_to_f64(steps)
+}
+
+/// Prints the result of a workload, and to standard error the times of a step.
+fn report<R: Debug>(
+    rt: &(impl Print + Eprint),
+    name: &str,
+    measured: &Measured<R>,
+) -> io::Result<()> {
+    let steps = measured.steps;
+    println!(rt;
+        "{name}: {steps} steps, last reply {:?}, walked in {} turns",
+        measured.last, measured.turns
+    )?;
+    eprintln!(rt;
+        "{:>7.1} {:>7.1} {:>7.1} {:>7.1}  {name}",
+        per_step(measured.apply, steps),
+        per_step(measured.take, steps),
+        per_step(measured.redo, steps),
+        per_step(measured.undo, steps)
+    )
+}
+
+/// Measures work on a broadcast channel of this capacity, alone and in a world.
+fn broadcast(
+    rt: &(impl Clock + Print + Eprint),
+    alloc: Global,
+    capacity: u32,
+    work: BroadcastWork,
+    asked: u64,
+) -> Result<()> {
+    let calls = work.calls(alloc, work.steps(asked))?;
+    let name = format!(in alloc; "broadcast of {capacity}, {work}")?;
+    report(rt, &name, &on_broadcast(rt, alloc, capacity, &calls)?)?;
+    let calls = to_broadcast(alloc, &calls)?;
+    let name = format!(in alloc; "world, {name}")?;
+    let spec = Spec::Broadcast(capacity);
+    report(rt, &name, &on_world(rt, alloc, spec, &calls)?)?;
+    Ok(())
+}
+
+/// Measures work on a watch channel, alone and in a world.
+fn watch(
+    rt: &(impl Clock + Print + Eprint),
+    alloc: Global,
+    work: WatchWork,
+    asked: u64,
+) -> Result<()> {
+    let calls = work.calls(alloc, asked.min(MOST_STEPS))?;
+    let name = format!(in alloc; "watch, {work}")?;
+    report(rt, &name, &on_watch(rt, alloc, &calls)?)?;
+    let calls = to_watch(alloc, &calls)?;
+    let name = format!(in alloc; "world, {name}")?;
+    report(rt, &name, &on_world(rt, alloc, Spec::Watch(0), &calls)?)?;
+    Ok(())
+}
+
+fn main(rt: HostRuntime) -> Result<()> {
+    let alloc = rt.alloc();
+    let asked = asked_steps(&rt)?;
+    report_memory(&rt)?;
+    eprintln!(rt; "bytes of an entry: {}", entry_bytes())?;
+    eprintln!(rt; "nanoseconds a step:")?;
+    eprintln!(rt; "  apply    take    redo    undo")?;
+    for (capacity, work) in [
+        (1_024, BroadcastWork::SendAndReceive(1)),
+        (1_024, BroadcastWork::SendAndReceive(8)),
+        (2, BroadcastWork::Send),
+        (65_536, BroadcastWork::Send),
+        (1_024, BroadcastWork::Receive),
+        (1_024, BroadcastWork::SubscribeAndDrop),
+    ] {
+        broadcast(&rt, alloc, capacity, work, asked)?;
+    }
+    for work in [
+        WatchWork::SendAndUpdate(1),
+        WatchWork::SendAndUpdate(8),
+        WatchWork::HasChanged,
+    ] {
+        watch(&rt, alloc, work, asked)?;
+    }
+    Ok(())
+}

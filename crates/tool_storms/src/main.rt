@@ -1,0 +1,119 @@
+//! Threads on desks: storms, which look for a call that is lost, and what calls cost.
+//!
+//! `tool_storms storm SEEDS CALLS` makes CALLS calls for each of the seeds 0, 1, .., while other threads wait for them. Then it
+//! makes as many by seats, which meet. Standard output has a line for each of the two, which doesn't depend on the order of the
+//! threads. Standard error has how many calls were recorded.
+//!
+//! `tool_storms bench COUNT` makes COUNT calls of each workload. The times go to standard error, with the bytes of an entry, of a receipt,
+//! and of memory in use. Standard output has what was done, which is the same each time.
+//!
+//! Without arguments it does a little of both. Start reading at `storm.rt` and `bench.rt`.
+#![tactic(auto)]
+
+ghost use Rattle.std.specs.Prelude.{◌≡◌};
+
+mod bench;
+mod desks;
+mod passes;
+mod seats;
+mod storm;
+
+use anyhow::{Context, Result, bail};
+use bench::measure;
+use desks::Calls;
+use passes::PassDesk;
+use rw_seat::SeatDesk;
+use std::alloc::Global;
+use std::env::{self, Env};
+use std::rt::Files;
+use std::sync::atomic::{AtomicBool, Ordering};
+use std::sync::{Arc, Wait};
+use std::thread;
+use std::thread::Threads;
+use std::time::{Clock, Duration};
+use storm::{PLAYERS, SEATS, WAITERS, play_seats, play_seed};
+
+/// How many seeds are played if no number is given.
+const DEFAULT_SEEDS: u64 = 2;
+
+/// How many calls are made for each seed if no number is given.
+const DEFAULT_CALLS: u64 = 16_000;
+
+/// How many calls of each workload are made if no number is given.
+const DEFAULT_COUNT: u64 = 1_000;
+
+/// How many times to check whether a seed was played, a hundredth of a second apart. A seed takes a second or two.
+const MOST_LOOKS: u64 = 10_000;
+
+/// Returns the number at this place of the command line, or the default.
+fn asked(rt: &(impl Env + Alloc), place: usize, default: u64) -> Result<u64> {
+    match env::args(rt)?.nth(place) {
+        Some(number) => number
+            .parse::<u64>()
+            .context("SEEDS, CALLS and COUNT must be numbers"),
+        None => Ok(default),
+    }
+}
+
+/// Plays a seed in its own thread. If that doesn't end in time, some thread waits for a wake-up that was lost. The seed's thread
+/// isn't joined then, and ends with the program.
+fn play_in_time<
+    D: Calls + Sync + Drop + 'static,
+    R: Threads + Wait + Clock + Copy + Send + Sync + 'static,
+>(rt: R, alloc: Global, seed: u64, calls: u64) -> Result<u64>
+where
+    D::Actor: Send + Drop,
+{
+    let is_played = Arc::new(alloc, AtomicBool::new(false))?;
+    let theirs = Arc::try_clone(&is_played)?;
+    let player = thread::spawn(&rt, move || {
+        let recorded = play_seed::<D, R>(&rt, alloc, seed, calls);
+        theirs.store(true, Ordering::SeqCst);
+        recorded
+    })?;
+    for _ in 0..MOST_LOOKS {
+        if is_played.load(Ordering::SeqCst) {
+            return player.join(&rt);
+        }
+        thread::sleep(&rt, Duration::from_millis(10));
+    }
+    bail!("a wait does not end")
+}
+
+/// Makes `calls` calls for each of `seeds` seeds.
+fn storms<R: Threads + Wait + Clock + Copy + Send + Sync + Print + Eprint + 'static>(
+    rt: &R,
+    alloc: Global,
+    seeds: u64,
+    calls: u64,
+) -> Result<()> {
+    for seed in 0..seeds {
+        let recorded = play_in_time::<PassDesk, R>(*rt, alloc, seed, calls)?;
+        eprintln!(rt; "seed {seed}: {recorded} calls recorded")?;
+        println!(rt;
+            "seed {seed}: {calls} calls of {PLAYERS} threads, {WAITERS} others waited and were told, closed, each actor's receipts are its entries"
+        )?;
+        let recorded = play_seats::<SeatDesk<u64>, R>(rt, alloc, seed, calls)?;
+        eprintln!(rt; "seed {seed}: {recorded} calls of seats recorded")?;
+        println!(rt;
+            "seed {seed}: {SEATS} seats in two threads, which met by twos, closed, each seat's receipts are its entries, each front is its entry's place"
+        )?;
+    }
+    Ok(())
+}
+
+fn main(rt: HostRuntime) -> Result<()> {
+    let alloc = rt.alloc();
+    let Some(verb) = env::args(&rt)?.nth(1) else {
+        storms(&rt, alloc, DEFAULT_SEEDS, DEFAULT_CALLS)?;
+        return measure(&rt, alloc, DEFAULT_COUNT);
+    };
+    if verb.as_str() == "storm" {
+        let seeds = asked(&rt, 2, DEFAULT_SEEDS)?;
+        storms(&rt, alloc, seeds, asked(&rt, 3, DEFAULT_CALLS)?)
+    } else if verb.as_str() == "bench" {
+        measure(&rt, alloc, asked(&rt, 2, DEFAULT_COUNT)?)
+    } else {
+        bail!("the words are: storm SEEDS CALLS, or bench COUNT")
+    }
+}
