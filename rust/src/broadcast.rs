@@ -67,14 +67,15 @@ pub use sender::Sender;
 pub use weak::WeakSender;
 
 use crate::channel::{Channel, ChannelState};
+use crate::core::{CoreChannel, OpenFault};
+use crate::guarded_by::GuardedBy;
 use crate::handle::ChannelHandle;
 use crate::lock::lock;
-use crate::proved::{CoreChannel, GuardedBy, OpenFault};
 use crate::recorder::Recorder;
 use values::Values;
 
 /// The greatest capacity.
-const MOST_CAPACITY: usize = 65_536;
+pub(crate) const MOST_CAPACITY: usize = 65_536;
 
 /// What each sender, weak sender and receiver is.
 type BroadcastHandle<T> = ChannelHandle<T, GuardedBy<ChannelState, Values<T>>>;

@@ -1,8 +1,8 @@
 //! What a sender, a weak sender and a receiver are, of either kind of channel.
 
 use crate::channel::{Channel, LockedChannel, RecordedChannel};
+use crate::core::{Call, CoreChannel};
 use crate::lock::lock;
-use crate::proved::{Call, CoreChannel};
 use crate::reply::Reply;
 use crate::wait::{WaitFor, WaitingCall};
 use std::future::poll_fn;

@@ -130,9 +130,14 @@ mod actors;
 mod block_on;
 pub mod broadcast;
 mod channel;
+mod core;
+mod guarded_by;
 mod handle;
 mod lock;
 mod names;
+#[cfg(any(test, not(proved_core)))]
+mod plain;
+#[cfg(proved_core)]
 mod proved;
 mod recorder;
 mod reply;

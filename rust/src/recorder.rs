@@ -11,9 +11,9 @@ pub use handle::Handle;
 pub(crate) use handle::TextOf;
 pub(crate) use shared::Shared;
 
+use crate::core::{Cut, CutFault};
 use crate::lock::lock;
 use crate::names;
-use crate::proved::{Cut, CutFault};
 use std::io;
 use std::path::Path;
 use std::sync::Arc;

@@ -8,7 +8,7 @@ use std::task::Poll;
 #[derive(Clone, Copy, Debug, PartialEq, Eq)]
 pub(crate) enum Reply {
     Sent(u64),
-    NoReceivers,
+    NoReceivers(u64),
     Value(u64),
     Lagged(u64),
     Empty,
@@ -17,12 +17,16 @@ pub(crate) enum Reply {
     New(u32),
     Dropped,
     Count(u64),
+    Unknown,
+    Gone,
+    WrongKind,
     TooManyHandles,
     Stored,
-    Old,
+    Old(u64),
     Told(bool),
     Flag(bool),
     Done,
+    NoChannel,
     JournalFull,
     NoMemory,
     NoSender,
@@ -38,6 +42,8 @@ impl Reply {
             Reply::TooManyHandles => panic!(
                 "yovanelum: a channel makes at most 65536 senders, weak senders and receivers"
             ),
+            // No handle of this crate makes such a call.
+            Reply::Unknown | Reply::Gone | Reply::WrongKind | Reply::NoChannel => self.unexpected(),
             reply => reply,
         }
     }
@@ -71,7 +77,7 @@ impl Reply {
     pub(crate) fn sent(self) -> Option<u64> {
         match self {
             Reply::Sent(receivers) => Some(receivers),
-            Reply::NoReceivers => None,
+            Reply::NoReceivers(_) => None,
             reply => reply.unexpected(),
         }
     }

@@ -56,9 +56,9 @@ pub use receiver::Receiver;
 pub use sender::Sender;
 
 use crate::channel::{Channel, LockedChannel};
+use crate::core::CoreChannel;
 use crate::handle::{ChannelHandle, Kind};
 use crate::lock::lock;
-use crate::proved::CoreChannel;
 use crate::recorder::{Recorder, TextOf};
 use crate::wait::WaitFor;
 use value::ValueLock;

@@ -3,8 +3,8 @@
 use super::error::SendError;
 use super::{BroadcastHandle, Receiver, WeakSender, open};
 use crate::channel::RecordedChannel;
+use crate::core::CoreChannel;
 use crate::handle::Kind;
-use crate::proved::CoreChannel;
 use crate::recorder::{Handle, TextOf};
 use crate::wait::WaitFor;
 use std::fmt;

@@ -2,8 +2,8 @@
 
 use super::{BroadcastHandle, Sender};
 use crate::channel::RecordedChannel;
+use crate::core::CoreChannel;
 use crate::handle::Kind;
-use crate::proved::CoreChannel;
 use crate::recorder::{Handle, TextOf};
 use std::fmt;
 

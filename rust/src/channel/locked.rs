@@ -1,9 +1,10 @@
 //! Calls, which are made while the channel is locked.
 
 use super::{ChannelState, RecordedChannel};
+use crate::core::{Actor, Call, Caller, CoreChannel};
+use crate::guarded_by::GuardedBy;
 use crate::handle::Kind;
 use crate::lock::lock;
-use crate::proved::{Actor, Call, Caller, CoreChannel, GuardedBy};
 use crate::recorder::Shared;
 use crate::reply::Reply;
 use crate::wait::WaitFor;

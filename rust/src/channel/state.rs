@@ -1,6 +1,6 @@
 //! A channel without its values, as its recorder shares it.
 
-use crate::proved::CoreChannel;
+use crate::core::CoreChannel;
 use crate::wait::WaitFor;
 use crate::wakers::WakerQueue;
 use std::collections::BTreeMap;

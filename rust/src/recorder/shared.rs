@@ -2,8 +2,8 @@
 
 use crate::actors::{self, Actors};
 use crate::channel::{ChannelState, RecordedChannel};
+use crate::core::{Actor, CoreChannel};
 use crate::lock::lock;
-use crate::proved::{Actor, CoreChannel};
 use std::sync::atomic::{AtomicBool, AtomicU64, Ordering};
 use std::sync::{Arc, Mutex};
 

@@ -3,8 +3,8 @@
 use super::error::RecvError;
 use super::{Ref, WatchHandle};
 use crate::channel::RecordedChannel;
+use crate::core::CoreChannel;
 use crate::handle::Kind;
-use crate::proved::CoreChannel;
 use crate::recorder::{Handle, TextOf};
 use std::fmt;
 
