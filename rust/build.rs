@@ -13,7 +13,7 @@ fn main() {
 }
 
 /// Returns what cargo is told, given the environment that it runs a build script in.
-fn instructions(variable: impl Fn(&str) -> Option<String>) -> Vec<String> {
+pub fn instructions(variable: impl Fn(&str) -> Option<String>) -> Vec<String> {
     let target = Target::of(&variable);
     let package = variable("CARGO_MANIFEST_DIR").unwrap_or_default();
     let built = Path::new(&package).join("built");

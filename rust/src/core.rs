@@ -54,12 +54,15 @@ pub(crate) struct Caller {
 #[derive(Clone, Copy, Debug, PartialEq, Eq)]
 pub(crate) enum OpenFault {
     BadCapacity,
+    // The plain core never says that there is no memory: it allocates as the standard library does, which then aborts the process.
+    #[cfg_attr(not(proved_core), allow(dead_code))]
     NoMemory,
 }
 
 /// Why there is no journal.
 #[derive(Clone, Copy, Debug, PartialEq, Eq)]
 pub(crate) enum CutFault {
+    #[cfg_attr(not(proved_core), allow(dead_code))]
     NoMemory,
     NoChannels,
     /// There are 64 channels already. No recorder of this crate causes it.

@@ -28,6 +28,7 @@ pub(crate) enum Reply {
     Done,
     NoChannel,
     JournalFull,
+    #[cfg_attr(not(proved_core), allow(dead_code))]
     NoMemory,
     NoSender,
 }
