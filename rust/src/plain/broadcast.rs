@@ -65,55 +65,39 @@ impl Broadcast {
     /// Makes a call by this handle. A refusal of the handle is an error.
     #[inline]
     pub(super) fn call(&mut self, handle: u32, call: BroadcastCall) -> Result<Reply, Reply> {
+        let (handles, later) = (&mut self.handles, Handle::Receiver(self.sent));
         match call {
             BroadcastCall::Send(value) => self.send(handle, value),
+            BroadcastCall::Subscribe => handles.by_sender(handle)?.make(later),
+            BroadcastCall::CloneSender => handles.by_sender(handle)?.make(Handle::Sender),
+            BroadcastCall::Resubscribe => handles.by_receiver(handle)?.make(later),
             BroadcastCall::TryRecv => self.receive(handle, Reply::Empty),
             BroadcastCall::Recv => self.receive(handle, Reply::Waits),
-            BroadcastCall::Subscribe => {
-                self.handles.sender(handle)?;
-                self.handles.make(Handle::Receiver(self.sent))
-            }
-            BroadcastCall::Resubscribe => {
-                self.handles.receiver(handle)?;
-                self.handles.make(Handle::Receiver(self.sent))
-            }
-            BroadcastCall::CloneSender => {
-                self.handles.sender(handle)?;
-                self.handles.make(Handle::Sender)
-            }
-            BroadcastCall::Downgrade => {
-                self.handles.sender(handle)?;
-                self.handles.make(Handle::WeakSender)
-            }
-            BroadcastCall::CloneWeak => {
-                self.handles.weak_sender(handle)?;
-                self.handles.make(Handle::WeakSender)
-            }
-            BroadcastCall::Upgrade => self.upgrade(handle),
-            BroadcastCall::DropHandle => self.handles.drop(handle),
+            BroadcastCall::DropHandle => handles.drop(handle),
             BroadcastCall::SenderLen => {
-                self.handles.sender(handle)?;
+                handles.by_sender(handle)?;
                 Ok(Reply::Count(self.queued()))
             }
             BroadcastCall::ReceiverCount => {
-                self.handles.sender(handle)?;
-                Ok(Reply::Count(self.handles.receivers()))
+                Ok(Reply::Count(handles.by_sender(handle)?.receivers()))
             }
             BroadcastCall::ReceiverLen => Ok(Reply::Count(self.unread(handle)?)),
+            BroadcastCall::Downgrade => handles.by_sender(handle)?.make(Handle::WeakSender),
+            BroadcastCall::Upgrade => handles.by_weak_sender(handle)?.upgrade(),
+            BroadcastCall::CloneWeak => handles.by_weak_sender(handle)?.make(Handle::WeakSender),
         }
     }
 
     fn send(&mut self, sender: u32, value: u64) -> Result<Reply, Reply> {
-        self.handles.sender(sender)?;
-        let receivers = self.handles.receivers();
+        let receivers = self.handles.by_sender(sender)?.receivers();
         if receivers == 0 {
             return Ok(Reply::NoReceivers(value));
         }
-        self.retained.push_back(value);
-        self.sent += 1;
-        if self.retained.len() as u64 > self.capacity {
+        if self.retained.len() as u64 == self.capacity {
             self.retained.pop_front();
         }
+        self.retained.push_back(value);
+        self.sent += 1;
         Ok(Reply::Sent(receivers))
     }
 
@@ -135,15 +119,5 @@ impl Broadcast {
             0 => Reply::Closed,
             _ => nothing,
         })
-    }
-
-    /// Makes a sender, if one is alive.
-    fn upgrade(&mut self, weak: u32) -> Result<Reply, Reply> {
-        self.handles.weak_sender(weak)?;
-        self.handles.room()?;
-        match self.handles.senders() {
-            0 => Ok(Reply::NoSender),
-            _ => self.handles.make(Handle::Sender),
-        }
     }
 }

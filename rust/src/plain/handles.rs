@@ -63,20 +63,26 @@ impl<R> Handles<R> {
         }
     }
 
-    /// Checks that this is a sender.
-    pub(super) fn sender(&self, handle: u32) -> Result<(), Reply> {
+    /// Checks that this is a sender, for a call by it.
+    pub(super) fn by_sender(&mut self, handle: u32) -> Result<&mut Handles<R>, Reply> {
         match self.alive(handle)? {
-            Handle::Sender => Ok(()),
+            Handle::Sender => Ok(self),
             _ => Err(Reply::WrongKind),
         }
     }
 
-    /// Checks that this is a weak sender.
-    pub(super) fn weak_sender(&self, handle: u32) -> Result<(), Reply> {
+    /// Checks that this is a weak sender, for a call by it.
+    pub(super) fn by_weak_sender(&mut self, handle: u32) -> Result<&mut Handles<R>, Reply> {
         match self.alive(handle)? {
-            Handle::WeakSender => Ok(()),
+            Handle::WeakSender => Ok(self),
             _ => Err(Reply::WrongKind),
         }
+    }
+
+    /// Checks that this is a receiver, for a call by it.
+    pub(super) fn by_receiver(&mut self, handle: u32) -> Result<&mut Handles<R>, Reply> {
+        self.receiver(handle)?;
+        Ok(self)
     }
 
     /// Returns what the channel knows of a receiver.
@@ -96,20 +102,23 @@ impl<R> Handles<R> {
         }
     }
 
-    /// Checks that one more handle may be made.
-    pub(super) fn room(&self) -> Result<(), Reply> {
-        match self.made.len() < MOST_HANDLES {
-            true => Ok(()),
-            false => Err(Reply::TooManyHandles),
-        }
-    }
-
     /// Makes a handle.
     pub(super) fn make(&mut self, handle: Handle<R>) -> Result<Reply, Reply> {
-        self.room()?;
+        let number = self.made.len();
+        if number == MOST_HANDLES {
+            return Err(Reply::TooManyHandles);
+        }
         *self.count_of(&handle) += 1;
         self.made.push(handle);
-        Ok(Reply::New(self.made.len() as u32 - 1))
+        Ok(Reply::New(number as u32))
+    }
+
+    /// Makes a sender, if one is alive. That no further handle may be made comes first.
+    pub(super) fn upgrade(&mut self) -> Result<Reply, Reply> {
+        match self.senders {
+            0 if self.made.len() < MOST_HANDLES => Ok(Reply::NoSender),
+            _ => self.make(Handle::Sender),
+        }
     }
 
     /// Drops a handle of any kind.

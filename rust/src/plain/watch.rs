@@ -50,81 +50,57 @@ impl Watch {
     /// Makes a call by this handle. A refusal of the handle is an error.
     #[inline]
     pub(super) fn call(&mut self, handle: u32, call: WatchCall) -> Result<Reply, Reply> {
+        let (handles, seen) = (&mut self.handles, Some(self.version));
         match call {
             WatchCall::Send(value) => self.send(handle, value),
-            WatchCall::SendReplace(value) => {
-                self.handles.sender(handle)?;
-                Ok(Reply::Old(self.store(value, true)))
-            }
-            WatchCall::Modify(told, value) => {
-                self.handles.sender(handle)?;
-                self.store(value, told);
-                Ok(Reply::Told(told))
-            }
-            WatchCall::Subscribe => {
-                self.handles.sender(handle)?;
-                self.handles.make(Handle::Receiver(Some(self.version)))
-            }
-            WatchCall::CloneSender => {
-                self.handles.sender(handle)?;
-                self.handles.make(Handle::Sender)
-            }
+            WatchCall::SendReplace(value) => self.send_replace(handle, value),
+            WatchCall::Modify(told, value) => self.modify(handle, told, value),
+            WatchCall::Subscribe => handles.by_sender(handle)?.make(Handle::Receiver(seen)),
+            WatchCall::CloneSender => handles.by_sender(handle)?.make(Handle::Sender),
             WatchCall::CloneReceiver => {
-                let mark = *self.handles.receiver(handle)?;
-                self.handles.make(Handle::Receiver(mark))
+                let mark = *handles.receiver(handle)?;
+                handles.make(Handle::Receiver(mark))
             }
-            WatchCall::DropHandle => self.handles.drop(handle),
-            call => self.look(handle, call),
-        }
-    }
-
-    /// Makes a call that changes at most a receiver's mark.
-    fn look(&mut self, handle: u32, call: WatchCall) -> Result<Reply, Reply> {
-        match call {
-            WatchCall::Borrow => {
-                self.handles.alive(handle)?;
-                Ok(Reply::Value(self.value))
-            }
-            WatchCall::Update => {
-                self.mark(handle, Some(self.version))?;
-                Ok(Reply::Value(self.value))
-            }
+            WatchCall::Borrow => handles.alive(handle).map(|_| Reply::Value(self.value)),
+            WatchCall::Update => self.mark(handle, seen).map(|_| Reply::Value(self.value)),
             WatchCall::HasChanged => self.has_changed(handle),
             WatchCall::Changed => self.changed(handle),
             WatchCall::MarkChanged => self.mark(handle, None),
-            WatchCall::MarkUnchanged => self.mark(handle, Some(self.version)),
-            WatchCall::ReceiverCount => {
-                self.handles.sender(handle)?;
-                Ok(Reply::Count(self.handles.receivers()))
-            }
+            WatchCall::MarkUnchanged => self.mark(handle, seen),
+            WatchCall::DropHandle => handles.drop(handle),
+            WatchCall::ReceiverCount => Ok(Reply::Count(handles.by_sender(handle)?.receivers())),
             WatchCall::IsClosed => {
-                self.handles.sender(handle)?;
-                Ok(Reply::Flag(self.handles.receivers() == 0))
+                let receivers = handles.by_sender(handle)?.receivers();
+                Ok(Reply::Flag(receivers == 0))
             }
-            WatchCall::AwaitClosed => {
-                self.handles.sender(handle)?;
-                Ok(match self.handles.receivers() {
-                    0 => Reply::Done,
-                    _ => Reply::Waits,
-                })
-            }
-            _ => unreachable!("`call` makes the others"),
+            WatchCall::AwaitClosed => Ok(match handles.by_sender(handle)?.receivers() {
+                0 => Reply::Done,
+                _ => Reply::Waits,
+            }),
         }
-    }
-
-    /// Stores a value, and returns the one before.
-    fn store(&mut self, value: u64, told: bool) -> u64 {
-        self.version += u64::from(told);
-        std::mem::replace(&mut self.value, value)
     }
 
     fn send(&mut self, sender: u32, value: u64) -> Result<Reply, Reply> {
-        self.handles.sender(sender)?;
-        if self.handles.receivers() == 0 {
+        if self.handles.by_sender(sender)?.receivers() == 0 {
             return Ok(Reply::NoReceivers(value));
         }
-        self.store(value, true);
+        self.value = value;
+        self.version += 1;
         Ok(Reply::Stored)
+    }
+
+    fn send_replace(&mut self, sender: u32, value: u64) -> Result<Reply, Reply> {
+        self.handles.by_sender(sender)?;
+        let before = std::mem::replace(&mut self.value, value);
+        self.version += 1;
+        Ok(Reply::Old(before))
+    }
+
+    fn modify(&mut self, sender: u32, told: bool, value: u64) -> Result<Reply, Reply> {
+        self.handles.by_sender(sender)?;
+        self.value = value;
+        self.version += u64::from(told);
+        Ok(Reply::Told(told))
     }
 
     fn has_changed(&self, receiver: u32) -> Result<Reply, Reply> {
