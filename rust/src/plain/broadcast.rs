@@ -1,6 +1,6 @@
 //! A broadcast, after its table of calls in `docs/use/BEHAVIOUR.md`.
 
-use super::handles::{Handle, Handles};
+use super::handles::Handles;
 use crate::broadcast::MOST_CAPACITY;
 use crate::reply::Reply;
 use std::collections::VecDeque;
@@ -51,7 +51,7 @@ impl Broadcast {
         self.sent.saturating_sub(self.capacity)
     }
 
-    /// How many values are neither evicted nor received by every receiver. This looks at every handle.
+    /// How many values are neither evicted nor received by every receiver. This looks at every receiver.
     pub(super) fn queued(&self) -> u64 {
         let least = self.handles.each_receiver().min();
         least.map_or(0, |least| self.sent - self.oldest().max(*least))
@@ -65,12 +65,12 @@ impl Broadcast {
     /// Makes a call by this handle. A refusal of the handle is an error.
     #[inline]
     pub(super) fn call(&mut self, handle: u32, call: BroadcastCall) -> Result<Reply, Reply> {
-        let (handles, later) = (&mut self.handles, Handle::Receiver(self.sent));
+        let (handles, sent) = (&mut self.handles, self.sent);
         match call {
             BroadcastCall::Send(value) => self.send(handle, value),
-            BroadcastCall::Subscribe => handles.by_sender(handle)?.make(later),
-            BroadcastCall::CloneSender => handles.by_sender(handle)?.make(Handle::Sender),
-            BroadcastCall::Resubscribe => handles.by_receiver(handle)?.make(later),
+            BroadcastCall::Subscribe => handles.by_sender(handle)?.make_receiver(sent),
+            BroadcastCall::CloneSender => handles.by_sender(handle)?.make_sender(),
+            BroadcastCall::Resubscribe => handles.by_receiver(handle)?.make_receiver(sent),
             BroadcastCall::TryRecv => self.receive(handle, Reply::Empty),
             BroadcastCall::Recv => self.receive(handle, Reply::Waits),
             BroadcastCall::DropHandle => handles.drop(handle),
@@ -82,9 +82,9 @@ impl Broadcast {
                 Ok(Reply::Count(handles.by_sender(handle)?.receivers()))
             }
             BroadcastCall::ReceiverLen => Ok(Reply::Count(self.unread(handle)?)),
-            BroadcastCall::Downgrade => handles.by_sender(handle)?.make(Handle::WeakSender),
+            BroadcastCall::Downgrade => handles.by_sender(handle)?.make_weak_sender(),
             BroadcastCall::Upgrade => handles.by_weak_sender(handle)?.upgrade(),
-            BroadcastCall::CloneWeak => handles.by_weak_sender(handle)?.make(Handle::WeakSender),
+            BroadcastCall::CloneWeak => handles.by_weak_sender(handle)?.make_weak_sender(),
         }
     }
 

@@ -1,6 +1,6 @@
 //! A watch, after its table of calls in `docs/use/BEHAVIOUR.md`.
 
-use super::handles::{Handle, Handles};
+use super::handles::Handles;
 use crate::reply::Reply;
 
 /// A call by the number of a handle.
@@ -55,13 +55,13 @@ impl Watch {
             WatchCall::Send(value) => self.send(handle, value),
             WatchCall::SendReplace(value) => self.send_replace(handle, value),
             WatchCall::Modify(told, value) => self.modify(handle, told, value),
-            WatchCall::Subscribe => handles.by_sender(handle)?.make(Handle::Receiver(seen)),
-            WatchCall::CloneSender => handles.by_sender(handle)?.make(Handle::Sender),
+            WatchCall::Subscribe => handles.by_sender(handle)?.make_receiver(seen),
+            WatchCall::CloneSender => handles.by_sender(handle)?.make_sender(),
             WatchCall::CloneReceiver => {
                 let mark = *handles.receiver(handle)?;
-                handles.make(Handle::Receiver(mark))
+                handles.make_receiver(mark)
             }
-            WatchCall::Borrow => handles.alive(handle).map(|_| Reply::Value(self.value)),
+            WatchCall::Borrow => handles.by_any(handle).map(|_| Reply::Value(self.value)),
             WatchCall::Update => self.mark(handle, seen).map(|_| Reply::Value(self.value)),
             WatchCall::HasChanged => self.has_changed(handle),
             WatchCall::Changed => self.changed(handle),
