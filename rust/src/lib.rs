@@ -142,7 +142,9 @@ pub mod watch;
 
 pub use actors::{Named, named};
 pub use block_on::block_on;
-pub use recorder::{Entered, ForTest, Handle, Recorder};
+pub use recorder::{
+    Entered, ForTest, Handle, Installed, Recorder, SaveOnPanic, Scoped, follow_this_thread,
+};
 
 // Runs the programs of the README.
 #[cfg(doctest)]

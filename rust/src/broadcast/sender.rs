@@ -2,9 +2,8 @@
 
 use super::error::SendError;
 use super::{BroadcastHandle, Receiver, WeakSender, open};
-use crate::channel::RecordedChannel;
+use crate::channel::{CoreChannel, RecordedChannel};
 use crate::handle::Kind;
-use crate::proved::CoreChannel;
 use crate::recorder::{Handle, TextOf};
 use crate::wait::WaitFor;
 use std::fmt;

@@ -1,9 +1,8 @@
 //! Senders that do not keep a broadcast channel open.
 
 use super::{BroadcastHandle, Sender};
-use crate::channel::RecordedChannel;
+use crate::channel::{CoreChannel, RecordedChannel};
 use crate::handle::Kind;
-use crate::proved::CoreChannel;
 use crate::recorder::{Handle, TextOf};
 use std::fmt;
 
@@ -61,7 +60,8 @@ impl<T> WeakSender<T> {
     pub fn upgrade(&self) -> Option<Sender<T>> {
         let number = self
             .handle
-            .call(CoreChannel::broadcast_upgrade)
+            .lock()
+            .create(CoreChannel::broadcast_upgrade)
             .upgraded()?;
         Some(Sender {
             handle: self.handle.sibling(Kind::Sender, number),

@@ -2,9 +2,8 @@
 
 use super::error::RecvError;
 use super::{Ref, WatchHandle};
-use crate::channel::RecordedChannel;
+use crate::channel::{CoreChannel, RecordedChannel};
 use crate::handle::Kind;
-use crate::proved::CoreChannel;
 use crate::recorder::{Handle, TextOf};
 use std::fmt;
 

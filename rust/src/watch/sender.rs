@@ -2,9 +2,9 @@
 
 use super::error::SendError;
 use super::{Receiver, Ref, WatchHandle, channel};
-use crate::channel::RecordedChannel;
+use crate::channel::{CoreChannel, RecordedChannel};
 use crate::handle::Kind;
-use crate::proved::{Caller, CoreChannel};
+use crate::proved::Caller;
 use crate::recorder::{Handle, TextOf};
 use crate::reply::Reply;
 use crate::wait::WaitFor;
