@@ -5,7 +5,7 @@ mod support;
 use std::fs;
 use std::process::Command;
 use std::thread;
-use support::{accepted, poll_once};
+use support::{accepted, kept_journal, poll_once};
 use yovanelum::{Recorder, broadcast, named, watch};
 
 #[test]
@@ -212,16 +212,7 @@ fn a_failing_test_keeps_its_journal() {
         }
     });
     assert!(failed.join().is_err());
-    let program = std::env::current_exe().unwrap();
-    let target = std::env::var_os("CARGO_TARGET_DIR").map(Into::into);
-    let target = target.unwrap_or_else(|| {
-        program
-            .ancestors()
-            .find(|folder| folder.ends_with("target"))
-            .unwrap()
-            .to_path_buf()
-    });
-    let path = target.join("yovanelum").join(format!("{name}.journal"));
+    let path = kept_journal(&name);
     let journal = fs::read_to_string(&path).unwrap();
     assert!(journal.contains("send 0 0 = sent 1"), "{journal}");
     assert!(journal.contains("drop 0 = dropped"), "{journal}");
