@@ -166,10 +166,6 @@ impl<T: Clone> Receiver<T> {
     ///
     /// As in tokio, it receives none of the values that this receiver has yet to receive. This receiver is unchanged.
     ///
-    /// # Panics
-    ///
-    /// Panics if the channel has created 65,536 senders, weak senders and receivers, dropped ones included.
-    ///
     /// # Examples
     ///
     /// ```

@@ -38,10 +38,6 @@ impl<T> WeakSender<T> {
     /// As in tokio, it returns `Some` if another sender is alive. Once it has returned `None`, it always will: a closed channel stays
     /// closed. The weak sender itself is unchanged.
     ///
-    /// # Panics
-    ///
-    /// Panics if the channel has created 65,536 senders, weak senders and receivers, dropped ones included.
-    ///
     /// # Examples
     ///
     /// ```
@@ -106,10 +102,6 @@ impl<T> WeakSender<T> {
 
 impl<T> Clone for WeakSender<T> {
     /// Creates another weak sender of the same channel.
-    ///
-    /// # Panics
-    ///
-    /// Panics if the channel has created 65,536 senders, weak senders and receivers, dropped ones included.
     fn clone(&self) -> WeakSender<T> {
         WeakSender {
             handle: self

@@ -8,7 +8,7 @@ use std::sync::atomic::{AtomicBool, AtomicU64, Ordering};
 use std::sync::{Arc, Mutex};
 
 /// How many channels a run has at most.
-pub(crate) const MOST_CHANNELS: usize = 64;
+const MOST_CHANNELS: usize = 64;
 
 /// The value of `end` while recording continues.
 const NEVER: u64 = u64::MAX;
