@@ -31,7 +31,6 @@ pub(crate) struct CoreChannel {
 pub(crate) type Call = fn(&mut CoreChannel, Caller, u32) -> Reply;
 
 /// Returns the number of a handle's machine, and its number there.
-#[inline]
 fn parts_of(handle: u32) -> (usize, u32) {
     ((handle / MOST_HANDLES) as usize, handle % MOST_HANDLES)
 }
@@ -115,7 +114,6 @@ impl CoreChannel {
         iter::once(&mut self.first).chain(self.further.iter_mut().flatten())
     }
 
-    #[inline]
     fn machine(&mut self, number: usize) -> &mut Machine {
         match number {
             0 => &mut self.first,
@@ -129,6 +127,14 @@ impl CoreChannel {
     /// Returns the machine of a handle, and the handle's number there.
     #[inline]
     fn machine_of(&mut self, handle: u32) -> (&mut Machine, u32) {
+        match handle {
+            0..MOST_HANDLES => (&mut self.first, handle),
+            _ => self.further_machine_of(handle),
+        }
+    }
+
+    #[cold]
+    fn further_machine_of(&mut self, handle: u32) -> (&mut Machine, u32) {
         let (number, handle) = parts_of(handle);
         (self.machine(number), handle)
     }
@@ -141,11 +147,11 @@ impl CoreChannel {
         call: impl Fn(&mut proved::CoreChannel, u32) -> Reply,
         fold: fn(Reply, Reply) -> Reply,
     ) -> Reply {
+        if self.further.is_empty() {
+            return call(&mut self.first.core, sender);
+        }
         let (own, number) = parts_of(sender);
         let reply = call(&mut self.machine(own).core, number);
-        if self.further.is_empty() {
-            return reply;
-        }
         self.call_others(own, reply, call, fold)
     }
 
