@@ -66,12 +66,11 @@ pub use receiver::Receiver;
 pub use sender::Sender;
 pub use weak::WeakSender;
 
-use crate::channel::{Channel, ChannelState};
-use crate::core::{CoreChannel, OpenFault};
+use crate::channel::{Channel, ChannelState, CoreChannel, RecordedChannel};
+use crate::core::OpenFault;
 use crate::guarded_by::GuardedBy;
 use crate::handle::ChannelHandle;
 use crate::lock::lock;
-use crate::recorder::Recorder;
 use values::Values;
 
 /// The greatest capacity.
@@ -119,7 +118,7 @@ fn open<T>(capacity: usize) -> (Sender<T>, Receiver<T>) {
         Err(OpenFault::BadCapacity) => unreachable!("the capacity is 1 to 65536"),
         Err(OpenFault::NoMemory) => panic!("yovanelum: no memory for a channel"),
     };
-    let recorded = Recorder::current().0.add(core, 0);
+    let recorded = RecordedChannel::add(core, 0);
     let values = GuardedBy::new(&*lock(&recorded.state), Values::new(capacity));
     let (sender, receiver) = ChannelHandle::first_two(Channel::new(recorded, values));
     (Sender { handle: sender }, Receiver { handle: receiver })

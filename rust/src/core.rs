@@ -6,7 +6,6 @@ pub(crate) use crate::plain::{CoreChannel, Cut};
 #[cfg(proved_core)]
 pub(crate) use crate::proved::{CoreChannel, Cut};
 
-use crate::reply::Reply;
 use std::fmt;
 
 /// What the names beside a journal say of the core, if it isn't the proved one. `build.rs` warns in the same words.
@@ -17,9 +16,6 @@ pub(crate) const NOTE: Option<&str> = if cfg!(proved_core) {
         "answered by the plain core; the page's proved reader checks each recorded reply when it opens the run",
     )
 };
-
-/// A call by the number of a handle, such as [`CoreChannel::broadcast_subscribe`].
-pub(crate) type Call = fn(&mut CoreChannel, Caller, u32) -> Reply;
 
 /// The number of an actor, below 64.
 #[derive(Clone, Copy, Debug, PartialEq, Eq)]

@@ -40,9 +40,6 @@ impl Reply {
     pub(crate) fn expect_made(self) -> Reply {
         match self {
             Reply::JournalFull | Reply::NoMemory => panic!("yovanelum: no memory for a call"),
-            Reply::TooManyHandles => panic!(
-                "yovanelum: a channel makes at most 65536 senders, weak senders and receivers"
-            ),
             // No handle of this crate makes such a call.
             Reply::Unknown | Reply::Gone | Reply::WrongKind | Reply::NoChannel => self.unexpected(),
             reply => reply,
