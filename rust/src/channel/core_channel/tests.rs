@@ -255,7 +255,7 @@ impl Pair {
 /// Makes 400 random calls on both, for many seeds. Returns how many further machines were opened at most.
 fn play(opening_of: impl Fn(&mut Random) -> Opening, step: fn(&mut Pair, usize)) -> usize {
     let mut most_opened = 0;
-    for seed in 0..600 {
+    for seed in 0..200 {
         let mut random = Random(seed * 2 + 1);
         let opening = opening_of(&mut random);
         let mut pair = Pair::open(opening, 4 + random.below(5) as u32, seed);
