@@ -121,7 +121,7 @@ impl<T, S> ChannelHandle<T, S> {
             channel: self.recorded(),
             handle: self.number,
             wait_for,
-            queued_as: None,
+            place: None,
         };
         poll_fn(|context| waiting.poll(context, &attempt)).await
     }
