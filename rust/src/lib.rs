@@ -135,6 +135,7 @@ mod lock;
 mod names;
 mod proved;
 mod recorder;
+mod reentrant;
 mod reply;
 mod wait;
 mod wakers;

@@ -76,6 +76,31 @@ fn values_may_use_their_channel_where_they_are_cloned_and_dropped() {
     drop(own);
 }
 
+/// A value whose clone receives the same value by other receivers, if it is told to.
+struct Receives(Arc<Mutex<Vec<Receiver<Receives>>>>);
+
+impl Clone for Receives {
+    fn clone(&self) -> Receives {
+        let next = self.0.lock().unwrap().pop();
+        if let Some(mut rx) = next {
+            assert!(rx.try_recv().is_ok());
+        }
+        Receives(self.0.clone())
+    }
+}
+
+#[test]
+fn a_value_whose_clone_receives_the_same_value_waits_for_nobody() {
+    in_time(|| {
+        let (tx, mut rx) = broadcast::channel(2);
+        let others = Arc::new(Mutex::new(vec![tx.subscribe(), tx.subscribe()]));
+        assert!(tx.send(Receives(others.clone())).is_ok());
+        assert!(rx.try_recv().is_ok());
+        assert!(others.lock().unwrap().is_empty());
+        assert!(tx.is_empty());
+    });
+}
+
 #[test]
 fn a_text_may_use_its_channel() {
     let recorder = Recorder::new();

@@ -1,5 +1,6 @@
 //! The value of a watch, and the lock that guards it.
 
+use crate::reentrant::thread_number;
 use std::fmt;
 use std::panic::{self, AssertUnwindSafe};
 use std::sync::atomic::{AtomicUsize, Ordering};
@@ -75,12 +76,4 @@ fn if_free<G>(tried: TryLockResult<G>) -> Option<G> {
         Err(TryLockError::Poisoned(guard)) => Some(guard.into_inner()),
         Err(TryLockError::WouldBlock) => None,
     }
-}
-
-/// Returns a number that no other live thread has, and that isn't 0.
-fn thread_number() -> usize {
-    thread_local! {
-        static MARKER: u8 = const { 0 };
-    }
-    MARKER.with(|marker| std::ptr::from_ref(marker).addr())
 }
