@@ -13,22 +13,25 @@ thread_local! {
     static ENTERED: RefCell<Vec<(u64, Recorder)>> = const { RefCell::new(Vec::new()) };
 }
 
-/// Enters a recorder on this thread.
+/// Enters a recorder on this thread. At the end of the thread, `ENTERED` may be destroyed before: then nothing is entered.
 pub(super) fn enter(recorder: &Recorder) -> Entered {
-    let guard = ENTERED.with_borrow_mut(|entered| {
+    let entered = ENTERED.try_with(|entered| {
+        let mut entered = entered.borrow_mut();
         let guard = entered.last().map_or(0, |(last, _)| last + 1);
         entered.push((guard, recorder.clone()));
         guard
     });
     Entered {
-        guard,
+        guard: entered.ok(),
         _not_send: PhantomData,
     }
 }
 
 /// Installs a recorder for the process.
 pub(super) fn install(recorder: &Recorder) {
-    *lock(&INSTALLED) = Some(recorder.clone());
+    let before = lock(&INSTALLED).replace(recorder.clone());
+    // This may drop the recorder, and with it user code. So `INSTALLED` must not be locked here.
+    drop(before);
 }
 
 impl Recorder {
@@ -70,15 +73,20 @@ impl Recorder {
 /// ```
 #[derive(Debug)]
 pub struct Entered {
-    guard: u64,
+    // `None` if nothing is entered.
+    guard: Option<u64>,
     // A raw pointer is not `Send`, so a guard stays on its thread.
     _not_send: PhantomData<*const ()>,
 }
 
 impl Drop for Entered {
     fn drop(&mut self) {
-        let removed = ENTERED.with_borrow_mut(|entered| {
-            let index = entered.iter().position(|(guard, _)| *guard == self.guard)?;
+        // A guard in a thread local may be dropped after `ENTERED` is destroyed. Then no recorder is entered any more.
+        let removed = ENTERED.try_with(|entered| {
+            let mut entered = entered.borrow_mut();
+            let index = entered
+                .iter()
+                .position(|(guard, _)| Some(*guard) == self.guard)?;
             Some(entered.remove(index))
         });
         // This may drop the recorder, and with it wakers, which may run user code. So `ENTERED` must not be borrowed here.
