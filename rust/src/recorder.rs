@@ -260,6 +260,11 @@ impl Recorder {
     /// channel already (the first one, or one that a closure has changed) it runs while that value is locked. There it must neither look at
     /// the value of that channel nor send on it.
     ///
+    /// # Panics
+    ///
+    /// Panics if the function panics for the first value of a watch channel, or waits for the lock of that value by a send. The channel then
+    /// has no function.
+    ///
     /// # Examples
     ///
     /// ```

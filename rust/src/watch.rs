@@ -135,8 +135,9 @@ impl<T> WatchHandle<T> {
 
     fn set_text_of(&self, text_of: TextOf<T>) {
         // The first value, if it is still the last, gets its text now. It stays in the channel, so it is locked while its text is made.
-        let value = self.channel.values.read();
-        let text = text_of(&value);
+        let values = &self.channel.values;
+        let value = values.read();
+        let text = values.run_reading(|| text_of(&value));
         if self.channel.set_text_of(text_of) {
             lock(&self.recorded().state).keep_first_text(text);
         }

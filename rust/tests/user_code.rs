@@ -11,7 +11,7 @@ use std::task::{Context, Wake, Waker};
 use support::in_time;
 use yovanelum::broadcast::{self, Receiver, Sender};
 use yovanelum::watch::error::SendError;
-use yovanelum::{Recorder, watch};
+use yovanelum::{Recorder, block_on, watch};
 
 type Line = (Sender<Talks>, Mutex<Receiver<Talks>>);
 
@@ -295,5 +295,41 @@ fn a_closure_or_a_text_that_uses_its_watch_is_a_panic_and_waits_for_nobody() {
         tx.send(2).unwrap();
         let names = Recorder::of(&tx).names();
         assert!(names.contains(r#"": "2 at 1""#), "{names}");
+    });
+}
+
+#[test]
+fn a_text_of_the_first_value_that_sends_on_its_watch_is_a_panic_and_waits_for_nobody() {
+    in_time(|| {
+        let recorder = Recorder::new();
+        let _entered = recorder.enter();
+        let (tx, rx) = watch::channel(0);
+        let sends = tx.clone();
+        let shown = catch_unwind(AssertUnwindSafe(|| {
+            recorder.show(&tx, move |value| format!("{value} {:?}", sends.send(5)));
+        }));
+        assert!(message(shown.unwrap_err()).contains("uses that watch"));
+        // The watch is as it was, and takes another function.
+        recorder.show(&tx, |value| format!("{value} EUR"));
+        tx.send(1).unwrap();
+        assert_eq!(*rx.borrow(), 1);
+        let names = recorder.names();
+        assert!(
+            names.contains(r#"{"0": {"0": "0 EUR", "1": "1 EUR"}}"#),
+            "{names}"
+        );
+    });
+}
+
+#[test]
+fn a_closure_of_wait_for_that_sends_on_its_watch_is_a_panic_and_waits_for_nobody() {
+    in_time(|| {
+        let (tx, mut rx) = watch::channel(0);
+        let waited = catch_unwind(AssertUnwindSafe(|| {
+            let _ = block_on(rx.wait_for(|_| tx.send(5).is_ok()));
+        }));
+        assert!(message(waited.unwrap_err()).contains("uses that watch"));
+        tx.send(1).unwrap();
+        assert_eq!(*block_on(rx.wait_for(|value| *value == 1)).unwrap(), 1);
     });
 }
