@@ -34,7 +34,7 @@ impl<T, S> Channel<T, S> {
     /// Returns the text of a value, if the channel has a function for it.
     #[inline]
     pub(crate) fn text(&self, value: &T) -> Option<String> {
-        self.text_of.get().map(|text_of| text_of(value))
+        self.text_of.get()?.text(value)
     }
 
     /// Sets the function for the texts of values. Returns `false` if the channel has one already, which it keeps.

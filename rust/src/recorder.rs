@@ -4,13 +4,15 @@ mod current;
 mod for_test;
 mod handle;
 mod shared;
+mod texts;
 
 pub use current::Entered;
 pub use for_test::ForTest;
 pub use handle::Handle;
-pub(crate) use handle::TextOf;
 pub(crate) use shared::Shared;
+pub use texts::TextOf;
 
+use crate::channel::RecordedChannel;
 use crate::lock::lock;
 use crate::names;
 use crate::proved::{Cut, CutFault};
@@ -19,6 +21,7 @@ use std::path::Path;
 use std::sync::Arc;
 use std::sync::atomic::Ordering;
 use std::{fmt, fs};
+use texts::Texts;
 
 /// Records the calls on the channels that belong to it, as one run.
 ///
@@ -61,7 +64,7 @@ use std::{fmt, fs};
 /// assert!(journal.contains("try-recv 1 = value 0"));
 /// ```
 #[derive(Clone)]
-pub struct Recorder(pub(crate) Arc<Shared>);
+pub struct Recorder(pub(crate) Arc<Shared>, Arc<Texts>);
 
 impl Default for Recorder {
     fn default() -> Self {
@@ -96,7 +99,13 @@ impl Recorder {
     /// assert!(!recorder.is_empty());
     /// ```
     pub fn new() -> Recorder {
-        Recorder(Arc::new(Shared::new()))
+        Recorder::with(Arc::new(Shared::new()))
+    }
+
+    /// Returns a handle of the recorder whose channels share this.
+    fn with(shared: Arc<Shared>) -> Recorder {
+        let texts = shared.texts();
+        Recorder(shared, texts)
     }
 
     /// Creates a recorder for a test, and enters it on this thread until the result is dropped.
@@ -200,7 +209,7 @@ impl Recorder {
     /// assert!(recorder.journal().unwrap().contains("send 0 0 = sent 1"));
     /// ```
     pub fn of<H: Handle>(handle: &H) -> Recorder {
-        Recorder(handle.recorded().recorder.clone())
+        Recorder::with(handle.recorded().recorder.clone())
     }
 
     /// Ends the recording of questions, so that a loop that polls does not fill the journal. Returns the recorder, for the next call.
@@ -233,6 +242,10 @@ impl Recorder {
     ///
     /// The page shows the name in place of the channel's number.
     ///
+    /// # Panics
+    ///
+    /// Panics if the channel belongs to another recorder.
+    ///
     /// # Examples
     ///
     /// ```
@@ -245,7 +258,9 @@ impl Recorder {
     /// recorder.name(&prices, "prices").name(&state, "state of the exchange");
     /// assert!(recorder.names().contains(r#"{"0": "prices", "1": "state of the exchange"}"#));
     /// ```
+    #[track_caller]
     pub fn name<H: Handle>(&self, handle: &H, name: &str) -> &Recorder {
+        self.expect_own(handle.recorded());
         lock(&handle.recorded().state).name = Some(name.to_string());
         self
     }
@@ -256,14 +271,18 @@ impl Recorder {
     /// value that it was created with. The texts show what the values were, also after they have been dropped. The first value of a watch
     /// channel has its text too, if no other was sent before this call. If a channel has a function already, the new one is not used.
     ///
+    /// The recorder holds the function until the channel is dropped, or the recorder with its clones and guards. So a sender that the
+    /// function holds keeps the channel open until then, as each sender that is alive does. A [`WeakSender`](crate::broadcast::WeakSender)
+    /// does not.
+    ///
     /// The function runs before the channel is locked, and a panic in it is one of the call that sends. Only for a value that is in a watch
     /// channel already (the first one, or one that a closure has changed) it runs while that value is locked. There it must neither look at
     /// the value of that channel nor send on it.
     ///
     /// # Panics
     ///
-    /// Panics if the function panics for the first value of a watch channel, or waits for the lock of that value by a send. The channel then
-    /// has no function.
+    /// Panics if the channel belongs to another recorder. Panics if the function panics for the first value of a watch channel, or waits for
+    /// the lock of that value by a send. The channel then has no function.
     ///
     /// # Examples
     ///
@@ -278,13 +297,25 @@ impl Recorder {
     /// prices.send(("ACME", 102)).unwrap();
     /// assert!(recorder.names().contains(r#"{"0": "ACME 101 EUR", "1": "ACME 102 EUR"}"#));
     /// ```
+    #[track_caller]
     pub fn show<H: Handle>(
         &self,
         handle: &H,
         text: impl Fn(&H::Value) -> String + Send + Sync + 'static,
     ) -> &Recorder {
-        handle.set_text_of(Box::new(text));
+        self.expect_own(handle.recorded());
+        handle.set_text_of(self.1.hold(text));
         self
+    }
+
+    /// Panics if the channel belongs to another recorder. Its names aren't beside the journal of this one.
+    #[track_caller]
+    fn expect_own(&self, channel: &RecordedChannel) {
+        assert!(
+            Arc::ptr_eq(&channel.recorder, &self.0),
+            "yovanelum: the channel belongs to another recorder, so its calls aren't in the journal of this one: \
+             enter or install this recorder before the channel is created"
+        );
     }
 
     /// Returns the text of the journal so far: all calls up to one moment, and none after it.

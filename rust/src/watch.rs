@@ -137,8 +137,9 @@ impl<T> WatchHandle<T> {
         // The first value, if it is still the last, gets its text now. It stays in the channel, so it is locked while its text is made.
         let values = &self.channel.values;
         let value = values.read();
-        let text = values.run_reading(|| text_of(&value));
-        if self.channel.set_text_of(text_of) {
+        let text = values.run_reading(|| text_of.text(&value));
+        let is_set = self.channel.set_text_of(text_of);
+        if let Some(text) = text.filter(|_| is_set) {
             lock(&self.recorded().state).keep_first_text(text);
         }
         drop(value);

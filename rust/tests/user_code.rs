@@ -274,6 +274,7 @@ fn receivers_are_told_of_a_change_whose_text_panics() {
 fn a_closure_or_a_text_that_uses_its_watch_is_a_panic_and_waits_for_nobody() {
     in_time(|| {
         let recorder = Recorder::new();
+        let _entered = recorder.enter();
         let (tx, rx) = watch::channel(0);
         let other = rx.clone();
         let uses: [&dyn Fn(); 3] = [
@@ -293,7 +294,7 @@ fn a_closure_or_a_text_that_uses_its_watch_is_a_panic_and_waits_for_nobody() {
         assert_eq!(*rx.borrow(), 1);
         // The text of a sent value is made before the watch is locked.
         tx.send(2).unwrap();
-        let names = Recorder::of(&tx).names();
+        let names = recorder.names();
         assert!(names.contains(r#"": "2 at 1""#), "{names}");
     });
 }

@@ -1,11 +1,12 @@
 //! What the channels of a recorder share.
 
+use super::texts::Texts;
 use crate::actors::{self, Actors};
 use crate::channel::{ChannelState, RecordedChannel};
 use crate::lock::lock;
 use crate::proved::{Actor, CoreChannel};
 use std::sync::atomic::{AtomicBool, AtomicU64, Ordering};
-use std::sync::{Arc, Mutex};
+use std::sync::{Arc, Mutex, Weak};
 
 /// How many channels a run has at most.
 const MOST_CHANNELS: usize = 64;
@@ -32,6 +33,8 @@ pub(crate) struct Shared {
     has_too_many: AtomicBool,
     pub(super) channels: Mutex<Vec<Arc<Mutex<ChannelState>>>>,
     pub(super) actors: Mutex<Actors>,
+    // Held by the handles of the recorder alone. A channel, which holds this, may be held by a function there.
+    texts: Mutex<Weak<Texts>>,
 }
 
 impl Shared {
@@ -46,7 +49,18 @@ impl Shared {
             has_too_many: AtomicBool::new(false),
             channels: Mutex::default(),
             actors: Mutex::default(),
+            texts: Mutex::default(),
         }
+    }
+
+    /// Returns the functions that the recorder's handles hold.
+    pub(super) fn texts(&self) -> Arc<Texts> {
+        let mut held = lock(&self.texts);
+        held.upgrade().unwrap_or_else(|| {
+            let texts = Arc::default();
+            *held = Arc::downgrade(&texts);
+            texts
+        })
     }
 
     /// Returns the greatest stamp that a recorded call can have so far.
