@@ -133,6 +133,7 @@ mod channel;
 mod handle;
 mod lock;
 mod names;
+mod polled;
 mod proved;
 mod recorder;
 mod reentrant;
@@ -143,6 +144,8 @@ pub mod watch;
 
 pub use actors::{Named, named};
 pub use block_on::block_on;
+#[doc(hidden)]
+pub use polled::Polled;
 pub use recorder::{Entered, ForTest, Handle, Recorder};
 
 // Runs the programs of the README.

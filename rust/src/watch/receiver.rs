@@ -7,6 +7,7 @@ use crate::handle::Kind;
 use crate::proved::CoreChannel;
 use crate::recorder::{Handle, TextOf};
 use std::fmt;
+use std::task::{Context, Poll};
 
 /// The receiving half of a watch channel.
 ///
@@ -180,6 +181,14 @@ impl<T> Receiver<T> {
     /// ```
     pub async fn changed(&mut self) -> Result<(), RecvError> {
         self.handle.changed().await
+    }
+
+    pub(crate) fn poll_changed(
+        &mut self,
+        context: &Context<'_>,
+        place: &mut Option<u64>,
+    ) -> Poll<Result<(), RecvError>> {
+        self.handle.poll_changed(context, place)
     }
 
     /// Waits until the closure returns `true` for the value, and returns a reference to that value.
