@@ -111,9 +111,9 @@
 //! - A capacity is at most 65,536, and a channel creates at most 65,536 senders, weak senders and receivers. More than that panics.
 //! - The futures need no runtime: [`block_on`] runs them. They do not count towards tokio's cooperative budget.
 //! - `blocking_recv` does not panic within a runtime, it blocks there.
-//! - A closure of `send_modify` or `send_if_modified` that waits for its own channel panics, where tokio has a deadlock.
+//! - A closure of `send_modify`, `send_if_modified` or `wait_for` that waits for its own channel panics, where tokio has a deadlock.
 //! - Calls are slower, since they are recorded, and an entry of the journal takes about 90 bytes of memory. [`Recorder`] lists the limits.
-//! - tokio's other channels are not included.
+//! - tokio's other channels are not included. Streams of these two are in the package `yovanelum-stream`, beside the source of this one.
 //!
 //! # Platforms
 //!

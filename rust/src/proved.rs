@@ -1,4 +1,4 @@
-//! The proved core behind its C functions. All `unsafe` of this crate is here and in the files of `proved/`.
+//! The proved core behind its C functions. All `unsafe` of this crate is here, in the files of `proved/`, and in `reentrant.rs`.
 //!
 //! The declarations below are those of the exports of `crates/rw_ffi` in the repository. No proof compares the two. Tests do so by text:
 //! `tests/docs/exports` the functions and structs, `tests/docs/numbers` the numbers of replies and faults. The types here uphold what the
