@@ -120,12 +120,13 @@ pub fn named<F: Future>(name: &str, future: F) -> Named<F> {
 /// use std::thread;
 /// use yovanelum::{Named, Recorder, block_on, broadcast, named};
 ///
+/// let recorder = Recorder::for_test("the_mailer_is_named");
 /// let (bus, mut listener) = broadcast::channel(4);
 /// let task: Named<_> = named("mailer", async move { listener.recv().await });
 /// let runtime = thread::spawn(move || block_on(task));
 /// bus.send("user created").unwrap();
 /// assert_eq!(runtime.join().unwrap(), Ok("user created"));
-/// assert!(Recorder::of(&bus).names().contains(r#""mailer""#));
+/// assert!(recorder.names().contains(r#""mailer""#));
 /// ```
 #[must_use = "futures do nothing unless polled"]
 pub struct Named<F> {

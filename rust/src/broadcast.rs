@@ -66,11 +66,10 @@ pub use receiver::Receiver;
 pub use sender::Sender;
 pub use weak::WeakSender;
 
-use crate::channel::{Channel, ChannelState};
+use crate::channel::{Channel, ChannelState, CoreChannel, RecordedChannel};
 use crate::handle::ChannelHandle;
 use crate::lock::lock;
-use crate::proved::{CoreChannel, GuardedBy, OpenFault};
-use crate::recorder::Recorder;
+use crate::proved::{GuardedBy, OpenFault};
 use values::Values;
 
 /// The greatest capacity.
@@ -118,7 +117,7 @@ fn open<T>(capacity: usize) -> (Sender<T>, Receiver<T>) {
         Err(OpenFault::BadCapacity) => unreachable!("the capacity is 1 to 65536"),
         Err(OpenFault::NoMemory) => panic!("yovanelum: no memory for a channel"),
     };
-    let recorded = Recorder::current().0.add(core, 0);
+    let recorded = RecordedChannel::add(core, 0);
     let values = GuardedBy::new(&*lock(&recorded.state), Values::new(capacity));
     let (sender, receiver) = ChannelHandle::first_two(Channel::new(recorded, values));
     (Sender { handle: sender }, Receiver { handle: receiver })

@@ -1,18 +1,39 @@
 //! What both kinds of channel are made of: the core's channel, the recorder of its calls, and the values, which the core doesn't know.
 
+mod core_channel;
 mod locked;
+mod machine;
 mod state;
 
+pub(crate) use core_channel::{Call, CoreChannel};
 pub(crate) use locked::LockedChannel;
 pub(crate) use state::ChannelState;
 
-use crate::recorder::{Shared, TextOf};
+use crate::lock::lock;
+use crate::recorder::{RecordedBy, Recorder, TextOf};
 use std::sync::{Arc, Mutex, OnceLock};
 
-/// A channel with its recorder. All calls are made through it.
+/// A channel with its recorder, if it has one. All calls are made through it.
 pub struct RecordedChannel {
-    pub(crate) recorder: Arc<Shared>,
+    pub(crate) recorder: RecordedBy,
     pub(crate) state: Arc<Mutex<ChannelState>>,
+}
+
+impl RecordedChannel {
+    /// Adds a channel that was opened with this many values to the run of the current recorder. If there is none, or its run takes no more,
+    /// the channel isn't recorded.
+    pub(crate) fn add(core: CoreChannel, value_count: u64) -> RecordedChannel {
+        let state = Arc::new(Mutex::new(ChannelState::new(core, value_count)));
+        let recorder = Recorder::current().map(|current| current.0);
+        let recorder = recorder.filter(|recorder| recorder.add(&state));
+        if recorder.is_none() {
+            lock(&state).end_recording();
+        }
+        RecordedChannel {
+            recorder: RecordedBy(recorder),
+            state,
+        }
+    }
 }
 
 /// A channel with its values, which are of the type `T`. `S` is how they are stored: a broadcast stores several, and a watch one.

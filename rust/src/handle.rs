@@ -1,8 +1,7 @@
 //! What a sender, a weak sender and a receiver are, of either kind of channel.
 
-use crate::channel::{Channel, LockedChannel, RecordedChannel};
+use crate::channel::{Call, Channel, CoreChannel, LockedChannel, RecordedChannel};
 use crate::lock::lock;
-use crate::proved::{Call, CoreChannel};
 use crate::reply::Reply;
 use crate::wait::{WaitFor, WaitingCall};
 use std::future::poll_fn;
@@ -54,7 +53,7 @@ impl<T, S> ChannelHandle<T, S> {
 
     /// Creates a handle of the same channel, by this call.
     pub(crate) fn create(&self, kind: Kind, call: Call) -> Self {
-        self.sibling(kind, self.call(call).new_handle())
+        self.sibling(kind, self.lock().create(call).new_handle())
     }
 
     pub(crate) fn same_channel(&self, other: &Self) -> bool {

@@ -100,19 +100,23 @@
 //!
 //! # Recording
 //!
-//! - [`Recorder::for_test`] records the channels that the test's thread creates, and [`Recorder::install`] those of all threads of a
-//!   runtime.
+//! - [`Recorder::for_test`] records the channels that the test's thread creates. A channel that is created under no recorder is not recorded,
+//!   and takes no memory for it.
+//! - [`Recorder::on_thread_start`] is for the builder of a runtime with many threads: what its tasks create then belongs to the test.
+//! - [`Recorder::scope`] wraps a future, whose channels then belong to the recorder wherever it is polled. [`Recorder::install`] records
+//!   those of all threads of the process, and [`Recorder::off`] none.
 //! - [`named`] gives a future a name of its own in the journal. Without it, calls have the name of their thread.
 //! - [`Recorder::name`] and [`Recorder::show`] give names to channels and texts to values.
 //! - [`Recorder::save`] writes the journal at any time, also if nothing fails.
 //!
 //! # Differences from tokio
 //!
-//! - A capacity is at most 65,536, and a channel creates at most 65,536 senders, weak senders and receivers. More than that panics.
+//! - A capacity is at most 65,536. More than that panics.
 //! - The futures need no runtime: [`block_on`] runs them. They do not count towards tokio's cooperative budget.
 //! - `blocking_recv` does not panic within a runtime, it blocks there.
 //! - A closure of `send_modify`, `send_if_modified` or `wait_for` that waits for its own channel panics, where tokio has a deadlock.
-//! - Calls are slower, since they are recorded, and an entry of the journal takes about 90 bytes of memory. [`Recorder`] lists the limits.
+//! - Calls are slower, since they are recorded, and an entry of the journal takes about 90 bytes of memory. [`Recorder`] lists the limits
+//!   of what is recorded. Calls go on past them.
 //! - tokio's other channels are not included. Streams of these two are in the package `yovanelum-stream`, beside the source of this one.
 //!
 //! # Platforms
@@ -146,7 +150,9 @@ pub use actors::{Named, named};
 pub use block_on::block_on;
 #[doc(hidden)]
 pub use polled::Polled;
-pub use recorder::{Entered, ForTest, Handle, Recorder};
+pub use recorder::{
+    Entered, ForTest, Handle, Installed, Recorder, SaveOnPanic, Scoped, follow_this_thread,
+};
 
 // Runs the programs of the README.
 #[cfg(doctest)]

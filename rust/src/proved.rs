@@ -109,6 +109,9 @@ impl Answer {
             7 => Reply::New(n as u32),
             8 => Reply::Dropped,
             9 => Reply::Count(n),
+            10 => Reply::Unknown,
+            11 => Reply::Gone,
+            12 => Reply::WrongKind,
             13 => Reply::TooManyHandles,
             14 => Reply::Stored,
             15 => Reply::Old,
@@ -118,8 +121,7 @@ impl Answer {
             20 => Reply::JournalFull,
             21 => Reply::NoMemory,
             22 => Reply::NoSender,
-            // 10 to 12 mean that the handle was never made, was dropped or is of another kind, and 19 that the call is of the other kind
-            // of channel. The types of this crate make no such call.
+            // 19 means that the call is of the other kind of channel. The types of this crate make no such call.
             kind => unreachable!("the core answered {kind}"),
         }
     }
@@ -220,9 +222,6 @@ impl Drop for CoreChannel {
         unsafe { yovanelum_free(&mut self.0) }
     }
 }
-
-/// A call by the number of a handle, such as [`CoreChannel::broadcast_subscribe`].
-pub(crate) type Call = fn(&mut CoreChannel, Caller, u32) -> Reply;
 
 /// The calls of the core by name: each becomes a declaration and a method.
 macro_rules! calls {

@@ -3,34 +3,45 @@
 mod current;
 mod for_test;
 mod handle;
+mod scope;
 mod shared;
 mod texts;
 
-pub use current::Entered;
-pub use for_test::ForTest;
+pub use current::{Entered, Installed, follow_this_thread};
+pub use for_test::{ForTest, SaveOnPanic};
 pub use handle::Handle;
-pub(crate) use shared::Shared;
+pub use scope::Scoped;
+pub(crate) use shared::{RecordedBy, Shared};
 pub use texts::TextOf;
 
-use crate::channel::RecordedChannel;
+use crate::channel::{ChannelState, RecordedChannel};
 use crate::lock::lock;
 use crate::names;
 use crate::proved::{Cut, CutFault};
 use std::io;
 use std::path::Path;
-use std::sync::Arc;
 use std::sync::atomic::Ordering;
+use std::sync::{Arc, Mutex};
 use std::{fmt, fs};
 use texts::Texts;
+
+/// Why a recorder without channels has no journal.
+const NO_CHANNEL: &str = "no channel belongs to this recorder. It records those that are created on a thread that has entered it \
+    (`Recorder::for_test`, `enter`), on the threads of a runtime (`on_thread_start`), in a future (`scope`), or anywhere while it is \
+    installed (`install`)";
+
+/// Why a recorder that is off has no journal.
+const IS_OFF: &str = "this recorder is off, so it records nothing. `Recorder::new` and `Recorder::for_test` create one that records";
 
 /// Records the calls on the channels that belong to it, as one run.
 ///
 /// A channel belongs to one recorder from its creation on, whichever thread uses it:
 ///
 /// 1. to the recorder that is entered on the thread that creates the channel ([`enter`](Recorder::enter),
-///    [`for_test`](Recorder::for_test)),
+///    [`for_test`](Recorder::for_test), [`scope`](Recorder::scope), [`on_thread_start`](Recorder::on_thread_start)),
 /// 2. else to the one that is installed for the process ([`install`](Recorder::install)),
-/// 3. else to one of its own ([`of`](Recorder::of) returns it).
+/// 3. else to none. Then nothing of it is recorded, and it takes no memory for entries. The same is so under a recorder that is
+///    [`off`](Recorder::off).
 ///
 /// The journal has an entry for each call: which channel, who called, what the call was and what it returned. The drop of a sender or a
 /// receiver is a call too. The caller is a thread, or a future that was wrapped by [`named`](crate::named). A call that waits is recorded
@@ -43,7 +54,10 @@ use texts::Texts;
 ///
 /// Nothing fails at these limits. The first time that one is reached, a line on standard error reports it.
 ///
-/// - The 65th channel of a recorder and later ones can be used, and are not recorded.
+/// - A run has 64 channels. When another one is created, the oldest channel whose senders and receivers are all dropped leaves the run, with
+///   its entries. The channels after it move up by one number. If 64 channels are alive, the new one is not recorded.
+/// - When a channel has created 65,536 senders, weak senders and receivers and is to create another one, its recording ends. The other
+///   channels are still recorded.
 /// - When a channel has 1,048,576 entries, recording ends for all channels of the recorder.
 /// - A thread or named future after the 64th is recorded under the number of the 64th.
 ///
@@ -80,6 +94,18 @@ impl fmt::Debug for Recorder {
     }
 }
 
+/// The channels of a run, by their numbers.
+type Channels = Vec<Arc<Mutex<ChannelState>>>;
+
+/// Returns the text of what these channels have recorded up to this stamp.
+fn cut(channels: &Channels, last: u64) -> Result<Vec<u8>, CutFault> {
+    let mut cut = Cut::new()?;
+    for channel in channels {
+        cut.add(lock(channel).core.recorded(), last)?;
+    }
+    cut.text()
+}
+
 impl Recorder {
     /// Creates a recorder without channels.
     ///
@@ -99,7 +125,7 @@ impl Recorder {
     /// assert!(!recorder.is_empty());
     /// ```
     pub fn new() -> Recorder {
-        Recorder::with(Arc::new(Shared::new()))
+        Recorder::with(Arc::new(Shared::new(false)))
     }
 
     /// Returns a handle of the recorder whose channels share this.
@@ -108,108 +134,51 @@ impl Recorder {
         Recorder(shared, texts)
     }
 
-    /// Creates a recorder for a test, and enters it on this thread until the result is dropped.
+    /// Creates a recorder that records nothing.
     ///
-    /// If the thread panics while the result is alive, or the environment variable `YOVANELUM_KEEP` is set, the drop of the result writes
-    /// the journal to `yovanelum/NAME.journal` in the build's folder `target`, and the names to `NAME.names` beside it. Two lines on
-    /// standard error say where the journal is and how to walk it. If it cannot be written, one line says why. A `/` in the name becomes a
-    /// `_`.
-    ///
-    /// Make it the first variable of the test. It is then dropped last, and the drops of senders and receivers are in the journal. If other
-    /// threads create channels, [`install`](Recorder::install) it too.
-    ///
-    /// A test that returns an `Err` does not panic, so its journal is written only with `YOVANELUM_KEEP`. If a test passes, cargo shows
-    /// the two lines only with `-- --nocapture`.
+    /// A channel that is created while it is entered, or in a future of its [`scope`](Recorder::scope), belongs to no recorder, as if no
+    /// recorder was there. It is for channels that have no part in what a test is about, and would only fill its journal.
     ///
     /// # Examples
     ///
     /// ```
-    /// use yovanelum::{Recorder, broadcast};
+    /// use yovanelum::{Recorder, broadcast, watch};
     ///
-    /// let recorder = Recorder::for_test("every_price_arrives");
-    /// let (prices, mut chart) = broadcast::channel(2);
-    /// prices.send(101).unwrap();
-    /// assert_eq!(chart.try_recv(), Ok(101));
-    /// assert_eq!(recorder.len(), 2);
+    /// let recorder = Recorder::for_test("each_price_arrives");
+    /// let (prices, mut chart) = broadcast::channel(4);
+    /// let off = Recorder::off().enter();
+    /// let (progress, _bar) = watch::channel(0);
+    /// drop(off);
+    /// for price in [101, 102] {
+    ///     prices.send(price).unwrap();
+    ///     assert_eq!(chart.try_recv(), Ok(price));
+    ///     progress.send_replace(price);
+    /// }
+    /// assert_eq!(recorder.len(), 4);
+    /// assert!(Recorder::of(&progress).is_none());
     /// ```
-    #[must_use = "dropped at once, it records nothing"]
-    pub fn for_test(name: &str) -> ForTest {
-        let recorder = Recorder::new();
-        let entered = recorder.enter();
-        ForTest {
-            recorder,
-            name: name.to_string(),
-            _entered: entered,
-        }
+    pub fn off() -> Recorder {
+        Recorder::with(Arc::new(Shared::new(true)))
     }
 
-    /// Enters the recorder on this thread: channels that the thread creates belong to it until the returned guard is dropped.
-    ///
-    /// If several recorders are entered, the one that was entered last is used. Channels that were created before are not affected.
+    /// Returns the recorder to which the channel of this sender or receiver belongs, or `None` if it belongs to none and is not recorded.
     ///
     /// # Examples
     ///
     /// ```
     /// use yovanelum::{Recorder, broadcast};
+    ///
+    /// let (orders, _mailer) = broadcast::channel::<u32>(2);
+    /// assert!(Recorder::of(&orders).is_none());
     ///
     /// let recorder = Recorder::new();
-    /// let entered = recorder.enter();
-    /// let orders = broadcast::Sender::<u32>::new(4);
-    /// drop(entered);
-    /// let refunds = broadcast::Sender::<u32>::new(4);
-    ///
-    /// let calls = recorder.len();
-    /// assert_eq!(refunds.receiver_count(), 0);
-    /// assert_eq!(recorder.len(), calls);
-    /// assert_eq!(orders.receiver_count(), 0);
-    /// assert_eq!(recorder.len(), calls + 1);
-    /// ```
-    #[must_use = "dropped at once, it changes nothing"]
-    pub fn enter(&self) -> Entered {
-        current::enter(self)
-    }
-
-    /// Installs the recorder for the process: channels that any thread creates belong to it, unless a recorder is entered on that thread.
-    ///
-    /// This is for runtimes with many threads. The recorder replaces the one that was installed before. It stays installed until another
-    /// one is, also for tests that run later in the same process.
-    ///
-    /// # Examples
-    ///
-    /// ```
-    /// use std::thread;
-    /// use yovanelum::{Recorder, broadcast};
-    ///
-    /// let recorder = Recorder::new();
-    /// recorder.install();
-    /// let service = thread::spawn(|| {
-    ///     let (bus, _listener) = broadcast::channel(4);
-    ///     bus.send("started").unwrap();
-    /// });
-    /// service.join().unwrap();
-    /// assert!(recorder.journal().unwrap().contains("send 0 0 = sent 1"));
-    /// ```
-    pub fn install(&self) {
-        current::install(self);
-    }
-
-    /// Returns the recorder to which the channel of this sender or receiver belongs.
-    ///
-    /// # Examples
-    ///
-    /// A channel that was created under no recorder has one of its own:
-    ///
-    /// ```
-    /// use yovanelum::{Recorder, broadcast};
-    ///
+    /// let _entered = recorder.enter();
     /// let (prices, _chart) = broadcast::channel(2);
     /// prices.send(101).unwrap();
-    /// let recorder = Recorder::of(&prices);
-    /// assert_eq!(recorder.len(), 1);
-    /// assert!(recorder.journal().unwrap().contains("send 0 0 = sent 1"));
+    /// assert_eq!(Recorder::of(&prices).unwrap().len(), 1);
     /// ```
-    pub fn of<H: Handle>(handle: &H) -> Recorder {
-        Recorder::with(handle.recorded().recorder.clone())
+    pub fn of<H: Handle>(handle: &H) -> Option<Recorder> {
+        handle.recorded().recorder.0.clone().map(Recorder::with)
     }
 
     /// Ends the recording of questions, so that a loop that polls does not fill the journal. Returns the recorder, for the next call.
@@ -244,7 +213,8 @@ impl Recorder {
     ///
     /// # Panics
     ///
-    /// Panics if the channel belongs to another recorder.
+    /// Panics if the channel belongs to another recorder, or to none. A recorder that is off takes any, and so does one whose run has left
+    /// a channel out.
     ///
     /// # Examples
     ///
@@ -281,8 +251,8 @@ impl Recorder {
     ///
     /// # Panics
     ///
-    /// Panics if the channel belongs to another recorder. Panics if the function panics for the first value of a watch channel, or waits for
-    /// the lock of that value by a send. The channel then has no function.
+    /// As [`name`](Recorder::name). Panics if the function panics for the first value of a watch channel, or waits for the lock of that value
+    /// by a send. The channel then has no function.
     ///
     /// # Examples
     ///
@@ -308,13 +278,18 @@ impl Recorder {
         self
     }
 
-    /// Panics if the channel belongs to another recorder. Its names aren't beside the journal of this one.
+    /// Panics if the channel belongs to another recorder, or to none. Its names aren't beside the journal of this one.
     #[track_caller]
     fn expect_own(&self, channel: &RecordedChannel) {
-        assert!(
-            Arc::ptr_eq(&channel.recorder, &self.0),
-            "yovanelum: the channel belongs to another recorder, so its calls aren't in the journal of this one: \
-             enter or install this recorder before the channel is created"
+        let belongs_to = match &channel.recorder.0 {
+            Some(recorder) if Arc::ptr_eq(recorder, &self.0) => return,
+            Some(_) => "another recorder",
+            None if self.0.is_off || self.0.leaves_channels_out() => return,
+            None => "no recorder",
+        };
+        panic!(
+            "yovanelum: the channel belongs to {belongs_to}, so its calls aren't in the journal of this one: \
+             enter this recorder before the channel is created"
         );
     }
 
@@ -326,7 +301,7 @@ impl Recorder {
     ///
     /// # Errors
     ///
-    /// Returns an error if no channel belongs to the recorder, or if there is no memory for the text.
+    /// Returns an error if no channel belongs to the recorder, or if there is no memory for the text. The text of the first says what to do.
     ///
     /// # Examples
     ///
@@ -346,21 +321,25 @@ impl Recorder {
     /// assert_eq!(entries[2..], ["3 0 0 send 0 2 = sent 1", "4 0 0 try-recv 1 = lagged 1"]);
     /// ```
     pub fn journal(&self) -> io::Result<String> {
-        // Each call takes its number under its channel's lock. So once `cut` has locked a channel, its calls before the cut are recorded.
-        let text = self
-            .cut(self.0.last())
-            .map_err(|fault| io::Error::other(fault.to_string()))?;
-        String::from_utf8(text).map_err(io::Error::other)
+        self.journal_of(&self.channels())
     }
 
-    /// Returns the text of what all channels have recorded up to this stamp.
-    fn cut(&self, last: u64) -> Result<Vec<u8>, CutFault> {
-        let channels = lock(&self.0.channels).clone();
-        let mut cut = Cut::new()?;
-        for channel in channels {
-            cut.add(&mut lock(&channel).core, last)?;
-        }
-        cut.text()
+    /// Returns the channels of the run, in the order of their numbers.
+    fn channels(&self) -> Channels {
+        lock(&self.0.channels).clone()
+    }
+
+    /// Returns the text of the journal of these channels.
+    fn journal_of(&self, channels: &Channels) -> io::Result<String> {
+        // Each call takes its number under its channel's lock. So once `cut` has locked a channel, its calls before the cut are recorded.
+        let text = cut(channels, self.0.last()).map_err(|fault| {
+            io::Error::other(match fault {
+                CutFault::NoChannels if self.0.is_off => IS_OFF.to_string(),
+                CutFault::NoChannels => NO_CHANNEL.to_string(),
+                fault => fault.to_string(),
+            })
+        })?;
+        String::from_utf8(text).map_err(io::Error::other)
     }
 
     /// Returns the names that belong to the journal, as JSON.
@@ -388,13 +367,17 @@ impl Recorder {
     /// assert_eq!(recorder.names(), wanted);
     /// ```
     pub fn names(&self) -> String {
+        self.names_of(&self.channels())
+    }
+
+    /// Returns the names that belong to the journal of these channels.
+    fn names_of(&self, channels: &Channels) -> String {
         let actors = lock(&self.0.actors).names();
-        let channels = lock(&self.0.channels).clone();
         let channel_names = (0..)
-            .zip(&channels)
+            .zip(channels)
             .filter_map(|(number, channel)| Some((number, lock(channel).name.clone()?)));
         let values = (0..)
-            .zip(&channels)
+            .zip(channels)
             .map(|(number, channel)| (number, lock(channel).texts.clone()))
             .filter(|(_, texts)| !texts.is_empty());
         names::document(
@@ -433,12 +416,13 @@ impl Recorder {
     /// # Ok::<(), std::io::Error>(())
     /// ```
     pub fn save(&self, path: impl AsRef<Path>) -> io::Result<()> {
-        let path = path.as_ref();
-        fs::write(path, self.journal()?)?;
-        fs::write(path.with_extension("names"), self.names())
+        // Both files are of the same channels, also if others join the run in between.
+        let (path, channels) = (path.as_ref(), self.channels());
+        fs::write(path, self.journal_of(&channels)?)?;
+        fs::write(path.with_extension("names"), self.names_of(&channels))
     }
 
-    /// Returns the number of calls that are recorded.
+    /// Returns the number of calls that are recorded, on the channels of the run.
     ///
     /// # Examples
     ///
@@ -455,7 +439,7 @@ impl Recorder {
     /// assert_eq!(recorder.len(), 3);
     /// ```
     pub fn len(&self) -> u64 {
-        let channels = lock(&self.0.channels).clone();
+        let channels = self.channels();
         let entries = channels.iter().map(|channel| lock(channel).core.entries());
         entries.sum()
     }

@@ -17,6 +17,9 @@ pub(crate) enum Reply {
     New(u32),
     Dropped,
     Count(u64),
+    Unknown,
+    Gone,
+    WrongKind,
     TooManyHandles,
     Stored,
     Old,
@@ -35,9 +38,6 @@ impl Reply {
     pub(crate) fn expect_made(self) -> Reply {
         match self {
             Reply::JournalFull | Reply::NoMemory => panic!("yovanelum: no memory for a call"),
-            Reply::TooManyHandles => panic!(
-                "yovanelum: a channel makes at most 65536 senders, weak senders and receivers"
-            ),
             reply => reply,
         }
     }

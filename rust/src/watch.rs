@@ -55,11 +55,10 @@ pub use borrowed::Ref;
 pub use receiver::Receiver;
 pub use sender::Sender;
 
-use crate::channel::{Channel, LockedChannel};
+use crate::channel::{Channel, CoreChannel, LockedChannel, RecordedChannel};
 use crate::handle::{ChannelHandle, Kind};
 use crate::lock::lock;
-use crate::proved::CoreChannel;
-use crate::recorder::{Recorder, TextOf};
+use crate::recorder::TextOf;
 use crate::wait::WaitFor;
 use std::task::{Context, Poll};
 use value::ValueLock;
@@ -85,10 +84,10 @@ type WatchHandle<T> = ChannelHandle<T, ValueLock<T>>;
 /// ```
 pub fn channel<T>(init: T) -> (Sender<T>, Receiver<T>) {
     // The core knows each value by a number. The first one has 0.
-    let Ok(core) = CoreChannel::watch(0) else {
+    let Ok(core) = CoreChannel::watch() else {
         panic!("yovanelum: no memory for a channel");
     };
-    let recorded = Recorder::current().0.add(core, 1);
+    let recorded = RecordedChannel::add(core, 1);
     let channel = Channel::new(recorded, ValueLock::new(init));
     let (sender, receiver) = ChannelHandle::first_two(channel);
     (Sender { handle: sender }, Receiver { handle: receiver })

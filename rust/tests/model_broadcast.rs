@@ -127,6 +127,15 @@ impl Pair {
         }
     }
 
+    /// Creates and drops this many receivers, if there is a handle that creates them.
+    fn create_and_drop(&self, count: usize) {
+        match (self.senders.first(), self.receivers.first()) {
+            (Some(sender), _) => (0..count).for_each(|_| drop(sender.subscribe())),
+            (None, Some(receiver)) => (0..count).for_each(|_| drop(receiver.resubscribe())),
+            (None, None) => {}
+        }
+    }
+
     /// Adds a new receiver, which receives what is sent from now on.
     fn begin(&mut self, receiver: Receiver<Rc<usize>>) {
         self.receivers.push(receiver);
@@ -204,5 +213,27 @@ fn random_calls_answer_as_the_model() {
         if seed < 20 {
             assert!(accepted(&recorder, &format!("model-broadcast-{seed}")) > 0);
         }
+    }
+}
+
+#[test]
+fn random_calls_answer_as_the_model_past_65_536_handles() {
+    for seed in 0..2 {
+        let mut random = Random::new(seed + 500);
+        let recorder = Recorder::new();
+        let entered = recorder.enter();
+        let mut pair = Pair::open(1 + random.below(6));
+        drop(entered);
+        for _ in 0..3 {
+            for _ in 0..200 {
+                pair.step(&mut random);
+            }
+            pair.create_and_drop(65_400);
+        }
+        for _ in 0..300 {
+            pair.step(&mut random);
+        }
+        drop(pair);
+        accepted(&recorder, &format!("model-broadcast-many-{seed}"));
     }
 }

@@ -92,6 +92,15 @@ fn that_recording_ended_is_said_once() {
     );
 }
 
+/// Returns the lines that the part of this test writes. Asserts that the part succeeds, and that the first line is one of its own.
+fn told(test: &str) -> Vec<String> {
+    let folder = Folder::new(test);
+    let (succeeds, mut said) = played(test, &folder.0, None);
+    assert!(succeeds, "{said:#?}");
+    assert!(said.remove(0).contains("are made"), "{said:#?}");
+    said
+}
+
 #[test]
 fn that_the_65th_channel_is_recorded_by_none_is_said_once() {
     if is_part() {
@@ -105,15 +114,79 @@ fn that_the_65th_channel_is_recorded_by_none_is_said_once() {
             .collect();
         return;
     }
-    let folder = Folder::new("channels");
-    let test = "that_the_65th_channel_is_recorded_by_none_is_said_once";
-    let (succeeds, said) = played(test, &folder.0, None);
-    let [made, line] = &said[..] else {
+    let said = told("that_the_65th_channel_is_recorded_by_none_is_said_once");
+    let [line] = &said[..] else {
         panic!("{said:#?}");
     };
-    assert!(succeeds && made.contains("are made"), "{made}");
     assert!(
         line.contains("64 channels") && line.contains("recorded by none"),
         "{line}"
     );
+}
+
+#[test]
+fn that_a_channel_left_the_run_is_said_once() {
+    if is_part() {
+        let recorder = Recorder::new();
+        let _entered = recorder.enter();
+        (0..64).for_each(|_| drop(broadcast::channel::<u8>(2)));
+        eprintln!("yovanelum: 64 channels are made");
+        (0..64).for_each(|_| drop(broadcast::channel::<u8>(2)));
+        return;
+    }
+    let said = told("that_a_channel_left_the_run_is_said_once");
+    let [line] = &said[..] else {
+        panic!("{said:#?}");
+    };
+    assert!(
+        line.contains("64 channels") && line.contains("leaves it"),
+        "{line}"
+    );
+}
+
+#[test]
+fn that_a_channel_makes_more_handles_than_a_journal_names_is_said_once() {
+    if is_part() {
+        let recorder = Recorder::new();
+        let _entered = recorder.enter();
+        let channels = [broadcast::channel::<u8>(2), broadcast::channel::<u8>(2)];
+        let make = |count: u32| {
+            for (tx, _rx) in &channels {
+                (0..count).for_each(|_| drop(tx.subscribe()));
+            }
+        };
+        make(65_534);
+        eprintln!("yovanelum: 65,536 handles are made");
+        make(10);
+        return;
+    }
+    let said = told("that_a_channel_makes_more_handles_than_a_journal_names_is_said_once");
+    let [line] = &said[..] else {
+        panic!("{said:#?}");
+    };
+    assert!(
+        line.contains("as many handles as a journal names (65536)"),
+        "{line}"
+    );
+}
+
+#[test]
+fn an_empty_journal_says_what_to_do() {
+    if is_part() {
+        let _recorder = Recorder::for_test("empty");
+        // Another thread's channels aren't recorded.
+        std::thread::spawn(|| drop(broadcast::channel::<u8>(2)))
+            .join()
+            .unwrap();
+        panic!("the test fails");
+    }
+    let folder = Folder::new("empty");
+    let (succeeds, said) = played("an_empty_journal_says_what_to_do", &folder.0, None);
+    let [line] = &said[..] else {
+        panic!("{said:#?}");
+    };
+    assert!(!succeeds && line.contains("empty.journal isn't written: no channel"));
+    for form in ["for_test", "enter", "on_thread_start", "scope", "install"] {
+        assert!(line.contains(form), "{form} in {line}");
+    }
 }

@@ -89,10 +89,15 @@ fn a_function_lives_as_long_as_its_channel_and_its_recorder() {
     drop(clone);
     assert_eq!(Arc::strong_count(&held), 1);
     second.send(6).unwrap();
-    assert!(Recorder::of(&second).names().contains(r#"{"0": "5 ()"}"#));
+    assert!(
+        Recorder::of(&second)
+            .unwrap()
+            .names()
+            .contains(r#"{"0": "5 ()"}"#)
+    );
 }
 
-/// Asserts that this recorder says of a channel that it belongs to another one.
+/// Asserts that this recorder says of a channel that it belongs to another one, or to none.
 fn is_anothers<H: Handle<Value = u32>>(recorder: &Recorder, handle: &H) {
     type Call<'a> = &'a dyn Fn() -> &'a Recorder;
     let calls: [Call<'_>; 2] = [&|| recorder.name(handle, "prices"), &|| {
@@ -100,8 +105,12 @@ fn is_anothers<H: Handle<Value = u32>>(recorder: &Recorder, handle: &H) {
     }];
     for call in calls {
         let panicked = catch_unwind(AssertUnwindSafe(call)).unwrap_err();
-        let message = panicked.downcast::<&str>().unwrap();
-        assert!(message.contains("belongs to another recorder"), "{message}");
+        let message = panicked.downcast::<String>().unwrap();
+        let owner = match Recorder::of(handle) {
+            Some(_) => "belongs to another recorder",
+            None => "belongs to no recorder",
+        };
+        assert!(message.contains(owner), "{message}");
     }
 }
 
@@ -122,6 +131,14 @@ fn a_channel_of_another_recorder_gets_no_name_and_no_texts() {
         names.contains("\"channels\": {},\n  \"values\": {}\n"),
         "{names}"
     );
+    // One of a channel that belongs to none would be lost too, unless the recorder is off.
+    let off = Recorder::off();
+    let entered = off.enter();
+    let (unrecorded, _unrecorded_rx) = broadcast::channel(2);
+    drop(entered);
+    is_anothers(&recorder, &unrecorded);
+    off.name(&unrecorded, "prices")
+        .show(&unrecorded, u32::to_string);
     // Its own recorder takes both, from a clone too.
     recorder
         .clone()

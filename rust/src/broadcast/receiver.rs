@@ -4,9 +4,8 @@ use super::BroadcastHandle;
 use super::error::{RecvError, TryRecvError};
 use super::values::Value;
 use crate::block_on;
-use crate::channel::{LockedChannel, RecordedChannel};
+use crate::channel::{CoreChannel, LockedChannel, RecordedChannel};
 use crate::handle::Kind;
-use crate::proved::CoreChannel;
 use crate::recorder::{Handle, TextOf};
 use crate::wait::WaitFor;
 use std::fmt;
@@ -172,10 +171,6 @@ impl<T: Clone> Receiver<T> {
     /// Creates a receiver of the same channel, which receives the values that are sent after this call.
     ///
     /// As in tokio, it receives none of the values that this receiver has yet to receive. This receiver is unchanged.
-    ///
-    /// # Panics
-    ///
-    /// Panics if the channel has created 65,536 senders, weak senders and receivers, dropped ones included.
     ///
     /// # Examples
     ///

@@ -2,9 +2,8 @@
 
 use super::error::SendError;
 use super::{BroadcastHandle, Receiver, WeakSender, open};
-use crate::channel::RecordedChannel;
+use crate::channel::{CoreChannel, RecordedChannel};
 use crate::handle::Kind;
-use crate::proved::CoreChannel;
 use crate::recorder::{Handle, TextOf};
 use crate::wait::WaitFor;
 use std::fmt;
@@ -112,10 +111,6 @@ impl<T> Sender<T> {
     ///
     /// As in tokio, it receives none of the values that were sent before. Other receivers are not affected.
     ///
-    /// # Panics
-    ///
-    /// Panics if the channel has created 65,536 senders, weak senders and receivers, dropped ones included.
-    ///
     /// # Examples
     ///
     /// ```
@@ -140,10 +135,6 @@ impl<T> Sender<T> {
     /// Creates a weak sender, which does not keep the channel open.
     ///
     /// As in tokio, the channel is closed when the last `Sender` is dropped, even if weak senders are left. This sender can still be used.
-    ///
-    /// # Panics
-    ///
-    /// Panics if the channel has created 65,536 senders, weak senders and receivers, dropped ones included.
     ///
     /// # Examples
     ///
@@ -317,10 +308,6 @@ impl<T> Sender<T> {
 
 impl<T> Clone for Sender<T> {
     /// Creates another sender of the same channel.
-    ///
-    /// # Panics
-    ///
-    /// Panics if the channel has created 65,536 senders, weak senders and receivers, dropped ones included.
     fn clone(&self) -> Sender<T> {
         Sender {
             handle: self

@@ -1,9 +1,8 @@
 //! Senders that do not keep a broadcast channel open.
 
 use super::{BroadcastHandle, Sender};
-use crate::channel::RecordedChannel;
+use crate::channel::{CoreChannel, RecordedChannel};
 use crate::handle::Kind;
-use crate::proved::CoreChannel;
 use crate::recorder::{Handle, TextOf};
 use std::fmt;
 
@@ -39,10 +38,6 @@ impl<T> WeakSender<T> {
     /// As in tokio, it returns `Some` if another sender is alive. Once it has returned `None`, it always will: a closed channel stays
     /// closed. The weak sender itself is unchanged.
     ///
-    /// # Panics
-    ///
-    /// Panics if the channel has created 65,536 senders, weak senders and receivers, dropped ones included.
-    ///
     /// # Examples
     ///
     /// ```
@@ -61,7 +56,8 @@ impl<T> WeakSender<T> {
     pub fn upgrade(&self) -> Option<Sender<T>> {
         let number = self
             .handle
-            .call(CoreChannel::broadcast_upgrade)
+            .lock()
+            .create(CoreChannel::broadcast_upgrade)
             .upgraded()?;
         Some(Sender {
             handle: self.handle.sibling(Kind::Sender, number),
@@ -106,10 +102,6 @@ impl<T> WeakSender<T> {
 
 impl<T> Clone for WeakSender<T> {
     /// Creates another weak sender of the same channel.
-    ///
-    /// # Panics
-    ///
-    /// Panics if the channel has created 65,536 senders, weak senders and receivers, dropped ones included.
     fn clone(&self) -> WeakSender<T> {
         WeakSender {
             handle: self

@@ -1,10 +1,10 @@
 //! Calls, which are made while the channel is locked.
 
-use super::{ChannelState, RecordedChannel};
+use super::{Call, ChannelState, CoreChannel, RecordedChannel};
 use crate::handle::Kind;
 use crate::lock::lock;
-use crate::proved::{Actor, Call, Caller, CoreChannel, GuardedBy};
-use crate::recorder::Shared;
+use crate::proved::{Actor, Caller, GuardedBy};
+use crate::recorder::RecordedBy;
 use crate::reply::Reply;
 use crate::wait::WaitFor;
 use crate::wakers::Wakers;
@@ -13,7 +13,7 @@ use std::sync::MutexGuard;
 /// A channel whose lock is held, for the calls of one actor by one handle.
 pub(crate) struct LockedChannel<'a> {
     pub(crate) state: MutexGuard<'a, ChannelState>,
-    pub(crate) recorder: &'a Shared,
+    pub(crate) recorder: &'a RecordedBy,
     actor: Actor,
     handle: u32,
 }
@@ -40,6 +40,22 @@ impl LockedChannel<'_> {
         self.call_core(|core, caller| call(core, caller, handle))
     }
 
+    /// Makes a call that creates a handle. If a journal can't name that handle, the recording of this channel ends before.
+    pub(crate) fn create(&mut self, call: Call) -> Reply {
+        if self.state.is_recorded && self.state.core.has_named_all() {
+            self.end_for_handles();
+        }
+        self.call(call)
+    }
+
+    #[cold]
+    fn end_for_handles(&mut self) {
+        self.state.end_recording();
+        if let Some(recorder) = &self.recorder.0 {
+            recorder.tell_of_too_many_handles();
+        }
+    }
+
     /// Makes a call that passes a new value to the core, by the value's number, and stores its text. Returns the number with the reply.
     #[inline]
     pub(crate) fn send(
@@ -60,7 +76,7 @@ impl LockedChannel<'_> {
     /// each channel, and on several channels if one call returned before the other began.
     #[inline]
     fn call_core(&mut self, call: impl Fn(&mut CoreChannel, Caller) -> Reply) -> Reply {
-        if self.state.is_recorded && self.recorder.has_ended() {
+        if self.state.is_recorded && self.has_ended() {
             self.state.end_recording();
         }
         let caller = Caller {
@@ -73,6 +89,15 @@ impl LockedChannel<'_> {
         }
     }
 
+    /// Whether the recording of all channels has ended.
+    #[inline]
+    fn has_ended(&self) -> bool {
+        self.recorder
+            .0
+            .as_ref()
+            .is_some_and(|recorder| recorder.has_ended())
+    }
+
     /// Makes a call for which the journal has no room. The recording of all channels ends at this call.
     #[cold]
     fn call_unrecorded(
@@ -80,7 +105,9 @@ impl LockedChannel<'_> {
         caller: Caller,
         call: impl Fn(&mut CoreChannel, Caller) -> Reply,
     ) -> Reply {
-        self.recorder.end_at(caller.clock);
+        if let Some(recorder) = &self.recorder.0 {
+            recorder.end_at(caller.clock);
+        }
         self.state.end_recording();
         call(&mut self.state.core, caller).expect_made()
     }

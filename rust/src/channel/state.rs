@@ -1,6 +1,6 @@
 //! A channel without its values, as its recorder shares it.
 
-use crate::proved::CoreChannel;
+use super::CoreChannel;
 use crate::wait::WaitFor;
 use crate::wakers::WakerQueue;
 use std::collections::BTreeMap;
@@ -39,9 +39,15 @@ impl ChannelState {
         }
     }
 
+    /// Whether all senders, weak senders and receivers are dropped.
+    pub(crate) fn is_dead(&mut self) -> bool {
+        let core = &mut self.core;
+        core.receivers() == 0 && core.senders() == 0 && core.weak_senders() == 0
+    }
+
     /// Stores the text of the value that the channel was opened with, if no other was passed to the core yet.
     pub(crate) fn keep_first_text(&mut self, text: String) {
-        if self.value_count == 1 {
+        if self.value_count == 1 && self.is_recorded {
             self.texts.insert(0, text);
         }
     }

@@ -15,8 +15,8 @@ pub(super) struct Tried {
 const ALIGN: usize = 16;
 
 /// A block that grows to this size is allocated for a whole journal, so that it grows in place from then on. What isn't written takes only
-/// addresses.
-pub(super) const LARGE: usize = 1 << 20;
+/// addresses. No other block of a channel is as large: room for 65,536 handles takes up to 1.5 MiB.
+pub(super) const LARGE: usize = 1 << 21;
 
 /// The size of a whole journal: 1,048,576 entries of 88 bytes.
 pub(super) const JOURNAL: usize = 1_048_576 * 88;

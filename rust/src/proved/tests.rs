@@ -86,7 +86,7 @@ fn where_recording_ended_calls_go_on_without_entries() {
 
 #[test]
 fn a_journal_and_its_text_grow_past_a_large_block() {
-    const CALLS: u64 = 60_000;
+    const CALLS: u64 = 100_000;
     let mut channel = CoreChannel::broadcast(1).unwrap();
     for value in 0..CALLS {
         assert_eq!(

@@ -2,9 +2,9 @@
 
 use super::texts::Texts;
 use crate::actors::{self, Actors};
-use crate::channel::{ChannelState, RecordedChannel};
+use crate::channel::ChannelState;
 use crate::lock::lock;
-use crate::proved::{Actor, CoreChannel};
+use crate::proved::Actor;
 use std::sync::atomic::{AtomicBool, AtomicU64, Ordering};
 use std::sync::{Arc, Mutex, Weak};
 
@@ -24,33 +24,57 @@ struct Clock(AtomicU64);
 /// What a recorder's channels share.
 pub(crate) struct Shared {
     id: u64,
+    // Whether channels that are created under this recorder aren't recorded.
+    pub(super) is_off: bool,
     clock: Clock,
     // Changes once, while the first channel's lock is held.
     has_several: AtomicBool,
     // The last stamp that is recorded.
     end: AtomicU64,
     pub(super) is_quiet: AtomicBool,
-    has_too_many: AtomicBool,
+    told_of: Told,
     pub(super) channels: Mutex<Vec<Arc<Mutex<ChannelState>>>>,
     pub(super) actors: Mutex<Actors>,
     // Held by the handles of the recorder alone. A channel, which holds this, may be held by a function there.
     texts: Mutex<Weak<Texts>>,
 }
 
+/// Which lines were written to standard error. Each is written once.
+#[derive(Default)]
+struct Told {
+    channel_that_left: AtomicBool,
+    too_many_channels: AtomicBool,
+    too_many_handles: AtomicBool,
+}
+
+/// Writes a line to standard error, unless it was written before.
+#[cold]
+fn tell_once(is_told: &AtomicBool, line: &str) {
+    if !is_told.swap(true, Ordering::Relaxed) {
+        eprintln!("yovanelum: {line}");
+    }
+}
+
 impl Shared {
     /// Creates the shared part of a recorder without channels.
-    pub(super) fn new() -> Shared {
+    pub(super) fn new(is_off: bool) -> Shared {
         Shared {
             id: NEXT_ID.fetch_add(1, Ordering::Relaxed),
+            is_off,
             clock: Clock(AtomicU64::new(0)),
             has_several: AtomicBool::new(false),
             end: AtomicU64::new(NEVER),
             is_quiet: AtomicBool::new(false),
-            has_too_many: AtomicBool::new(false),
+            told_of: Told::default(),
             channels: Mutex::default(),
             actors: Mutex::default(),
             texts: Mutex::default(),
         }
+    }
+
+    /// Whether a channel may belong to no recorder because this one's run was full.
+    pub(super) fn leaves_channels_out(&self) -> bool {
+        self.told_of.too_many_channels.load(Ordering::Relaxed)
     }
 
     /// Returns the functions that the recorder's handles hold.
@@ -84,6 +108,7 @@ impl Shared {
         now
     }
 
+    /// Whether the recording of all channels has ended.
     #[inline]
     pub(crate) fn has_ended(&self) -> bool {
         self.end.load(Ordering::SeqCst) != NEVER
@@ -120,30 +145,68 @@ impl Shared {
         }
     }
 
-    /// Adds a channel that was opened with this many values to the run. The 65th channel and later ones are not recorded.
-    pub(crate) fn add(self: &Arc<Shared>, core: CoreChannel, value_count: u64) -> RecordedChannel {
-        let state = Arc::new(Mutex::new(ChannelState::new(core, value_count)));
+    /// Reports that a channel makes more handles than a journal names.
+    #[cold]
+    pub(crate) fn tell_of_too_many_handles(&self) {
+        tell_once(
+            &self.told_of.too_many_handles,
+            "a channel has made as many handles as a journal names (65536); its recording ended there, and its calls go on unrecorded",
+        );
+    }
+
+    /// Adds a channel to the run. If the run is full, the oldest dead channel leaves it. Returns `false` if there is none, and the channel
+    /// isn't added.
+    pub(crate) fn add(&self, channel: &Arc<Mutex<ChannelState>>) -> bool {
         let mut channels = lock(&self.channels);
-        let count = channels.len();
         if let [first] = &channels[..] {
             let _first = lock(first);
             self.has_several.store(true, Ordering::Relaxed);
         }
-        if count < MOST_CHANNELS {
-            channels.push(state.clone());
-        }
-        drop(channels);
-        if count >= MOST_CHANNELS {
-            lock(&state).end_recording();
-            if !self.has_too_many.swap(true, Ordering::Relaxed) {
-                eprintln!(
-                    "yovanelum: a run has 64 channels; this channel is recorded by none, nor are those made later"
+        let mut left = None;
+        if channels.len() >= MOST_CHANNELS {
+            left = channels.iter().position(|other| lock(other).is_dead());
+            if left.is_none() {
+                drop(channels);
+                tell_once(
+                    &self.told_of.too_many_channels,
+                    "64 channels of a run are alive; this channel is recorded by none, as is each one that is created while they are",
                 );
+                return false;
             }
         }
-        RecordedChannel {
-            recorder: self.clone(),
-            state,
+        let left = left.map(|index| channels.remove(index));
+        channels.push(channel.clone());
+        drop(channels);
+        if left.is_some() {
+            tell_once(
+                &self.told_of.channel_that_left,
+                "a run has 64 channels; from here on, the oldest one whose senders and receivers are dropped leaves it for each new one",
+            );
         }
+        true
+    }
+}
+
+/// By whom a channel is recorded: a recorder, or none.
+pub(crate) struct RecordedBy(pub(crate) Option<Arc<Shared>>);
+
+impl RecordedBy {
+    /// Whether questions leave no entry.
+    #[inline]
+    pub(crate) fn is_quiet(&self) -> bool {
+        self.0.as_ref().is_none_or(|recorder| recorder.is_quiet())
+    }
+
+    /// Returns the actor of a call. What isn't recorded has the first one.
+    #[inline]
+    pub(crate) fn actor(&self) -> Actor {
+        let actor = self.0.as_ref().map(|recorder| recorder.actor());
+        actor.unwrap_or(Actor::FIRST)
+    }
+
+    /// Returns the clock's number for a call whose channel is locked. What isn't recorded has no clock.
+    #[inline]
+    pub(crate) fn tick(&self) -> u64 {
+        self.0.as_ref().map_or(0, |recorder| recorder.tick())
     }
 }

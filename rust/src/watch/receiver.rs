@@ -2,9 +2,8 @@
 
 use super::error::RecvError;
 use super::{Ref, WatchHandle};
-use crate::channel::RecordedChannel;
+use crate::channel::{CoreChannel, RecordedChannel};
 use crate::handle::Kind;
-use crate::proved::CoreChannel;
 use crate::recorder::{Handle, TextOf};
 use std::fmt;
 use std::task::{Context, Poll};
@@ -262,10 +261,6 @@ impl<T> Receiver<T> {
 
 impl<T> Clone for Receiver<T> {
     /// Creates another receiver of the same channel, which has seen what this one has.
-    ///
-    /// # Panics
-    ///
-    /// Panics if the channel has created 65,536 senders and receivers, dropped ones included.
     fn clone(&self) -> Receiver<T> {
         Receiver {
             handle: self

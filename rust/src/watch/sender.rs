@@ -2,9 +2,9 @@
 
 use super::error::SendError;
 use super::{Receiver, Ref, WatchHandle, channel};
-use crate::channel::RecordedChannel;
+use crate::channel::{CoreChannel, RecordedChannel};
 use crate::handle::Kind;
-use crate::proved::{Caller, CoreChannel};
+use crate::proved::Caller;
 use crate::recorder::{Handle, TextOf};
 use crate::reply::Reply;
 use crate::wait::WaitFor;
@@ -330,10 +330,6 @@ impl<T> Sender<T> {
     /// As in tokio, [`changed`](Receiver::changed) then waits for the next value, and a channel without receivers is open again. Other
     /// receivers are not affected.
     ///
-    /// # Panics
-    ///
-    /// Panics if the channel has created 65,536 senders and receivers, dropped ones included.
-    ///
     /// # Examples
     ///
     /// ```
@@ -411,10 +407,6 @@ impl<T> Sender<T> {
 
 impl<T> Clone for Sender<T> {
     /// Creates another sender of the same channel.
-    ///
-    /// # Panics
-    ///
-    /// Panics if the channel has created 65,536 senders and receivers, dropped ones included.
     fn clone(&self) -> Sender<T> {
         Sender {
             handle: self

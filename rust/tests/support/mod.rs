@@ -5,7 +5,7 @@ pub mod parts;
 
 use std::future::Future;
 use std::io::Write;
-use std::path::Path;
+use std::path::{Path, PathBuf};
 use std::pin::pin;
 use std::process::{Command, Stdio};
 use std::sync::mpsc::{self, RecvTimeoutError};
@@ -59,6 +59,21 @@ pub fn stamps(journal: &str) -> Vec<u64> {
     entries
         .map(|line| line.split(' ').next().unwrap().parse().unwrap())
         .collect()
+}
+
+/// The path at which the journal of a failed test of this process is.
+pub fn kept_journal(name: &str) -> PathBuf {
+    let target = std::env::var_os("CARGO_TARGET_DIR").map(PathBuf::from);
+    let target = target.unwrap_or_else(|| {
+        let program = std::env::current_exe().unwrap();
+        let folders = program.ancestors();
+        folders
+            .into_iter()
+            .find(|folder| folder.ends_with("target"))
+            .unwrap()
+            .to_path_buf()
+    });
+    target.join("yovanelum").join(format!("{name}.journal"))
 }
 
 /// Asserts that the proved debugger, `ttd check`, accepts the journal, and returns the number of its entries. The variable `YOVANELUM_TTD`

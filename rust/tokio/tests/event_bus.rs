@@ -85,11 +85,11 @@ async fn run() {
 
 #[test]
 fn on_a_multi_thread_runtime() {
-    let recorder = Recorder::new();
-    recorder.install();
+    let recorder = Recorder::for_test("on_a_multi_thread_runtime");
     Builder::new_multi_thread()
         .worker_threads(4)
         .enable_time()
+        .on_thread_start(recorder.on_thread_start())
         .build()
         .unwrap()
         .block_on(run());

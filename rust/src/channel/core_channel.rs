@@ -1,0 +1,428 @@
+//! A channel of the core: one machine, or several if the channel makes more handles than a machine does.
+//!
+//! A machine makes 65,536 handles. When a channel asks for one more, a further machine is opened beside the first, and makes it. From then
+//! on each send is made in all machines, and each receive in the one that made the receiver. So each receiver gets what was sent since it
+//! was created, and a machine's answer on its own handles is the channel's. Counts are sums. For the senders of other machines each machine
+//! has a sender that stands for them. It is dropped when the last sender of the channel is.
+//!
+//! The journal of a channel is that of its first machine. Its recording ends before a further one is opened.
+
+#[cfg(test)]
+mod tests;
+
+use super::machine::{MOST_HANDLES, Machine, Opening, made};
+use crate::proved::{self, Caller, OpenFault};
+use crate::reply::Reply;
+use std::iter;
+
+/// A channel of the core. The number of a handle is its number in its machine, and above these 16 bits the number of the machine.
+pub(crate) struct CoreChannel {
+    opening: Opening,
+    // How many handles each machine makes.
+    most: u32,
+    first: Machine,
+    // The machines 1, 2, .. A machine whose handles are all dropped is dropped too, and its place is used again.
+    further: Vec<Option<Machine>>,
+    // The number of the machine that creates handles, once the first one is full.
+    newest: usize,
+}
+
+/// A call by the number of a handle, such as [`CoreChannel::broadcast_subscribe`].
+pub(crate) type Call = fn(&mut CoreChannel, Caller, u32) -> Reply;
+
+/// Returns the number of a handle's machine, and its number there.
+fn parts_of(handle: u32) -> (usize, u32) {
+    ((handle / MOST_HANDLES) as usize, handle % MOST_HANDLES)
+}
+
+impl CoreChannel {
+    /// Opens a broadcast with sender 0 and receiver 1.
+    pub(crate) fn broadcast(capacity: u32) -> Result<CoreChannel, OpenFault> {
+        CoreChannel::open(Opening::Broadcast(capacity), MOST_HANDLES)
+    }
+
+    /// Opens a watch with sender 0 and receiver 1. Its value has the number 0.
+    pub(crate) fn watch() -> Result<CoreChannel, OpenFault> {
+        CoreChannel::open(Opening::Watch, MOST_HANDLES)
+    }
+
+    fn open(opening: Opening, most: u32) -> Result<CoreChannel, OpenFault> {
+        Ok(CoreChannel {
+            opening,
+            most,
+            first: Machine::first(opening.open()?, most),
+            further: Vec::new(),
+            newest: 0,
+        })
+    }
+
+    /// Ends recording: later calls are made as before, and leave no entry.
+    pub(crate) fn end(&mut self) {
+        self.first.core.end();
+    }
+
+    /// How many entries the journal has.
+    pub(crate) fn entries(&mut self) -> u64 {
+        self.first.core.entries()
+    }
+
+    /// Returns the machine that has the journal.
+    pub(crate) fn recorded(&mut self) -> &mut proved::CoreChannel {
+        &mut self.first.core
+    }
+
+    /// Whether the channel has created as many handles as a journal can name.
+    pub(crate) fn has_named_all(&self) -> bool {
+        self.first.is_full()
+    }
+
+    /// How many senders are alive.
+    pub(crate) fn senders(&mut self) -> u64 {
+        self.machines().map(Machine::senders).sum()
+    }
+
+    /// How many weak senders are alive.
+    pub(crate) fn weak_senders(&mut self) -> u64 {
+        self.machines().map(Machine::weak_senders).sum()
+    }
+
+    /// How many receivers are alive.
+    pub(crate) fn receivers(&mut self) -> u64 {
+        self.machines().map(Machine::receivers).sum()
+    }
+
+    /// How many values a broadcast retains for some receiver. They are the last ones that were sent, in each machine.
+    pub(crate) fn queued(&mut self) -> u64 {
+        let queued = self.machines().map(|machine| machine.core.queued());
+        queued.max().unwrap_or_default()
+    }
+
+    /// How many values a receiver of a broadcast has yet to receive.
+    pub(crate) fn unread(&mut self, receiver: u32) -> u64 {
+        let (machine, receiver) = self.machine_of(receiver);
+        machine.core.unread(receiver)
+    }
+
+    /// Whether a receiver of a watch has seen its value.
+    #[inline]
+    pub(crate) fn seen(&mut self, receiver: u32) -> bool {
+        let (machine, receiver) = self.machine_of(receiver);
+        machine.core.seen(receiver)
+    }
+
+    fn machines(&mut self) -> impl Iterator<Item = &mut Machine> {
+        iter::once(&mut self.first).chain(self.further.iter_mut().flatten())
+    }
+
+    fn machine(&mut self, number: usize) -> &mut Machine {
+        match number {
+            0 => &mut self.first,
+            _ => {
+                let machine = self.further[number - 1].as_mut();
+                machine.expect("a machine with a live handle")
+            }
+        }
+    }
+
+    /// Returns the machine of a handle, and the handle's number there.
+    #[inline]
+    fn machine_of(&mut self, handle: u32) -> (&mut Machine, u32) {
+        match handle {
+            0..MOST_HANDLES => (&mut self.first, handle),
+            _ => self.further_machine_of(handle),
+        }
+    }
+
+    #[cold]
+    fn further_machine_of(&mut self, handle: u32) -> (&mut Machine, u32) {
+        let (number, handle) = parts_of(handle);
+        (self.machine(number), handle)
+    }
+
+    /// Makes a call of a sender in all machines, and folds their replies.
+    #[inline]
+    fn call_all(
+        &mut self,
+        sender: u32,
+        call: impl Fn(&mut proved::CoreChannel, u32) -> Reply,
+        fold: fn(Reply, Reply) -> Reply,
+    ) -> Reply {
+        if self.further.is_empty() {
+            return call(&mut self.first.core, sender);
+        }
+        let (own, number) = parts_of(sender);
+        let reply = call(&mut self.machine(own).core, number);
+        self.call_others(own, reply, call, fold)
+    }
+
+    /// Makes a call of a sender in all machines but its own, whose reply is given.
+    #[cold]
+    fn call_others(
+        &mut self,
+        own: usize,
+        reply: Reply,
+        call: impl Fn(&mut proved::CoreChannel, u32) -> Reply,
+        fold: fn(Reply, Reply) -> Reply,
+    ) -> Reply {
+        let first = iter::once(Some(&mut self.first));
+        let all = first.chain(self.further.iter_mut().map(Option::as_mut));
+        let others = all.enumerate().filter(|(number, _)| *number != own);
+        let others = others.filter_map(|(_, machine)| machine);
+        others.fold(reply.expect_made(), |reply, machine| {
+            fold(reply, made(machine.by_sender(&call)))
+        })
+    }
+
+    /// Makes a call that creates a handle: in the first machine by the caller, or else in the newest one by a handle that stands for it.
+    fn create(
+        &mut self,
+        caller: u32,
+        by_caller: impl FnOnce(&mut proved::CoreChannel, u32) -> Reply,
+        by_other: impl FnOnce(&mut Machine) -> Reply,
+    ) -> Reply {
+        if !self.first.is_full() {
+            let reply = by_caller(&mut self.first.core, caller);
+            return self.first.count_made(reply);
+        }
+        let number = self.machine_with_room();
+        let machine = self.machine(number);
+        let reply = by_other(machine);
+        match machine.count_made(reply) {
+            Reply::New(handle) => Reply::New(number as u32 * MOST_HANDLES + handle),
+            reply => reply,
+        }
+    }
+
+    /// Returns the number of the newest machine. A further one is opened if that one is full, or if it can't create handles of a channel
+    /// that was closed since.
+    #[cold]
+    fn machine_with_room(&mut self) -> usize {
+        if self.further.is_empty() {
+            self.first.core.end();
+            self.first.find_sender(self.opening);
+        }
+        let is_closed = self.senders() == 0;
+        let before = self.newest;
+        if before == 0 || !has_room(self.machine(before), is_closed) {
+            let machine = Machine::further(self.opening, self.most, is_closed);
+            self.newest = self.add(machine);
+            self.drop_if_unused(before);
+        }
+        self.newest
+    }
+
+    /// Adds a further machine, and returns its number.
+    fn add(&mut self, machine: Machine) -> usize {
+        let free = self.further.iter().position(Option::is_none);
+        let index = free.unwrap_or_else(|| {
+            self.further.push(None);
+            self.further.len() - 1
+        });
+        self.further[index] = Some(machine);
+        index + 1
+    }
+
+    /// Makes the call that drops a handle.
+    fn drop_handle(
+        &mut self,
+        handle: u32,
+        drop: impl FnOnce(&mut proved::CoreChannel, u32) -> Reply,
+    ) -> Reply {
+        let (machine, number) = self.machine_of(handle);
+        let reply = machine.drop_handle(number, drop);
+        if !self.further.is_empty() {
+            self.settle_drop(handle);
+        }
+        reply
+    }
+
+    /// Drops what the drop of this handle has left without use: the senders that stand for others, or the handle's machine.
+    #[cold]
+    fn settle_drop(&mut self, handle: u32) {
+        let opening = self.opening;
+        if self.senders() == 0 {
+            self.machines().for_each(|machine| machine.close(opening));
+        }
+        self.drop_if_unused(parts_of(handle).0);
+    }
+
+    /// Drops a machine if no handle of it is alive. The first one stays, since it has the journal, and the newest, since it has room.
+    fn drop_if_unused(&mut self, number: usize) {
+        if number != 0 && number != self.newest && self.machine(number).is_unused() {
+            self.further[number - 1] = None;
+        }
+    }
+}
+
+fn has_room(machine: &Machine, is_closed: bool) -> bool {
+    !machine.is_full() && machine.is_for_closed() == is_closed
+}
+
+/// The reply to a send, of those of two machines. One without receivers has none who could get the value.
+fn sent(one: Reply, other: Reply) -> Reply {
+    match (one, other) {
+        (Reply::Sent(one), Reply::Sent(other)) => Reply::Sent(one + other),
+        (Reply::NoReceivers, reply) | (reply, _) => reply,
+    }
+}
+
+fn count_of(reply: Reply) -> u64 {
+    reply.count() as u64
+}
+
+/// The sum of two counts.
+fn sum(one: Reply, other: Reply) -> Reply {
+    Reply::Count(count_of(one) + count_of(other))
+}
+
+/// The greater of two counts.
+fn greater(one: Reply, other: Reply) -> Reply {
+    Reply::Count(count_of(one).max(count_of(other)))
+}
+
+/// Whether there are no receivers, of the replies of two machines that ask or wait for it.
+fn all_closed(one: Reply, other: Reply) -> Reply {
+    match one {
+        Reply::Flag(true) | Reply::Done => other,
+        reply => reply,
+    }
+}
+
+/// Calls that read or change the state of one handle.
+macro_rules! calls_of_one_machine {
+    ($($method:ident)*) => {
+        impl CoreChannel {
+            $(#[inline]
+            pub(crate) fn $method(&mut self, caller: Caller, handle: u32) -> Reply {
+                let (machine, number) = self.machine_of(handle);
+                machine.core.$method(caller, number)
+            })*
+        }
+    };
+}
+
+calls_of_one_machine! {
+    broadcast_try_recv broadcast_recv broadcast_receiver_len
+    watch_borrow watch_update watch_has_changed watch_changed watch_mark_changed watch_mark_unchanged
+}
+
+/// Calls of a sender that concern all receivers, each with the function that folds the replies of two machines.
+macro_rules! calls_of_all_machines {
+    ($($method:ident($($arg:ident: $type:ty),*) by $fold:ident;)*) => {
+        impl CoreChannel {
+            $(#[inline]
+            pub(crate) fn $method(&mut self, caller: Caller, sender: u32, $($arg: $type),*) -> Reply {
+                self.call_all(sender, |core, sender| core.$method(caller, sender, $($arg),*), $fold)
+            })*
+        }
+    };
+}
+
+calls_of_all_machines! {
+    broadcast_send(value: u64) by sent;
+    broadcast_sender_len() by greater;
+    broadcast_receiver_count() by sum;
+    watch_send(value: u64) by sent;
+    watch_send_replace(value: u64) by sent;
+    watch_receiver_count() by sum;
+    watch_is_closed() by all_closed;
+    watch_closed() by all_closed;
+}
+
+/// Calls of a sender or a weak sender that create one, each with what makes it in another machine.
+macro_rules! calls_that_create_senders {
+    ($($method:ident by $other:ident;)*) => {
+        impl CoreChannel {
+            $(pub(crate) fn $method(&mut self, caller: Caller, handle: u32) -> Reply {
+                self.create(
+                    handle,
+                    |core, handle| core.$method(caller, handle),
+                    |machine| machine.$other(|core, handle| core.$method(caller, handle)),
+                )
+            })*
+        }
+    };
+}
+
+calls_that_create_senders! {
+    broadcast_clone_sender by by_sender;
+    broadcast_downgrade by by_sender;
+    broadcast_upgrade by by_weak;
+    broadcast_clone_weak by by_weak;
+    watch_clone_sender by by_sender;
+}
+
+impl CoreChannel {
+    pub(crate) fn watch_modify(
+        &mut self,
+        caller: Caller,
+        told: bool,
+        sender: u32,
+        value: u64,
+    ) -> Reply {
+        self.call_all(
+            sender,
+            |core, sender| core.watch_modify(caller, told, sender, value),
+            sent,
+        )
+    }
+
+    pub(crate) fn broadcast_subscribe(&mut self, caller: Caller, sender: u32) -> Reply {
+        self.create(
+            sender,
+            |core, sender| core.broadcast_subscribe(caller, sender),
+            |machine| machine.by_sender(|core, other| core.broadcast_subscribe(caller, other)),
+        )
+    }
+
+    pub(crate) fn broadcast_resubscribe(&mut self, caller: Caller, receiver: u32) -> Reply {
+        self.create(
+            receiver,
+            |core, receiver| core.broadcast_resubscribe(caller, receiver),
+            |machine| {
+                machine.receive(
+                    |core, other| core.broadcast_subscribe(caller, other),
+                    |core, other| core.broadcast_resubscribe(caller, other),
+                )
+            },
+        )
+    }
+
+    pub(crate) fn broadcast_drop(&mut self, caller: Caller, handle: u32) -> Reply {
+        self.drop_handle(handle, |core, handle| core.broadcast_drop(caller, handle))
+    }
+
+    pub(crate) fn watch_subscribe(&mut self, caller: Caller, sender: u32) -> Reply {
+        self.create(
+            sender,
+            |core, sender| core.watch_subscribe(caller, sender),
+            |machine| machine.by_sender(|core, other| core.watch_subscribe(caller, other)),
+        )
+    }
+
+    /// Clones a receiver. One that is created in another machine is marked as the original is.
+    pub(crate) fn watch_clone_receiver(&mut self, caller: Caller, receiver: u32) -> Reply {
+        let is_seen = self.seen(receiver);
+        self.create(
+            receiver,
+            |core, receiver| core.watch_clone_receiver(caller, receiver),
+            |machine| {
+                let reply = machine.receive(
+                    |core, other| core.watch_subscribe(caller, other),
+                    |core, other| core.watch_clone_receiver(caller, other),
+                );
+                if let Reply::New(clone) = reply {
+                    match is_seen {
+                        true => made(machine.core.watch_mark_unchanged(caller, clone)),
+                        false => made(machine.core.watch_mark_changed(caller, clone)),
+                    };
+                }
+                reply
+            },
+        )
+    }
+
+    pub(crate) fn watch_drop(&mut self, caller: Caller, handle: u32) -> Reply {
+        self.drop_handle(handle, |core, handle| core.watch_drop(caller, handle))
+    }
+}

@@ -1,0 +1,326 @@
+//! A channel whose machines make few handles each, beside one machine that makes them all: the same replies to random calls.
+
+use super::{CoreChannel, MOST_HANDLES, Opening, parts_of};
+use crate::handle::Kind;
+use crate::proved::{self, Actor, Caller};
+use crate::reply::Reply;
+
+const CALLER: Caller = Caller {
+    actor: Actor::FIRST,
+    clock: 0,
+};
+
+/// Random numbers from a seed (xorshift64*).
+struct Random(u64);
+
+impl Random {
+    fn below(&mut self, n: usize) -> usize {
+        self.0 ^= self.0 >> 12;
+        self.0 ^= self.0 << 25;
+        self.0 ^= self.0 >> 27;
+        (self.0.wrapping_mul(0x2545_F491_4F6C_DD1D) >> 33) as usize % n
+    }
+}
+
+/// A live handle, by its numbers in both.
+#[derive(Clone, Copy)]
+struct Handle {
+    kind: Kind,
+    in_many: u32,
+    in_one: u32,
+}
+
+/// A channel of several machines, and one of a single machine.
+struct Pair {
+    many: CoreChannel,
+    one: proved::CoreChannel,
+    handles: Vec<Handle>,
+    values: u64,
+    random: Random,
+}
+
+/// Makes a call on both by one handle, and compares the replies.
+macro_rules! on_both {
+    ($pair:ident, $method:ident, $handle:ident $(, $arg:expr)*) => {{
+        let many = $pair.many.$method(CALLER, $handle.in_many $(, $arg)*);
+        let one = $pair.one.$method(CALLER, $handle.in_one $(, $arg)*);
+        $pair.assert_same(many, one);
+        (many, one)
+    }};
+}
+
+/// The same for a call that creates a handle.
+macro_rules! create_on_both {
+    ($pair:ident, $method:ident, $handle:ident, $kind:expr) => {
+        let (many, one) = on_both!($pair, $method, $handle);
+        if let (Reply::New(in_many), Reply::New(in_one)) = (many, one) {
+            $pair.handles.push(Handle {
+                kind: $kind,
+                in_many,
+                in_one,
+            });
+        }
+    };
+}
+
+impl Pair {
+    fn open(opening: Opening, most: u32, seed: u64) -> Pair {
+        let handle = |kind, number| Handle {
+            kind,
+            in_many: number,
+            in_one: number,
+        };
+        Pair {
+            many: CoreChannel::open(opening, most).unwrap(),
+            one: opening.open().unwrap(),
+            handles: vec![handle(Kind::Sender, 0), handle(Kind::Receiver, 1)],
+            values: 0,
+            random: Random(seed.wrapping_mul(0x9E37_79B9_7F4A_7C15) | 1),
+        }
+    }
+
+    fn assert_same(&self, many: Reply, one: Reply) {
+        match (many, one) {
+            (Reply::New(_), Reply::New(_)) => {}
+            // A machine that had no receivers at a send has another value, which nobody sees.
+            (Reply::Value(_), Reply::Value(_)) if self.is_watch() => {}
+            _ => assert_eq!(many, one),
+        }
+    }
+
+    fn is_watch(&self) -> bool {
+        matches!(self.many.opening, Opening::Watch)
+    }
+
+    /// A random live handle of a kind, and where it is in the list.
+    fn pick(&mut self, kind: Kind) -> Option<(usize, Handle)> {
+        let of_kind = self.handles.iter().copied().enumerate();
+        let of_kind: Vec<_> = of_kind.filter(|(_, handle)| handle.kind == kind).collect();
+        match of_kind.len() {
+            0 => None,
+            count => Some(of_kind[self.random.below(count)]),
+        }
+    }
+
+    /// Makes a random call of a broadcast on both.
+    fn step_broadcast(&mut self, most_alive: usize) {
+        let kind = [Kind::Sender, Kind::Receiver, Kind::WeakSender][self.random.below(3)];
+        let Some((index, handle)) = self.pick(kind) else {
+            return;
+        };
+        let may_create = self.handles.len() < most_alive;
+        match (kind, self.random.below(9)) {
+            (_, 0) if self.handles.len() > 2 => {
+                self.handles.swap_remove(index);
+                on_both!(self, broadcast_drop, handle);
+            }
+            (Kind::Sender, 1) if may_create => {
+                create_on_both!(self, broadcast_subscribe, handle, Kind::Receiver);
+            }
+            (Kind::Sender, 2) if may_create => {
+                create_on_both!(self, broadcast_clone_sender, handle, Kind::Sender);
+            }
+            (Kind::Sender, 3) if may_create => {
+                create_on_both!(self, broadcast_downgrade, handle, Kind::WeakSender);
+            }
+            (Kind::Sender, 4) => {
+                on_both!(self, broadcast_sender_len, handle);
+                on_both!(self, broadcast_receiver_count, handle);
+            }
+            (Kind::Sender, _) => {
+                self.values += 1;
+                on_both!(self, broadcast_send, handle, self.values);
+            }
+            (Kind::Receiver, 1..=2) if may_create => {
+                create_on_both!(self, broadcast_resubscribe, handle, Kind::Receiver);
+            }
+            (Kind::Receiver, 3) => {
+                on_both!(self, broadcast_receiver_len, handle);
+            }
+            (Kind::Receiver, 4..=5) => {
+                on_both!(self, broadcast_recv, handle);
+            }
+            (Kind::Receiver, _) => {
+                on_both!(self, broadcast_try_recv, handle);
+            }
+            (Kind::WeakSender, 1..=3) if may_create => {
+                create_on_both!(self, broadcast_upgrade, handle, Kind::Sender);
+            }
+            (Kind::WeakSender, 4..=5) if may_create => {
+                create_on_both!(self, broadcast_clone_weak, handle, Kind::WeakSender);
+            }
+            (Kind::WeakSender, _) => {}
+        }
+    }
+
+    /// Makes a random call of a watch on both.
+    fn step_watch(&mut self, most_alive: usize) {
+        let kind = [Kind::Sender, Kind::Receiver][self.random.below(2)];
+        let Some((index, handle)) = self.pick(kind) else {
+            return;
+        };
+        let may_create = self.handles.len() < most_alive;
+        self.values += 1;
+        match (kind, self.random.below(11)) {
+            (_, 0) if self.handles.len() > 2 => {
+                self.handles.swap_remove(index);
+                on_both!(self, watch_drop, handle);
+            }
+            (Kind::Sender, 1..=2) if may_create => {
+                create_on_both!(self, watch_subscribe, handle, Kind::Receiver);
+            }
+            (Kind::Sender, 3) if may_create => {
+                create_on_both!(self, watch_clone_sender, handle, Kind::Sender);
+            }
+            (Kind::Sender, 4..=5) => {
+                on_both!(self, watch_receiver_count, handle);
+                on_both!(self, watch_is_closed, handle);
+                on_both!(self, watch_closed, handle);
+            }
+            (Kind::Sender, 6) => {
+                on_both!(self, watch_send_replace, handle, self.values);
+            }
+            (Kind::Sender, 7) => {
+                let told = self.random.below(2) == 0;
+                let many = self
+                    .many
+                    .watch_modify(CALLER, told, handle.in_many, self.values);
+                let one = self
+                    .one
+                    .watch_modify(CALLER, told, handle.in_one, self.values);
+                self.assert_same(many, one);
+            }
+            (Kind::Sender, _) => {
+                on_both!(self, watch_send, handle, self.values);
+            }
+            (Kind::Receiver, 1..=3) if may_create => {
+                create_on_both!(self, watch_clone_receiver, handle, Kind::Receiver);
+            }
+            (Kind::Receiver, 4) => {
+                on_both!(self, watch_mark_changed, handle);
+            }
+            (Kind::Receiver, 5) => {
+                on_both!(self, watch_mark_unchanged, handle);
+            }
+            (Kind::Receiver, 6..=7) => {
+                on_both!(self, watch_changed, handle);
+            }
+            (Kind::Receiver, 8) => {
+                on_both!(self, watch_update, handle);
+            }
+            (Kind::Receiver, 9) => {
+                on_both!(self, watch_borrow, handle);
+            }
+            _ => {
+                on_both!(self, watch_has_changed, handle);
+            }
+        }
+    }
+
+    /// Compares what both show.
+    fn assert_shown(&mut self) {
+        let counts = (
+            self.many.senders(),
+            self.many.weak_senders(),
+            self.many.receivers(),
+            self.many.queued(),
+        );
+        let wanted = (
+            self.one.senders(),
+            self.one.weak_senders(),
+            self.one.receivers(),
+            self.one.queued(),
+        );
+        assert_eq!(counts, wanted);
+        for handle in self.handles.clone() {
+            match (handle.kind, self.is_watch()) {
+                (Kind::Receiver, true) => {
+                    assert_eq!(self.many.seen(handle.in_many), self.one.seen(handle.in_one));
+                }
+                (Kind::Receiver, false) => {
+                    let unread = self.many.unread(handle.in_many);
+                    assert_eq!(unread, self.one.unread(handle.in_one));
+                }
+                _ => {}
+            }
+        }
+    }
+
+    fn machines_alive(&mut self) -> usize {
+        self.many.machines().count()
+    }
+}
+
+/// Makes 400 random calls on both, for many seeds. Returns how many further machines were opened at most.
+fn play(opening_of: impl Fn(&mut Random) -> Opening, step: fn(&mut Pair, usize)) -> usize {
+    let mut most_opened = 0;
+    for seed in 0..200 {
+        let mut random = Random(seed * 2 + 1);
+        let opening = opening_of(&mut random);
+        let mut pair = Pair::open(opening, 4 + random.below(5) as u32, seed);
+        let most_alive = 3 + random.below(20);
+        for _ in 0..400 {
+            step(&mut pair, most_alive);
+            pair.assert_shown();
+        }
+        // Each machine has a live handle, but the first and the newest.
+        assert!(
+            pair.machines_alive() <= pair.handles.len() + 2,
+            "seed {seed}"
+        );
+        most_opened = most_opened.max(pair.many.further.len());
+    }
+    most_opened
+}
+
+#[test]
+fn several_machines_of_a_broadcast_reply_as_one() {
+    let opening = |random: &mut Random| Opening::Broadcast(1 + random.below(5) as u32);
+    assert!(play(opening, Pair::step_broadcast) > 3);
+}
+
+#[test]
+fn several_machines_of_a_watch_reply_as_one() {
+    assert!(play(|_| Opening::Watch, Pair::step_watch) > 3);
+}
+
+#[test]
+fn a_machine_whose_handles_are_dropped_is_dropped_and_its_place_is_used_again() {
+    let mut channel = CoreChannel::open(Opening::Broadcast(2), 8).unwrap();
+    channel.end();
+    let mut kept = Vec::new();
+    for round in 0..1_000 {
+        let Reply::New(receiver) = channel.broadcast_subscribe(CALLER, 0) else {
+            panic!("at {round}");
+        };
+        match round {
+            100 | 500 => kept.push(receiver),
+            _ => assert_eq!(channel.broadcast_drop(CALLER, receiver), Reply::Dropped),
+        }
+    }
+    // The first, the newest, and those of the two that are alive.
+    assert_eq!(channel.machines().count(), 4);
+    assert!(channel.further.len() <= 4, "{}", channel.further.len());
+    assert_eq!(channel.broadcast_send(CALLER, 0, 7), Reply::Sent(3));
+    for receiver in kept {
+        assert_ne!(parts_of(receiver).0, 0);
+        assert_eq!(channel.broadcast_recv(CALLER, receiver), Reply::Value(7));
+    }
+}
+
+#[test]
+fn the_first_machine_makes_as_many_handles_as_a_journal_names() {
+    let mut channel = CoreChannel::watch().unwrap();
+    for made in 2..MOST_HANDLES {
+        assert!(!channel.has_named_all());
+        assert_eq!(channel.watch_subscribe(CALLER, 0), Reply::New(made));
+    }
+    assert!(channel.has_named_all());
+    assert!(
+        matches!(channel.watch_subscribe(CALLER, 0), Reply::New(handle) if handle > MOST_HANDLES)
+    );
+    assert_eq!(
+        channel.watch_receiver_count(CALLER, 0),
+        Reply::Count(65_536)
+    );
+}
