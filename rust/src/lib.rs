@@ -37,6 +37,9 @@
 //! # }
 //! ```
 //!
+//! That is for unit tests. A test in `tests/` uses the library as it is built for everyone. For such tests, and for code that is not yours,
+//! the README beside this source has two more ways: an alias module under a `--cfg`, and a package for `[patch.crates-io]`.
+//!
 //! Create a recorder in the test, as its first variable:
 //!
 //! ```
