@@ -90,10 +90,9 @@ fn walks_by_moves_and_refuses_those_out_of_range(rt: HostRuntime) -> Result<(), 
         Move::Start,
         Move::End,
     ];
-    let walked = navigator.walk(rt.alloc(), &moves);
-    let sum = navigator.state().sum();
+    let (walked, sum) = walked(rt.alloc(), &mut navigator, &moves);
     refuses(&rt, &mut navigator);
-    drop(navigator);
+    drop_navigator(navigator);
     same(
         &rt,
         &"walks by moves and refuses those out of range",
@@ -103,6 +102,18 @@ fn walks_by_moves_and_refuses_those_out_of_range(rt: HostRuntime) -> Result<(), 
     same(&rt, &"sum", &sum, &28);
     Ok(())
 }
+
+/// Makes moves. Returns their results, and the sum after them.
+fn walked(
+    alloc: Global,
+    navigator: &mut Navigator<Adder>,
+    moves: &[Move],
+) -> (Result<Vec<Result<(), OutOfRange>>, NoMemory>, u64) {
+    (navigator.walk(alloc, moves), navigator.state().sum())
+}
+
+/// Drops a navigator. A test that calls `drop` itself has its instance put together in its proof.
+fn drop_navigator(_navigator: Navigator<Adder>) {}
 
 /// Moves out of the range of seven entries are refused, and change nothing.
 fn refuses(rt: &impl Abort, navigator: &mut Navigator<Adder>) {
@@ -165,7 +176,7 @@ fn finds_the_nearest_hit_in_each_direction(rt: HostRuntime) -> Result<(), Fail> 
     for (probe, from, below, above) in NEAREST {
         finds(&rt, &mut navigator, probe, from, below, above);
     }
-    drop(navigator);
+    drop_navigator(navigator);
     Ok(())
 }
 

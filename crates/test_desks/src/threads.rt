@@ -1,6 +1,7 @@
 //! Scripts that a thread for each actor plays. In the tables `/` stands for a line's end.
 
 use crate::comparing::same;
+use crate::desks::plain::drop_run;
 use crate::flags::is_set_in_time;
 use rw_journal::Run;
 use rw_law::{Entry, NoMemory, Payload, Reversible};
@@ -115,7 +116,7 @@ fn played<G: Gate + Sync, R: Threads + Wait + Sync>(
     let script = script_of(alloc, script)?;
     let run = play_on_threads(rt, alloc, &script, gate)?;
     let lines = lines_of(alloc, &run);
-    drop(run);
+    drop_run(run);
     drop(script);
     Ok(lines?)
 }

@@ -3,29 +3,31 @@
 ghost use Rattle.std.specs.Prelude.{◌<◌, All};
 ghost use Rattle.rw_law.specs.declared.limits.TheConstants.{MOST_ACTORS};
 
-use crate::machines::{SPECS, broadcast, watch};
+use crate::machines::MUCH;
 use crate::met::{Met, TRIES};
 use crate::places::Shows;
-use rw_broadcast::BCall;
 use rw_journal::{Book, TakeFault};
-use rw_law::{NoMemory, Reversible};
-use rw_watch::WCall;
-use rw_world::{ChanCall, OpenFault, RowCall, World, open};
+use rw_law::NoMemory;
 use std::alloc::Global;
 use std::fmt::Debug;
 use std::io;
 
-/// A book of a world of these channels. Where memory is refused for the book, its world is dropped.
-fn open_book(alloc: Global) -> Result<Book<World<u64>>, OpenFault> {
-    Ok(Book::open(alloc, open(alloc, &SPECS)?)?)
+/// A book of a machine. Where memory is refused for the book, its machine is dropped.
+fn open_book<M: Shows + Drop>(alloc: Global) -> Result<Book<M>, NoMemory> {
+    let machine = M::open(alloc)?;
+    if machine.weight() > MUCH {
+        drop(machine);
+        return Err(NoMemory);
+    }
+    Book::open(alloc, machine)
 }
 
 /// The same, with retries.
-fn new_book(alloc: Global, met: &mut Met) -> Result<Book<World<u64>>, NoMemory> {
+fn new_book<M: Shows + Drop>(alloc: Global, met: &mut Met) -> Result<Book<M>, NoMemory> {
     for _ in 0..TRIES {
-        match open_book(alloc) {
+        match open_book::<M>(alloc) {
             Ok(book) => return Ok(book),
-            Err(_) => met.refused(true),
+            Err(NoMemory) => met.refused(true),
         }
     }
     Err(NoMemory)
@@ -123,7 +125,7 @@ fn run_all<M: Shows>(
 }
 
 /// Takes calls, runs a list of them often, and makes room for one more.
-fn play_book<M: Shows>(
+fn play_calls<M: Shows>(
     rt: &impl Print,
     met: &mut Met,
     book: &mut Book<M>,
@@ -139,30 +141,22 @@ where
     println!(rt; "  {:?}, {:?}", ready(met, book), book.machine().place())
 }
 
-/// Plays books.
-pub fn play(rt: &impl Print, alloc: Global, met: &mut Met) -> io::Result<()> {
-    println!(rt; "a book")?;
-    let single = [
-        broadcast(BCall::Send(0, 1)),
-        watch(WCall::Send(0, 8)),
-        broadcast(BCall::Recv(1)),
-        broadcast(BCall::Recv(1)),
-        watch(WCall::Subscribe(0)),
-        broadcast(BCall::Subscribe(0)),
-        RowCall {
-            channel: 2,
-            call: ChanCall::B(BCall::Send(0, 1)),
-        },
-    ];
-    let listed = [
-        (0, broadcast(BCall::Send(0, 5))),
-        (1, watch(WCall::Send(0, 5))),
-        (2, broadcast(BCall::CloneSender(0))),
-    ];
-    let Ok(mut book) = new_book(alloc, met) else {
+/// Opens a book, plays it, and drops it.
+pub fn play_book<M: Shows + Drop>(
+    rt: &impl Print,
+    alloc: Global,
+    met: &mut Met,
+    single: &[M::Call],
+    listed: &[(u32, M::Call)],
+) -> io::Result<()>
+where
+    M::Reply: Debug,
+    requires { All (λ call. call.0 < MOST_ACTORS) listed.now }
+{
+    let Ok(mut book) = new_book::<M>(alloc, met) else {
         return println!(rt; "  isn't opened");
     };
-    let played = play_book(rt, met, &mut book, &single, &listed);
+    let played = play_calls(rt, met, &mut book, single, listed);
     drop(book);
     played
 }

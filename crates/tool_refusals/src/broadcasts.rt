@@ -64,9 +64,9 @@ fn play_handles<R: Wait + Print>(
     };
     let (by_sender, rest) = passes.split_at_mut(BY_SENDER.len().min(passes.len()));
     let (by_receiver, dropping) = rest.split_at_mut(BY_RECEIVER.len().min(rest.len()));
-    ask_all(rt, met, desk, by_sender, &sender, &BY_SENDER)?;
-    ask_all(rt, met, desk, by_receiver, &receiver, &BY_RECEIVER)?;
-    drop_both(rt, met, desk, dropping, sender, receiver)
+    ask_all(rt, met, desk, by_sender, &sender, &BY_SENDER)
+        .and(ask_all(rt, met, desk, by_receiver, &receiver, &BY_RECEIVER))
+        .and(drop_both(rt, met, desk, dropping, sender, receiver))
 }
 
 /// Plays a broadcast of a desk.
@@ -77,7 +77,5 @@ pub fn play<R: Wait + Print>(rt: &R, alloc: Global, met: &mut Met) -> io::Result
         return println!(rt; "  no desk");
     };
     let played = play_handles(rt, met, &desk, &mut passes, last_hands(ends));
-    let closed = say_closed(rt, alloc, met, desk, passes);
-    played?;
-    closed
+    played.and(say_closed(rt, alloc, met, desk, passes))
 }

@@ -1,8 +1,8 @@
 //! Desks: opened, called by the numbers of channels and handles, and closed.
 
 use crate::callers::{ByNumbers, ask};
-use crate::machines::SPECS;
 use crate::met::{Met, TRIES};
+use crate::places::SPECS;
 use rw_broadcast::BCall;
 use rw_desk::{CloseFault, Desk, DeskOpenFault, Ends, Pass};
 use rw_journal::Run;
@@ -179,7 +179,5 @@ pub fn play<R: Wait + Print>(rt: &R, alloc: Global, met: &mut Met) -> io::Result
     };
     drop(ends);
     let called = call_all(rt, met, &desk, &mut passes);
-    let closed = say_closed(rt, alloc, met, desk, passes);
-    called?;
-    closed
+    called.and(say_closed(rt, alloc, met, desk, passes))
 }

@@ -4,12 +4,12 @@ ghost use Rattle.std.specs.Prelude.{◌≡◌, ◌∷◌, [], All, IfOk, IfSome}
 ghost use Rattle.rw_seat.specs.Journals.{Adds};
 
 use crate::met::{Met, TRIES};
-use crate::places::counted;
+use crate::passes::{BookPlace, open_book, place_of};
 use rw_broadcast::BCall;
 use rw_journal::{Book, Keeps, TakeFault};
 use rw_law::{NoMemory, Payload};
 use rw_seat::{HandOff, HandSeat};
-use rw_world::{Chan, ChanCall, ChanReply, Spec, open_channel};
+use rw_world::{Chan, ChanCall, ChanReply, Spec};
 use std::alloc::{AllocError, Global};
 use std::io;
 use std::sync::Wait;
@@ -31,18 +31,15 @@ trait Recorded: Keeps {
         ensures adds { Adds Self.author (0 ∷ []) (Self.journal self.old) (Self.journal self.new) }
         ensures kept { OnErr result (Self.journal self.new ≡ Self.journal self.old) };
 
-    /// Its length.
-    fn len(&self) -> u64;
-
-    /// How many handles its channel made, and how many values were sent.
-    fn counts(&self) -> (u32, u64);
+    /// What is compared of it: its length, and what its channel counts.
+    fn place(&self) -> BookPlace;
 }
 
 impl<V: Payload> Recorded for Book<Chan<V>> {
     type Value = V;
 
     fn open(alloc: Global) -> Result<Book<Chan<V>>, NoMemory> {
-        Book::open(alloc, open_channel(alloc, &Spec::Broadcast(2))?)
+        open_book(alloc, &Spec::Broadcast(2))
     }
 
     fn send(&mut self, value: V) -> Result<ChanReply<V>, TakeFault> {
@@ -52,13 +49,15 @@ impl<V: Payload> Recorded for Book<Chan<V>> {
         }
     }
 
-    fn len(&self) -> u64 {
-        Book::len(self)
+    fn place(&self) -> BookPlace {
+        place_of(self)
     }
+}
 
-    fn counts(&self) -> (u32, u64) {
-        counted(self.machine())
-    }
+/// How long a book is.
+fn length_of<B: Recorded>(book: &B) -> u64 {
+    let (length, _) = book.place();
+    length
 }
 
 /// A hand-off, and its seats.
@@ -119,10 +118,10 @@ fn ask<B: Recorded>(
     ensures start { B.start book.new ≡ B.start book.old }
     ensures adds { Adds B.author (0 ∷ []) (B.journal book.old) (B.journal book.new) }
 {
-    let (length, counts) = (book.len(), book.counts());
+    let before = book.place();
     match book.send(value) {
         Err(TakeFault::NoMemory) => {
-            met.refused(book.len() == length && book.counts() == counts);
+            met.refused(book.place() == before);
             book.send(value)
         }
         answer => answer,
@@ -178,7 +177,7 @@ fn look<B: Recorded + Drop, R: Wait>(
     ensures { result.0.home ≡ hand_off.now.home }
 {
     let mut lent = hand_off.take(rt, seat);
-    let length = lent.book().len();
+    let length = length_of(lent.book());
     (lent.give(), length)
 }
 
@@ -197,7 +196,7 @@ fn close_with<B: Recorded + Drop>(
     let Ok(book) = hand_off.close(seats) else {
         return Err("a seat is missing");
     };
-    Ok(book.len())
+    Ok(length_of(&book))
 }
 
 /// Lets two seats meet, and closes a hand-off without the second, which is refused, and then with it: how long its book is.

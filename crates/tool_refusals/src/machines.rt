@@ -1,41 +1,21 @@
-//! Tables, rings and machines of each kind: opened, made ready, and called.
+//! Tables, rings and channels: opened, made ready, and called.
 
 use crate::met::{Met, TRIES};
 use crate::places::Shows;
 use rw_broadcast::{BCall, Broadcast};
 use rw_handles::{Kind, Table};
-use rw_law::{NoMemory, Reversible};
+use rw_law::NoMemory;
 use rw_ring::Ring;
 use rw_watch::{WCall, Watch};
-use rw_world::{ChanCall, RowCall, Spec, World, open};
 use std::alloc::Global;
 use std::fmt::Debug;
 use std::io;
-
-/// The specs of the worlds that are played.
-pub const SPECS: [Spec<u64>; 2] = [Spec::Broadcast(2), Spec::Watch(7)];
 
 /// For how many calls a machine is made ready at once.
 const AHEAD: u64 = 3;
 
 /// A weight that no machine reaches here.
-const MUCH: u64 = 1_000;
-
-/// A call of a world's channel 0, the broadcast.
-pub fn broadcast(call: BCall<u64>) -> RowCall<ChanCall<u64>> {
-    RowCall {
-        channel: 0,
-        call: ChanCall::B(call),
-    }
-}
-
-/// A call of a world's channel 1, the watch.
-pub fn watch(call: WCall<u64>) -> RowCall<ChanCall<u64>> {
-    RowCall {
-        channel: 1,
-        call: ChanCall::W(call),
-    }
-}
+pub const MUCH: u64 = 1_000;
 
 /// Makes a machine ready for a few calls.
 fn make_ready<M: Shows>(met: &mut Met, machine: &mut M) -> Result<(), NoMemory> {
@@ -78,17 +58,28 @@ where
     Ok(())
 }
 
-/// Makes calls on a machine that was asked for, and drops it.
-fn play_machine<M: Shows + Drop>(
+/// A machine, as it is opened.
+fn new_machine<M: Shows>(alloc: Global, met: &mut Met) -> Result<M, NoMemory> {
+    for _ in 0..TRIES {
+        match M::open(alloc) {
+            Ok(machine) => return Ok(machine),
+            Err(NoMemory) => met.refused(true),
+        }
+    }
+    Err(NoMemory)
+}
+
+/// Opens a machine, makes calls on it, and drops it.
+pub fn play_machine<M: Shows + Drop>(
     rt: &impl Print,
+    alloc: Global,
     met: &mut Met,
-    opened: Result<M, NoMemory>,
     calls: &[M::Call],
 ) -> io::Result<()>
 where
     M::Reply: Debug,
 {
-    let Ok(mut machine) = opened else {
+    let Ok(mut machine) = new_machine::<M>(alloc, met) else {
         return println!(rt; "  isn't opened");
     };
     let made = make_all(rt, met, &mut machine, calls);
@@ -129,39 +120,6 @@ fn new_ring(alloc: Global, met: &mut Met) -> Result<Ring<u64>, NoMemory> {
     Err(NoMemory)
 }
 
-/// A broadcast that retains two values.
-fn new_broadcast(alloc: Global, met: &mut Met) -> Result<Broadcast<u64>, NoMemory> {
-    for _ in 0..TRIES {
-        match Broadcast::open(alloc, 2) {
-            Ok(machine) => return Ok(machine),
-            Err(_) => met.refused(true),
-        }
-    }
-    Err(NoMemory)
-}
-
-/// A watch of 7.
-fn new_watch(alloc: Global, met: &mut Met) -> Result<Watch<u64>, NoMemory> {
-    for _ in 0..TRIES {
-        match Watch::open(alloc, 7) {
-            Ok(machine) => return Ok(machine),
-            Err(NoMemory) => met.refused(true),
-        }
-    }
-    Err(NoMemory)
-}
-
-/// A world of both.
-fn new_world(alloc: Global, met: &mut Met) -> Result<World<u64>, NoMemory> {
-    for _ in 0..TRIES {
-        match open(alloc, &SPECS) {
-            Ok(world) => return Ok(world),
-            Err(_) => met.refused(true),
-        }
-    }
-    Err(NoMemory)
-}
-
 /// Makes room in a table for so many handles.
 fn ready_table(met: &mut Met, table: &mut Table<u64>, handles: u64) -> Result<(), NoMemory> {
     let made = table.made();
@@ -177,30 +135,52 @@ fn ready_table(met: &mut Met, table: &mut Table<u64>, handles: u64) -> Result<()
     Err(NoMemory)
 }
 
-/// Plays a table and a ring.
-fn play_parts(rt: &impl Print, alloc: Global, met: &mut Met) -> io::Result<()> {
-    let Ok(mut table) = new_table(alloc, met) else {
-        return println!(rt; "no table");
-    };
+/// Makes room in a table for more and more handles, and makes one each time.
+fn fill_table(rt: &impl Print, met: &mut Met, table: &mut Table<u64>) -> io::Result<()> {
     for handles in [4, 40] {
-        let readied = ready_table(met, &mut table, handles);
+        let readied = ready_table(met, table, handles);
         println!(rt; "a table for {handles}: {readied:?}, made {}", table.made())?;
         if table.room() > 0 && table.made() < 10 {
             println!(rt; "  {}", table.make(Kind::Receiver, 5))?;
         }
     }
-    match table_of_two(alloc, met) {
-        Ok(table) => println!(rt; "a table of two: made {}", table.made())?,
+    Ok(())
+}
+
+/// Plays a table.
+fn play_table(rt: &impl Print, alloc: Global, met: &mut Met) -> io::Result<()> {
+    let Ok(mut table) = new_table(alloc, met) else {
+        return println!(rt; "no table");
+    };
+    let filled = fill_table(rt, met, &mut table);
+    drop(table);
+    filled
+}
+
+/// How many handles a table of two made.
+fn made_by_two(alloc: Global, met: &mut Met) -> Result<u32, NoMemory> {
+    Ok(table_of_two(alloc, met)?.made())
+}
+
+/// The capacity of a ring.
+fn capacity_of_ring(alloc: Global, met: &mut Met) -> Result<u64, NoMemory> {
+    Ok(new_ring(alloc, met)?.capacity())
+}
+
+/// Plays a table of two and a ring.
+fn play_parts(rt: &impl Print, alloc: Global, met: &mut Met) -> io::Result<()> {
+    match made_by_two(alloc, met) {
+        Ok(made) => println!(rt; "a table of two: made {made}")?,
         Err(NoMemory) => println!(rt; "no table of two")?,
     }
-    match new_ring(alloc, met) {
-        Ok(ring) => println!(rt; "a ring of {}", ring.capacity()),
+    match capacity_of_ring(alloc, met) {
+        Ok(capacity) => println!(rt; "a ring of {capacity}"),
         Err(NoMemory) => println!(rt; "no ring"),
     }
 }
 
-/// Plays a channel of each kind.
-fn play_channels(rt: &impl Print, alloc: Global, met: &mut Met) -> io::Result<()> {
+/// Plays a broadcast.
+fn play_broadcast(rt: &impl Print, alloc: Global, met: &mut Met) -> io::Result<()> {
     println!(rt; "a broadcast")?;
     let calls = [
         BCall::Send(0, 1),
@@ -212,8 +192,11 @@ fn play_channels(rt: &impl Print, alloc: Global, met: &mut Met) -> io::Result<()
         BCall::TryRecv(1),
         BCall::Downgrade(0),
     ];
-    let machine = new_broadcast(alloc, met);
-    play_machine(rt, met, machine, &calls)?;
+    play_machine::<Broadcast<u64>>(rt, alloc, met, &calls)
+}
+
+/// Plays a watch.
+fn play_watch(rt: &impl Print, alloc: Global, met: &mut Met) -> io::Result<()> {
     println!(rt; "a watch")?;
     let calls = [
         WCall::Send(0, 8),
@@ -223,28 +206,13 @@ fn play_channels(rt: &impl Print, alloc: Global, met: &mut Met) -> io::Result<()
         WCall::SendReplace(0, 9),
         WCall::HasChanged(2),
     ];
-    let machine = new_watch(alloc, met);
-    play_machine(rt, met, machine, &calls)
-}
-
-/// Plays a world.
-fn play_world(rt: &impl Print, alloc: Global, met: &mut Met) -> io::Result<()> {
-    println!(rt; "a world")?;
-    let calls = [
-        broadcast(BCall::Subscribe(0)),
-        watch(WCall::Subscribe(0)),
-        broadcast(BCall::Send(0, 4)),
-        watch(WCall::Send(0, 5)),
-        broadcast(BCall::TryRecv(2)),
-        watch(WCall::Update(2)),
-    ];
-    let world = new_world(alloc, met);
-    play_machine(rt, met, world, &calls)
+    play_machine::<Watch<u64>>(rt, alloc, met, &calls)
 }
 
 /// Plays all of these.
 pub fn play(rt: &impl Print, alloc: Global, met: &mut Met) -> io::Result<()> {
+    play_table(rt, alloc, met)?;
     play_parts(rt, alloc, met)?;
-    play_channels(rt, alloc, met)?;
-    play_world(rt, alloc, met)
+    play_broadcast(rt, alloc, met)?;
+    play_watch(rt, alloc, met)
 }

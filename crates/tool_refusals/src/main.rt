@@ -25,28 +25,47 @@ mod sessions;
 mod texts;
 mod walks;
 mod watches;
+mod worlds;
 
 use anyhow::{Result, bail};
 use met::Met;
+use std::alloc::Global;
+use std::io;
+use std::sync::Wait;
+
+/// Plays what keeps calls: machines, books, runs, and what walks over them.
+fn play_runs(rt: &impl Print, alloc: Global, met: &mut Met) -> io::Result<()> {
+    machines::play(rt, alloc, met)?;
+    worlds::play(rt, alloc, met)?;
+    runs::play(rt, alloc, met)?;
+    walks::play(rt, alloc, met)?;
+    journals::play(rt, alloc, met)?;
+    passes::play(rt, alloc, met)
+}
+
+/// Plays what threads share.
+fn play_desks<R: Wait + Print>(rt: &R, alloc: Global, met: &mut Met) -> io::Result<()> {
+    desks::play(rt, alloc, met)?;
+    broadcasts::play(rt, alloc, met)?;
+    watches::play(rt, alloc, met)?;
+    hands::play(rt, alloc, met)?;
+    seats::play(rt, alloc, met)
+}
+
+/// Plays what reads and writes texts.
+fn play_texts(rt: &impl Print, alloc: Global, met: &mut Met) -> io::Result<()> {
+    lines::play(rt, alloc, met)?;
+    scripts::play(rt, alloc, met)?;
+    texts::play(rt, alloc, met)?;
+    sessions::play(rt, alloc, met)
+}
 
 fn main(rt: HostRuntime) -> Result<()> {
     let alloc = rt.alloc();
     let mut met = Met::new();
-    machines::play(&rt, alloc, &mut met)?;
-    books::play(&rt, alloc, &mut met)?;
-    runs::play(&rt, alloc, &mut met)?;
-    walks::play(&rt, alloc, &mut met)?;
-    journals::play(&rt, alloc, &mut met)?;
-    passes::play(&rt, alloc, &mut met)?;
-    desks::play(&rt, alloc, &mut met)?;
-    broadcasts::play(&rt, alloc, &mut met)?;
-    watches::play(&rt, alloc, &mut met)?;
-    hands::play(&rt, alloc, &mut met)?;
-    seats::play(&rt, alloc, &mut met)?;
-    lines::play(&rt, alloc, &mut met)?;
-    scripts::play(&rt, alloc, &mut met)?;
-    texts::play(&rt, alloc, &mut met)?;
-    sessions::play(&rt, alloc, &mut met)?;
+    play_runs(&rt, alloc, &mut met)?;
+    play_desks(&rt, alloc, &mut met)?;
+    play_texts(&rt, alloc, &mut met)?;
     eprintln!(rt; "refusals answered: {}", met.answered())?;
     if met.lost() > 0 {
         bail!("something was lost at a refusal");

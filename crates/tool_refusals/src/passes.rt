@@ -17,6 +17,9 @@ use std::fmt::Debug;
 use std::io;
 use support_desks::StampedCall;
 
+/// What is compared of a book of a channel: its length, its handles, and its sends or notified changes.
+pub type BookPlace = (u64, (u32, u64));
+
 /// How many receipts a pass has, and its clock.
 pub fn held<V: Copy>(pass: &Pass<V>) -> (usize, u64) {
     (pass.kept().len(), pass.stamp())
@@ -53,6 +56,12 @@ fn new_book<V: Copy>(
     Err(NoMemory)
 }
 
+/// Returns what is compared of a book. Here alone the length and the channel of a book are read, since each function that does it puts
+/// an instance together.
+pub fn place_of<V: Copy>(book: &Book<Chan<V>>) -> BookPlace {
+    (book.len(), counted(book.machine()))
+}
+
 /// Makes a call on a book, and keeps its receipt under channel 0.
 fn record<V: Copy>(
     met: &mut Met,
@@ -60,13 +69,10 @@ fn record<V: Copy>(
     book: &mut Book<Chan<V>>,
     call: ChanCall<V>,
 ) -> Result<ChanReply<V>, DeskFault> {
-    let (before, length, counts) = (held(pass), book.len(), counted(book.machine()));
+    let before = (held(pass), place_of(book));
     for _ in 0..TRIES {
         match pass.record(book, 0, call) {
-            Err(DeskFault::NoMemory) => {
-                let same = book.len() == length && counted(book.machine()) == counts;
-                met.refused(same && held(pass) == before);
-            }
+            Err(DeskFault::NoMemory) => met.refused((held(pass), place_of(book)) == before),
             answer => return answer,
         }
     }
@@ -115,7 +121,8 @@ fn say_records<V: Copy + Debug>(
         println!(rt; "  {:?}", record(met, pass, book, call))?;
     }
     println!(rt; "  {:?}", record(met, pass, book, last))?;
-    println!(rt; "  {:?}, {} entries", held(pass), book.len())
+    let (length, _) = place_of(book);
+    println!(rt; "  {:?}, {length} entries", held(pass))
 }
 
 /// Plays a pass on a book: the calls are as many that both have to grow, and the last one would wait.

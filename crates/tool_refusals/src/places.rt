@@ -1,14 +1,21 @@
-//! What is compared of a machine before and after a refusal.
+//! Machines as they are opened, and what is compared of one before and after a refusal.
 
 use rw_broadcast::Broadcast;
-use rw_law::Reversible;
+use rw_law::{NoMemory, Reversible};
 use rw_watch::Watch;
-use rw_world::{Chan, World};
+use rw_world::{Chan, Spec, World, open};
+use std::alloc::Global;
 use std::fmt::Debug;
+
+/// The specs of the worlds that are played.
+pub const SPECS: [Spec<u64>; 2] = [Spec::Broadcast(2), Spec::Watch(7)];
 
 /// A machine that can be compared before and after a refusal.
 pub trait Shows: Reversible {
     type Place: Copy + PartialEq + Debug;
+
+    /// Opens the machine that is played.
+    fn open(alloc: Global) -> Result<Self, NoMemory>;
 
     fn place(&self) -> Self::Place;
 }
@@ -23,52 +30,82 @@ pub struct ChannelPlace {
     unread: Option<u64>,
 }
 
+/// What is compared of a world of two channels.
+pub type WorldPlace = [Option<ChannelPlace>; 2];
+
+/// A broadcast that retains two values.
 impl Shows for Broadcast<u64> {
     type Place = ChannelPlace;
 
-    fn place(&self) -> ChannelPlace {
-        ChannelPlace {
-            made: self.made(),
-            count: self.sent(),
-            value: self.window(0),
-            unread: self.unread(1),
+    fn open(alloc: Global) -> Result<Broadcast<u64>, NoMemory> {
+        match Broadcast::open(alloc, 2) {
+            Ok(machine) => Ok(machine),
+            Err(_) => Err(NoMemory),
         }
+    }
+
+    fn place(&self) -> ChannelPlace {
+        of_broadcast(self)
     }
 }
 
+/// A watch of 7.
 impl Shows for Watch<u64> {
     type Place = ChannelPlace;
 
+    fn open(alloc: Global) -> Result<Watch<u64>, NoMemory> {
+        Watch::open(alloc, 7)
+    }
+
     fn place(&self) -> ChannelPlace {
-        ChannelPlace {
-            made: self.made(),
-            count: self.version(),
-            value: Some(self.value()),
-            unread: self.is_seen(1).map(|seen| u64::from(!seen)),
-        }
+        of_watch(self)
     }
 }
 
-impl Shows for Chan<u64> {
-    type Place = ChannelPlace;
-
-    fn place(&self) -> ChannelPlace {
-        match self {
-            Chan::Broadcast(machine) => machine.place(),
-            Chan::Watch(machine) => machine.place(),
-        }
-    }
-}
-
+/// A world of both.
 impl Shows for World<u64> {
-    type Place = [Option<ChannelPlace>; 2];
+    type Place = WorldPlace;
 
-    fn place(&self) -> [Option<ChannelPlace>; 2] {
-        [
-            self.channel(0).map(|c| c.place()),
-            self.channel(1).map(|c| c.place()),
-        ]
+    fn open(alloc: Global) -> Result<World<u64>, NoMemory> {
+        match open(alloc, &SPECS) {
+            Ok(world) => Ok(world),
+            Err(_) => Err(NoMemory),
+        }
     }
+
+    fn place(&self) -> WorldPlace {
+        of_world(self)
+    }
+}
+
+fn of_broadcast(machine: &Broadcast<u64>) -> ChannelPlace {
+    ChannelPlace {
+        made: machine.made(),
+        count: machine.sent(),
+        value: machine.window(0),
+        unread: machine.unread(1),
+    }
+}
+
+fn of_watch(machine: &Watch<u64>) -> ChannelPlace {
+    ChannelPlace {
+        made: machine.made(),
+        count: machine.version(),
+        value: Some(machine.value()),
+        unread: machine.is_seen(1).map(|seen| u64::from(!seen)),
+    }
+}
+
+fn of_channel(channel: Option<&Chan<u64>>) -> Option<ChannelPlace> {
+    match channel? {
+        Chan::Broadcast(machine) => Some(of_broadcast(machine)),
+        Chan::Watch(machine) => Some(of_watch(machine)),
+    }
+}
+
+/// Returns what is compared of a world. No bound is on a world here, so that a caller's proof has no instance to put together.
+pub fn of_world(world: &World<u64>) -> WorldPlace {
+    [of_channel(world.channel(0)), of_channel(world.channel(1))]
 }
 
 /// Returns how many handles a channel made, and how many values were sent or changes notified.

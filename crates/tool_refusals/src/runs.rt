@@ -1,8 +1,7 @@
 //! Runs: built entry by entry, and opened again at their start.
 
-use crate::machines::SPECS;
 use crate::met::{Met, TRIES};
-use crate::places::Shows;
+use crate::places::{SPECS, WorldPlace, of_world};
 use rw_broadcast::{BCall, BReply};
 use rw_journal::{PushFault, Run, RunDraft};
 use rw_law::{NoMemory, Payload};
@@ -10,16 +9,6 @@ use rw_watch::{WCall, WReply};
 use rw_world::{ChanCall, ChanReply, OpenFault, RowCall, Spec, World};
 use std::alloc::Global;
 use std::io;
-
-/// A step, by its channel, with the reply that it has to have.
-#[derive(Clone, Copy)]
-struct Step<V> {
-    actor: u32,
-    stamp: u64,
-    channel: u32,
-    call: ChanCall<V>,
-    reply: ChanReply<V>,
-}
 
 /// A draft of a run of these specs.
 fn new_draft<V: Payload>(
@@ -41,14 +30,13 @@ fn new_draft<V: Payload>(
 fn push<V: Payload>(
     met: &mut Met,
     draft: &mut RunDraft<V>,
-    step: &Step<V>,
+    actor: u32,
+    stamp: u64,
+    call: RowCall<ChanCall<V>>,
+    reply: ChanReply<V>,
 ) -> Result<(), PushFault> {
-    let call = RowCall {
-        channel: step.channel,
-        call: step.call,
-    };
     for _ in 0..TRIES {
-        match draft.push(step.actor, step.stamp, call, step.reply) {
+        match draft.push(actor, stamp, call, reply) {
             Err(PushFault::NoMemory) => met.refused(draft.specs().len() == 2),
             answer => return answer,
         }
@@ -76,22 +64,16 @@ fn start<V: Copy>(alloc: Global, met: &mut Met, run: &Run<V>) -> Result<World<V>
 /// Pushes twenty sends, and as many values stored at the same stamps.
 fn push_all(met: &mut Met, draft: &mut RunDraft<u64>) -> Result<(), PushFault> {
     for stamp in 1..21 {
-        let sent = Step {
-            actor: 0,
-            stamp,
+        let sent = RowCall {
             channel: 0,
             call: ChanCall::B(BCall::Send(0, stamp)),
-            reply: ChanReply::B(BReply::Sent(1)),
         };
-        let stored = Step {
-            actor: 1,
-            stamp,
+        let stored = RowCall {
             channel: 1,
             call: ChanCall::W(WCall::Send(0, stamp)),
-            reply: ChanReply::W(WReply::Stored),
         };
-        push(met, draft, &sent)?;
-        push(met, draft, &stored)?;
+        push(met, draft, 0, stamp, sent, ChanReply::B(BReply::Sent(1)))?;
+        push(met, draft, 1, stamp, stored, ChanReply::W(WReply::Stored))?;
     }
     Ok(())
 }
@@ -108,14 +90,17 @@ pub fn build(alloc: Global, met: &mut Met) -> Option<Run<u64>> {
     Some(finish(draft))
 }
 
+/// What a world shows, which is dropped.
+fn place_in(world: World<u64>) -> WorldPlace {
+    of_world(&world)
+}
+
 /// Prints what a run's channels show before its first entry.
 fn say_start(rt: &impl Print, alloc: Global, met: &mut Met, run: &Run<u64>) -> io::Result<()> {
-    let Ok(world) = start(alloc, met, run) else {
-        return println!(rt; "  isn't started");
-    };
-    let place = world.place();
-    drop(world);
-    println!(rt; "  {place:?}")
+    match start(alloc, met, run) {
+        Ok(world) => println!(rt; "  {:?}", place_in(world)),
+        Err(NoMemory) => println!(rt; "  isn't started"),
+    }
 }
 
 /// Plays a run, and prints how long it is and how it starts.
@@ -126,6 +111,5 @@ pub fn play(rt: &impl Print, alloc: Global, met: &mut Met) -> io::Result<()> {
     let said = println!(rt; "a run of {} entries", run.len());
     let started = say_start(rt, alloc, met, &run);
     drop(run);
-    said?;
-    started
+    said.and(started)
 }

@@ -2,8 +2,8 @@
 
 ghost use Rattle.std.specs.Prelude.{All, IfOk, IfSome};
 
-use crate::machines::SPECS;
 use crate::met::{Met, TRIES};
+use crate::places::SPECS;
 use rw_broadcast::BCall;
 use rw_desk::{CloseFault, DeskFault, DeskOpenFault};
 use rw_law::Payload;

@@ -129,8 +129,7 @@ fn play_session(rt: &impl Print, alloc: Global, met: &mut Met, input: &[u8]) -> 
     let said = println!(rt; "a session: {ended:?}");
     let printed = print_written(rt, &writer);
     drop(writer);
-    said?;
-    printed
+    said.and(printed)
 }
 
 /// Plays commands over the run of a journal text.
@@ -144,8 +143,7 @@ fn play_debug(rt: &impl Print, alloc: Global, met: &mut Met) -> io::Result<()> {
     let said = println!(rt; "  {ended:?}");
     let printed = print_written(rt, &writer);
     drop(writer);
-    said?;
-    printed
+    said.and(printed)
 }
 
 /// Plays all of these.

@@ -27,13 +27,20 @@ trait Walker {
         moves: &[Move],
     ) -> Result<Vec<Result<(), OutOfRange>>, NoMemory>;
 
-    /// What an index of a condition on entries finds next to a place. Of a condition on states there is none.
-    fn around(&self, alloc: Global, cond: &Cond, place: u64) -> Result<Around, NoMemory>;
+    /// What an index of its condition on entries finds next to a place. Of a condition on states there is none.
+    fn around(&self, alloc: Global, place: u64) -> Result<Around, NoMemory>;
 }
 
-impl<V: Payload> Walker for Navigator<World<V>> {
+/// A navigator of any machine, and a condition. So one call alone names the machine, and puts its instance together.
+#[derive(Drop)]
+struct Searching<R: Reversible, P> {
+    navigator: Navigator<R>,
+    cond: P,
+}
+
+impl<R: Reversible, P: Probe<R>> Walker for Searching<R, P> {
     fn stands(&self) -> (u64, u64) {
-        (self.place(), self.turns())
+        (self.navigator.place(), self.navigator.turns())
     }
 
     fn walk(
@@ -41,20 +48,27 @@ impl<V: Payload> Walker for Navigator<World<V>> {
         alloc: Global,
         moves: &[Move],
     ) -> Result<Vec<Result<(), OutOfRange>>, NoMemory> {
-        Navigator::walk(self, alloc, moves)
+        self.navigator.walk(alloc, moves)
     }
 
-    fn around(&self, alloc: Global, cond: &Cond, place: u64) -> Result<Around, NoMemory> {
-        if !<Cond as Probe<World<V>>>::on_step(cond) {
+    fn around(&self, alloc: Global, place: u64) -> Result<Around, NoMemory> {
+        if !self.cond.on_step() {
             return Err(NoMemory);
         }
-        looked_up(HitIndex::build(alloc, self, cond), place)
+        looked_up(HitIndex::build(alloc, &self.navigator, &self.cond), place)
     }
 }
 
-impl<V: Payload> Walker for Debugger<V> {
+/// A debugger, and a condition.
+#[derive(Drop)]
+struct Debugging<V: Copy> {
+    debugger: Debugger<V>,
+    cond: Cond,
+}
+
+impl<V: Payload> Walker for Debugging<V> {
     fn stands(&self) -> (u64, u64) {
-        (self.place(), self.turns())
+        (self.debugger.place(), self.debugger.turns())
     }
 
     fn walk(
@@ -62,14 +76,14 @@ impl<V: Payload> Walker for Debugger<V> {
         alloc: Global,
         moves: &[Move],
     ) -> Result<Vec<Result<(), OutOfRange>>, NoMemory> {
-        Debugger::walk(self, alloc, moves)
+        self.debugger.walk(alloc, moves)
     }
 
-    fn around(&self, alloc: Global, cond: &Cond, place: u64) -> Result<Around, NoMemory> {
-        if !<Cond as Probe<World<V>>>::on_step(cond) {
+    fn around(&self, alloc: Global, place: u64) -> Result<Around, NoMemory> {
+        if !<Cond as Probe<World<V>>>::on_step(&self.cond) {
             return Err(NoMemory);
         }
-        looked_up(self.hit_index(alloc, cond), place)
+        looked_up(self.debugger.hit_index(alloc, &self.cond), place)
     }
 }
 
@@ -167,17 +181,16 @@ fn walk<W: Walker>(
     Err(NoMemory)
 }
 
-/// Returns what an index of a condition finds next to a place, with retries.
+/// Returns what an index finds next to a place, with retries.
 fn around<W: Walker>(
     alloc: Global,
     met: &mut Met,
     walker: &W,
-    cond: &Cond,
     place: u64,
 ) -> Result<Around, NoMemory> {
     let stands = walker.stands();
     for _ in 0..TRIES {
-        match walker.around(alloc, cond, place) {
+        match walker.around(alloc, place) {
             Ok(around) => return Ok(around),
             Err(NoMemory) => met.refused(walker.stands() == stands),
         }
@@ -201,39 +214,50 @@ fn say_walk<W: Walker>(
     said
 }
 
-/// Prints what an index of a condition finds next to place 20.
+/// Prints what an index finds next to place 20.
 fn say_around<W: Walker>(
     rt: &impl Print,
     alloc: Global,
     met: &mut Met,
     walker: &W,
-    cond: &Cond,
 ) -> io::Result<()> {
-    match around(alloc, met, walker, cond, 20) {
+    match around(alloc, met, walker, 20) {
         Ok(around) => println!(rt; "  around place 20: {around:?}"),
         Err(NoMemory) => println!(rt; "  no index"),
     }
 }
 
-/// Plays a walker that was asked for, and an index if there is a condition for it.
+/// Plays a walker, and its index if that is looked up too.
 fn play_walker<W: Walker + Drop>(
     rt: &impl Print,
     alloc: Global,
     met: &mut Met,
-    opened: Result<W, NoMemory>,
-    cond: Option<Cond>,
+    mut walker: W,
+    looks_up: bool,
 ) -> io::Result<()> {
-    let Ok(mut walker) = opened else {
-        return println!(rt; "  isn't opened");
-    };
     let walked = say_walk(rt, alloc, met, &mut walker);
-    let found = match cond {
-        Some(cond) => say_around(rt, alloc, met, &walker, &cond),
-        None => Ok(()),
+    let found = if looks_up {
+        say_around(rt, alloc, met, &walker)
+    } else {
+        Ok(())
     };
     drop(walker);
-    walked?;
-    found
+    walked.and(found)
+}
+
+/// Plays a navigator that was asked for, and the index of a condition if that is looked up too.
+fn play_navigator<R: Reversible + Drop, P: Probe<R> + Copy>(
+    rt: &impl Print,
+    alloc: Global,
+    met: &mut Met,
+    opened: Result<Navigator<R>, NoMemory>,
+    cond: P,
+    looks_up: bool,
+) -> io::Result<()> {
+    match opened {
+        Ok(navigator) => play_walker(rt, alloc, met, Searching { navigator, cond }, looks_up),
+        Err(NoMemory) => println!(rt; "  isn't opened"),
+    }
 }
 
 /// Plays a navigator of a run and an index of the entries by actor 1, a navigator over entries of its own, and a debugger of the run
@@ -244,12 +268,18 @@ fn play_run<V: Payload>(
     met: &mut Met,
     run: &Run<V>,
 ) -> io::Result<()> {
+    let (by_actor, on_channel) = (Cond::Actor(1), Cond::Channel(0));
     let navigator = new_navigator(alloc, met, run);
-    play_walker(rt, alloc, met, navigator, Some(Cond::Actor(1)))?;
+    play_navigator(rt, alloc, met, navigator, by_actor, true)?;
     let over = new_over(alloc, met, run);
-    play_walker(rt, alloc, met, over, None)?;
-    let debugger = new_debugger(alloc, met, run);
-    play_walker(rt, alloc, met, debugger, Some(Cond::Channel(0)))
+    play_navigator(rt, alloc, met, over, by_actor, false)?;
+    match new_debugger(alloc, met, run) {
+        Ok(debugger) => {
+            let cond = on_channel;
+            play_walker(rt, alloc, met, Debugging { debugger, cond }, true)
+        }
+        Err(NoMemory) => println!(rt; "  isn't opened"),
+    }
 }
 
 /// Plays walks over a run that is built for them.

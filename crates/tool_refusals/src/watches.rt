@@ -68,6 +68,20 @@ fn wait_for<R: Wait>(
     Err(DeskFault::NoMemory)
 }
 
+/// Waits for a value that is there already, and prints what is found.
+fn say_wait<R: Wait + Print>(
+    rt: &R,
+    met: &mut Met,
+    desk: &Desk<u64>,
+    passes: &mut [Pass<u64>],
+    receiver: &Hand,
+) -> io::Result<()> {
+    match passes {
+        [pass] => println!(rt; "  {:?}", wait_for(rt, met, desk, pass, receiver, 11)),
+        _ => println!(rt; "  not one pass is left"),
+    }
+}
+
 /// Makes all calls by the two handles, and waits for a value that is there already. The handles are forgotten then.
 fn play_handles<R: Wait + Print>(
     rt: &R,
@@ -81,13 +95,9 @@ fn play_handles<R: Wait + Print>(
     };
     let (by_sender, rest) = passes.split_at_mut(BY_SENDER.len().min(passes.len()));
     let (by_receiver, rest) = rest.split_at_mut(BY_RECEIVER.len().min(rest.len()));
-    ask_all(rt, met, desk, by_sender, &sender, &BY_SENDER)?;
-    ask_all(rt, met, desk, by_receiver, &receiver, &BY_RECEIVER)?;
-    let [pass] = rest else {
-        return println!(rt; "  not one pass is left");
-    };
-    let found = wait_for(rt, met, desk, pass, &receiver, 11);
-    println!(rt; "  {found:?}")
+    ask_all(rt, met, desk, by_sender, &sender, &BY_SENDER)
+        .and(ask_all(rt, met, desk, by_receiver, &receiver, &BY_RECEIVER))
+        .and(say_wait(rt, met, desk, rest, &receiver))
 }
 
 /// Drops the receiver of a watch, which is closed then.
@@ -136,22 +146,24 @@ fn play_closed<R: Wait + Print>(rt: &R, alloc: Global, met: &mut Met) -> io::Res
     let first = last_hands(ends);
     let for_sender = close_for_sender(rt, met, &desk, &mut passes, first);
     let for_receiver = close_for_receiver(rt, met, &desk, &mut passes, second);
-    let closed = say_closed(rt, alloc, met, desk, passes);
-    for_sender?;
-    for_receiver?;
-    closed
+    for_sender
+        .and(for_receiver)
+        .and(say_closed(rt, alloc, met, desk, passes))
 }
 
-/// Plays watches of desks.
-pub fn play<R: Wait + Print>(rt: &R, alloc: Global, met: &mut Met) -> io::Result<()> {
+/// Plays a watch of a desk, by its handles.
+fn play_open<R: Wait + Print>(rt: &R, alloc: Global, met: &mut Met) -> io::Result<()> {
     println!(rt; "a watch of a desk, by its handles")?;
     let specs = [Spec::Watch(7)];
     let Ok((desk, mut passes, ends)) = new_desk(alloc, met, &specs, ACTORS) else {
         return println!(rt; "  no desk");
     };
     let played = play_handles(rt, met, &desk, &mut passes, last_hands(ends));
-    let closed = say_closed(rt, alloc, met, desk, passes);
-    played?;
-    closed?;
+    played.and(say_closed(rt, alloc, met, desk, passes))
+}
+
+/// Plays watches of desks.
+pub fn play<R: Wait + Print>(rt: &R, alloc: Global, met: &mut Met) -> io::Result<()> {
+    play_open(rt, alloc, met)?;
     play_closed(rt, alloc, met)
 }

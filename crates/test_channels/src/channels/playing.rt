@@ -12,31 +12,8 @@ use std::process::Abort;
 use std::test::Fail;
 use support_fixtures::Shows;
 
-/// A call, its reply, and what is shown after it, if the row has that.
-#[derive(Clone, Copy)]
-pub struct Expected<C, R, P> {
-    pub call: C,
-    pub reply: R,
-    pub place: Option<P>,
-}
-
-impl<C, R, P> Expected<C, R, P> {
-    pub fn new(call: C, reply: R) -> Expected<C, R, P> {
-        Expected {
-            call,
-            reply,
-            place: None,
-        }
-    }
-
-    pub fn to(call: C, reply: R, place: P) -> Expected<C, R, P> {
-        Expected {
-            call,
-            reply,
-            place: Some(place),
-        }
-    }
-}
+/// A call, its reply, and what is shown after it, if the row has that. A row is a static, which proofs read by reference.
+pub type Expected<C, R, P> = (C, R, Option<P>);
 
 /// Makes the calls in order, and then undoes them, the last one first.
 fn make_and_undo<M: Reversible + Shows>(
@@ -51,12 +28,13 @@ where
 {
     if let [first, rest @ ..] = steps {
         let _known = machine.weight();
-        let (reply, patch) = machine.apply(&first.call);
-        same(rt, &"reply", &reply, &first.reply);
-        is_at(rt, machine, first);
+        let (call, wanted, place) = first;
+        let (reply, patch) = machine.apply(call);
+        same(rt, &"reply", &reply, wanted);
+        is_at(rt, machine, place);
         make_and_undo(rt, machine, rest);
-        is_at(rt, machine, first);
-        machine.undo(&first.call, &patch);
+        is_at(rt, machine, place);
+        machine.undo(call, &patch);
     }
 }
 
@@ -89,16 +67,13 @@ where
     M::Reply: PartialEq + Debug,
     ensures { book.new.opening ≡ book.old.opening }
 {
-    let taken = match book.take(0, 0, step.call) {
+    let (call, reply, _) = step;
+    let taken = match book.take(0, 0, *call) {
         Ok(receipt) => Some(receipt.reply),
         Err(TakeFault::Waits) => None,
         Err(_) => return Err(NoMemory),
     };
-    let wanted = if M::waits(&step.reply) {
-        None
-    } else {
-        Some(step.reply)
-    };
+    let wanted = if M::waits(reply) { None } else { Some(*reply) };
     same(rt, &"taken", &taken, &wanted);
     Ok(())
 }
@@ -178,9 +153,9 @@ fn walk_back<M: Reversible + Shows>(
     navigator: &mut Navigator<M>,
     steps: &[Expected<M::Call, M::Reply, M::Place>],
 ) {
-    for step in steps.iter().rev() {
-        if !M::waits(&step.reply) {
-            is_at(rt, navigator.state(), step);
+    for (_, reply, place) in steps.iter().rev() {
+        if !M::waits(reply) {
+            is_at(rt, navigator.state(), place);
             same(rt, &"walk back", &navigator.step(Move::Back(1)), &Ok(()));
         }
     }
@@ -192,21 +167,17 @@ fn walk_on<M: Reversible + Shows>(
     navigator: &mut Navigator<M>,
     steps: &[Expected<M::Call, M::Reply, M::Place>],
 ) {
-    for step in steps {
-        if !M::waits(&step.reply) {
+    for (_, reply, place) in steps {
+        if !M::waits(reply) {
             same(rt, &"walk on", &navigator.step(Move::Forward(1)), &Ok(()));
-            is_at(rt, navigator.state(), step);
+            is_at(rt, navigator.state(), place);
         }
     }
 }
 
-/// Asserts that the machine shows what the row has for the place after a step.
-fn is_at<M: Reversible + Shows>(
-    rt: &impl Abort,
-    machine: &M,
-    step: &Expected<M::Call, M::Reply, M::Place>,
-) {
-    if let Some(place) = step.place {
-        same(rt, &"is at", &machine.place(), &place);
+/// Asserts that the machine shows what the row has for a place.
+fn is_at<M: Shows>(rt: &impl Abort, machine: &M, place: &Option<M::Place>) {
+    if let Some(place) = place {
+        same(rt, &"is at", &machine.place(), place);
     }
 }

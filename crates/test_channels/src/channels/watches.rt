@@ -9,7 +9,7 @@ use std::alloc::Global;
 use std::process::Abort;
 use std::test::Fail;
 use support_fixtures::Shows;
-use support_fixtures::watches::{Place, opening};
+use support_fixtures::watches::{OPENING, Place, opening};
 
 /// Records a row and walks it, on channels of this value.
 fn play_at(rt: &impl Abort, alloc: Global, init: u64, steps: &[Wanted]) -> Result<(), Fail>
@@ -25,157 +25,166 @@ type Wanted = Expected<WCall<u64>, WReply<u64>, Place>;
 
 #[test]
 fn same_value_is_a_change(rt: HostRuntime) -> Result<(), Fail> {
-    let unseen = Place {
+    const UNSEEN: Place = Place {
+        value: 7,
         version: 1,
-        receivers: [None, Some((Some(0), false)), None],
-        ..opening(7)
+        receivers: (None, Some((Some(0), false)), None),
+        ..OPENING
     };
-    let seen = Place {
-        receivers: [None, Some((Some(1), true)), None],
-        ..unseen
+    const SEEN: Place = Place {
+        receivers: (None, Some((Some(1), true)), None),
+        ..UNSEEN
     };
-    let steps: &[Wanted] = &[
-        Expected::new(WCall::HasChanged(1), WReply::Flag(false)),
-        Expected::new(WCall::Send(0, 7), WReply::Stored),
-        Expected::to(WCall::HasChanged(1), WReply::Flag(true), unseen),
-        Expected::new(WCall::Changed(1), WReply::Done),
-        Expected::to(WCall::HasChanged(1), WReply::Flag(false), seen),
+    static STEPS: [Wanted; 5] = [
+        (WCall::HasChanged(1), WReply::Flag(false), None),
+        (WCall::Send(0, 7), WReply::Stored, None),
+        (WCall::HasChanged(1), WReply::Flag(true), Some(UNSEEN)),
+        (WCall::Changed(1), WReply::Done, None),
+        (WCall::HasChanged(1), WReply::Flag(false), Some(SEEN)),
     ];
-    play_at(&rt, rt.alloc(), 7, steps)
+    play_at(&rt, rt.alloc(), 7, &STEPS)
 }
 
 #[test]
 fn last_change_of_a_closed_watch(rt: HostRuntime) -> Result<(), Fail> {
-    let closed = Place {
+    const CLOSED: Place = Place {
         version: 1,
         value: 8,
         closed: true,
-        kinds: [None, Some(Kind::Receiver), None],
-        receivers: [None, Some((Some(1), true)), None],
-        ..opening(7)
+        kinds: (None, Some(Kind::Receiver), None),
+        receivers: (None, Some((Some(1), true)), None),
+        ..OPENING
     };
-    let steps: &[Wanted] = &[
-        Expected::new(WCall::Send(0, 8), WReply::Stored),
-        Expected::new(WCall::DropHandle(0), WReply::Dropped),
-        Expected::new(WCall::HasChanged(1), WReply::Closed),
-        Expected::new(WCall::Changed(1), WReply::Done),
-        Expected::new(WCall::Changed(1), WReply::Closed),
-        Expected::to(WCall::Borrow(1), WReply::Value(8), closed),
+    static STEPS: [Wanted; 6] = [
+        (WCall::Send(0, 8), WReply::Stored, None),
+        (WCall::DropHandle(0), WReply::Dropped, None),
+        (WCall::HasChanged(1), WReply::Closed, None),
+        (WCall::Changed(1), WReply::Done, None),
+        (WCall::Changed(1), WReply::Closed, None),
+        (WCall::Borrow(1), WReply::Value(8), Some(CLOSED)),
     ];
-    play_at(&rt, rt.alloc(), 7, steps)
+    play_at(&rt, rt.alloc(), 7, &STEPS)
 }
 
 #[test]
 fn watch_without_receivers(rt: HostRuntime) -> Result<(), Fail> {
-    let steps: &[Wanted] = &[
-        Expected::new(WCall::DropHandle(1), WReply::Dropped),
-        Expected::new(WCall::IsClosed(0), WReply::Flag(true)),
-        Expected::new(WCall::AwaitClosed(0), WReply::Done),
-        Expected::new(WCall::ReceiverCount(0), WReply::Count(0)),
-        Expected::new(WCall::Send(0, 2), WReply::NoReceivers(2)),
-        Expected::new(WCall::Borrow(0), WReply::Value(1)),
-        Expected::new(WCall::SendReplace(0, 3), WReply::Old(1)),
-        Expected::new(WCall::Subscribe(0), WReply::New(2)),
-        Expected::new(WCall::HasChanged(2), WReply::Flag(false)),
-        Expected::new(WCall::Borrow(2), WReply::Value(3)),
+    static STEPS: [Wanted; 10] = [
+        (WCall::DropHandle(1), WReply::Dropped, None),
+        (WCall::IsClosed(0), WReply::Flag(true), None),
+        (WCall::AwaitClosed(0), WReply::Done, None),
+        (WCall::ReceiverCount(0), WReply::Count(0), None),
+        (WCall::Send(0, 2), WReply::NoReceivers(2), None),
+        (WCall::Borrow(0), WReply::Value(1), None),
+        (WCall::SendReplace(0, 3), WReply::Old(1), None),
+        (WCall::Subscribe(0), WReply::New(2), None),
+        (WCall::HasChanged(2), WReply::Flag(false), None),
+        (WCall::Borrow(2), WReply::Value(3), None),
     ];
-    play_at(&rt, rt.alloc(), 1, steps)
+    play_at(&rt, rt.alloc(), 1, &STEPS)
 }
 
 #[test]
 fn silent_modification(rt: HostRuntime) -> Result<(), Fail> {
-    let silent = Place {
+    const SILENT: Place = Place {
         value: 5,
-        ..opening(1)
+        ..OPENING
     };
-    let steps: &[Wanted] = &[
-        Expected::new(
+    static STEPS: [Wanted; 3] = [
+        (
             WCall::Modify {
                 told: false,
                 handle: 0,
                 value: 5,
             },
             WReply::Told(false),
+            None,
         ),
-        Expected::new(WCall::Borrow(1), WReply::Value(5)),
-        Expected::to(WCall::HasChanged(1), WReply::Flag(false), silent),
+        (WCall::Borrow(1), WReply::Value(5), None),
+        (WCall::HasChanged(1), WReply::Flag(false), Some(SILENT)),
     ];
-    play_at(&rt, rt.alloc(), 1, steps)
+    play_at(&rt, rt.alloc(), 1, &STEPS)
 }
 
 #[test]
 fn marks_are_cloned(rt: HostRuntime) -> Result<(), Fail> {
-    let cloned = Place {
+    const CLONED: Place = Place {
+        value: 4,
         made: 3,
-        kinds: [
+        kinds: (
             Some(Kind::Sender),
             Some(Kind::Receiver),
             Some(Kind::Receiver),
-        ],
-        receivers: [None, Some((Some(0), true)), Some((None, false))],
-        ..opening(4)
+        ),
+        receivers: (None, Some((Some(0), true)), Some((None, false))),
+        ..OPENING
     };
-    let seen = Place {
-        receivers: [None, Some((Some(0), true)), Some((Some(0), true))],
-        ..cloned
+    const SEEN: Place = Place {
+        receivers: (None, Some((Some(0), true)), Some((Some(0), true))),
+        ..CLONED
     };
-    let steps: &[Wanted] = &[
-        Expected::new(WCall::MarkChanged(1), WReply::Done),
-        Expected::new(WCall::MarkChanged(1), WReply::Done),
-        Expected::new(WCall::CloneReceiver(1), WReply::New(2)),
-        Expected::to(WCall::MarkUnchanged(1), WReply::Done, cloned),
-        Expected::new(WCall::HasChanged(1), WReply::Flag(false)),
-        Expected::new(WCall::HasChanged(2), WReply::Flag(true)),
-        Expected::to(WCall::Changed(2), WReply::Done, seen),
+    static STEPS: [Wanted; 7] = [
+        (WCall::MarkChanged(1), WReply::Done, None),
+        (WCall::MarkChanged(1), WReply::Done, None),
+        (WCall::CloneReceiver(1), WReply::New(2), None),
+        (WCall::MarkUnchanged(1), WReply::Done, Some(CLONED)),
+        (WCall::HasChanged(1), WReply::Flag(false), None),
+        (WCall::HasChanged(2), WReply::Flag(true), None),
+        (WCall::Changed(2), WReply::Done, Some(SEEN)),
     ];
-    play_at(&rt, rt.alloc(), 4, steps)
+    play_at(&rt, rt.alloc(), 4, &STEPS)
 }
 
 #[test]
 fn four_steps_back(rt: HostRuntime) -> Result<(), Fail> {
-    let alone = Place {
-        kinds: [Some(Kind::Sender), None, None],
-        receivers: [None; 3],
-        ..opening(7)
+    const ALONE: Place = Place {
+        value: 7,
+        kinds: (Some(Kind::Sender), None, None),
+        receivers: (None, None, None),
+        ..OPENING
     };
-    let modified = Place {
+    const MODIFIED: Place = Place {
         version: 1,
         value: 9,
         made: 3,
-        kinds: [Some(Kind::Sender), None, Some(Kind::Receiver)],
-        receivers: [None, None, Some((Some(1), true))],
-        ..alone
+        kinds: (Some(Kind::Sender), None, Some(Kind::Receiver)),
+        receivers: (None, None, Some((Some(1), true))),
+        ..ALONE
     };
-    let steps: &[Wanted] = &[
-        Expected::to(WCall::DropHandle(1), WReply::Dropped, alone),
-        Expected::new(
+    static STEPS: [Wanted; 5] = [
+        (WCall::DropHandle(1), WReply::Dropped, Some(ALONE)),
+        (
             WCall::Modify {
                 told: true,
                 handle: 0,
                 value: 9,
             },
             WReply::Told(true),
+            None,
         ),
-        Expected::new(WCall::Subscribe(0), WReply::New(2)),
-        Expected::new(WCall::HasChanged(2), WReply::Flag(false)),
-        Expected::to(WCall::Borrow(2), WReply::Value(9), modified),
+        (WCall::Subscribe(0), WReply::New(2), None),
+        (WCall::HasChanged(2), WReply::Flag(false), None),
+        (WCall::Borrow(2), WReply::Value(9), Some(MODIFIED)),
     ];
-    play_at(&rt, rt.alloc(), 7, steps)
+    play_at(&rt, rt.alloc(), 7, &STEPS)
 }
 
 #[test]
 fn refused_and_waiting_calls(rt: HostRuntime) -> Result<(), Fail> {
-    let steps: &[Wanted] = &[
-        Expected::to(WCall::Send(5, 1), WReply::Unknown, opening(3)),
-        Expected::to(WCall::Update(0), WReply::WrongKind, opening(3)),
-        Expected::to(WCall::Changed(1), WReply::Waits, opening(3)),
-        Expected::to(WCall::AwaitClosed(0), WReply::Waits, opening(3)),
-        Expected::new(WCall::CloneSender(0), WReply::New(2)),
-        Expected::new(WCall::DropHandle(2), WReply::Dropped),
-        Expected::new(WCall::Borrow(2), WReply::Gone),
-        Expected::new(WCall::Send(0, 4), WReply::Stored),
-        Expected::new(WCall::Update(1), WReply::Value(4)),
-        Expected::new(WCall::HasChanged(1), WReply::Flag(false)),
+    const OPENED: Place = Place {
+        value: 3,
+        ..OPENING
+    };
+    static STEPS: [Wanted; 10] = [
+        (WCall::Send(5, 1), WReply::Unknown, Some(OPENED)),
+        (WCall::Update(0), WReply::WrongKind, Some(OPENED)),
+        (WCall::Changed(1), WReply::Waits, Some(OPENED)),
+        (WCall::AwaitClosed(0), WReply::Waits, Some(OPENED)),
+        (WCall::CloneSender(0), WReply::New(2), None),
+        (WCall::DropHandle(2), WReply::Dropped, None),
+        (WCall::Borrow(2), WReply::Gone, None),
+        (WCall::Send(0, 4), WReply::Stored, None),
+        (WCall::Update(1), WReply::Value(4), None),
+        (WCall::HasChanged(1), WReply::Flag(false), None),
     ];
-    play_at(&rt, rt.alloc(), 3, steps)
+    play_at(&rt, rt.alloc(), 3, &STEPS)
 }

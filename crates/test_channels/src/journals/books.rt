@@ -3,9 +3,24 @@
 use crate::cell::{Call, Cell, Reply};
 use crate::comparing::same;
 use rw_journal::{Book, TakeFault};
-use rw_law::Entry;
+use rw_law::{Entry, NoMemory, Reversible};
+use std::alloc::{AllocError, Global};
 use std::process::Abort;
 use std::test::Fail;
+
+/// Opens a book of a cell that can be set this often. A test that calls a book's own functions has their instances put together in
+/// its proof, so it calls those of this file.
+fn open(alloc: Global, most: u64) -> Result<Book<Cell>, NoMemory> {
+    Book::open(alloc, Cell::new(most))
+}
+
+/// Drops a book.
+fn drop_book(_book: Book<Cell>) {}
+
+/// Makes room for the next call at this clock.
+fn ready(book: &mut Book<Cell>, clock: u64) -> Result<(), TakeFault> {
+    book.ready(clock)
+}
 
 /// Makes a call by actor 63, and returns the stamp of its receipt and the value before it. Without a contract the tests' proofs
 /// stay short.
@@ -17,6 +32,16 @@ fn take(book: &mut Book<Cell>, clock: u64, call: Call) -> Result<(u64, u64), Tak
     }
 }
 
+/// Returns how many entries a book has.
+fn length(book: &Book<Cell>) -> u64 {
+    book.len()
+}
+
+/// Whether a book has no entry.
+fn is_empty(book: &Book<Cell>) -> bool {
+    book.is_empty()
+}
+
 /// Rewinds the last entry, and returns its stamp and the value that is left.
 fn rewind(book: &mut Book<Cell>) -> Option<(u64, u64)> {
     let entry = book.rewind()?;
@@ -25,7 +50,7 @@ fn rewind(book: &mut Book<Cell>) -> Option<(u64, u64)> {
 
 #[test]
 fn takes_and_rewinds(rt: HostRuntime) -> Result<(), Fail> {
-    let mut book = Book::open(rt.alloc(), Cell::new(100))?;
+    let mut book = open(rt.alloc(), 100)?;
     let answers = [
         take(&mut book, 0, Call::Set(1)),
         take(&mut book, 9, Call::Set(7)),
@@ -33,15 +58,15 @@ fn takes_and_rewinds(rt: HostRuntime) -> Result<(), Fail> {
         take(&mut book, 9, Call::Stray),
         take(&mut book, 3, Call::Set(8)),
     ];
-    let len = book.len();
+    let len = length(&book);
     let entries = [
         rewind(&mut book),
         rewind(&mut book),
         rewind(&mut book),
         rewind(&mut book),
     ];
-    let is_empty = book.is_empty();
-    drop(book);
+    let is_empty = is_empty(&book);
+    drop_book(book);
     let (waits, strays) = (Err(TakeFault::Waits), Err(TakeFault::NoChannel));
     same(
         &rt,
@@ -61,38 +86,56 @@ fn takes_and_rewinds(rt: HostRuntime) -> Result<(), Fail> {
 
 #[test]
 fn runs_up_to_a_fault(rt: HostRuntime) -> Result<(), Fail> {
-    let mut book = Book::open(rt.alloc(), Cell::new(100))?;
-    let ran = [
-        book.run(&[(0, Call::Set(1)), (63, Call::Set(2)), (1, Call::Stray)]),
-        book.run(&[(5, Call::Set(3))]),
-    ];
-    let stamp = book.entry(1).map(|e| e.stamp);
-    let (cell, entries) = book.into_parts();
-    has_entries(&rt, &entries, &[(0, 1), (63, 2), (5, 3)]);
-    drop(entries);
+    let mut book = open(rt.alloc(), 100)?;
+    let ran = runs_twice(&mut book);
+    let (stamp, value, marks) = parts(rt.alloc(), book)?;
     same(&rt, &"ran", &ran, &[Err((2, TakeFault::NoChannel)), Ok(())]);
-    same(
-        &rt,
-        &"runs up to a fault",
-        &(stamp, cell.value()),
-        &(Some(2), 3),
-    );
+    same(&rt, &"stamp and value", &(stamp, value), &(Some(2), 3));
+    let wanted: &[(u32, u64)] = &[(0, 1), (63, 2), (5, 3)];
+    same(&rt, &"entries", &marks.as_slice(), &wanted);
     Ok(())
 }
 
-/// Asserts that the entries have these actors and stamps.
-fn has_entries(rt: &impl Abort, entries: &[Entry<Cell>], wanted: &[(u32, u64)]) {
-    same(rt, &"has entries", &entries.len(), &wanted.len());
-    for (entry, wanted) in entries.iter().zip(wanted) {
-        same(rt, &"has entries", &(entry.actor, entry.stamp), &*wanted);
+/// Runs three calls, of which the last strays, and then one more.
+fn runs_twice(book: &mut Book<Cell>) -> [Result<(), (u64, TakeFault)>; 2] {
+    [
+        book.run(&[(0, Call::Set(1)), (63, Call::Set(2)), (1, Call::Stray)]),
+        book.run(&[(5, Call::Set(3))]),
+    ]
+}
+
+/// The stamp of a book's second entry, the value of its cell, and the actor and stamp of each entry.
+type Parts = (Option<u64>, u64, Vec<(u32, u64)>);
+
+/// Takes a book apart.
+fn parts(alloc: Global, book: Book<Cell>) -> Result<Parts, AllocError> {
+    let stamp = book.entry(1).map(|e| e.stamp);
+    let (cell, entries) = book.into_parts();
+    let marks = marks_of(alloc, &entries);
+    drop_entries(entries);
+    Ok((stamp, cell.value(), marks?))
+}
+
+/// Drops entries.
+fn drop_entries(_entries: Vec<Entry<Cell>>) {}
+
+/// Returns the actor and the stamp of each entry.
+fn marks_of<M: Reversible>(
+    alloc: Global,
+    entries: &[Entry<M>],
+) -> Result<Vec<(u32, u64)>, AllocError> {
+    let mut marks = Vec::new(alloc);
+    for entry in entries {
+        marks.push((entry.actor, entry.stamp))?;
     }
+    Ok(marks)
 }
 
 #[test]
 fn stamps_end_at_two_to_the_62(rt: HostRuntime) -> Result<(), Fail> {
-    let mut book = Book::open(rt.alloc(), Cell::new(100))?;
+    let mut book = open(rt.alloc(), 100)?;
     ends_its_stamps(&rt, &mut book);
-    drop(book);
+    drop_book(book);
     Ok(())
 }
 
@@ -110,7 +153,7 @@ fn ends_its_stamps(rt: &impl Abort, book: &mut Book<Cell>) {
         same(
             rt,
             &"ends its stamps",
-            &book.ready(clock).is_ok(),
+            &ready(book, clock).is_ok(),
             &answer.is_ok(),
         );
         same(
@@ -124,12 +167,10 @@ fn ends_its_stamps(rt: &impl Abort, book: &mut Book<Cell>) {
 
 #[test]
 fn a_machine_without_room_refuses(rt: HostRuntime) -> Result<(), Fail> {
-    let closed = Book::open(rt.alloc(), Cell::new(0));
-    let is_closed = closed.is_err();
-    drop(closed);
-    let mut book = Book::open(rt.alloc(), Cell::new(20))?;
+    let is_closed = open(rt.alloc(), 0).is_err();
+    let mut book = open(rt.alloc(), 20)?;
     runs_out_of_room(&rt, &mut book);
-    drop(book);
+    drop_book(book);
     assert!(rt; is_closed);
     Ok(())
 }
@@ -140,7 +181,7 @@ fn runs_out_of_room(rt: &impl Abort, book: &mut Book<Cell>) {
         assert!(rt; take(book, 0, Call::Set(i)).is_ok());
     }
     let refused = Err(TakeFault::NoMemory);
-    same(rt, &"runs out of room", &book.ready(0), &refused);
+    same(rt, &"runs out of room", &ready(book, 0), &refused);
     for answer in [refused.map(|()| (0, 0)), Ok((20, 18))] {
         same(
             rt,

@@ -6,8 +6,9 @@ mod handles;
 
 use super::plain::{
     OfBoth, OfBroadcast, OfWatch, b_receiver_len, b_recv, b_send, b_try_recv, both_ends, call,
-    close, differs, last_three, open, open_both, open_broadcast, open_watch, order, receipts,
-    run_of, run_of_one, run_with, w_drop_sender, w_send, w_send_if_modified, w_wait_for, wait_call,
+    close, differs, drop_broadcast, drop_desk, drop_ends, drop_pass, drop_passes, drop_run,
+    last_three, open, open_both, open_broadcast, open_watch, order, receipts, run_of, run_of_one,
+    run_with, w_drop_sender, w_send, w_send_if_modified, w_wait_for, wait_call,
 };
 use super::shared::{desk_of_two, length_of, run_of_two};
 use crate::comparing::same;
@@ -53,8 +54,8 @@ fn closes(
 ) -> Result<(CloseFault, Vec<(u64, u32)>), Fail> {
     match close(desk, alloc, Vec::new(alloc)) {
         Ok(run) => {
-            drop(run);
-            drop(pass);
+            drop_run(run);
+            drop_pass(pass);
             Err(Fail::from("closed without the pass"))
         }
         Err((fault, desk, passes)) => {
@@ -122,7 +123,7 @@ fn receipts_beside_a_run(rt: HostRuntime) -> Result<(), Fail> {
         Ok(kept) => differs_at(&rt, &run, kept),
         Err(_) => Err(Fail::from("no receipts")),
     };
-    drop(run);
+    drop_run(run);
     drop(kept);
     differs
 }
@@ -130,8 +131,10 @@ fn receipts_beside_a_run(rt: HostRuntime) -> Result<(), Fail> {
 /// The fault of a desk that isn't opened.
 fn refusal(alloc: Global, specs: &[Spec<u64>], actors: u32) -> Option<DeskOpenFault> {
     match open(alloc, specs, actors) {
-        Ok(opened) => {
-            drop(opened);
+        Ok((desk, passes, ends)) => {
+            drop_desk(desk);
+            drop_passes(passes);
+            drop_ends(ends);
             None
         }
         Err(fault) => Some(fault),
@@ -161,10 +164,10 @@ fn desks_that_are_not_opened(rt: HostRuntime) -> Result<(), Fail> {
 /// How many entries and how many specs the run of the greatest desk has without a call.
 fn lengths_without_calls(alloc: Global) -> Result<(u64, usize), Fail> {
     let (desk, passes, ends) = open(alloc, &[Spec::Watch(7); 64], 64)?;
-    drop(ends);
+    drop_ends(ends);
     let run = run_of(alloc, desk, passes)?;
     let lengths = (run.len(), run.specs().len());
-    drop(run);
+    drop_run(run);
     Ok(lengths)
 }
 
@@ -194,7 +197,7 @@ fn open_of_two(alloc: Global) -> Result<OfTwo, Fail> {
     let specs = [Spec::Broadcast(2), Spec::Watch(5)];
     let (desk, ends, first, second) = desk_of_two(alloc, &specs)?;
     let Some((sender, _, writer, _)) = both_ends(ends) else {
-        drop(desk);
+        drop_desk(desk);
         return Err(Fail::from("other channels"));
     };
     Ok(OfTwo {
@@ -280,7 +283,7 @@ fn wait_for_a_value_of_a_closed_watch(rt: HostRuntime) -> Result<(), Fail> {
     drops_a_writer(&rt, &desk, &mut pass, writer);
     is_closed(&rt, &desk, &mut pass, &reader);
     let found = (receipts(&pass).len(), last_three(receipts(&pass)));
-    drop(run_of_one(alloc, desk, pass)?);
+    drop_run(run_of_one(alloc, desk, pass)?);
     let wanted = [
         (WCall::DropHandle(0), WReply::Dropped),
         (WCall::Update(1), WReply::Value(1)),
@@ -321,7 +324,7 @@ fn overfills<R: Wait + Abort>(rt: &R, open: &mut OfBroadcast) {
 fn ring_of_the_greatest_capacity(rt: HostRuntime) -> Result<(), Fail> {
     let mut open = open_broadcast(rt.alloc(), &[Spec::Broadcast(65_536)])?;
     overfills(&rt, &mut open);
-    drop(open);
+    drop_broadcast(open);
     Ok(())
 }
 

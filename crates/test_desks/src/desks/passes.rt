@@ -1,5 +1,6 @@
 //! Passes on books of one channel.
 
+use super::plain::drop_pass;
 use crate::comparing::same;
 use rw_broadcast::{BCall, BReply};
 use rw_desk::{DeskFault, Kept, Pass};
@@ -15,6 +16,9 @@ use std::test::Fail;
 fn broadcast_book(alloc: Global) -> Result<Book<Chan<u64>>, NoMemory> {
     Book::open(alloc, open_channel(alloc, &Spec::Broadcast(2))?)
 }
+
+/// Drops a book.
+fn drop_book(_book: Book<Chan<u64>>) {}
 
 /// A book of a watch of 7.
 fn watch_book(alloc: Global) -> Result<Book<Chan<u64>>, NoMemory> {
@@ -70,8 +74,8 @@ fn a_pass_keeps_what_it_recorded(rt: HostRuntime) -> Result<(), Fail> {
         receipt_at(book.entries(), pass.kept(), 0),
         receipt_at(book.entries(), pass.kept(), 1),
     ];
-    drop(book);
-    drop(pass);
+    drop_book(book);
+    drop_pass(pass);
     same(
         &rt,
         &"receipts",
@@ -119,8 +123,8 @@ fn the_clock_ends_at_two_to_the_62(rt: HostRuntime) -> Result<(), Fail> {
     let mut book = broadcast_book(rt.alloc())?;
     let mut pass = Pass::<u64>::new(rt.alloc(), 0);
     ends_its_clock(&rt, &mut book, &mut pass);
-    drop(book);
-    drop(pass);
+    drop_book(book);
+    drop_pass(pass);
     Ok(())
 }
 
@@ -130,8 +134,8 @@ fn a_refused_call_is_recorded(rt: HostRuntime) -> Result<(), Fail> {
     let mut pass = Pass::<u64>::new(rt.alloc(), 63);
     let answer = record(&mut book, &mut pass, 0, ChanCall::W(WCall::Borrow(9)));
     let stamp = pass.stamp();
-    drop(book);
-    drop(pass);
+    drop_book(book);
+    drop_pass(pass);
     let unknown = Ok(ChanReply::W(WReply::Unknown));
     same(&rt, &"a refused call", &(answer, stamp), &(unknown, 1));
     Ok(())

@@ -58,6 +58,30 @@ pub fn close(
     desk.close(alloc, passes)
 }
 
+/// Drops a desk. A function that calls `drop` itself has the instance for its type put together in its own proof.
+pub fn drop_desk(_desk: Desk<u64>) {}
+
+/// Drops a pass.
+pub fn drop_pass(_pass: Pass<u64>) {}
+
+/// Drops passes.
+pub fn drop_passes(_passes: Vec<Pass<u64>>) {}
+
+/// Drops the ends of channels.
+pub fn drop_ends(_ends: Vec<Ends>) {}
+
+/// Drops a run.
+pub fn drop_run(_run: Run<u64>) {}
+
+/// Drops a desk with a broadcast channel, its pass and its handles.
+pub fn drop_broadcast(_open: OfBroadcast) {}
+
+/// Drops a desk with a watch channel, its pass and its handles.
+pub fn drop_watch(_open: OfWatch) {}
+
+/// Drops a desk with both, its pass and its handles.
+pub fn drop_both(_open: OfBoth) {}
+
 /// The ends of the last channel, where it is a broadcast.
 pub fn broadcast_ends(ends: &mut Vec<Ends>) -> Option<(BTx, BRx)> {
     match ends.pop() {
@@ -88,10 +112,10 @@ pub fn open_one(
 ) -> Result<(Desk<u64>, Pass<u64>, Vec<Ends>), Fail> {
     let (desk, mut passes, ends) = open(alloc, specs, 1)?;
     let pass = passes.pop();
-    drop(passes);
+    drop_passes(passes);
     let Some(pass) = pass else {
-        drop(desk);
-        drop(ends);
+        drop_desk(desk);
+        drop_ends(ends);
         return Err(Fail::from("no pass"));
     };
     Ok((desk, pass, ends))
@@ -101,10 +125,10 @@ pub fn open_one(
 pub fn open_broadcast(alloc: Global, specs: &[Spec<u64>]) -> Result<OfBroadcast, Fail> {
     let (desk, pass, mut ends) = open_one(alloc, specs)?;
     let last = broadcast_ends(&mut ends);
-    drop(ends);
+    drop_ends(ends);
     let Some((sender, receiver)) = last else {
-        drop(desk);
-        drop(pass);
+        drop_desk(desk);
+        drop_pass(pass);
         return Err(Fail::from("no broadcast"));
     };
     Ok(OfBroadcast {
@@ -119,10 +143,10 @@ pub fn open_broadcast(alloc: Global, specs: &[Spec<u64>]) -> Result<OfBroadcast,
 pub fn open_watch(alloc: Global, specs: &[Spec<u64>]) -> Result<OfWatch, Fail> {
     let (desk, pass, mut ends) = open_one(alloc, specs)?;
     let last = watch_ends(&mut ends);
-    drop(ends);
+    drop_ends(ends);
     let Some((writer, reader)) = last else {
-        drop(desk);
-        drop(pass);
+        drop_desk(desk);
+        drop_pass(pass);
         return Err(Fail::from("no watch"));
     };
     Ok(OfWatch {
@@ -137,8 +161,8 @@ pub fn open_watch(alloc: Global, specs: &[Spec<u64>]) -> Result<OfWatch, Fail> {
 pub fn open_both(alloc: Global, specs: &[Spec<u64>]) -> Result<OfBoth, Fail> {
     let (desk, pass, ends) = open_one(alloc, specs)?;
     let Some((sender, receiver, writer, reader)) = both_ends(ends) else {
-        drop(desk);
-        drop(pass);
+        drop_desk(desk);
+        drop_pass(pass);
         return Err(Fail::from("no broadcast and watch"));
     };
     Ok(OfBoth {
@@ -160,8 +184,8 @@ pub fn run_of(
     match close(desk, alloc, passes) {
         Ok(run) => Ok(run),
         Err((fault, desk, passes)) => {
-            drop(desk);
-            drop(passes);
+            drop_desk(desk);
+            drop_passes(passes);
             Err(fault)
         }
     }
@@ -175,8 +199,8 @@ pub fn run_with(
     pass: Pass<u64>,
 ) -> Result<Run<u64>, CloseFault> {
     if passes.push(pass).is_err() {
-        drop(desk);
-        drop(passes);
+        drop_desk(desk);
+        drop_passes(passes);
         return Err(CloseFault::NoMemory);
     }
     run_of(alloc, desk, passes)
@@ -243,7 +267,7 @@ fn order_in(alloc: Global, run: &Run<u64>) -> Result<Vec<(u64, u32)>, AllocError
 /// The same of a run that is dropped.
 pub fn order(alloc: Global, run: Run<u64>) -> Result<Vec<(u64, u32)>, AllocError> {
     let order = order_in(alloc, &run);
-    drop(run);
+    drop_run(run);
     order
 }
 

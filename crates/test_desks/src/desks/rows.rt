@@ -1,6 +1,6 @@
 //! Worked rows of both channels, made by handles at a desk of one actor. In a row `/` stands for a line's end.
 
-use super::plain::{call, open_one, run_of_one};
+use super::plain::{call, drop_ends, open_one, run_of_one};
 use super::shared::length_of;
 use crate::comparing::same;
 use rw_broadcast::BCall;
@@ -118,6 +118,9 @@ struct Hands {
     by_number: Vec<Option<Hand>>,
 }
 
+/// Drops handles.
+fn drop_hands(_hands: Hands) {}
+
 impl Hands {
     /// With the handles that a channel has from the beginning.
     fn with(alloc: Global, ends: Ends) -> Result<Hands, AllocError> {
@@ -202,7 +205,7 @@ fn make_with<R: Wait + Abort>(
 ) -> Result<(), Fail> {
     let mut hands = Hands::with(alloc, ends.ok_or("no ends")?)?;
     let made = make_all(rt, desk, pass, &mut hands, broadcast, row);
-    drop(hands);
+    drop_hands(hands);
     made
 }
 
@@ -226,7 +229,7 @@ fn play<R: Wait + Abort>(
 ) -> Result<(), Fail> {
     let (desk, mut pass, mut ends) = open_one(alloc, specs)?;
     let last = ends.pop();
-    drop(ends);
+    drop_ends(ends);
     let made = make_with(rt, alloc, &desk, &mut pass, last, broadcast, row);
     let length = length_at_close(alloc, desk, pass);
     made?;
@@ -269,7 +272,7 @@ fn call_all<R: Wait + Abort>(
 fn weak_senders(rt: HostRuntime) -> Result<(), Fail> {
     let alloc = rt.alloc();
     let (desk, mut pass, ends) = open_one(alloc, &[Spec::Broadcast(2)])?;
-    drop(ends);
+    drop_ends(ends);
     let called = call_all(&rt, &desk, &mut pass, WEAK_SENDERS);
     let length = length_at_close(alloc, desk, pass);
     called?;

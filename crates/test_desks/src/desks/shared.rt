@@ -1,8 +1,8 @@
 //! Desks that threads share, and how tests open desks of two actors and close any.
 
 use super::plain::{
-    b_drop_sender, b_recv, b_send, open, run_of, w_closed, w_drop_receiver, w_send,
-    w_send_if_modified, w_wait_for,
+    b_drop_sender, b_recv, b_send, drop_desk, drop_ends, drop_passes, drop_run, open, run_of,
+    w_closed, w_drop_receiver, w_send, w_send_if_modified, w_wait_for,
 };
 use rw_broadcast::BReply;
 use rw_desk::{BRx, BTx, CloseFault, Desk, DeskFault, Ends, Pass, WRx, WTx};
@@ -20,10 +20,10 @@ pub type Opened = (Desk<u64>, Vec<Ends>, Pass<u64>, Pass<u64>);
 pub fn desk_of_two(alloc: Global, specs: &[Spec<u64>]) -> Result<Opened, Fail> {
     let (desk, mut passes, ends) = open(alloc, specs, 2)?;
     let (second, first) = (passes.pop(), passes.pop());
-    drop(passes);
+    drop_passes(passes);
     let (Some(first), Some(second)) = (first, second) else {
-        drop(desk);
-        drop(ends);
+        drop_desk(desk);
+        drop_ends(ends);
         return Err(Fail::from("no two passes"));
     };
     Ok((desk, ends, first, second))
@@ -49,7 +49,7 @@ pub fn run_of_two(
     latter: Pass<u64>,
 ) -> Result<Run<u64>, CloseFault> {
     let Ok(passes) = both(alloc, former, latter) else {
-        drop(desk);
+        drop_desk(desk);
         return Err(CloseFault::NoMemory);
     };
     run_of(alloc, desk, passes)
@@ -58,7 +58,7 @@ pub fn run_of_two(
 /// How many entries a run has, which is dropped.
 pub fn length_of(run: Run<u64>) -> u64 {
     let length = run.len();
-    drop(run);
+    drop_run(run);
     length
 }
 

@@ -2,7 +2,7 @@
 //!
 //! Each desk of a test has two broadcast channels and two actors. Tables say what is called, and with whose passes each desk closes.
 
-use super::plain::{call, close, open};
+use super::plain::{call, close, drop_ends, open};
 use super::shared::length_of;
 use crate::comparing::same;
 use rw_broadcast::BCall;
@@ -44,6 +44,9 @@ struct Shown {
     closes: Vec<Result<u64, CloseFault>>,
 }
 
+/// Drops desks and their passes.
+fn drop_all(_desks: Desks) {}
+
 impl Desks {
     /// No desk.
     fn none(alloc: Global) -> Desks {
@@ -58,7 +61,7 @@ impl Desks {
         let Ok((desk, passes, ends)) = open(alloc, &[Spec::Broadcast(2); 2], 2) else {
             return Err("not opened");
         };
-        drop(ends);
+        drop_ends(ends);
         if self.open.push(Some(desk)).is_err() || self.passes.push(passes).is_err() {
             return Err("no room for a desk");
         }
@@ -146,7 +149,7 @@ fn played<R: Wait>(
     let opened = desks.open_all(alloc);
     let clocks = desks.call_all(rt, alloc, calls);
     let closes = desks.close_all(alloc, closes);
-    drop(desks);
+    drop_all(desks);
     opened?;
     Ok(Shown {
         clocks: clocks?,

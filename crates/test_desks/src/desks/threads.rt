@@ -1,6 +1,6 @@
 //! Desks that threads share.
 
-use super::plain::{last_three, receipts, w_peek};
+use super::plain::{drop_desk, drop_pass, drop_run, last_three, receipts, w_peek};
 use super::shared::{Calls, desk_of_two, length_of, run_of_two};
 use crate::comparing::same;
 use crate::flags::is_set_in_time;
@@ -49,7 +49,7 @@ fn has_entries(
     wanted: &[Shown],
 ) -> Result<(), Fail> {
     let shown = shown(alloc, &run);
-    drop(run);
+    drop_run(run);
     same(rt, &"has entries", &shown?.as_slice(), &wanted);
     Ok(())
 }
@@ -93,11 +93,11 @@ fn closures_of_two_threads(rt: HostRuntime) -> Result<(), Fail> {
     let alloc = rt.alloc();
     let (desk, ends, first, second) = desk_of_two(alloc, &[Spec::Watch(0)])?;
     let [Ends::Watch(sender, _)] = ends.as_slice() else {
-        drop(desk);
+        drop_desk(desk);
         return Err(Fail::from("no watch"));
     };
     let Some((mut first, second)) = add_twice(&rt, &desk, first, second, sender) else {
-        drop(desk);
+        drop_desk(desk);
         return Err(Fail::from("no thread"));
     };
     peeks(&rt, &desk, &mut first, sender, 2000);
@@ -134,11 +134,11 @@ fn a_value_for_a_thread_that_waits(rt: HostRuntime) -> Result<(), Fail> {
     let alloc = rt.alloc();
     let (desk, ends, first, mut second) = desk_of_two(alloc, &[Spec::Broadcast(2)])?;
     let [Ends::Broadcast(sender, receiver)] = ends.as_slice() else {
-        drop(desk);
+        drop_desk(desk);
         return Err(Fail::from("no broadcast"));
     };
     let Some(first) = receive_beside(&rt, &desk, first, &mut second, receiver, sender) else {
-        drop(desk);
+        drop_desk(desk);
         return Err(Fail::from("no thread"));
     };
     let run = run_of_two(alloc, desk, second, first)?;
@@ -187,15 +187,15 @@ fn a_call_beside_a_closure_of_another_channel(rt: HostRuntime) -> Result<(), Fai
     let alloc = rt.alloc();
     let (desk, ends, first, mut second) = desk_of_two(alloc, &[Spec::Watch(0); 2])?;
     let [Ends::Watch(here, _), Ends::Watch(there, _)] = ends.as_slice() else {
-        drop(desk);
+        drop_desk(desk);
         return Err(Fail::from("no two watches"));
     };
     let Some(first) = modify_beside(&rt, &desk, first, &mut second, here, there) else {
-        drop(desk);
+        drop_desk(desk);
         return Err(Fail::from("no thread"));
     };
     peeks(&rt, &desk, &mut second, here, 1);
-    drop(run_of_two(alloc, desk, first, second)?);
+    drop_run(run_of_two(alloc, desk, first, second)?);
     Ok(())
 }
 
@@ -233,11 +233,11 @@ fn calls_of_two_threads_on_two_channels(rt: HostRuntime) -> Result<(), Fail> {
     let specs = [Spec::Broadcast(2), Spec::Watch(5)];
     let (desk, ends, first, mut second) = desk_of_two(alloc, &specs)?;
     let [Ends::Broadcast(sender, _), Ends::Watch(writer, _)] = ends.as_slice() else {
-        drop(desk);
+        drop_desk(desk);
         return Err(Fail::from("no broadcast and watch"));
     };
     let Some((first, in_time)) = send_held(&rt, &desk, first, &mut second, sender, writer) else {
-        drop(desk);
+        drop_desk(desk);
         return Err(Fail::from("no thread"));
     };
     let run = run_of_two(alloc, desk, first, second)?;
@@ -339,14 +339,14 @@ fn waits_that_another_thread_ends(rt: HostRuntime) -> Result<(), Fail> {
     let specs = [Spec::Watch(0), Spec::Broadcast(2), Spec::Watch(0)];
     let (desk, ends, first, mut second) = desk_of_two(rt.alloc(), &specs)?;
     let Some((waits, ending)) = roles(ends) else {
-        drop(desk);
+        drop_desk(desk);
         return Err(Fail::from("other ends"));
     };
     let back = wait_beside(&rt, &desk, first, &mut second, &waits, ending);
-    drop(desk);
+    drop_desk(desk);
     let first = back.ok_or("no thread")?;
     let last = last_three(receipts(&first));
-    drop(first);
+    drop_pass(first);
     let wanted = [
         (
             ChanCall::W(WCall::Update(1)),

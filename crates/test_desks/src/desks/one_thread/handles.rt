@@ -3,8 +3,9 @@
 use crate::comparing::same;
 use crate::desks::plain::{
     OfBoth, OfBroadcast, OfWatch, b_clone_sender, b_drop_sender, b_receiver_count, b_recv, b_send,
-    broadcast_ends, call, open_both, open_broadcast, open_one, open_watch, receipts,
-    w_clone_sender, w_send_if_modified, w_send_modify, w_update, w_wait_for,
+    broadcast_ends, call, drop_both, drop_broadcast, drop_desk, drop_pass, drop_watch, open_both,
+    open_broadcast, open_one, open_watch, receipts, w_clone_sender, w_send_if_modified,
+    w_send_modify, w_update, w_wait_for,
 };
 use rw_broadcast::{BCall, BReply};
 use rw_desk::{BRx, BTx, Desk, DeskFault, Ends, Kept, Made, Pass, WTx};
@@ -68,7 +69,7 @@ fn senders_that_are_cloned(rt: HostRuntime) -> Result<(), Fail> {
     let mut open = open_both(rt.alloc(), &[Spec::Broadcast(2), Spec::Watch(1)])?;
     let written = clones_a_writer(&rt, &mut open);
     let counted = clones_a_sender(&rt, &mut open);
-    drop(open);
+    drop_both(open);
     written?;
     Ok(counted?)
 }
@@ -127,7 +128,7 @@ fn closures_of_a_sender_that_is_gone(rt: HostRuntime) -> Result<(), Fail> {
     let mut open = open_watch(rt.alloc(), &[Spec::Watch(4)])?;
     closures_are_left(&rt, &mut open);
     let unchanged = last_two_are_unchanged(&rt, receipts(&open.pass));
-    drop(open);
+    drop_watch(open);
     unchanged
 }
 
@@ -170,7 +171,7 @@ fn clones_to_the_limit<R: Wait + Abort>(rt: &R, open: &mut OfBroadcast) -> Resul
 fn handle_limit_at_a_desk(rt: HostRuntime) -> Result<(), Fail> {
     let mut open = open_broadcast(rt.alloc(), &[Spec::Broadcast(1)])?;
     let cloned = clones_to_the_limit(&rt, &mut open);
-    drop(open);
+    drop_broadcast(open);
     cloned
 }
 
@@ -242,8 +243,8 @@ fn clone_first<R: Wait>(
 fn elsewhere<R: Wait>(rt: &R, alloc: Global) -> Result<(BTx, BRx, BTx), Fail> {
     let (desk, mut pass, ends) = open_one(alloc, &[Spec::Broadcast(2), Spec::Broadcast(2)])?;
     let handles = clone_first(rt, &desk, &mut pass, ends);
-    drop(desk);
-    drop(pass);
+    drop_desk(desk);
+    drop_pass(pass);
     handles
 }
 
@@ -255,6 +256,6 @@ fn handles_of_another_desk(rt: HostRuntime) -> Result<(), Fail> {
     are_handles_by_number(&rt, &mut open, &second, &receiver);
     sends_nothing(&rt, &mut open, &beyond);
     let back = comes_back(&rt, &mut open, beyond);
-    drop(open);
+    drop_broadcast(open);
     back
 }
