@@ -51,6 +51,7 @@ function namesOf(bytes) {
 function factsOf(name, run) {
   const facts = [name, countOf(run.lastPlace, "call"), countOf(run.channels.length, "channel"), countOf(run.actorCount, "actor")];
   if (run.waiting) facts.push(`line ${run.waiting.line} would wait: ${run.waiting.text}`);
+  if (run.names.core) facts.push(run.names.core);
   return facts.join(" · ");
 }
 

@@ -1,6 +1,7 @@
-// Names of actors and channels, and texts of values: from a file of names if there is one, else numbers.
+// Names of actors and channels, and texts of values: from a file of names if there is one, else numbers. Such a file may also have a note on
+// the core that answered the calls.
 
-const KINDS = ["actors", "channels", "values"];
+const KINDS = ["core", "actors", "channels", "values"];
 
 function isText(value) {
   return typeof value === "string";
@@ -15,11 +16,12 @@ export function readNames(text) {
   const tables = JSON.parse(text);
   if (!isTable(tables, () => true)) throw new Error("it is no object");
   for (const kind of Object.keys(tables)) if (!KINDS.includes(kind)) throw new Error(`it has a key "${kind}"`);
-  const { actors = {}, channels = {}, values = {} } = tables;
+  const { core = "", actors = {}, channels = {}, values = {} } = tables;
+  if (!isText(core)) throw new Error("its note on the core is no text");
   if (!isTable(actors, isText)) throw new Error("its actors are no names by number");
   if (!isTable(channels, isText)) throw new Error("its channels are no names by number");
   if (!isTable(values, table => isTable(table, isText))) throw new Error("its values are no texts by number, by channel");
-  return new Names(actors, channels, values);
+  return new Names(actors, channels, values, core);
 }
 
 function lookUp(table, key) {
@@ -27,8 +29,9 @@ function lookUp(table, key) {
 }
 
 export class Names {
-  constructor(actors = {}, channels = {}, values = {}) {
+  constructor(actors = {}, channels = {}, values = {}, core = "") {
     this.tables = { actors, channels, values };
+    this.core = core;
   }
 
   actor(number) {

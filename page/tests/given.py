@@ -56,6 +56,22 @@ def drop_with_names(tab, folder, journals):
     opening.settle(tab, 23)
 
 
+def note_on_the_core(tab, folder, journals):
+    """A note on the core that answered the calls is shown beside the run's numbers, as a text. A run without one is shown as ever."""
+    journal = opening.put(folder, "noted.journal", journals[63])
+    for note in ("answered by the plain core", "<b>answered</b>"):
+        names = opening.put(folder, "noted.names", json.dumps({"core": note, "actors": {"0": "exchange"}}).encode())
+        empty_page(tab)
+        tab.drop(journal, names)
+        opening.settle(tab, 0)
+        assert tab.text("facts").startswith("noted.journal · 63 calls · "), tab.text("facts")
+        assert tab.text("facts").endswith(f" · {note}"), tab.text("facts")
+        assert tab.text("notice") == ""
+    tab.drop(journal)
+    told(tab, "facts", "noted.journal · 63 calls · ")
+    tab.wait("!document.getElementById('facts').textContent.includes('answered')")
+
+
 def places_of_two_runs(tab, folder, journals):
     """The place in the address is one of the run in the page's own file. A run that is dropped on the page is opened at its start."""
     opening.load(tab, opening.page_of(folder, "first.journal", journals[63]), 3)

@@ -33,7 +33,7 @@ TESTS = [
     shown.pictures, shown.lagging_is_red, dark.dark_colours, shown.hostile_names, shown.refused_markup, shown.wrong_names, shown.spoken,
     shown.nothing_is_loaded, hands.keys, hands.lag_keys, hands.hurried_searches, hands.failed_search, hands.early_click, hands.stops,
     hands.buttons, hands.mouse, moves.wheel, moves.stop_field, hands.drops, given.chosen_again, given.drop_with_names,
-    given.places_of_two_runs, given.failed_opening,
+    given.note_on_the_core, given.places_of_two_runs, given.failed_opening,
     hands.waiting_script, hands.refusals, hands.example, hands.files_that_are_not_there, hands.addresses, shown.large_runs,
     shown.quick_walking, shown.many_handles, weak.weak_senders, weak.weak_rows, texts.large_numbers, texts.long_texts, speed.figures,
     bare(answers.example_sessions), bare(answers.random_commands), bare(answers.spoiled_texts),

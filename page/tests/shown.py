@@ -101,7 +101,7 @@ def refused_markup(tab, folder, journals):
 
 def wrong_names(tab, folder, journals):
     """A file of names that can't be read is reported, and the run is shown by its numbers."""
-    for text in (b"{", b"[]", b'{"actors": ["a"]}', b'{"actors": {"0": 1}}', b'{"values": {"0": "x"}}', b'{"colour": {}}'):
+    for text in (b"{", b"[]", b'{"actors": ["a"]}', b'{"actors": {"0": 1}}', b'{"values": {"0": "x"}}', b'{"colour": {}}', b'{"core": {}}'):
         opening.put(folder, "wrong.names", text)
         opening.load(tab, opening.page_of(folder, "wrong.journal", journals[63]), 1)
         assert tab.text("notice").startswith("The file of names isn't read: "), tab.text("notice")

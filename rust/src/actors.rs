@@ -1,6 +1,6 @@
 //! Who makes a call: the innermost named future, or else the thread.
 
-use crate::proved::Actor;
+use crate::core::Actor;
 use std::cell::{Cell, RefCell};
 use std::collections::HashMap;
 use std::future::Future;

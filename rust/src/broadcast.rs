@@ -67,13 +67,14 @@ pub use sender::Sender;
 pub use weak::WeakSender;
 
 use crate::channel::{Channel, ChannelState, CoreChannel, RecordedChannel};
+use crate::core::OpenFault;
+use crate::guarded_by::GuardedBy;
 use crate::handle::ChannelHandle;
 use crate::lock::lock;
-use crate::proved::{GuardedBy, OpenFault};
 use values::Values;
 
 /// The greatest capacity.
-const MOST_CAPACITY: usize = 65_536;
+pub(crate) const MOST_CAPACITY: usize = 65_536;
 
 /// What each sender, weak sender and receiver is.
 type BroadcastHandle<T> = ChannelHandle<T, GuardedBy<ChannelState, Values<T>>>;

@@ -121,22 +121,39 @@
 //!
 //! # Platforms
 //!
-//! Linux on x86-64. The core is also built and tested for Linux on ARM (aarch64), where the crate itself was not yet run.
+//! Two cores can answer the calls. They return the same, and record the same journals:
+//!
+//! - On Linux on x86-64 and on ARM (aarch64), the proved core answers. It is built already, so nothing but cargo is needed.
+//! - Elsewhere, as on macOS and Windows, a plain core answers, which is written in safe Rust and not proved. A warning of `cargo build` and
+//!   the names beside a journal say so: "answered by the plain core; the page's proved reader checks each recorded reply when it opens the
+//!   run".
+//!
+//! The feature `plain-core` chooses the plain core on Linux too. Under [Miri](https://github.com/rust-lang/miri) it is chosen without that.
+//! The tests of this crate run over both cores on x86-64, and compare them call by call. On other targets, the crate was not yet run.
+//!
+//! The command `ttd` is for Linux on x86-64. Elsewhere the page opens the journals.
 //!
 //! # What is proved
 //!
-//! The core of the channels has a machine-checked proof: each call returns what tokio's documentation says after the calls before it, and
-//! the journal is a legal run that has each recorded call exactly once. The Rust code around the core is tested and not proved: it holds
-//! the values, wakes the futures that wait, and calls the core.
+//! The proved core has a machine-checked proof: each call returns what tokio's documentation says after the calls before it, and the
+//! journal is a legal run that has each recorded call exactly once. The Rust code around the core is tested and not proved: it holds the
+//! values, wakes the futures that wait, and calls the core. The plain core is tested too. What it has recorded is checked when the journal
+//! is opened: the page and `ttd` make each call again by the proved code, and refuse the journal if a reply differs.
 #![deny(unsafe_code)]
 
 mod actors;
+mod atomic;
 mod block_on;
 pub mod broadcast;
 mod channel;
+mod core;
+mod guarded_by;
 mod handle;
 mod lock;
 mod names;
+#[cfg(any(test, not(proved_core)))]
+mod plain;
+#[cfg(proved_core)]
 mod proved;
 mod recorder;
 mod reply;

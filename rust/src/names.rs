@@ -1,4 +1,4 @@
-//! The names beside a journal, as JSON: those of actors and channels, and the texts of values.
+//! The names beside a journal, as JSON: those of actors and channels, and the texts of values. If the plain core answered, a note says so.
 
 use std::fmt::Write;
 
@@ -42,11 +42,19 @@ pub(crate) fn texts<S: AsRef<str>>(items: impl IntoIterator<Item = (u64, S)>) ->
     object(items, |out, text| push_string(out, text.as_ref()))
 }
 
-/// Returns the whole document, made of its three objects.
-pub(crate) fn document(actors: &str, channels: &str, values: &str) -> String {
-    format!(
-        "{{\n  \"actors\": {actors},\n  \"channels\": {channels},\n  \"values\": {values}\n}}\n"
-    )
+/// Returns the whole document, made of its three objects, and of the note on the core if there is one.
+pub(crate) fn document(core: Option<&str>, actors: &str, channels: &str, values: &str) -> String {
+    let mut out = String::from("{\n");
+    if let Some(note) = core {
+        out.push_str("  \"core\": ");
+        push_string(&mut out, note);
+        out.push_str(",\n");
+    }
+    let _ = write!(
+        out,
+        "  \"actors\": {actors},\n  \"channels\": {channels},\n  \"values\": {values}\n}}\n"
+    );
+    out
 }
 
 #[cfg(test)]
@@ -62,8 +70,16 @@ mod tests {
     #[test]
     fn nothing_is_an_empty_object() {
         assert_eq!(
-            document(&texts::<&str>([]), "{}", "{}"),
+            document(None, &texts::<&str>([]), "{}", "{}"),
             "{\n  \"actors\": {},\n  \"channels\": {},\n  \"values\": {}\n}\n"
+        );
+    }
+
+    #[test]
+    fn the_note_on_the_core_comes_first() {
+        assert_eq!(
+            document(Some("\"plain\""), "{}", "{}", "{}"),
+            "{\n  \"core\": \"\\\"plain\\\"\",\n  \"actors\": {},\n  \"channels\": {},\n  \"values\": {}\n}\n"
         );
     }
 }

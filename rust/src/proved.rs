@@ -1,4 +1,4 @@
-//! The proved core behind its C functions. All `unsafe` of this crate is here and in the files of `proved/`.
+//! The proved core behind its C functions. All `unsafe` of this library is here, in the files of `proved/`, and in `guarded_by.rs`.
 //!
 //! The declarations below are those of the exports of `crates/rw_ffi` in the repository. No proof compares the two. Tests do so by text:
 //! `tests/docs/exports` the functions and structs, `tests/docs/numbers` the numbers of replies and faults. The types here uphold what the
@@ -6,15 +6,12 @@
 //! number of an actor is an [`Actor`], which is below 64.
 #![allow(unsafe_code)]
 
-mod guarded_by;
 mod heap;
 #[cfg(test)]
 mod tests;
 
-pub(crate) use guarded_by::GuardedBy;
-
+use crate::core::{Caller, CutFault, OpenFault};
 use crate::reply::Reply;
-use std::fmt;
 use std::ptr;
 
 /// `Held` of the core: the address of a channel with its journal, or null.
@@ -70,37 +67,13 @@ unsafe extern "C" {
     fn yovanelum_cut_free(cut: &mut HeldCut);
 }
 
-/// The number of an actor, below 64.
-#[derive(Clone, Copy, Debug, PartialEq, Eq)]
-pub(crate) struct Actor(u32);
-
-impl Actor {
-    /// The actor 0.
-    pub(crate) const FIRST: Actor = Actor(0);
-
-    /// How many actors there can be.
-    pub(crate) const MOST: usize = 64;
-
-    /// Returns the actor with this number, or the last one if the number is too great.
-    pub(crate) fn of(number: usize) -> Actor {
-        Actor(number.min(Actor::MOST - 1) as u32)
-    }
-}
-
-/// The actor of a call, and the clock of its recorder. If the call is recorded, its stamp is one more than the clock.
-#[derive(Clone, Copy)]
-pub(crate) struct Caller {
-    pub(crate) actor: Actor,
-    pub(crate) clock: u64,
-}
-
 impl Answer {
     #[inline]
     fn reply(self) -> Reply {
         let n = self.number;
         match self.kind {
             0 => Reply::Sent(n),
-            1 => Reply::NoReceivers,
+            1 => Reply::NoReceivers(n),
             2 => Reply::Value(n),
             3 => Reply::Lagged(n),
             4 => Reply::Empty,
@@ -114,14 +87,14 @@ impl Answer {
             12 => Reply::WrongKind,
             13 => Reply::TooManyHandles,
             14 => Reply::Stored,
-            15 => Reply::Old,
+            15 => Reply::Old(n),
             16 => Reply::Told(n != 0),
             17 => Reply::Flag(n != 0),
             18 => Reply::Done,
+            19 => Reply::NoChannel,
             20 => Reply::JournalFull,
             21 => Reply::NoMemory,
             22 => Reply::NoSender,
-            // 19 means that the call is of the other kind of channel. The types of this crate make no such call.
             kind => unreachable!("the core answered {kind}"),
         }
     }
@@ -132,13 +105,6 @@ pub(crate) struct CoreChannel(Held);
 
 // SAFETY: it is proved in `crates/rw_ffi` that what a `Held` owns may be sent to another thread.
 unsafe impl Send for CoreChannel {}
-
-/// Why a channel isn't opened.
-#[derive(Clone, Copy, Debug, PartialEq, Eq)]
-pub(crate) enum OpenFault {
-    BadCapacity,
-    NoMemory,
-}
 
 impl CoreChannel {
     /// Opens a broadcast with sender 0 and receiver 1.
@@ -235,7 +201,7 @@ macro_rules! calls {
             #[inline]
             pub(crate) fn $method(&mut self, caller: Caller, $($arg: $type),*) -> Reply {
                 // SAFETY: a channel is held, and an `Actor` is below 64.
-                unsafe { $export(&mut self.0, caller.actor.0, caller.clock, $($arg),*) }.reply()
+                unsafe { $export(&mut self.0, caller.actor.number(), caller.clock, $($arg),*) }.reply()
             })*
         }
     };
@@ -271,25 +237,6 @@ calls! {
     watch_receiver_count = yovanelum_watch_receiver_count(sender: u32);
     watch_is_closed = yovanelum_watch_is_closed(sender: u32);
     watch_closed = yovanelum_watch_closed(sender: u32);
-}
-
-/// Why there is no journal.
-#[derive(Clone, Copy, Debug, PartialEq, Eq)]
-pub(crate) enum CutFault {
-    NoMemory,
-    NoChannels,
-    /// The stamps don't put the entries into one order. No recorder of this crate causes it.
-    OutOfOrder,
-}
-
-impl fmt::Display for CutFault {
-    fn fmt(&self, f: &mut fmt::Formatter<'_>) -> fmt::Result {
-        f.write_str(match self {
-            CutFault::NoMemory => "no memory for the journal",
-            CutFault::NoChannels => "no channel is recorded",
-            CutFault::OutOfOrder => "the entries don't stand in one order",
-        })
-    }
 }
 
 /// What channels have recorded up to one stamp.
@@ -336,6 +283,7 @@ fn fault_of(code: u32) -> Result<(), CutFault> {
     match code {
         0 => Ok(()),
         3 => Err(CutFault::NoChannels),
+        4 => Err(CutFault::TooManyChannels),
         5 => Err(CutFault::OutOfOrder),
         _ => Err(CutFault::NoMemory),
     }

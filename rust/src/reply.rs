@@ -8,7 +8,7 @@ use std::task::Poll;
 #[derive(Clone, Copy, Debug, PartialEq, Eq)]
 pub(crate) enum Reply {
     Sent(u64),
-    NoReceivers,
+    NoReceivers(u64),
     Value(u64),
     Lagged(u64),
     Empty,
@@ -22,11 +22,13 @@ pub(crate) enum Reply {
     WrongKind,
     TooManyHandles,
     Stored,
-    Old,
+    Old(u64),
     Told(bool),
     Flag(bool),
     Done,
+    NoChannel,
     JournalFull,
+    #[cfg_attr(not(proved_core), allow(dead_code))]
     NoMemory,
     NoSender,
 }
@@ -38,6 +40,12 @@ impl Reply {
     pub(crate) fn expect_made(self) -> Reply {
         match self {
             Reply::JournalFull | Reply::NoMemory => panic!("yovanelum: no memory for a call"),
+            // A channel asks a further machine in place of a full one, and no handle of this crate makes one of the other calls.
+            Reply::TooManyHandles
+            | Reply::Unknown
+            | Reply::Gone
+            | Reply::WrongKind
+            | Reply::NoChannel => self.unexpected(),
             reply => reply,
         }
     }
@@ -71,7 +79,7 @@ impl Reply {
     pub(crate) fn sent(self) -> Option<u64> {
         match self {
             Reply::Sent(receivers) => Some(receivers),
-            Reply::NoReceivers => None,
+            Reply::NoReceivers(_) => None,
             reply => reply.unexpected(),
         }
     }

@@ -110,9 +110,16 @@ fn names_stand_beside_the_journal() {
     fs::create_dir_all(&folder).unwrap();
     recorder.save(folder.join("run.journal")).unwrap();
     let thread = thread::current().name().unwrap().to_string();
+    // `build.rs` warns in the same words.
+    let note = match cfg!(proved_core) {
+        true => "",
+        false => {
+            "  \"core\": \"answered by the plain core; the page's proved reader checks each recorded reply when it opens the run\",\n"
+        }
+    };
     let wanted = format!(
         r#"{{
-  "actors": {{"0": "ticker", "1": "{thread}"}},
+{note}  "actors": {{"0": "ticker", "1": "{thread}"}},
   "channels": {{"0": "prices", "1": "level"}},
   "values": {{"0": {{"0": "7 EUR"}}, "1": {{"0": "1.50", "1": "3.00"}}}}
 }}

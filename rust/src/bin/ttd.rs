@@ -2,12 +2,11 @@
 //!
 //! The archive has the program's `main`. It calls the C library, and six functions that Rattle's own linker would add: for the command
 //! line, `errno` and the heap. They are defined here, as Rattle's library documents them.
-#![cfg_attr(
-    all(target_arch = "x86_64", target_os = "linux", target_env = "gnu"),
-    no_main
-)]
+//!
+//! It is for Linux on x86-64. `build.rs` says by `linked_ttd` whether the archive fits the target.
+#![cfg_attr(linked_ttd, no_main)]
 
-#[cfg(all(target_arch = "x86_64", target_os = "linux", target_env = "gnu"))]
+#[cfg(linked_ttd)]
 mod linked {
     use std::env;
     use std::ffi::{c_int, c_void};
@@ -107,10 +106,11 @@ mod linked {
     }
 }
 
-#[cfg(not(all(target_arch = "x86_64", target_os = "linux", target_env = "gnu")))]
+#[cfg(not(linked_ttd))]
 fn main() -> std::process::ExitCode {
     eprintln!(
-        "ttd: the built program is for Linux on x86-64 with glibc; elsewhere the page yovanelum.html opens the same journals and scripts in a browser"
+        "ttd: the built program needs Linux on x86-64 with glibc; here {} opens the same journals and scripts in a browser",
+        concat!(env!("CARGO_MANIFEST_DIR"), "/built/yovanelum.html")
     );
     std::process::ExitCode::from(69)
 }

@@ -11,7 +11,7 @@
 mod tests;
 
 use super::machine::{MOST_HANDLES, Machine, Opening, made};
-use crate::proved::{self, Caller, OpenFault};
+use crate::core::{self, Caller, OpenFault};
 use crate::reply::Reply;
 use std::iter;
 
@@ -67,7 +67,7 @@ impl CoreChannel {
     }
 
     /// Returns the machine that has the journal.
-    pub(crate) fn recorded(&mut self) -> &mut proved::CoreChannel {
+    pub(crate) fn recorded(&mut self) -> &mut core::CoreChannel {
         &mut self.first.core
     }
 
@@ -144,7 +144,7 @@ impl CoreChannel {
     fn call_all(
         &mut self,
         sender: u32,
-        call: impl Fn(&mut proved::CoreChannel, u32) -> Reply,
+        call: impl Fn(&mut core::CoreChannel, u32) -> Reply,
         fold: fn(Reply, Reply) -> Reply,
     ) -> Reply {
         if self.further.is_empty() {
@@ -161,7 +161,7 @@ impl CoreChannel {
         &mut self,
         own: usize,
         reply: Reply,
-        call: impl Fn(&mut proved::CoreChannel, u32) -> Reply,
+        call: impl Fn(&mut core::CoreChannel, u32) -> Reply,
         fold: fn(Reply, Reply) -> Reply,
     ) -> Reply {
         let first = iter::once(Some(&mut self.first));
@@ -177,7 +177,7 @@ impl CoreChannel {
     fn create(
         &mut self,
         caller: u32,
-        by_caller: impl FnOnce(&mut proved::CoreChannel, u32) -> Reply,
+        by_caller: impl FnOnce(&mut core::CoreChannel, u32) -> Reply,
         by_other: impl FnOnce(&mut Machine) -> Reply,
     ) -> Reply {
         if !self.first.is_full() {
@@ -226,7 +226,7 @@ impl CoreChannel {
     fn drop_handle(
         &mut self,
         handle: u32,
-        drop: impl FnOnce(&mut proved::CoreChannel, u32) -> Reply,
+        drop: impl FnOnce(&mut core::CoreChannel, u32) -> Reply,
     ) -> Reply {
         let (machine, number) = self.machine_of(handle);
         let reply = machine.drop_handle(number, drop);
@@ -262,7 +262,7 @@ fn has_room(machine: &Machine, is_closed: bool) -> bool {
 fn sent(one: Reply, other: Reply) -> Reply {
     match (one, other) {
         (Reply::Sent(one), Reply::Sent(other)) => Reply::Sent(one + other),
-        (Reply::NoReceivers, reply) | (reply, _) => reply,
+        (Reply::NoReceivers(_), reply) | (reply, _) => reply,
     }
 }
 

@@ -1,9 +1,10 @@
 //! Calls, which are made while the channel is locked.
 
 use super::{Call, ChannelState, CoreChannel, RecordedChannel};
+use crate::core::{Actor, Caller};
+use crate::guarded_by::GuardedBy;
 use crate::handle::Kind;
 use crate::lock::lock;
-use crate::proved::{Actor, Caller, GuardedBy};
 use crate::recorder::RecordedBy;
 use crate::reply::Reply;
 use crate::wait::WaitFor;

@@ -1,6 +1,6 @@
 //! One machine of the core, which makes 65,536 handles of a channel.
 
-use crate::proved::{Actor, Caller, CoreChannel, OpenFault};
+use crate::core::{Actor, Caller, CoreChannel, OpenFault};
 use crate::reply::Reply;
 use std::alloc::{Layout, handle_alloc_error};
 

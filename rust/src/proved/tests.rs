@@ -1,7 +1,8 @@
 //! Tests of the declarations and the heap alone: what the tests in `tests/` reach late or not at all. `rust/test` runs them under valgrind.
 
 use super::heap::{JOURNAL, LARGE, rattle_alloc, rattle_dealloc, rattle_realloc};
-use super::{Actor, Caller, CoreChannel, Cut, Found, Held};
+use super::{CoreChannel, Cut, Found, Held};
+use crate::core::{Actor, Caller};
 use crate::reply::Reply;
 
 // The crate itself doesn't use a receiver's position.

@@ -1,10 +1,11 @@
 //! What the channels of a recorder share.
 
 use crate::actors::{self, Actors};
+use crate::atomic::AtomicU64;
 use crate::channel::ChannelState;
+use crate::core::Actor;
 use crate::lock::lock;
-use crate::proved::Actor;
-use std::sync::atomic::{AtomicBool, AtomicU64, Ordering};
+use std::sync::atomic::{AtomicBool, Ordering};
 use std::sync::{Arc, Mutex};
 
 /// How many channels a run has at most.

@@ -3,8 +3,8 @@
 use super::error::SendError;
 use super::{Receiver, Ref, WatchHandle, channel};
 use crate::channel::{CoreChannel, RecordedChannel};
+use crate::core::Caller;
 use crate::handle::Kind;
-use crate::proved::Caller;
 use crate::recorder::{Handle, TextOf};
 use crate::reply::Reply;
 use crate::wait::WaitFor;
@@ -93,7 +93,7 @@ impl<T> Sender<T> {
         };
         let mut channel = self.handle.lock();
         let (_, reply) = channel.send(text, CoreChannel::watch_send);
-        if reply == Reply::NoReceivers {
+        if matches!(reply, Reply::NoReceivers(_)) {
             return Err(SendError(value));
         }
         let wakers = channel.take_wakers(WaitFor::Value);
@@ -113,7 +113,7 @@ impl<T> Sender<T> {
             return false;
         }
         let (_, reply) = channel.send(text.take(), CoreChannel::watch_send);
-        assert_eq!(reply, Reply::NoReceivers);
+        assert!(matches!(reply, Reply::NoReceivers(_)), "{reply:?}");
         true
     }
 

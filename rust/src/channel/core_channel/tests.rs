@@ -1,8 +1,8 @@
 //! A channel whose machines make few handles each, beside one machine that makes them all: the same replies to random calls.
 
 use super::{CoreChannel, MOST_HANDLES, Opening, parts_of};
+use crate::core::{self, Actor, Caller};
 use crate::handle::Kind;
-use crate::proved::{self, Actor, Caller};
 use crate::reply::Reply;
 
 const CALLER: Caller = Caller {
@@ -33,7 +33,7 @@ struct Handle {
 /// A channel of several machines, and one of a single machine.
 struct Pair {
     many: CoreChannel,
-    one: proved::CoreChannel,
+    one: core::CoreChannel,
     handles: Vec<Handle>,
     values: u64,
     random: Random,

@@ -1,4 +1,5 @@
 //! A value that a lock elsewhere guards.
+#![allow(unsafe_code)]
 
 use std::cell::UnsafeCell;
 use std::ptr;
