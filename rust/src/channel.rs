@@ -20,13 +20,15 @@ pub struct RecordedChannel {
 }
 
 impl RecordedChannel {
-    /// Adds a channel that was opened with this many values to the run of the current recorder. If there is none, or its run takes no more,
-    /// the channel isn't recorded.
+    /// Adds a channel that was opened with this many values to the current recorder. If there is none, or its run takes no more channels, the
+    /// channel isn't recorded.
     pub(crate) fn add(core: CoreChannel, value_count: u64) -> RecordedChannel {
         let state = Arc::new(Mutex::new(ChannelState::new(core, value_count)));
         let recorder = Recorder::current().map(|Recorder(recorder)| recorder);
-        let recorder = recorder.filter(|recorder| recorder.add(&state));
-        if recorder.is_none() {
+        if !recorder
+            .as_ref()
+            .is_some_and(|recorder| recorder.add(&state))
+        {
             lock(&state).end_recording();
         }
         RecordedChannel {

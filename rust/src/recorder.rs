@@ -155,6 +155,8 @@ impl Recorder {
 
     /// Returns the recorder to which the channel of this sender or receiver belongs, or `None` if it belongs to none and is not recorded.
     ///
+    /// A channel belongs to its recorder also if it is not in its run, since [limits](Recorder#limits) were reached.
+    ///
     /// # Examples
     ///
     /// ```

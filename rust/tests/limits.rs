@@ -21,13 +21,18 @@ fn while_64_channels_are_alive_the_65th_is_recorded_by_none_and_works() {
     let channels: Vec<_> = (0..70).map(|_| broadcast::channel(2)).collect();
     for (number, (tx, _)) in channels.iter().enumerate() {
         assert_eq!(tx.send(number).unwrap(), 1);
-        assert_eq!(Recorder::of(tx).is_some(), number < 64);
+        // Each belongs to the recorder, so it may be named.
+        Recorder::of(tx)
+            .unwrap()
+            .name(tx, &format!("channel {number}"));
     }
     for (number, (_, rx)) in channels.into_iter().enumerate() {
         assert_eq!({ rx }.try_recv(), Ok(number));
     }
     let entries = accepted(&recorder, "channels");
     assert_eq!((entries, recorder.len()), (64 * 4, 64 * 4));
+    let names = recorder.names();
+    assert!(names.contains(r#""63": "channel 63"}"#), "{names}");
 }
 
 #[test]
@@ -89,9 +94,15 @@ fn where_64_are_alive_and_one_dies_the_next_one_is_recorded() {
     let recorder = Recorder::new();
     let _entered = recorder.enter();
     let mut alive: Vec<_> = (0..64).map(|_| broadcast::channel::<u8>(2)).collect();
-    assert!(Recorder::of(&broadcast::Sender::<u8>::new(2)).is_none());
+    let open = || drop(broadcast::Sender::<u8>::new(2));
+    open();
+    assert_eq!(recorder.len(), 0);
     drop(alive.swap_remove(30));
-    assert!(Recorder::of(&broadcast::Sender::<u8>::new(2)).is_some());
+    // The two calls on that channel leave the run with it. The two on the new one are its drops.
+    assert_eq!(recorder.len(), 2);
+    open();
+    assert_eq!(recorder.len(), 2);
+    assert!(recorder.journal().unwrap().contains(" 63 drop 0 = dropped"));
     accepted(&recorder, "one-dies");
 }
 

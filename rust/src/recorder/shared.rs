@@ -169,7 +169,7 @@ impl Shared {
     }
 }
 
-/// By whom a channel is recorded: a recorder, or none.
+/// By whom a channel is recorded: the recorder that it belongs to, or none.
 pub(crate) struct RecordedBy(pub(crate) Option<Arc<Shared>>);
 
 impl RecordedBy {
