@@ -24,7 +24,7 @@ impl RecordedChannel {
     /// channel isn't recorded.
     pub(crate) fn add(core: CoreChannel, value_count: u64) -> RecordedChannel {
         let state = Arc::new(Mutex::new(ChannelState::new(core, value_count)));
-        let recorder = Recorder::current().map(|Recorder(recorder)| recorder);
+        let recorder = Recorder::current().map(|recorder| recorder.0);
         if !recorder
             .as_ref()
             .is_some_and(|recorder| recorder.add(&state))
@@ -57,7 +57,7 @@ impl<T, S> Channel<T, S> {
     /// Returns the text of a value, if the channel has a function for it.
     #[inline]
     pub(crate) fn text(&self, value: &T) -> Option<String> {
-        self.text_of.get().map(|text_of| text_of(value))
+        self.text_of.get()?.text(value)
     }
 
     /// Sets the function for the texts of values. Returns `false` if the channel has one already, which it keeps.

@@ -7,7 +7,7 @@ use crate::wait::{WaitFor, WaitingCall};
 use std::future::poll_fn;
 use std::panic::{RefUnwindSafe, UnwindSafe};
 use std::sync::Arc;
-use std::task::Poll;
+use std::task::{Context, Poll};
 
 /// The kind of a handle.
 #[derive(Clone, Copy, PartialEq, Eq)]
@@ -110,18 +110,37 @@ impl<T, S> ChannelHandle<T, S> {
         wakers.wake();
     }
 
+    /// A call that waits, with its place in the queue.
+    fn waiting(&self, wait_for: WaitFor, place: Option<u64>) -> WaitingCall<'_> {
+        WaitingCall {
+            channel: self.recorded(),
+            handle: self.number,
+            wait_for,
+            place,
+        }
+    }
+
     /// Makes a call that waits: attempts it until it completes.
     pub(crate) async fn wait<R>(
         &self,
         wait_for: WaitFor,
         attempt: impl Fn(&mut LockedChannel<'_>) -> Poll<R>,
     ) -> R {
-        let mut waiting = WaitingCall {
-            channel: self.recorded(),
-            handle: self.number,
-            wait_for,
-            queued_as: None,
-        };
+        let mut waiting = self.waiting(wait_for, None);
         poll_fn(|context| waiting.poll(context, &attempt)).await
+    }
+
+    /// Attempts a call that waits. Between attempts the caller holds its place in the queue, and removes it if there is no further one.
+    pub(crate) fn poll_wait<R>(
+        &self,
+        wait_for: WaitFor,
+        place: &mut Option<u64>,
+        context: &Context<'_>,
+        attempt: impl Fn(&mut LockedChannel<'_>) -> Poll<R>,
+    ) -> Poll<R> {
+        let mut waiting = self.waiting(wait_for, place.take());
+        let polled = waiting.poll(context, attempt);
+        *place = waiting.place.take();
+        polled
     }
 }

@@ -114,10 +114,10 @@
 //! - A capacity is at most 65,536. More than that panics.
 //! - The futures need no runtime: [`block_on`] runs them. They do not count towards tokio's cooperative budget.
 //! - `blocking_recv` does not panic within a runtime, it blocks there.
-//! - A closure of `send_modify` or `send_if_modified` that waits for its own channel panics, where tokio has a deadlock.
+//! - A closure of `send_modify`, `send_if_modified` or `wait_for` that waits for its own channel panics, where tokio has a deadlock.
 //! - Calls are slower, since they are recorded, and an entry of the journal takes about 90 bytes of memory. [`Recorder`] lists the limits
 //!   of what is recorded. Calls go on past them.
-//! - tokio's other channels are not included.
+//! - tokio's other channels are not included. Streams of these two are in the package `yovanelum-stream`, beside the source of this one.
 //!
 //! # Platforms
 //!
@@ -153,9 +153,11 @@ mod lock;
 mod names;
 #[cfg(any(test, not(proved_core)))]
 mod plain;
+mod polled;
 #[cfg(proved_core)]
 mod proved;
 mod recorder;
+mod reentrant;
 mod reply;
 mod wait;
 mod wakers;
@@ -163,6 +165,8 @@ pub mod watch;
 
 pub use actors::{Named, named};
 pub use block_on::block_on;
+#[doc(hidden)]
+pub use polled::Polled;
 pub use recorder::{
     Entered, ForTest, Handle, Installed, Recorder, SaveOnPanic, Scoped, follow_this_thread,
 };

@@ -1,4 +1,5 @@
-//! The proved core behind its C functions. All `unsafe` of this library is here, in the files of `proved/`, and in `guarded_by.rs`.
+//! The proved core behind its C functions. All `unsafe` of this library is here, in the files of `proved/`, in `guarded_by.rs` and in
+//! `reentrant.rs`.
 //!
 //! The declarations below are those of the exports of `crates/rw_ffi` in the repository. No proof compares the two. Tests do so by text:
 //! `tests/docs/exports` the functions and structs, `tests/docs/numbers` the numbers of replies and faults. The types here uphold what the

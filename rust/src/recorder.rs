@@ -5,15 +5,16 @@ mod for_test;
 mod handle;
 mod scope;
 mod shared;
+mod texts;
 
 pub use current::{Entered, Installed, follow_this_thread};
 pub use for_test::{ForTest, SaveOnPanic};
 pub use handle::Handle;
-pub(crate) use handle::TextOf;
 pub use scope::Scoped;
 pub(crate) use shared::{RecordedBy, Shared};
+pub use texts::TextOf;
 
-use crate::channel::ChannelState;
+use crate::channel::{ChannelState, RecordedChannel};
 use crate::core::{self, Cut, CutFault};
 use crate::lock::lock;
 use crate::names;
@@ -22,6 +23,7 @@ use std::path::Path;
 use std::sync::atomic::Ordering;
 use std::sync::{Arc, Mutex};
 use std::{fmt, fs};
+use texts::Texts;
 
 /// Why a recorder without channels has no journal.
 const NO_CHANNEL: &str = "no channel belongs to this recorder. It records those that are created on a thread that has entered it \
@@ -76,7 +78,7 @@ const IS_OFF: &str = "this recorder is off, so it records nothing. `Recorder::ne
 /// assert!(journal.contains("try-recv 1 = value 0"));
 /// ```
 #[derive(Clone)]
-pub struct Recorder(pub(crate) Arc<Shared>);
+pub struct Recorder(pub(crate) Arc<Shared>, Arc<Texts>);
 
 impl Default for Recorder {
     fn default() -> Self {
@@ -123,7 +125,13 @@ impl Recorder {
     /// assert!(!recorder.is_empty());
     /// ```
     pub fn new() -> Recorder {
-        Recorder(Arc::new(Shared::new(false)))
+        Recorder::with(Arc::new(Shared::new(false)))
+    }
+
+    /// Returns a handle of the recorder whose channels share this.
+    fn with(shared: Arc<Shared>) -> Recorder {
+        let texts = shared.texts();
+        Recorder(shared, texts)
     }
 
     /// Creates a recorder that records nothing.
@@ -150,7 +158,7 @@ impl Recorder {
     /// assert!(Recorder::of(&progress).is_none());
     /// ```
     pub fn off() -> Recorder {
-        Recorder(Arc::new(Shared::new(true)))
+        Recorder::with(Arc::new(Shared::new(true)))
     }
 
     /// Returns the recorder to which the channel of this sender or receiver belongs, or `None` if it belongs to none and is not recorded.
@@ -172,7 +180,7 @@ impl Recorder {
     /// assert_eq!(Recorder::of(&prices).unwrap().len(), 1);
     /// ```
     pub fn of<H: Handle>(handle: &H) -> Option<Recorder> {
-        handle.recorded().recorder.0.clone().map(Recorder)
+        handle.recorded().recorder.0.clone().map(Recorder::with)
     }
 
     /// Ends the recording of questions, so that a loop that polls does not fill the journal. Returns the recorder, for the next call.
@@ -205,6 +213,10 @@ impl Recorder {
     ///
     /// The page shows the name in place of the channel's number.
     ///
+    /// # Panics
+    ///
+    /// Panics if the channel belongs to another recorder, or to none.
+    ///
     /// # Examples
     ///
     /// ```
@@ -217,7 +229,9 @@ impl Recorder {
     /// recorder.name(&prices, "prices").name(&state, "state of the exchange");
     /// assert!(recorder.names().contains(r#"{"0": "prices", "1": "state of the exchange"}"#));
     /// ```
+    #[track_caller]
     pub fn name<H: Handle>(&self, handle: &H, name: &str) -> &Recorder {
+        self.expect_own(handle.recorded());
         lock(&handle.recorded().state).name = Some(name.to_string());
         self
     }
@@ -228,9 +242,18 @@ impl Recorder {
     /// value that it was created with. The texts show what the values were, also after they have been dropped. The first value of a watch
     /// channel has its text too, if no other was sent before this call. If a channel has a function already, the new one is not used.
     ///
+    /// The recorder holds the function until the channel is dropped, or the recorder with its clones and guards. So a sender that the
+    /// function holds keeps the channel open until then, as each sender that is alive does. A [`WeakSender`](crate::broadcast::WeakSender)
+    /// does not.
+    ///
     /// The function runs before the channel is locked, and a panic in it is one of the call that sends. Only for a value that is in a watch
     /// channel already (the first one, or one that a closure has changed) it runs while that value is locked. There it must neither look at
     /// the value of that channel nor send on it.
+    ///
+    /// # Panics
+    ///
+    /// Panics if the channel belongs to another recorder, or to none. Panics if the function panics for the first value of a watch channel, or waits for
+    /// the lock of that value by a send. The channel then has no function.
     ///
     /// # Examples
     ///
@@ -245,13 +268,33 @@ impl Recorder {
     /// prices.send(("ACME", 102)).unwrap();
     /// assert!(recorder.names().contains(r#"{"0": "ACME 101 EUR", "1": "ACME 102 EUR"}"#));
     /// ```
+    #[track_caller]
     pub fn show<H: Handle>(
         &self,
         handle: &H,
         text: impl Fn(&H::Value) -> String + Send + Sync + 'static,
     ) -> &Recorder {
-        handle.set_text_of(Box::new(text));
+        self.expect_own(handle.recorded());
+        handle.set_text_of(self.1.hold(text));
         self
+    }
+
+    /// Panics if the channel belongs to another recorder, or to none. Its names aren't beside the journal of this one.
+    #[track_caller]
+    fn expect_own(&self, channel: &RecordedChannel) {
+        let Some(recorder) = &channel.recorder.0 else {
+            assert!(
+                self.0.is_off,
+                "yovanelum: the channel belongs to no recorder, so its calls aren't in the journal of this one: \
+                 enter or install this recorder before the channel is created"
+            );
+            return;
+        };
+        assert!(
+            Arc::ptr_eq(recorder, &self.0),
+            "yovanelum: the channel belongs to another recorder, so its calls aren't in the journal of this one: \
+             enter or install this recorder before the channel is created"
+        );
     }
 
     /// Returns the text of the journal so far: all calls up to one moment, and none after it.

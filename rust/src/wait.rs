@@ -18,8 +18,8 @@ pub(crate) struct WaitingCall<'a> {
     pub(crate) channel: &'a RecordedChannel,
     pub(crate) handle: u32,
     pub(crate) wait_for: WaitFor,
-    /// The number of this future in the queue, while it is there.
-    pub(crate) queued_as: Option<u64>,
+    /// The place of this future in the queue, while it is there.
+    pub(crate) place: Option<u64>,
 }
 
 impl WaitingCall<'_> {
@@ -35,17 +35,17 @@ impl WaitingCall<'_> {
             let mut channel = self.channel.lock(self.handle);
             if let Poll::Ready(result) = attempt(&mut channel) {
                 let queue = channel.state.queue(self.wait_for);
-                let removed = queue.remove(&mut self.queued_as);
+                let removed = queue.remove(&mut self.place);
                 drop(channel);
                 drop(removed);
                 return Poll::Ready(result);
             }
             let queue = channel.state.queue(self.wait_for);
-            if queue.contains(self.queued_as, context.waker()) {
+            if queue.wakes(self.place, context.waker()) {
                 return Poll::Pending;
             }
             if let Some(waker) = cloned.take() {
-                let replaced = queue.add(&mut self.queued_as, waker);
+                let replaced = queue.add(&mut self.place, waker);
                 drop(channel);
                 drop(replaced);
                 return Poll::Pending;
@@ -58,10 +58,10 @@ impl WaitingCall<'_> {
 
 impl Drop for WaitingCall<'_> {
     fn drop(&mut self) {
-        if self.queued_as.is_some() {
+        if self.place.is_some() {
             let removed = lock(&self.channel.state)
                 .queue(self.wait_for)
-                .remove(&mut self.queued_as);
+                .remove(&mut self.place);
             drop(removed);
         }
     }

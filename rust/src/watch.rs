@@ -60,6 +60,7 @@ use crate::handle::{ChannelHandle, Kind};
 use crate::lock::lock;
 use crate::recorder::TextOf;
 use crate::wait::WaitFor;
+use std::task::{Context, Poll};
 use value::ValueLock;
 
 /// What each sender and receiver is.
@@ -90,6 +91,10 @@ pub fn channel<T>(init: T) -> (Sender<T>, Receiver<T>) {
     let channel = Channel::new(recorded, ValueLock::new(init));
     let (sender, receiver) = ChannelHandle::first_two(channel);
     (Sender { handle: sender }, Receiver { handle: receiver })
+}
+
+fn attempt_changed(channel: &mut LockedChannel<'_>) -> Poll<Result<(), error::RecvError>> {
+    channel.call(CoreChannel::watch_changed).changed()
 }
 
 impl<T> WatchHandle<T> {
@@ -126,17 +131,25 @@ impl<T> WatchHandle<T> {
 
     /// Waits until there is a value that this receiver has not seen, and marks it as seen.
     async fn changed(&self) -> Result<(), error::RecvError> {
-        self.wait(WaitFor::Value, |channel| {
-            channel.call(CoreChannel::watch_changed).changed()
-        })
-        .await
+        self.wait(WaitFor::Value, attempt_changed).await
+    }
+
+    /// [`changed`](WatchHandle::changed) without a future. Between polls the caller holds its place in the queue.
+    fn poll_changed(
+        &self,
+        context: &Context<'_>,
+        place: &mut Option<u64>,
+    ) -> Poll<Result<(), error::RecvError>> {
+        self.poll_wait(WaitFor::Value, place, context, attempt_changed)
     }
 
     fn set_text_of(&self, text_of: TextOf<T>) {
         // The first value, if it is still the last, gets its text now. It stays in the channel, so it is locked while its text is made.
-        let value = self.channel.values.read();
-        let text = text_of(&value);
-        if self.channel.set_text_of(text_of) {
+        let values = &self.channel.values;
+        let value = values.read();
+        let text = values.run_reading(|| text_of.text(&value));
+        let is_set = self.channel.set_text_of(text_of);
+        if let Some(text) = text.filter(|_| is_set) {
             lock(&self.recorded().state).keep_first_text(text);
         }
         drop(value);

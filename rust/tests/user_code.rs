@@ -11,7 +11,7 @@ use std::task::{Context, Wake, Waker};
 use support::in_time;
 use yovanelum::broadcast::{self, Receiver, Sender};
 use yovanelum::watch::error::SendError;
-use yovanelum::{Recorder, watch};
+use yovanelum::{Recorder, block_on, watch};
 
 type Line = (Sender<Talks>, Mutex<Receiver<Talks>>);
 
@@ -74,6 +74,31 @@ fn values_may_use_their_channel_where_they_are_cloned_and_dropped() {
     }
     // Dropped with a receiver.
     drop(own);
+}
+
+/// A value whose clone receives the same value by other receivers, if it is told to.
+struct Receives(Arc<Mutex<Vec<Receiver<Receives>>>>);
+
+impl Clone for Receives {
+    fn clone(&self) -> Receives {
+        let next = self.0.lock().unwrap().pop();
+        if let Some(mut rx) = next {
+            assert!(rx.try_recv().is_ok());
+        }
+        Receives(self.0.clone())
+    }
+}
+
+#[test]
+fn a_value_whose_clone_receives_the_same_value_waits_for_nobody() {
+    in_time(|| {
+        let (tx, mut rx) = broadcast::channel(2);
+        let others = Arc::new(Mutex::new(vec![tx.subscribe(), tx.subscribe()]));
+        assert!(tx.send(Receives(others.clone())).is_ok());
+        assert!(rx.try_recv().is_ok());
+        assert!(others.lock().unwrap().is_empty());
+        assert!(tx.is_empty());
+    });
 }
 
 #[test]
@@ -271,5 +296,41 @@ fn a_closure_or_a_text_that_uses_its_watch_is_a_panic_and_waits_for_nobody() {
         tx.send(2).unwrap();
         let names = recorder.names();
         assert!(names.contains(r#"": "2 at 1""#), "{names}");
+    });
+}
+
+#[test]
+fn a_text_of_the_first_value_that_sends_on_its_watch_is_a_panic_and_waits_for_nobody() {
+    in_time(|| {
+        let recorder = Recorder::new();
+        let _entered = recorder.enter();
+        let (tx, rx) = watch::channel(0);
+        let sends = tx.clone();
+        let shown = catch_unwind(AssertUnwindSafe(|| {
+            recorder.show(&tx, move |value| format!("{value} {:?}", sends.send(5)));
+        }));
+        assert!(message(shown.unwrap_err()).contains("uses that watch"));
+        // The watch is as it was, and takes another function.
+        recorder.show(&tx, |value| format!("{value} EUR"));
+        tx.send(1).unwrap();
+        assert_eq!(*rx.borrow(), 1);
+        let names = recorder.names();
+        assert!(
+            names.contains(r#"{"0": {"0": "0 EUR", "1": "1 EUR"}}"#),
+            "{names}"
+        );
+    });
+}
+
+#[test]
+fn a_closure_of_wait_for_that_sends_on_its_watch_is_a_panic_and_waits_for_nobody() {
+    in_time(|| {
+        let (tx, mut rx) = watch::channel(0);
+        let waited = catch_unwind(AssertUnwindSafe(|| {
+            let _ = block_on(rx.wait_for(|_| tx.send(5).is_ok()));
+        }));
+        assert!(message(waited.unwrap_err()).contains("uses that watch"));
+        tx.send(1).unwrap();
+        assert_eq!(*block_on(rx.wait_for(|value| *value == 1)).unwrap(), 1);
     });
 }

@@ -9,6 +9,7 @@ use crate::handle::Kind;
 use crate::recorder::{Handle, TextOf};
 use crate::wait::WaitFor;
 use std::fmt;
+use std::task::{Context, Poll};
 
 /// The receiving half of a broadcast channel.
 ///
@@ -155,6 +156,11 @@ impl<T> Receiver<T> {
         self.sender_strong_count() == 0
     }
 
+    fn attempt_recv(&self, channel: &mut LockedChannel<'_>) -> Poll<Result<Value<T>, RecvError>> {
+        let reply = channel.call(CoreChannel::broadcast_recv);
+        reply.received().map_ok(|number| self.take(channel, number))
+    }
+
     /// Returns the value that this receiver has received, not yet cloned.
     fn take(&self, channel: &mut LockedChannel<'_>, number: u64) -> Value<T> {
         channel.guarded(&self.handle.channel.values).take(number)
@@ -234,11 +240,24 @@ impl<T: Clone> Receiver<T> {
     /// });
     /// ```
     pub async fn recv(&mut self) -> Result<T, RecvError> {
-        let received = self.handle.wait(WaitFor::Value, |channel| {
-            let reply = channel.call(CoreChannel::broadcast_recv);
-            reply.received().map_ok(|number| self.take(channel, number))
-        });
+        let received = self
+            .handle
+            .wait(WaitFor::Value, |channel| self.attempt_recv(channel));
         received.await.map(Value::cloned)
+    }
+
+    /// [`recv`](Receiver::recv) without a future. Between polls the caller holds its place in the queue.
+    pub(crate) fn poll_recv(
+        &mut self,
+        context: &Context<'_>,
+        place: &mut Option<u64>,
+    ) -> Poll<Result<T, RecvError>> {
+        let received = self
+            .handle
+            .poll_wait(WaitFor::Value, place, context, |channel| {
+                self.attempt_recv(channel)
+            });
+        received.map_ok(Value::cloned)
     }
 
     /// Receives the next value if there is one, without waiting.

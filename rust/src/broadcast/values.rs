@@ -1,14 +1,14 @@
 //! The values of a broadcast. The core knows only their numbers.
 
-use crate::lock::lock;
-use std::sync::{Arc, Mutex};
+use crate::reentrant::Reentrant;
+use std::sync::Arc;
 
 /// A value that receivers have yet to receive.
 pub(super) enum Value<T> {
     /// Sent to one receiver.
     Own(T),
-    /// Sent to several receivers. They clone it one at a time, under a lock of this value alone, since a `T` need not be `Sync`.
-    Shared(Arc<Mutex<T>>),
+    /// Sent to several receivers. Threads clone it in turn, since a `T` need not be `Sync`.
+    Shared(Arc<Reentrant<T>>),
 }
 
 impl<T: Clone> Value<T> {
@@ -22,8 +22,8 @@ impl<T: Clone> Value<T> {
     }
 }
 
-fn clone_of_shared<T: Clone>(value: Arc<Mutex<T>>) -> T {
-    lock(&value).clone()
+fn clone_of_shared<T: Clone>(value: Arc<Reentrant<T>>) -> T {
+    value.with(T::clone)
 }
 
 /// The values that a receiver may still receive.
@@ -71,7 +71,7 @@ impl<T> Values<T> {
     pub(super) fn push(&mut self, number: u64, value: T, receivers: u64) -> Option<Value<T>> {
         let value = match receivers {
             1 => Value::Own(value),
-            _ => Value::Shared(Arc::new(Mutex::new(value))),
+            _ => Value::Shared(Arc::new(Reentrant::new(value))),
         };
         if self.slots.len() < self.capacity {
             self.slots.push(Slot {

@@ -1,6 +1,7 @@
 //! The heap of the core: three functions over `std::alloc`.
 
 use std::alloc::{Layout, alloc, dealloc, realloc};
+use std::arch::global_asm;
 use std::ptr;
 
 /// The result of an allocation: whether there is memory, and its address.
@@ -83,11 +84,45 @@ unsafe fn block_of(p: *mut u8) -> (*mut u8, usize) {
     }
 }
 
-// Rattle gives these functions their names. If a program links another Rattle library, either definition serves both.
+#[cfg(target_arch = "x86_64")]
+macro_rules! jump {
+    () => {
+        "jmp {}"
+    };
+}
+
+#[cfg(target_arch = "aarch64")]
+macro_rules! jump {
+    () => {
+        "b {}"
+    };
+}
+
+/// Gives functions the symbols by which the core calls them, which Rattle names.
+///
+/// `no_mangle` would do so too, but each library for C that is built over this crate would export these symbols. Here they are hidden. They
+/// are weak, too: if a program links another Rattle library, its definitions serve both.
+macro_rules! symbols {
+    ($($function:ident)*) => {$(
+        global_asm!(
+            concat!(".pushsection .text.", stringify!($function), ",\"ax\",%progbits"),
+            concat!(".weak ", stringify!($function)),
+            concat!(".hidden ", stringify!($function)),
+            concat!(".type ", stringify!($function), ",%function"),
+            concat!(stringify!($function), ":"),
+            jump!(),
+            concat!(".size ", stringify!($function), ",.-", stringify!($function)),
+            ".popsection",
+            sym $function,
+        );
+    )*};
+}
+
+symbols!(rattle_alloc rattle_realloc rattle_dealloc);
+
 /// # Safety
 ///
 /// Any size and alignment that the core requests is allowed.
-#[unsafe(no_mangle)]
 pub(super) unsafe extern "C" fn rattle_alloc(size: usize, _align: usize) -> Tried {
     allocate(size)
 }
@@ -95,7 +130,6 @@ pub(super) unsafe extern "C" fn rattle_alloc(size: usize, _align: usize) -> Trie
 /// # Safety
 ///
 /// `p` is the pointer of a block that these functions allocated, and isn't used again if there is memory.
-#[unsafe(no_mangle)]
 pub(super) unsafe extern "C" fn rattle_realloc(
     p: *mut u8,
     old: usize,
@@ -152,7 +186,6 @@ unsafe fn resized(p: *mut u8, new: usize) -> Tried {
 /// # Safety
 ///
 /// `p` is the pointer of a block that these functions allocated, and isn't used again.
-#[unsafe(no_mangle)]
 pub(super) unsafe extern "C" fn rattle_dealloc(p: *mut u8) {
     // SAFETY: the block's header has the size that it was allocated with.
     unsafe {

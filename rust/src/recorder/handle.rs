@@ -1,5 +1,6 @@
 //! What a recorder takes to know a channel by: a sender or a receiver.
 
+use super::TextOf;
 use crate::channel::RecordedChannel;
 
 /// A sender or a receiver, of either kind of channel.
@@ -42,9 +43,7 @@ pub trait Handle {
     #[doc(hidden)]
     fn recorded(&self) -> &RecordedChannel;
 
+    // Nor has `TextOf`.
     #[doc(hidden)]
     fn set_text_of(&self, text_of: TextOf<Self::Value>);
 }
-
-/// The function that returns the text of a value.
-pub(crate) type TextOf<T> = Box<dyn Fn(&T) -> String + Send + Sync>;

@@ -1,12 +1,13 @@
 //! What the channels of a recorder share.
 
+use super::texts::Texts;
 use crate::actors::{self, Actors};
 use crate::atomic::AtomicU64;
 use crate::channel::ChannelState;
 use crate::core::Actor;
 use crate::lock::lock;
 use std::sync::atomic::{AtomicBool, Ordering};
-use std::sync::{Arc, Mutex};
+use std::sync::{Arc, Mutex, Weak};
 
 /// How many channels a run has at most.
 const MOST_CHANNELS: usize = 64;
@@ -35,6 +36,8 @@ pub(crate) struct Shared {
     told_of: Told,
     pub(super) channels: Mutex<Vec<Arc<Mutex<ChannelState>>>>,
     pub(super) actors: Mutex<Actors>,
+    // Held by the handles of the recorder alone. A channel, which holds this, may be held by a function there.
+    texts: Mutex<Weak<Texts>>,
 }
 
 /// Which lines were written to standard error. Each is written once.
@@ -66,7 +69,18 @@ impl Shared {
             told_of: Told::default(),
             channels: Mutex::default(),
             actors: Mutex::default(),
+            texts: Mutex::default(),
         }
+    }
+
+    /// Returns the functions that the recorder's handles hold.
+    pub(super) fn texts(&self) -> Arc<Texts> {
+        let mut held = lock(&self.texts);
+        held.upgrade().unwrap_or_else(|| {
+            let texts = Arc::default();
+            *held = Arc::downgrade(&texts);
+            texts
+        })
     }
 
     /// Returns the greatest stamp that a recorded call can have so far.

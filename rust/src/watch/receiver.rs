@@ -6,6 +6,7 @@ use crate::channel::{CoreChannel, RecordedChannel};
 use crate::handle::Kind;
 use crate::recorder::{Handle, TextOf};
 use std::fmt;
+use std::task::{Context, Poll};
 
 /// The receiving half of a watch channel.
 ///
@@ -181,15 +182,22 @@ impl<T> Receiver<T> {
         self.handle.changed().await
     }
 
+    pub(crate) fn poll_changed(
+        &mut self,
+        context: &Context<'_>,
+        place: &mut Option<u64>,
+    ) -> Poll<Result<(), RecvError>> {
+        self.handle.poll_changed(context, place)
+    }
+
     /// Waits until the closure returns `true` for the value, and returns a reference to that value.
     ///
     /// The closure is called with the value at the call, and after that whenever there is a value that this receiver has not seen. As in
     /// tokio, it is called with the value at the call also if that has been seen, and values that are replaced quickly may be skipped. Each
     /// value with which it was called is marked as seen. The reference holds a read lock: senders block until it is dropped.
     ///
-    /// The closure runs while the value is locked. It must neither look at the value of this channel nor send on it, since that may be a
-    /// deadlock. Each call of the closure is recorded, as a [`borrow_and_update`](Receiver::borrow_and_update), and so is each wait for a
-    /// value, as a [`changed`](Receiver::changed).
+    /// Each call of the closure is recorded, as a [`borrow_and_update`](Receiver::borrow_and_update), and so is each wait for a value, as a
+    /// [`changed`](Receiver::changed).
     ///
     /// # Cancel safety
     ///
@@ -203,6 +211,9 @@ impl<T> Receiver<T> {
     /// # Panics
     ///
     /// Panics if the closure panics. As in tokio, the channel can still be used.
+    ///
+    /// The closure runs while the value is locked. Panics if the closure waits for that lock, by a send on this channel or, while a sender
+    /// waits, by a look at its value. Unlike tokio, where this is a deadlock.
     ///
     /// # Examples
     ///
@@ -223,7 +234,7 @@ impl<T> Receiver<T> {
         loop {
             {
                 let value = self.handle.borrow_and_update();
-                if f(&value) {
+                if self.handle.channel.values.run_reading(|| f(&value)) {
                     return Ok(value);
                 }
             }

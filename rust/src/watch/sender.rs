@@ -195,10 +195,10 @@ impl<T> Sender<T> {
     {
         let lock = &self.handle.channel.values;
         let mut value = lock.write();
-        let result = lock.run_locked(|| modify(&mut value));
+        let result = lock.run_changing(|| modify(&mut value));
         let notify = matches!(result, Ok(true));
         // The value has changed, so the core and the receivers are notified even if the function for its text panics.
-        let (text, text_panic) = match lock.run_locked(|| self.handle.channel.text(&value)) {
+        let (text, text_panic) = match lock.run_changing(|| self.handle.channel.text(&value)) {
             Ok(text) => (text, None),
             Err(panicked) => (None, Some(panicked)),
         };

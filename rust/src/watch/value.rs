@@ -1,25 +1,31 @@
 //! The value of a watch, and the lock that guards it.
 
+use crate::lock::lock;
+use crate::reentrant::thread_number;
 use std::fmt;
 use std::panic::{self, AssertUnwindSafe};
 use std::sync::atomic::{AtomicUsize, Ordering};
 use std::sync::{
-    LockResult, PoisonError, RwLock, RwLockReadGuard, RwLockWriteGuard, TryLockError, TryLockResult,
+    LockResult, Mutex, PoisonError, RwLock, RwLockReadGuard, RwLockWriteGuard, TryLockError,
+    TryLockResult,
 };
 use std::thread;
 
 /// The value of a watch with its lock, which is acquired before that of the channel. As in tokio, a `Ref` of the value blocks senders.
 pub(super) struct ValueLock<T> {
     value: RwLock<T>,
-    // The thread that has locked the value and runs user code, or 0. If that code locked the value too, it would wait forever.
-    user_thread: AtomicUsize,
+    // The threads that have locked the value and run user code: the one that may change it, or 0, and those that look at it. If that code
+    // waited for the lock, it would wait forever.
+    changed_by: AtomicUsize,
+    read_by: Mutex<Vec<usize>>,
 }
 
 impl<T> ValueLock<T> {
     pub(super) fn new(value: T) -> ValueLock<T> {
         ValueLock {
             value: RwLock::new(value),
-            user_thread: AtomicUsize::new(0),
+            changed_by: AtomicUsize::new(0),
+            read_by: Mutex::default(),
         }
     }
 
@@ -39,20 +45,53 @@ impl<T> ValueLock<T> {
 
     /// Waits until the value can be locked. Panics if that would never be.
     #[cold]
-    fn lock_by<'a, G>(&'a self, lock: impl FnOnce(&'a RwLock<T>) -> LockResult<G>) -> G {
+    fn lock_by<'a, G>(&'a self, by: impl FnOnce(&'a RwLock<T>) -> LockResult<G>) -> G {
         assert!(
-            self.user_thread.load(Ordering::Relaxed) != thread_number(),
-            "yovanelum: a closure that changes a watch, or a text of what it has changed, uses that watch"
+            !self.is_used_by(thread_number()),
+            "yovanelum: a closure that is given the value of a watch, or the function for its text, uses that watch"
         );
-        lock(&self.value).unwrap_or_else(PoisonError::into_inner)
+        by(&self.value).unwrap_or_else(PoisonError::into_inner)
     }
 
-    /// Runs user code while this thread has locked the value. If the code panics, its panic is returned.
-    pub(super) fn run_locked<R>(&self, run: impl FnOnce() -> R) -> thread::Result<R> {
-        self.user_thread.store(thread_number(), Ordering::Relaxed);
+    fn is_used_by(&self, thread: usize) -> bool {
+        self.changed_by.load(Ordering::Relaxed) == thread || lock(&self.read_by).contains(&thread)
+    }
+
+    /// Runs user code while this thread has locked the value to change it. If the code panics, its panic is returned.
+    pub(super) fn run_changing<R>(&self, run: impl FnOnce() -> R) -> thread::Result<R> {
+        self.changed_by.store(thread_number(), Ordering::Relaxed);
         let result = panic::catch_unwind(AssertUnwindSafe(run));
-        self.user_thread.store(0, Ordering::Relaxed);
+        self.changed_by.store(0, Ordering::Relaxed);
         result
+    }
+
+    /// Runs user code while this thread has locked the value to read it.
+    pub(super) fn run_reading<R>(&self, run: impl FnOnce() -> R) -> R {
+        let _reader = Reader::new(&self.read_by);
+        run()
+    }
+}
+
+/// A thread that reads a value, until this is dropped.
+struct Reader<'a> {
+    all: &'a Mutex<Vec<usize>>,
+    thread: usize,
+}
+
+impl<'a> Reader<'a> {
+    fn new(all: &'a Mutex<Vec<usize>>) -> Reader<'a> {
+        let thread = thread_number();
+        lock(all).push(thread);
+        Reader { all, thread }
+    }
+}
+
+impl Drop for Reader<'_> {
+    fn drop(&mut self) {
+        let mut all = lock(self.all);
+        if let Some(index) = all.iter().position(|thread| *thread == self.thread) {
+            all.swap_remove(index);
+        }
     }
 }
 
@@ -75,12 +114,4 @@ fn if_free<G>(tried: TryLockResult<G>) -> Option<G> {
         Err(TryLockError::Poisoned(guard)) => Some(guard.into_inner()),
         Err(TryLockError::WouldBlock) => None,
     }
-}
-
-/// Returns a number that no other live thread has, and that isn't 0.
-fn thread_number() -> usize {
-    thread_local! {
-        static MARKER: u8 = const { 0 };
-    }
-    MARKER.with(|marker| std::ptr::from_ref(marker).addr())
 }

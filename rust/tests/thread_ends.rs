@@ -1,0 +1,74 @@
+//! What lives in thread locals, and is used and dropped when its thread ends. A panic there aborts the process, so each test runs this
+//! program again for its part.
+
+mod support;
+
+use std::cell::RefCell;
+use std::{fs, thread};
+use support::parts::{self, Folder, is_part};
+use yovanelum::{ForTest, Recorder, broadcast};
+
+thread_local! {
+    static FOR_TEST: RefCell<Option<ForTest>> = const { RefCell::new(None) };
+    static LAST: RefCell<Option<Last>> = const { RefCell::new(None) };
+}
+
+/// A value that enters a recorder and uses a channel when it is dropped.
+struct Last(Recorder);
+
+impl Drop for Last {
+    fn drop(&mut self) {
+        let entered = self.0.enter();
+        let (tx, mut rx) = broadcast::channel(2);
+        tx.send(5).unwrap();
+        assert_eq!(rx.try_recv(), Ok(5));
+        drop((tx, rx));
+        drop(entered);
+    }
+}
+
+/// Runs in a thread. What is stored in thread locals there is destroyed in the reverse order of its first use, and these locals are used
+/// before any of the crate's own.
+fn in_a_thread(act: impl FnOnce() + Send + 'static) {
+    let act = || {
+        FOR_TEST.with_borrow(|_| {});
+        LAST.with_borrow(|_| {});
+        act();
+    };
+    thread::spawn(act).join().unwrap();
+}
+
+#[test]
+fn a_recorder_for_a_test_in_a_thread_local_is_dropped_with_its_thread() {
+    if is_part() {
+        return in_a_thread(|| {
+            let recorder = Recorder::for_test("in_a_thread_local");
+            let (tx, _rx) = broadcast::channel(2);
+            tx.send(1).unwrap();
+            FOR_TEST.set(Some(recorder));
+        });
+    }
+    let folder = Folder::new("thread-local");
+    let test = "a_recorder_for_a_test_in_a_thread_local_is_dropped_with_its_thread";
+    let (succeeds, said) = parts::play(test, &folder.0, Some("1"));
+    assert!(succeeds, "{said}");
+    let journal = folder.0.join("built/yovanelum/in_a_thread_local.journal");
+    let journal = fs::read_to_string(journal).unwrap();
+    assert!(journal.contains(" send 0 0 = sent 1\n"), "{journal}");
+}
+
+#[test]
+fn a_recorder_may_be_entered_where_a_thread_local_is_dropped() {
+    if is_part() {
+        return in_a_thread(|| {
+            let recorder = Recorder::new();
+            // Its guard is used before the end, so that the crate's own locals are destroyed first.
+            drop(recorder.enter());
+            LAST.set(Some(Last(recorder)));
+        });
+    }
+    let folder = Folder::new("thread-end");
+    let test = "a_recorder_may_be_entered_where_a_thread_local_is_dropped";
+    let (succeeds, said) = parts::play(test, &folder.0, None);
+    assert!(succeeds, "{said}");
+}
