@@ -146,40 +146,46 @@ impl Wake for Counts {
     }
 }
 
-#[test]
-fn seventy_thousand_receivers_that_are_alive_get_each_value() {
+/// Creates a broadcast of two values with 70,000 receivers, of which the last ones have numbers that no journal names.
+fn seventy_thousand() -> (broadcast::Sender<u32>, Vec<broadcast::Receiver<u32>>) {
     let (tx, rx) = broadcast::channel(2);
     let mut receivers = vec![rx];
     receivers.extend((1..70_000).map(|_| tx.subscribe()));
     assert_eq!(tx.receiver_count(), 70_000);
+    (tx, receivers)
+}
+
+#[test]
+fn of_70_000_receivers_those_that_wait_are_woken() {
+    let (tx, mut receivers) = seventy_thousand();
     let woken = Arc::new(Counts::default());
     let waker = Waker::from(woken.clone());
-    // One receiver of the first machine, and the last one.
     let [first, .., last] = &mut receivers[..] else {
         panic!("there are 70,000");
     };
-    {
-        let (mut first, mut last) = (pin!(first.recv()), pin!(last.recv()));
-        let mut context = Context::from_waker(&waker);
-        assert!(first.as_mut().poll(&mut context).is_pending());
-        assert!(last.as_mut().poll(&mut context).is_pending());
-        assert_eq!(tx.send(1).unwrap(), 70_000);
-        assert_eq!(woken.0.load(Ordering::Relaxed), 2);
-        assert_eq!(poll_once(first), Some(Ok(1)));
-        assert_eq!(poll_once(last), Some(Ok(1)));
-    }
-    // A sender that a further machine has made sends to all as well.
+    let (mut first, mut last) = (pin!(first.recv()), pin!(last.recv()));
+    let mut context = Context::from_waker(&waker);
+    assert!(first.as_mut().poll(&mut context).is_pending());
+    assert!(last.as_mut().poll(&mut context).is_pending());
+    assert_eq!(tx.send(1).unwrap(), 70_000);
+    assert_eq!(woken.0.load(Ordering::Relaxed), 2);
+    assert_eq!(poll_once(first), Some(Ok(1)));
+    assert_eq!(poll_once(last), Some(Ok(1)));
+}
+
+#[test]
+fn seventy_thousand_receivers_get_each_value() {
+    let (tx, mut receivers) = seventy_thousand();
+    assert_eq!(tx.send(1).unwrap(), 70_000);
+    // A sender that no journal names sends to all as well.
     let other = tx.clone();
     assert_eq!(other.send(2).unwrap(), 70_000);
     drop(tx);
     assert_eq!(other.send(3).unwrap(), 70_000);
     assert_eq!(other.len(), 2);
     drop(other);
-    let ends = receivers.len() - 1;
-    for (number, rx) in receivers.iter_mut().enumerate() {
-        if (1..ends).contains(&number) {
-            assert_eq!(rx.try_recv(), Err(TryRecvError::Lagged(1)));
-        }
+    for rx in &mut receivers {
+        assert_eq!(rx.try_recv(), Err(TryRecvError::Lagged(1)));
         assert_eq!(rx.try_recv(), Ok(2));
         assert_eq!(rx.try_recv(), Ok(3));
         assert_eq!(rx.try_recv(), Err(TryRecvError::Closed));

@@ -218,6 +218,11 @@ impl CoreChannel {
             self.further.push(None);
             self.further.len() - 1
         });
+        // So many machines, each with a live handle, would take 64 GiB.
+        assert!(
+            index < 65_535,
+            "yovanelum: a channel has machines for 4294967296 handles"
+        );
         self.further[index] = Some(machine);
         index + 1
     }

@@ -103,117 +103,139 @@ impl Pair {
         }
     }
 
-    /// Makes a random call of a broadcast on both.
+    /// Makes a random call of a broadcast on both. A handle is created only while fewer than these are alive.
     fn step_broadcast(&mut self, most_alive: usize) {
         let kind = [Kind::Sender, Kind::Receiver, Kind::WeakSender][self.random.below(3)];
         let Some((index, handle)) = self.pick(kind) else {
             return;
         };
         let may_create = self.handles.len() < most_alive;
-        match (kind, self.random.below(9)) {
-            (_, 0) if self.handles.len() > 2 => {
+        match self.random.below(9) {
+            0 if self.handles.len() > 2 => {
                 self.handles.swap_remove(index);
                 on_both!(self, broadcast_drop, handle);
             }
-            (Kind::Sender, 1) if may_create => {
-                create_on_both!(self, broadcast_subscribe, handle, Kind::Receiver);
+            call if kind == Kind::Sender => self.step_broadcast_sender(call, handle, may_create),
+            call if kind == Kind::Receiver => {
+                self.step_broadcast_receiver(call, handle, may_create)
             }
-            (Kind::Sender, 2) if may_create => {
-                create_on_both!(self, broadcast_clone_sender, handle, Kind::Sender);
-            }
-            (Kind::Sender, 3) if may_create => {
-                create_on_both!(self, broadcast_downgrade, handle, Kind::WeakSender);
-            }
-            (Kind::Sender, 4) => {
-                on_both!(self, broadcast_sender_len, handle);
-                on_both!(self, broadcast_receiver_count, handle);
-            }
-            (Kind::Sender, _) => {
-                self.values += 1;
-                on_both!(self, broadcast_send, handle, self.values);
-            }
-            (Kind::Receiver, 1..=2) if may_create => {
-                create_on_both!(self, broadcast_resubscribe, handle, Kind::Receiver);
-            }
-            (Kind::Receiver, 3) => {
-                on_both!(self, broadcast_receiver_len, handle);
-            }
-            (Kind::Receiver, 4..=5) => {
-                on_both!(self, broadcast_recv, handle);
-            }
-            (Kind::Receiver, _) => {
-                on_both!(self, broadcast_try_recv, handle);
-            }
-            (Kind::WeakSender, 1..=3) if may_create => {
+            1..=3 if may_create => {
                 create_on_both!(self, broadcast_upgrade, handle, Kind::Sender);
             }
-            (Kind::WeakSender, 4..=5) if may_create => {
+            4..=5 if may_create => {
                 create_on_both!(self, broadcast_clone_weak, handle, Kind::WeakSender);
             }
-            (Kind::WeakSender, _) => {}
+            _ => {}
         }
     }
 
-    /// Makes a random call of a watch on both.
+    fn step_broadcast_sender(&mut self, call: usize, sender: Handle, may_create: bool) {
+        match call {
+            1 if may_create => {
+                create_on_both!(self, broadcast_subscribe, sender, Kind::Receiver);
+            }
+            2 if may_create => {
+                create_on_both!(self, broadcast_clone_sender, sender, Kind::Sender);
+            }
+            3 if may_create => {
+                create_on_both!(self, broadcast_downgrade, sender, Kind::WeakSender);
+            }
+            4 => {
+                on_both!(self, broadcast_sender_len, sender);
+                on_both!(self, broadcast_receiver_count, sender);
+            }
+            _ => {
+                self.values += 1;
+                on_both!(self, broadcast_send, sender, self.values);
+            }
+        }
+    }
+
+    fn step_broadcast_receiver(&mut self, call: usize, receiver: Handle, may_create: bool) {
+        match call {
+            1..=2 if may_create => {
+                create_on_both!(self, broadcast_resubscribe, receiver, Kind::Receiver);
+            }
+            3 => {
+                on_both!(self, broadcast_receiver_len, receiver);
+            }
+            4..=5 => {
+                on_both!(self, broadcast_recv, receiver);
+            }
+            _ => {
+                on_both!(self, broadcast_try_recv, receiver);
+            }
+        }
+    }
+
+    /// Makes a random call of a watch on both. A handle is created only while fewer than these are alive.
     fn step_watch(&mut self, most_alive: usize) {
         let kind = [Kind::Sender, Kind::Receiver][self.random.below(2)];
         let Some((index, handle)) = self.pick(kind) else {
             return;
         };
         let may_create = self.handles.len() < most_alive;
-        self.values += 1;
-        match (kind, self.random.below(11)) {
-            (_, 0) if self.handles.len() > 2 => {
+        match self.random.below(11) {
+            0 if self.handles.len() > 2 => {
                 self.handles.swap_remove(index);
                 on_both!(self, watch_drop, handle);
             }
-            (Kind::Sender, 1..=2) if may_create => {
-                create_on_both!(self, watch_subscribe, handle, Kind::Receiver);
+            call if kind == Kind::Sender => self.step_watch_sender(call, handle, may_create),
+            call => self.step_watch_receiver(call, handle, may_create),
+        }
+    }
+
+    fn step_watch_sender(&mut self, call: usize, sender: Handle, may_create: bool) {
+        self.values += 1;
+        match call {
+            1..=2 if may_create => {
+                create_on_both!(self, watch_subscribe, sender, Kind::Receiver);
             }
-            (Kind::Sender, 3) if may_create => {
-                create_on_both!(self, watch_clone_sender, handle, Kind::Sender);
+            3 if may_create => {
+                create_on_both!(self, watch_clone_sender, sender, Kind::Sender);
             }
-            (Kind::Sender, 4..=5) => {
-                on_both!(self, watch_receiver_count, handle);
-                on_both!(self, watch_is_closed, handle);
-                on_both!(self, watch_closed, handle);
+            4..=5 => {
+                on_both!(self, watch_receiver_count, sender);
+                on_both!(self, watch_is_closed, sender);
+                on_both!(self, watch_closed, sender);
             }
-            (Kind::Sender, 6) => {
-                on_both!(self, watch_send_replace, handle, self.values);
+            6 => {
+                on_both!(self, watch_send_replace, sender, self.values);
             }
-            (Kind::Sender, 7) => {
-                let told = self.random.below(2) == 0;
-                let many = self
-                    .many
-                    .watch_modify(CALLER, told, handle.in_many, self.values);
-                let one = self
-                    .one
-                    .watch_modify(CALLER, told, handle.in_one, self.values);
+            7 => {
+                let (told, value) = (self.random.below(2) == 0, self.values);
+                let many = self.many.watch_modify(CALLER, told, sender.in_many, value);
+                let one = self.one.watch_modify(CALLER, told, sender.in_one, value);
                 self.assert_same(many, one);
             }
-            (Kind::Sender, _) => {
-                on_both!(self, watch_send, handle, self.values);
+            _ => {
+                on_both!(self, watch_send, sender, self.values);
             }
-            (Kind::Receiver, 1..=3) if may_create => {
-                create_on_both!(self, watch_clone_receiver, handle, Kind::Receiver);
+        }
+    }
+
+    fn step_watch_receiver(&mut self, call: usize, receiver: Handle, may_create: bool) {
+        match call {
+            1..=3 if may_create => {
+                create_on_both!(self, watch_clone_receiver, receiver, Kind::Receiver);
             }
-            (Kind::Receiver, 4) => {
-                on_both!(self, watch_mark_changed, handle);
+            4 => {
+                on_both!(self, watch_mark_changed, receiver);
             }
-            (Kind::Receiver, 5) => {
-                on_both!(self, watch_mark_unchanged, handle);
+            5 => {
+                on_both!(self, watch_mark_unchanged, receiver);
             }
-            (Kind::Receiver, 6..=7) => {
-                on_both!(self, watch_changed, handle);
+            6..=7 => {
+                on_both!(self, watch_changed, receiver);
             }
-            (Kind::Receiver, 8) => {
-                on_both!(self, watch_update, handle);
+            8 => {
+                on_both!(self, watch_update, receiver);
             }
-            (Kind::Receiver, 9) => {
-                on_both!(self, watch_borrow, handle);
+            9 => {
+                on_both!(self, watch_borrow, receiver);
             }
             _ => {
-                on_both!(self, watch_has_changed, handle);
+                on_both!(self, watch_has_changed, receiver);
             }
         }
     }
