@@ -61,10 +61,16 @@ impl WakerQueue {
         let removed = self.entries[index].1.take();
         self.gaps += 1;
         if self.gaps > self.entries.len() / 2 {
-            self.entries.retain(|(_, waker)| waker.is_some());
-            self.gaps = 0;
+            self.remove_gaps();
         }
         removed
+    }
+
+    fn remove_gaps(&mut self) {
+        self.entries.retain(|(_, waker)| waker.is_some());
+        self.gaps = 0;
+        // Where few are left of many, their memory goes too. A queue that is now and then empty keeps a little.
+        self.entries.shrink_to(4 * self.entries.len().max(4));
     }
 
     /// Removes all futures, and returns their wakers.
@@ -132,6 +138,9 @@ mod tests {
         }
         assert!(queue.entries.len() <= 6, "{}", queue.entries.len());
         assert!(queue.wakes(stays, &waker) && queue.wakes(last, &waker));
+        let mut many: Vec<_> = (0..10_000).map(|_| add(&mut queue, &waker)).collect();
+        assert!(many.iter_mut().all(|place| queue.remove(place).is_some()));
+        assert!(queue.entries.capacity() <= 16, "of two that wait");
         let Wakers(entries) = queue.take();
         let waiting = entries.into_iter().filter(|(_, waker)| waker.is_some());
         assert!(waiting.map(|(place, _)| Some(place)).eq([stays, last]));
