@@ -274,10 +274,13 @@ impl Pair {
     }
 }
 
-/// Makes 400 random calls on both, for many seeds. Returns how many further machines were opened at most.
+/// How many runs of random calls are compared. Miri takes a second for each.
+const SEEDS: u64 = if cfg!(miri) { 10 } else { 200 };
+
+/// Makes 400 random calls on both, for each seed. Returns how many further machines were opened at most.
 fn play(opening_of: impl Fn(&mut Random) -> Opening, step: fn(&mut Pair, usize)) -> usize {
     let mut most_opened = 0;
-    for seed in 0..200 {
+    for seed in 0..SEEDS {
         let mut random = Random(seed * 2 + 1);
         let opening = opening_of(&mut random);
         let mut pair = Pair::open(opening, 4 + random.below(5) as u32, seed);
