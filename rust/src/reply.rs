@@ -40,8 +40,12 @@ impl Reply {
     pub(crate) fn expect_made(self) -> Reply {
         match self {
             Reply::JournalFull | Reply::NoMemory => panic!("yovanelum: no memory for a call"),
-            // No handle of this crate makes such a call.
-            Reply::Unknown | Reply::Gone | Reply::WrongKind | Reply::NoChannel => self.unexpected(),
+            // A channel asks a further machine in place of a full one, and no handle of this crate makes one of the other calls.
+            Reply::TooManyHandles
+            | Reply::Unknown
+            | Reply::Gone
+            | Reply::WrongKind
+            | Reply::NoChannel => self.unexpected(),
             reply => reply,
         }
     }
