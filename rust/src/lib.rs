@@ -1,8 +1,8 @@
 //! tokio's [`broadcast`] and [`watch`] for tests: when a test fails, walk back to the call that made a receiver lag.
 //!
-//! The channels have the names, signatures and results of `tokio::sync`. Each call is recorded: on which channel, who made it, and what it
-//! returned. If a test fails, the journal of its calls is written to a file. The command `ttd` and a page in the browser walk that journal,
-//! forwards and backwards.
+//! The channels have the names, signatures and results of `tokio::sync`. A recorder records each call: on which channel, who made it, and
+//! what it returned. If a test fails, the journal of its calls is written to a file. The command `ttd` and a page in the browser walk that
+//! journal, forwards and backwards.
 //!
 //! # Getting started
 //!
