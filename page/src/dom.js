@@ -4,6 +4,12 @@ export function byId(id) {
   return document.getElementById(id);
 }
 
+// The same for a field.
+/** @returns {HTMLInputElement} */
+export function fieldOf(id) {
+  return /** @type {HTMLInputElement} */ (document.getElementById(id));
+}
+
 // Creates an element with these attributes, and with these elements and texts in it.
 export function element(tag, attributes = {}, ...children) {
   const made = document.createElement(tag);

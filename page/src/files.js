@@ -7,6 +7,7 @@ async function bytesOf(file) {
 }
 
 // Reads the run among these files, and the file of names, if there is one.
+/** @returns {Promise<Source>} */
 export async function readFiles(files) {
   const isNames = file => file.name.endsWith(NAMES_END);
   const run = files.find(file => !isNames(file));

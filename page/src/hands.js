@@ -1,6 +1,6 @@
 // Buttons, mouse and touch.
 
-import { byId } from "./dom.js";
+import { byId, fieldOf } from "./dom.js";
 
 // The share of the view that one turn of the wheel scrolls.
 const WHEEL_SHARE = 0.1;
@@ -8,6 +8,16 @@ const WHEEL_SHARE = 0.1;
 // `page.walk` is the walk over the opened run, if there is one.
 function press(page, id, move) {
   byId(id).addEventListener("click", () => page.walk && move(page.walk));
+}
+
+// Calls `choose` with the data of the element that is clicked in a list, if it has such data.
+function chosenIn(id, name, choose) {
+  byId(id).addEventListener("click", event => {
+    const target = /** @type {HTMLElement} */ (event.target);
+    /** @type {HTMLElement} */
+    const found = target.closest(`[data-${name}]`);
+    if (found) choose(found.dataset[name]);
+  });
 }
 
 function listenToButtons(page) {
@@ -20,20 +30,17 @@ function listenToButtons(page) {
   press(page, "farther", walk => walk.zoom(2));
   press(page, "nearer", walk => walk.zoom(0.5));
   press(page, "whole", walk => walk.whole());
-  byId("slider").addEventListener("input", event => page.walk?.to(Number(event.target.value)));
-  byId("calls").addEventListener("click", event => {
-    const line = event.target.closest("[data-place]");
-    if (line) page.walk?.to(Number(line.dataset.place));
-  });
+  byId("slider").addEventListener("input", () => page.walk?.to(fieldOf("slider").valueAsNumber));
+  chosenIn("calls", "place", place => page.walk?.to(Number(place)));
   byId("told").addEventListener("toggle", () => page.walk?.telling.ask());
 }
 
 function listenToStops(page) {
-  const field = byId("condition");
+  const field = fieldOf("condition");
   const seek = word => field.value.trim() && page.walk?.seek(word, field.value.trim());
   byId("stops").addEventListener("submit", event => {
     event.preventDefault();
-    seek(event.submitter.value);
+    seek(/** @type {HTMLButtonElement} */ (event.submitter).value);
   });
   field.addEventListener("keydown", event => {
     if (event.key === "Escape") field.blur();
@@ -41,9 +48,7 @@ function listenToStops(page) {
     event.preventDefault();
     seek(event.shiftKey ? "rback" : "rforward");
   });
-  byId("chips").addEventListener("click", event => {
-    const { condition } = event.target.dataset;
-    if (!condition) return;
+  chosenIn("chips", "condition", condition => {
     field.value = condition;
     seek("rforward");
   });

@@ -18,14 +18,14 @@ const LABEL_WIDTH = 34;
 const LEAST_GAP = 4;
 
 const NEAR_ORDER = ["sender", "weak sender", "receiver"];
-const FAR_ORDER = NEAR_ORDER.toReversed();
+const FAR_ORDER = [...NEAR_ORDER].reverse();
 
 function livesInView(lives, view) {
   return lives.filter(life => life.from <= view.to && life.to >= view.from);
 }
 
 function ownRows(lives) {
-  return lives.toSorted((a, b) => a.handle - b.handle).map(life => ({ kind: life.kind, lives: [life] }));
+  return [...lives].sort((a, b) => a.handle - b.handle).map(life => ({ kind: life.kind, lives: [life] }));
 }
 
 // Puts each life of a kind into the first row that is free again, with a gap between them. There are `MOST_ROWS` at most.

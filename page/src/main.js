@@ -2,7 +2,7 @@
 
 import { placeIn } from "./address.js";
 import { Client } from "./client.js";
-import { byId } from "./dom.js";
+import { byId, fieldOf } from "./dom.js";
 import { embeddedRun, exampleRun, moduleBytes, workerText } from "./embedded.js";
 import { faultPanel } from "./faults.js";
 import { readFiles } from "./files.js";
@@ -139,8 +139,8 @@ async function openFiles(openSource, files) {
 
 // Empties the field, since it reports a chosen file only if it differs from the last, and the same file may have changed.
 function takeChosen(openSource) {
-  const files = [...byId("file").files];
-  byId("file").value = "";
+  const files = [...fieldOf("file").files];
+  fieldOf("file").value = "";
   openFiles(openSource, files);
 }
 

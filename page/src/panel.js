@@ -30,6 +30,10 @@ function retained(channel, index, names) {
   return element("ol", { class: "values", "aria-label": "retained values, the oldest first" }, ...boxes);
 }
 
+/**
+ * @param {ChannelState} channel
+ * @param {ReceiverState} receiver
+ */
 function standing(channel, receiver) {
   if (channel.kind === "watch") {
     return receiver.seen ? ["has seen it"] : [element("strong", { class: "unseen" }, "has not seen it")];

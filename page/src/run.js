@@ -20,6 +20,7 @@ export class Run {
     this.listing = opened.listing;
     this.columns = opened.columns;
     this.lives = opened.lives;
+    /** @type {ChannelState[]} */
     this.channels = opened.opening.channels;
     this.waiting = null;
     this.names = names;
@@ -29,6 +30,7 @@ export class Run {
     this.stateLength = longestState(this.channels);
   }
 
+  /** @returns {Entry} */
   entry(number) {
     return readEntry(this.line(number));
   }
@@ -39,6 +41,7 @@ export class Run {
   }
 
   // Returns the state at a place, if it is loaded.
+  /** @returns {RunState | undefined} */
   state(place) {
     return this.states.get(place);
   }

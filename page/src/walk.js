@@ -2,7 +2,7 @@
 
 import { putIntoAddress } from "./address.js";
 import { callsAround } from "./around.js";
-import { byId, element } from "./dom.js";
+import { byId, element, fieldOf } from "./dom.js";
 import { Latest } from "./latest.js";
 import { grouped } from "./numbers.js";
 import { statePanel } from "./panel.js";
@@ -24,7 +24,7 @@ export class Walk {
     this.searching = Promise.resolve();
     this.moves = 0;
     this.isLeft = false;
-    byId("slider").max = run.lastPlace;
+    fieldOf("slider").max = run.lastPlace;
     byId("found").textContent = "";
   }
 
@@ -85,7 +85,7 @@ export class Walk {
   }
 
   ask() {
-    byId("condition").select();
+    fieldOf("condition").select();
   }
 
   toLag(isBack) {
@@ -116,13 +116,13 @@ export class Walk {
     const { place } = view;
     byId("sentence").replaceChildren(...(place === 0 ? atTheStart() : sentence(run.entry(place), run.names)));
     const spoken = byId("sentence").textContent.replace("● ", "");
-    byId("slider").value = place;
+    fieldOf("slider").valueAsNumber = place;
     byId("slider").setAttribute("aria-valuetext", `place ${place} of ${run.lastPlace}: ${spoken}`);
     byId("place").textContent = `place ${grouped(place)} of ${grouped(run.lastPlace)}`;
     byId("calls").replaceChildren(...callsAround(run, place));
     putIntoAddress(place);
     this.drawing.ask();
-    if (byId("told").open) this.telling.ask();
+    if (byId("told").hasAttribute("open")) this.telling.ask();
   }
 
   // Returns the places whose states are needed. If the state of the current place isn't loaded, its neighbours are included.

@@ -1,0 +1,68 @@
+// The things that many modules pass on, for the type checker alone: no byte of this file is in the page.
+
+interface Window {
+  ttd: { [request: string]: (...values: any[]) => Promise<any> };
+}
+
+interface Uint8ArrayConstructor {
+  fromBase64?(text: string): Uint8Array;
+}
+
+/** An entry, as the console's `list` writes it. Stamps, values and counts stay texts: a browser would round large ones. */
+interface Entry {
+  number: number;
+  stamp: string;
+  actor: number;
+  channel: number;
+  word: string;
+  handle: number;
+  rest: string;
+  reply: string;
+  answer: string;
+}
+
+/** A receiver in a state: of a broadcast it has a position, unread and lag, of a watch a mark and whether the value is seen. */
+interface ReceiverState {
+  handle: number;
+  position?: number;
+  unread?: number;
+  lag?: number;
+  mark?: number;
+  seen?: boolean;
+}
+
+interface ChannelState {
+  kind: "broadcast" | "watch";
+  closed: boolean;
+  capacity?: number;
+  sent?: number;
+  window?: (number | string)[];
+  retained?: number;
+  value?: number | string;
+  version?: number;
+  receivers: ReceiverState[];
+  senders: number[];
+  weak?: number[];
+}
+
+interface RunState {
+  place: number;
+  len: number;
+  channels: ChannelState[];
+}
+
+/** A handle's life: past the last place if it is never dropped. */
+interface Life {
+  handle: number;
+  kind: string;
+  from: number;
+  to: number;
+}
+
+/** What is opened: a file's name and bytes, and those of its file of names. */
+interface Source {
+  name: string;
+  bytes: Uint8Array;
+  names?: Uint8Array;
+  isEmbedded?: boolean;
+}
