@@ -1,7 +1,7 @@
 // The legend: what colours and shapes mean.
 
 import { cleared, hatched } from "./canvas.js";
-import { coloured, element } from "./dom.js";
+import { coloured, element, outside } from "./dom.js";
 import { actorColour } from "./palette.js";
 import { SHAPES } from "./shapes.js";
 
@@ -35,13 +35,13 @@ function shapeSwatch(palette, shape) {
 }
 
 function item(picture, text) {
-  return element("li", {}, picture, ` ${text}`);
+  return element("li", {}, picture, " ", text);
 }
 
 export function legend(run, palette) {
   const items = [];
   for (let actor = 0; actor < run.actorCount; actor++) {
-    items.push(item(coloured(actorColour(actor), "●"), run.names.actor(actor)));
+    items.push(item(coloured(actorColour(actor), "●"), outside(run.names.actor(actor))));
   }
   items.push(item(colourSwatch(palette.unread), "unread"), item(colourSwatch(palette.lag), "overwritten before it was read"));
   items.push(item(element("span", { class: "flag" }, "lost 2"), "the receiver is told"));

@@ -2,7 +2,7 @@
 
 import { placeIn } from "./address.js";
 import { Client } from "./client.js";
-import { byId, fieldOf } from "./dom.js";
+import { byId, fieldOf, outside } from "./dom.js";
 import { embeddedRun, exampleRun, moduleBytes, workerText } from "./embedded.js";
 import { faultPanel } from "./faults.js";
 import { readFiles } from "./files.js";
@@ -15,6 +15,7 @@ import { countOf } from "./numbers.js";
 import { Run } from "./run.js";
 import { Screen } from "./screen.js";
 import { sample } from "./strip.js";
+import { isolated, visible } from "./text.js";
 import { View, columnsThatFit, placesAtFirst } from "./view.js";
 import { waitingCall } from "./waiting.js";
 import { Walk } from "./walk.js";
@@ -24,9 +25,10 @@ const WIDE_MEMORY = Uint8Array.of(0, 97, 115, 109, 1, 0, 0, 0, 5, 3, 1, 4, 1);
 
 const page = { walk: null };
 
-function tell(text) {
-  byId("notice").textContent = text;
-  byId("notice").hidden = text === "";
+// Shows a notice, made of texts and elements. Without any it is hidden.
+function tell(...parts) {
+  byId("notice").replaceChildren(...parts);
+  byId("notice").hidden = parts.length === 0;
 }
 
 function tellFault(fault) {
@@ -43,21 +45,22 @@ function namesOf(bytes) {
   try {
     return readNames(new TextDecoder().decode(bytes));
   } catch (fault) {
-    tell(`The file of names isn't read: ${fault.message}.`);
+    tell("The file of names isn't read: ", outside(fault.message), ".");
     return new Names();
   }
 }
 
 function factsOf(name, run) {
-  const facts = [name, countOf(run.lastPlace, "call"), countOf(run.channels.length, "channel"), countOf(run.actorCount, "actor")];
-  if (run.waiting) facts.push(`line ${run.waiting.line} would wait: ${run.waiting.text}`);
-  return facts.join(" · ");
+  const counts = [countOf(run.lastPlace, "call"), countOf(run.channels.length, "channel"), countOf(run.actorCount, "actor")];
+  const facts = [outside(name), ` · ${counts.join(" · ")}`];
+  if (run.waiting) facts.push(` · line ${run.waiting.line} would wait: `, outside(run.waiting.text));
+  return facts;
 }
 
 async function showRun(client, opened, { name, bytes, names }, place) {
   const run = new Run(client, opened, namesOf(names));
   if (opened.waitingLine) run.waiting = waitingCall(bytes, opened.waitingLine, run);
-  byId("facts").textContent = factsOf(name, run);
+  byId("facts").replaceChildren(...factsOf(name, run));
   showPart("walk");
   const view = new View(run.lastPlace, run.lastPlace + (run.waiting ? 1 : 0), columnsThatFit(byId("picture-box").clientWidth));
   const screen = new Screen(run, view);
@@ -87,10 +90,10 @@ function leave() {
 // Opens a run. One in the page's own file is opened at the place in the address. Others are opened at their start, since the address
 // may have a place of the run before.
 async function open(client, source) {
-  tell("");
+  tell();
   leave();
-  byId("facts").textContent = source.name;
-  document.title = `${source.name} · Yovanelum`;
+  byId("facts").replaceChildren(outside(source.name));
+  document.title = `${isolated(visible(source.name))} · Yovanelum`;
   const place = () => (source.isEmbedded ? placeIn(location.href) : 0);
   const opened = await client.request("open", source.bytes, placesAtFirst(place()));
   if (opened.fault === undefined) return showRun(client, opened, source, place());
@@ -125,15 +128,20 @@ function redraw() {
   page.walk.show();
 }
 
+// Names in one line, with commas between them.
+function listed(names) {
+  return names.flatMap((name, i) => (i ? [", ", outside(name)] : [outside(name)]));
+}
+
 // Opens the run among these files. What is dropped may be text, which has no files, or a folder, which can't be read.
 async function openFiles(openSource, files) {
   if (files.length === 0) return;
   try {
     const source = await readFiles(files);
     if (source.bytes) openSource(source);
-    else tell(`There is no journal or script beside ${files[0].name}.`);
+    else tell("There is no journal or script beside ", outside(files[0].name), ".");
   } catch (fault) {
-    tell(`${files.map(file => file.name).join(", ")} can't be read: ${fault.message}`);
+    tell(...listed(files.map(file => file.name)), ` can't be read: ${fault.message}`);
   }
 }
 

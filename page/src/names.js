@@ -1,4 +1,6 @@
-// Names of actors and channels, and texts of values: from a file of names if there is one, else numbers.
+// Names of actors and channels, and texts of values: from a file of names if there is one, else numbers. What hides in them is written out.
+
+import { visible } from "./text.js";
 
 const KINDS = ["actors", "channels", "values"];
 
@@ -26,20 +28,24 @@ function lookUp(table, key) {
   return Object.hasOwn(table, key) ? table[key] : undefined;
 }
 
+function named(table, number, otherwise) {
+  return visible(lookUp(table, number) ?? otherwise);
+}
+
 export class Names {
   constructor(actors = {}, channels = {}, values = {}) {
     this.tables = { actors, channels, values };
   }
 
   actor(number) {
-    return lookUp(this.tables.actors, number) ?? `actor ${number}`;
+    return named(this.tables.actors, number, `actor ${number}`);
   }
 
   channel(number) {
-    return lookUp(this.tables.channels, number) ?? `channel ${number}`;
+    return named(this.tables.channels, number, `channel ${number}`);
   }
 
   value(channel, number) {
-    return lookUp(lookUp(this.tables.values, channel) ?? {}, number) ?? String(number);
+    return named(lookUp(this.tables.values, channel) ?? {}, number, String(number));
   }
 }

@@ -1,19 +1,19 @@
 // The state at the place, channel by channel, as text.
 
 import { kindOf } from "./band.js";
-import { element } from "./dom.js";
+import { element, outside } from "./dom.js";
 
 const MOST_HANDLES = 64;
 
 function heading(name, channel) {
   const word = channel.closed ? "closed" : "open";
-  return element("h3", {}, name, element("small", {}, ` ${kindOf(channel)} `), element("span", { class: `tag ${word}` }, word));
+  return element("h3", {}, outside(name), element("small", {}, ` ${kindOf(channel)} `), element("span", { class: `tag ${word}` }, word));
 }
 
 // A retained value, and under it the receivers that read it next.
 function valueBox(text, readers) {
   const marks = readers.map(receiver => element("span", { class: receiver.lag ? "reader lag" : "reader" }, `↑ ${receiver.handle}`));
-  return element("li", {}, element("span", { class: "box" }, text), ...marks);
+  return element("li", {}, element("span", { class: "box" }, outside(text)), ...marks);
 }
 
 // The newest of the retained values, and how many there are before them.
@@ -64,7 +64,7 @@ function handles(channel) {
 }
 
 function currentValue(channel, index, names) {
-  return element("p", {}, element("span", { class: "box" }, names.value(index, channel.value)), ` version ${channel.version}`);
+  return element("p", {}, element("span", { class: "box" }, outside(names.value(index, channel.value))), ` version ${channel.version}`);
 }
 
 export function statePanel(state, names) {

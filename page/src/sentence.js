@@ -1,6 +1,6 @@
 // The call that led to a place, in words.
 
-import { coloured, element } from "./dom.js";
+import { coloured, element, outside } from "./dom.js";
 import { countOf } from "./numbers.js";
 import { actorColour } from "./palette.js";
 
@@ -13,7 +13,7 @@ function meaning(entry, names) {
   if (entry.reply === "closed") return element("span", { class: "unseen" }, " (no sender is left and nothing more will come)");
   if (entry.reply !== "value") return "";
   const text = names.value(entry.channel, entry.answer);
-  return text === entry.answer ? "" : ` (${text})`;
+  return text === entry.answer ? "" : element("span", {}, " (", outside(text), ")");
 }
 
 function callText(entry) {
@@ -26,7 +26,7 @@ function replyText(entry) {
 
 export function sentence(entry, names) {
   return [
-    coloured(actorColour(entry.actor), `● ${names.actor(entry.actor)}`), ` on ${names.channel(entry.channel)}: `,
+    coloured(actorColour(entry.actor), "● ", outside(names.actor(entry.actor))), " on ", outside(names.channel(entry.channel)), ": ",
     element("b", {}, callText(entry)), " → ", element("b", { class: entry.reply }, replyText(entry)), meaning(entry, names),
   ];
 }

@@ -5,6 +5,7 @@ import time
 import traceback
 
 import answers
+import bidi
 import dark
 import given
 import hands
@@ -31,7 +32,7 @@ def bare(test):
 
 TESTS = [
     shown.pictures, shown.lagging_is_red, dark.dark_colours, shown.hostile_names, shown.refused_markup, shown.wrong_names, shown.spoken,
-    shown.nothing_is_loaded, hands.keys, hands.lag_keys, hands.hurried_searches, hands.failed_search, hands.early_click, hands.stops,
+    shown.nothing_is_loaded, bidi.written_out, bidi.right_to_left, hands.keys, hands.lag_keys, hands.hurried_searches, hands.failed_search, hands.early_click, hands.stops,
     hands.buttons, hands.mouse, moves.wheel, moves.stop_field, hands.drops, given.chosen_again, given.drop_with_names,
     given.places_of_two_runs, given.failed_opening,
     hands.waiting_script, hands.refusals, hands.example, hands.files_that_are_not_there, hands.addresses, shown.large_runs,
