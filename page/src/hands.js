@@ -11,7 +11,7 @@ function press(page, id, move) {
 }
 
 // Calls `choose` with the data of the element that is clicked in a list, if it has such data.
-function chosenIn(id, name, choose) {
+export function chosenIn(id, name, choose) {
   byId(id).addEventListener("click", event => {
     const target = /** @type {HTMLElement} */ (event.target);
     /** @type {HTMLElement} */

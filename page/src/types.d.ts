@@ -4,6 +4,12 @@ interface Window {
   ttd: { [request: string]: (...values: any[]) => Promise<any> };
 }
 
+declare class DecompressionStream {
+  constructor(format: string);
+  readonly readable: ReadableStream;
+  readonly writable: WritableStream;
+}
+
 interface Uint8ArrayConstructor {
   fromBase64?(text: string): Uint8Array;
 }
@@ -64,5 +70,12 @@ interface Source {
   name: string;
   bytes: Uint8Array;
   names?: Uint8Array;
-  isEmbedded?: boolean;
+  namesFile?: string;
+  /** What the bytes were before they were unpacked, once that is known. */
+  notes?: string[];
+  /** Under which the run is kept, and which the browser's history has. */
+  key?: string;
+  /** What is reported when it is opened. */
+  notice?: (string | Node)[];
+  size?: number;
 }

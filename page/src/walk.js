@@ -2,8 +2,9 @@
 
 import { putIntoAddress } from "./address.js";
 import { callsAround } from "./around.js";
-import { byId, element, fieldOf } from "./dom.js";
+import { byId, element, fieldOf, outside } from "./dom.js";
 import { Latest } from "./latest.js";
+import { during } from "./notice.js";
 import { grouped } from "./numbers.js";
 import { statePanel } from "./panel.js";
 import { atTheStart, sentence } from "./sentence.js";
@@ -101,7 +102,8 @@ export class Walk {
 
   async search(word, condition, isOver) {
     if (isOver()) return;
-    const found = await seek(this.run, this.view.place, word, condition);
+    const what = ["searching ", word === "rback" ? "back" : "on", " for ", outside(condition)];
+    const found = await during(what, () => seek(this.run, this.view.place, word, condition));
     if (isOver()) return;
     byId("found").textContent = found.answer;
     byId("found").classList.toggle("lag", found.place === null);

@@ -39,7 +39,7 @@ def chosen_again(tab, folder, journals):
 
 
 def drop_with_names(tab, folder, journals):
-    """A journal is dropped together with its file of names, in either order. A drop without a run, or of a folder, is reported."""
+    """A journal is dropped together with its file of names, in either order. A drop of a folder is reported."""
     journal = opening.put(folder, "named.journal", journals[63])
     names = opening.put(folder, "named.names", runs.example_file("price_feed.names"))
     for files in ([journal, names], [names, journal]):
@@ -49,8 +49,6 @@ def drop_with_names(tab, folder, journals):
         tab.key("l")
         opening.settle(tab, 23)
         assert tab.text("sentence").startswith("● slow auditor on prices: recv 2 → lagged 2"), tab.text("sentence")
-    tab.drop(names)
-    told(tab, "notice", "There is no journal or script beside named.names.")
     tab.drop(folder)
     told(tab, "notice", f"{os.path.basename(folder)} can't be read: ")
     opening.settle(tab, 23)

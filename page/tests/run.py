@@ -15,6 +15,7 @@ import runs
 import shown
 import speed
 import texts
+import way_in
 import weak
 from browser import Browser, Tab
 
@@ -34,7 +35,8 @@ TESTS = [
     shown.pictures, shown.lagging_is_red, dark.dark_colours, shown.hostile_names, shown.refused_markup, shown.wrong_names, shown.spoken,
     shown.nothing_is_loaded, bidi.written_out, bidi.right_to_left, hands.keys, hands.lag_keys, hands.hurried_searches, hands.failed_search, hands.early_click, hands.stops,
     hands.buttons, hands.mouse, moves.wheel, moves.stop_field, hands.drops, given.chosen_again, given.drop_with_names,
-    given.places_of_two_runs, given.failed_opening,
+    given.places_of_two_runs, given.failed_opening, way_in.names_in_any_order, way_in.names_of_another_run, way_in.foreign_texts,
+    way_in.several_runs, way_in.kept_for_a_reload, way_in.signs,
     hands.waiting_script, hands.refusals, hands.example, hands.files_that_are_not_there, hands.addresses, shown.large_runs,
     shown.quick_walking, shown.many_handles, weak.weak_senders, weak.weak_rows, texts.large_numbers, texts.long_texts, speed.figures,
     bare(answers.example_sessions), bare(answers.random_commands), bare(answers.spoiled_texts),

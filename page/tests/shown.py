@@ -74,7 +74,7 @@ def lagging_is_red(tab, folder, journals):
 def hostile_names(tab, folder, journals):
     """Names, values and the file's own name are shown as they are, and none of them is markup or runs."""
     texts = {str(number): text for number, text in enumerate(HOSTILE)}
-    names = {"actors": texts, "channels": texts, "values": {"0": {"107": HOSTILE[0], "104": HOSTILE[1]}, "1": {"450": HOSTILE[2]}}}
+    names = {"actors": texts, "channels": {key: texts[key] for key in "01"}, "values": {"0": {"107": HOSTILE[0], "104": HOSTILE[1]}, "1": {"450": HOSTILE[2]}}}
     opening.put(folder, "hostile <img src=x onerror=alert(5)>.names", json.dumps(names).encode())
     path = opening.page_of(folder, "hostile <img src=x onerror=alert(5)>.journal", journals[63])
     tab.load(path.replace(" ", "%20").replace("<", "%3C").replace(">", "%3E"), 22)
