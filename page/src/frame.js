@@ -26,6 +26,11 @@ export class Frame {
     return this.x(column) + this.column / 2;
   }
 
+  // Which share of the columns' width is left of a point.
+  shareAt(x) {
+    return Math.max(0, Math.min(0.999, (x - this.left) / (this.right - this.left)));
+  }
+
   columnAt(x) {
     return this.from + Math.floor((x - this.left) / this.column);
   }

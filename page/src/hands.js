@@ -1,9 +1,12 @@
-// Buttons, mouse and touch.
+// Buttons, mouse and wheel.
 
 import { byId, fieldOf } from "./dom.js";
+import { pointed } from "./pointer.js";
+import { copyCommands, savePicture } from "./sharing.js";
 
-// The share of the view that one turn of the wheel scrolls.
+// The share of the view that one turn of the wheel scrolls, and the factor by which one zooms.
 const WHEEL_SHARE = 0.1;
+const WHEEL_ZOOM = 1.25;
 
 // `page.walk` is the walk over the opened run, if there is one.
 function press(page, id, move) {
@@ -21,7 +24,7 @@ export function chosenIn(id, name, choose) {
 }
 
 function listenToButtons(page) {
-  press(page, "first", walk => walk.to(0));
+  press(page, "first", walk => walk.jumpTo(0));
   press(page, "back", walk => walk.by(-1));
   press(page, "forward", walk => walk.by(1));
   press(page, "last", walk => walk.toEnd());
@@ -30,9 +33,22 @@ function listenToButtons(page) {
   press(page, "farther", walk => walk.zoom(2));
   press(page, "nearer", walk => walk.zoom(0.5));
   press(page, "whole", walk => walk.whole());
-  byId("slider").addEventListener("input", () => page.walk?.to(fieldOf("slider").valueAsNumber));
-  chosenIn("calls", "place", place => page.walk?.to(Number(place)));
-  byId("told").addEventListener("toggle", () => page.walk?.telling.ask());
+  press(page, "copy", copyCommands);
+  press(page, "save", walk => savePicture(walk, page.source.name));
+  chosenIn("calls", "place", place => page.walk?.jumpTo(Number(place)));
+  byId("told").addEventListener("toggle", () => page.walk?.telling.tellConsole());
+}
+
+// Dragging the slider is one jump, from where it began.
+function listenToSlider(page) {
+  const slider = fieldOf("slider");
+  let isDragged = false;
+  slider.addEventListener("input", () => {
+    if (isDragged) page.walk?.to(slider.valueAsNumber);
+    else page.walk?.jumpTo(slider.valueAsNumber);
+    isDragged = true;
+  });
+  slider.addEventListener("change", () => { isDragged = false; });
 }
 
 function listenToStops(page) {
@@ -54,35 +70,29 @@ function listenToStops(page) {
   });
 }
 
-// Pressing, and moving while pressed, goes to the place under the pointer.
-function dragged(box, go) {
-  const follow = event => go(event.clientX - box.getBoundingClientRect().left);
-  box.addEventListener("pointerdown", event => {
-    if (event.button !== 0) return;
-    box.setPointerCapture(event.pointerId);
-    follow(event);
-  });
-  box.addEventListener("pointermove", event => {
-    if (box.hasPointerCapture(event.pointerId)) follow(event);
-  });
-}
-
-// With Ctrl the wheel zooms. Sideways or with Shift it scrolls, and over the strip in every direction.
+// With Ctrl the wheel zooms, over the picture around the pointer. Sideways or with Shift it scrolls, and over the strip in every direction.
 function wheeled(page, box, isStrip) {
   box.addEventListener("wheel", event => {
     if (!event.ctrlKey && !event.shiftKey && !isStrip && Math.abs(event.deltaX) <= Math.abs(event.deltaY)) return;
     event.preventDefault();
     const turned = event.deltaX + event.deltaY;
-    if (event.ctrlKey) page.walk?.zoom(turned > 0 ? 1.25 : 0.8);
-    else page.walk?.scrollShare(Math.sign(turned) * WHEEL_SHARE);
+    const factor = turned > 0 ? WHEEL_ZOOM : 1 / WHEEL_ZOOM;
+    if (!event.ctrlKey) page.walk?.scrollShare(Math.sign(turned) * WHEEL_SHARE);
+    else if (isStrip) page.walk?.zoom(factor);
+    else page.walk?.zoomAtPoint(factor, event.clientX - box.getBoundingClientRect().left);
   }, { passive: false });
 }
 
 export function listenToHands(page) {
   listenToButtons(page);
+  listenToSlider(page);
   listenToStops(page);
-  dragged(byId("picture-box"), x => page.walk?.toPointInPicture(x));
-  dragged(byId("strip-box"), x => page.walk?.toPointInStrip(x));
+  pointed(byId("picture-box"), {
+    pick: x => page.walk?.toPointInPicture(x),
+    jump: move => page.walk?.jump(move),
+    pan: (x, last) => page.walk?.pan(x, last) ?? 0,
+  });
+  pointed(byId("strip-box"), { pick: x => page.walk?.toPointInStrip(x), jump: move => page.walk?.jump(move), pan: () => 0 });
   wheeled(page, byId("picture-box"), false);
   wheeled(page, byId("strip-box"), true);
 }

@@ -1,6 +1,6 @@
 // The keys, and what each does.
 
-import { element } from "./dom.js";
+import { byId, element } from "./dom.js";
 
 const FAR = 10;
 
@@ -8,7 +8,7 @@ const FAR = 10;
 const KEYS = [
   { keys: ["ArrowRight"], shown: "→, with Shift ten", does: "next place", move: (walk, far) => walk.by(far ? FAR : 1) },
   { keys: ["ArrowLeft"], shown: "←, with Shift ten", does: "place before", move: (walk, far) => walk.by(far ? -FAR : -1) },
-  { keys: ["Home"], shown: "Home", does: "the start", move: walk => walk.to(0) },
+  { keys: ["Home"], shown: "Home", does: "the start", move: walk => walk.jumpTo(0) },
   { keys: ["End"], shown: "End", does: "the end", move: walk => walk.toEnd() },
   {
     keys: ["l", "L"], shown: "L, with Shift back",
@@ -22,14 +22,20 @@ const KEYS = [
   { keys: ["/"], shown: "/", does: "into the field for a stop; Enter there seeks on, with Shift back", move: walk => walk.ask() },
 ];
 
-function isTyping(target) {
-  return target.tagName === "INPUT" && target.type !== "range";
+// Whether a key belongs to a field, or to the help that is shown.
+function isTaken(target) {
+  return byId("help").hasAttribute("open") || (target.tagName === "INPUT" && target.type !== "range");
+}
+
+export function showHelp() {
+  /** @type {HTMLDialogElement} */ (byId("help")).showModal();
 }
 
 // `page.walk` is the walk over the opened run, if there is one.
 export function listenToKeys(page) {
   document.addEventListener("keydown", event => {
-    if (event.ctrlKey || event.metaKey || event.altKey || isTyping(event.target)) return;
+    if (event.ctrlKey || event.metaKey || event.altKey || isTaken(event.target)) return;
+    if (event.key === "?") return showHelp();
     const found = KEYS.find(({ keys }) => keys.includes(event.key));
     if (!found || !page.walk) return;
     event.preventDefault();
@@ -38,5 +44,6 @@ export function listenToKeys(page) {
 }
 
 export function keyRows() {
-  return KEYS.map(({ shown, does }) => element("div", {}, element("dt", {}, element("kbd", {}, shown)), element("dd", {}, does)));
+  const rows = [...KEYS, { shown: "?", does: "the keys" }];
+  return rows.map(({ shown, does }) => element("div", {}, element("dt", {}, element("kbd", {}, shown)), element("dd", {}, does)));
 }

@@ -1,12 +1,12 @@
 // The page: opens what it is given, and shows it.
 
-import { placeIn, runInHistory, setRun } from "./address.js";
+import { readAddress, runInHistory, setRun } from "./address.js";
 import { Client } from "./client.js";
 import { byId, fieldOf } from "./dom.js";
 import { OWN, embeddedRun, exampleRun, hasEmbeddedRun, moduleBytes, workerText } from "./embedded.js";
 import { chosenIn, listenToHands } from "./hands.js";
 import { recall } from "./kept.js";
-import { keyRows, listenToKeys } from "./keys.js";
+import { keyRows, listenToKeys, showHelp } from "./keys.js";
 import { during, showPart, tell, tellFault } from "./notice.js";
 import { Opener } from "./opener.js";
 import { WayIn } from "./way_in.js";
@@ -57,7 +57,7 @@ async function openInHistory(opener) {
 function followHistory(opener) {
   if (runInHistory() === undefined) setRun(page.source?.key ?? null);
   if (runInHistory() !== (page.source?.key ?? null)) openInHistory(opener).catch(tellFault);
-  else page.walk?.to(placeIn(location.href));
+  else page.walk?.restore(readAddress(location.href));
 }
 
 function listen(opener, wayIn) {
@@ -66,6 +66,7 @@ function listen(opener, wayIn) {
   byId("runs").addEventListener("click", () => wayIn.turn());
   chosenIn("choice", "run", index => wayIn.choose(Number(index)));
   byId("example-button").addEventListener("click", () => opener.ask(exampleRun()));
+  byId("help-button").addEventListener("click", showHelp);
   listenToDrags(wayIn);
   window.addEventListener("popstate", () => followHistory(opener));
   window.addEventListener("resize", () => opener.redraw());

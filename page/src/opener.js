@@ -1,6 +1,6 @@
 // Opens a run: reads it with the debugger, and shows it, or why it is refused.
 
-import { placeIn, pushRun } from "./address.js";
+import { pushRun, readAddress } from "./address.js";
 import { byId, outside } from "./dom.js";
 import { OWN } from "./embedded.js";
 import { faultPanel } from "./faults.js";
@@ -96,7 +96,7 @@ export class Opener {
     this.remember(source);
     if (!source.notes) Object.assign(source, await unpacked(source.bytes));
     const what = ["opening ", outside(source.name), `, ${sizeOf(source.bytes.length)}`];
-    const opened = await during(what, () => this.client.request("open", source.bytes, placesAtFirst(placeIn(location.href))));
+    const opened = await during(what, () => this.client.request("open", source.bytes, placesAtFirst(readAddress(location.href).place)));
     if (opened.fault === undefined) return this.show(opened, source);
     byId("refusal").replaceChildren(...faultPanel(opened.fault, source.bytes));
     showPart("refusal");
@@ -112,7 +112,7 @@ export class Opener {
     const screen = new Screen(run, view);
     byId("legend").replaceChildren(...legend(run, screen.palette));
     this.page.walk = new Walk(run, view, screen, tellFault);
-    this.page.walk.to(placeIn(location.href));
+    this.page.walk.restore(readAddress(location.href));
     addSamples(this.page.walk);
   }
 

@@ -10,6 +10,7 @@ export const SMALL = "11px system-ui, 'DejaVu Sans', sans-serif";
 export const SMALL_BOLD = `bold ${SMALL}`;
 export const NUMBERS = "11px ui-monospace, 'DejaVu Sans Mono', monospace";
 
+/** @returns {any} */
 export function readPalette() {
   const style = getComputedStyle(document.documentElement);
   const colour = name => style.getPropertyValue(`--${name}`).trim();

@@ -69,6 +69,11 @@ export class Screen {
     return this.picture ? this.picture.frame.columnAt(x) : this.view.place;
   }
 
+  // Where the columns of the view are in the picture.
+  get frameOfPicture() {
+    return new Frame(this.view.from, this.view.to, this.width);
+  }
+
   placeInStrip(x) {
     return this.strip.frame.columnAt(x);
   }

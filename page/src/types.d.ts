@@ -51,6 +51,13 @@ interface ChannelState {
   weak?: number[];
 }
 
+/** What the page's address has. */
+interface Address {
+  place: number;
+  view: number[] | null;
+  stop: string | null;
+}
+
 interface RunState {
   place: number;
   len: number;

@@ -64,6 +64,20 @@ export class View {
     this.show(Math.round(fixed - width * share), width);
   }
 
+  // The column at this share of the picture's width stays there.
+  zoomAt(factor, share) {
+    const width = within(Math.min(FEWEST, this.lastColumn), Math.round(this.width * factor), this.lastColumn);
+    const fixed = this.from + Math.floor(share * (this.width + 1));
+    this.show(fixed - Math.floor(share * (width + 1)), width);
+  }
+
+  // Goes to a place, with these columns in view if they are known.
+  restore(place, view) {
+    if (view === null) return this.go(place);
+    this.place = within(0, place, this.lastPlace);
+    this.show(view[0], view[1] - view[0]);
+  }
+
   whole() {
     this.show(0, this.lastColumn);
   }

@@ -1,17 +1,13 @@
-// The walk over an opened run: its place, and what the page shows there.
+// The walk over an opened run: its place, and the moves.
 
-import { putIntoAddress } from "./address.js";
-import { callsAround } from "./around.js";
-import { byId, element, fieldOf, outside } from "./dom.js";
+import { forgetAddress, pushAddress, putIntoAddress } from "./address.js";
+import { byId, fieldOf, outside } from "./dom.js";
 import { Latest } from "./latest.js";
 import { during } from "./notice.js";
-import { grouped } from "./numbers.js";
-import { statePanel } from "./panel.js";
-import { atTheStart, sentence } from "./sentence.js";
-import { conditionsAt, seek } from "./stops.js";
+import { seek } from "./stops.js";
+import { Telling } from "./telling.js";
 
 const NEIGHBOURS = 24;
-const MOST_CHIPS = 8;
 const LAG = "reply lagged";
 
 export class Walk {
@@ -20,26 +16,50 @@ export class Walk {
     this.view = view;
     this.screen = screen;
     this.onFault = onFault;
+    this.telling = new Telling(run, view, onFault);
     this.drawing = new Latest(() => this.draw(), onFault);
-    this.telling = new Latest(() => this.tell(), onFault);
     this.searching = Promise.resolve();
     this.moves = 0;
     this.isLeft = false;
-    fieldOf("slider").max = run.lastPlace;
+    // The last search that found a place: where it began, its command, and the place.
+    this.found = null;
     byId("found").textContent = "";
   }
 
   // Called when another run is opened. Replies that arrive after that are not shown.
   leave() {
     this.isLeft = true;
+    forgetAddress();
     this.drawing.stop();
     this.telling.stop();
   }
 
-  // Goes to a place by hand. This discards earlier searches and what they have reported.
-  to(place) {
+  // Returns what the page's address has to keep.
+  /** @returns {Address} */
+  get address() {
+    const { place, from, to } = this.view;
+    const stop = fieldOf("condition").value.trim();
+    return { place, view: [from, to], stop: stop === LAG ? null : stop };
+  }
+
+  // Goes where an address leads.
+  /** @param {Address} address */
+  restore({ place, view, stop }) {
+    this.stopSearching();
+    if (stop !== null) fieldOf("condition").value = stop;
+    this.view.restore(place, view);
+    this.show();
+  }
+
+  // Discards earlier searches and what they have reported.
+  stopSearching() {
     this.moves++;
     byId("found").textContent = "";
+  }
+
+  // Moves by hand, without a step of the browser's history.
+  to(place) {
+    this.stopSearching();
     this.view.go(place);
     this.show();
   }
@@ -48,9 +68,22 @@ export class Walk {
     this.to(this.view.place + places);
   }
 
+  // Jumps by hand. Each jump is a step of the browser's history.
+  jump(move) {
+    const from = this.address;
+    move();
+    pushAddress(from, this.address);
+  }
+
+  jumpTo(place) {
+    this.jump(() => this.to(place));
+  }
+
   toEnd() {
-    this.view.show(this.view.lastColumn - this.view.width, this.view.width);
-    this.to(this.run.lastPlace);
+    this.jump(() => {
+      this.view.show(this.view.lastColumn - this.view.width, this.view.width);
+      this.to(this.run.lastPlace);
+    });
   }
 
   turn(pages) {
@@ -69,14 +102,33 @@ export class Walk {
     this.to(place);
   }
 
+  scroll(columns) {
+    if (columns === 0) return;
+    this.view.scroll(columns);
+    this.show();
+  }
+
+  // Moves what is in view from one point of the picture to another, by whole columns. Returns how far that is.
+  pan(x, last) {
+    const { column } = this.screen.frameOfPicture;
+    const columns = Math.trunc((last - x) / column);
+    this.scroll(columns);
+    return -columns * column;
+  }
+
   // Scrolls by a share of what is in view.
   scrollShare(share) {
-    this.view.scroll(Math.sign(share) * Math.max(1, Math.round(this.view.width * Math.abs(share))));
-    this.show();
+    this.scroll(Math.sign(share) * Math.max(1, Math.round(this.view.width * Math.abs(share))));
   }
 
   zoom(factor) {
     this.view.zoom(factor);
+    this.show();
+  }
+
+  // Zooms so that the place under a point of the picture stays there.
+  zoomAtPoint(factor, x) {
+    this.view.zoomAt(factor, this.screen.frameOfPicture.shareAt(x));
     this.show();
   }
 
@@ -103,28 +155,31 @@ export class Walk {
   async search(word, condition, isOver) {
     if (isOver()) return;
     const what = ["searching ", word === "rback" ? "back" : "on", " for ", outside(condition)];
-    const found = await during(what, () => seek(this.run, this.view.place, word, condition));
+    const start = this.view.place;
+    const found = await during(what, () => seek(this.run, start, word, condition));
     if (isOver()) return;
     byId("found").textContent = found.answer;
     byId("found").classList.toggle("lag", found.place === null);
     if (found.place === null) return;
-    this.view.go(found.place);
-    this.show();
+    this.found = { start, command: `${word} ${condition}`, place: found.place };
+    this.jump(() => {
+      this.view.go(found.place);
+      this.show();
+    });
+  }
+
+  // The commands that lead a console to this place, as the last search did if it led here.
+  commands() {
+    const { place } = this.view;
+    const way = this.found?.place === place ? [`goto ${this.found.start}`, this.found.command] : [`goto ${place}`];
+    return [...way, "step", "state", ""].join("\n");
   }
 
   // The texts change at once, and the picture when its states are loaded.
   show() {
-    const { run, view } = this;
-    const { place } = view;
-    byId("sentence").replaceChildren(...(place === 0 ? atTheStart() : sentence(run.entry(place), run.names)));
-    const spoken = byId("sentence").textContent.replace("● ", "");
-    fieldOf("slider").valueAsNumber = place;
-    byId("slider").setAttribute("aria-valuetext", `place ${place} of ${run.lastPlace}: ${spoken}`);
-    byId("place").textContent = `place ${grouped(place)} of ${grouped(run.lastPlace)}`;
-    byId("calls").replaceChildren(...callsAround(run, place));
-    putIntoAddress(place);
+    this.telling.show();
+    putIntoAddress(this.address);
     this.drawing.ask();
-    if (byId("told").hasAttribute("open")) this.telling.ask();
   }
 
   // Returns the places whose states are needed. If the state of the current place isn't loaded, its neighbours are included.
@@ -143,32 +198,6 @@ export class Walk {
     if (this.isLeft) return;
     this.screen.drawView();
     this.screen.drawPlace();
-    this.describe();
-  }
-
-  describe() {
-    const { run, view } = this;
-    const state = run.state(view.place);
-    if (state === undefined) return;
-    byId("state").replaceChildren(...statePanel(state, run.names));
-    byId("state").dataset.place = view.place;
-    this.offer(conditionsAt(state, run));
-    byId("picture").setAttribute("aria-label", `The calls from place ${view.from} to ${Math.min(view.to, run.lastPlace)}, drawn.`);
-  }
-
-  // Offers conditions to choose from, unless they are those of the place before, as they mostly are.
-  offer(offers) {
-    const offered = JSON.stringify(offers);
-    if (this.offered === offered) return;
-    this.offered = offered;
-    byId("chips").replaceChildren(...offers.slice(0, MOST_CHIPS).map(([condition, meaning]) =>
-      element("button", { type: "button", "data-condition": condition, title: meaning }, condition)));
-    byId("conditions").replaceChildren(...offers.map(([condition, meaning]) => element("option", { value: condition }, meaning)));
-  }
-
-  // Shows the step and the state as the console writes them.
-  async tell() {
-    const told = await this.run.ask(`goto ${this.view.place}\nstep\nstate\n`);
-    if (!this.isLeft) byId("told-text").textContent = told;
+    this.telling.describe();
   }
 }

@@ -58,11 +58,11 @@ def places_of_two_runs(tab, folder, journals):
     """The place in the address is one of the run in the page's own file. A run that is dropped on the page is opened at its start."""
     opening.load(tab, opening.page_of(folder, "first.journal", journals[63]), 3)
     tab.key("ArrowLeft")
-    tab.wait("location.hash === '#place=2'")
+    tab.wait("location.hash.startsWith('#place=2&')")
     tab.drop(opening.put(folder, "second.ttd", SCRIPT))
     told(tab, "facts", "second.ttd · 4 calls")
     check_place(tab, script_asker(SCRIPT), 0)
-    tab.wait("location.hash === '#place=0'")
+    tab.wait("location.hash.startsWith('#place=0&')")
 
 
 def failed_opening(tab, folder, journals):

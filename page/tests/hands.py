@@ -273,6 +273,6 @@ def addresses(tab, folder, journals):
     opening.load(tab, path, 42)
     check_place(tab, ask, 42)
     tab.key("ArrowRight")
-    tab.wait("location.hash === '#place=43'")
+    tab.wait("location.hash.startsWith('#place=43&')")
     tab.run("void (location.hash = '#place=7')")
     check_place(tab, ask, 7)

@@ -1,0 +1,73 @@
+// What the page tells in words at a place: the call, the calls around it, the state, the stops that are offered there, and what the
+// console writes.
+
+import { callsAround } from "./around.js";
+import { byId, element, fieldOf } from "./dom.js";
+import { Latest } from "./latest.js";
+import { grouped } from "./numbers.js";
+import { statePanel } from "./panel.js";
+import { atTheStart, sentence } from "./sentence.js";
+import { conditionsAt } from "./stops.js";
+
+const MOST_CHIPS = 8;
+
+export class Telling {
+  constructor(run, view, onFault) {
+    this.run = run;
+    this.view = view;
+    this.console = new Latest(() => this.askConsole(), onFault);
+    this.isLeft = false;
+    fieldOf("slider").max = run.lastPlace;
+  }
+
+  // After this nothing more is told.
+  stop() {
+    this.isLeft = true;
+    this.console.stop();
+  }
+
+  // Tells what needs no state.
+  show() {
+    const { run, view } = this;
+    const { place } = view;
+    byId("sentence").replaceChildren(...(place === 0 ? atTheStart() : sentence(run.entry(place), run.names)));
+    const spoken = byId("sentence").textContent.replace("● ", "");
+    fieldOf("slider").valueAsNumber = place;
+    byId("slider").setAttribute("aria-valuetext", `place ${place} of ${run.lastPlace}: ${spoken}`);
+    byId("place").textContent = `place ${grouped(place)} of ${grouped(run.lastPlace)}`;
+    byId("calls").replaceChildren(...callsAround(run, place));
+    byId("copied").textContent = "";
+    this.tellConsole();
+  }
+
+  // Tells the state at the place, if it is loaded.
+  describe() {
+    const { run, view } = this;
+    const state = run.state(view.place);
+    if (state === undefined) return;
+    byId("state").replaceChildren(...statePanel(state, run.names));
+    byId("state").dataset.place = String(view.place);
+    this.offer(conditionsAt(state, run));
+    byId("picture").setAttribute("aria-label", `The calls from place ${view.from} to ${Math.min(view.to, run.lastPlace)}, drawn.`);
+  }
+
+  // Offers conditions to choose from, unless they are those of the place before, as they mostly are.
+  offer(offers) {
+    const offered = JSON.stringify(offers);
+    if (this.offered === offered) return;
+    this.offered = offered;
+    byId("chips").replaceChildren(...offers.slice(0, MOST_CHIPS).map(([condition, meaning]) =>
+      element("button", { type: "button", "data-condition": condition, title: meaning }, condition)));
+    byId("conditions").replaceChildren(...offers.map(([condition, meaning]) => element("option", { value: condition }, meaning)));
+  }
+
+  tellConsole() {
+    if (byId("told").hasAttribute("open")) this.console.ask();
+  }
+
+  // Shows the step and the state as the console writes them.
+  async askConsole() {
+    const told = await this.run.ask(`goto ${this.view.place}\nstep\nstate\n`);
+    if (!this.isLeft) byId("told-text").textContent = told;
+  }
+}
