@@ -1,7 +1,6 @@
 // The calls around the place, as a list of buttons that go there.
 
-import { coloured, element } from "./dom.js";
-import { actorColour } from "./palette.js";
+import { element } from "./dom.js";
 import { shortLine } from "./sentence.js";
 
 const BEFORE = 6;
@@ -14,7 +13,7 @@ export function callsAround(run, place) {
   for (let number = first; number <= Math.min(run.lastPlace, first + SHOWN - 1); number++) {
     const entry = run.entry(number);
     const line = element("button", { "data-place": number, class: entry.reply, tabindex: -1 },
-      coloured(actorColour(entry.actor), "● "), `${String(number).padStart(width)}  ${shortLine(entry)}`);
+      run.actors.badge(entry.actor), ` ${String(number).padStart(width)}  ${shortLine(entry)}`);
     if (number === place) line.setAttribute("aria-current", "step");
     lines.push(element("li", {}, line));
   }

@@ -4,7 +4,8 @@ import { drawBandCalls } from "./band_calls.js";
 import { fitted, hatched, line } from "./canvas.js";
 import { drawLevels, drawValues } from "./levels.js";
 import { grouped } from "./numbers.js";
-import { BOLD, FONT, SMALL_BOLD } from "./palette.js";
+import { BOLD, FONT, SMALL, SMALL_BOLD } from "./palette.js";
+import { drawRowName } from "./row_names.js";
 
 const FLAG_HEIGHT = 17;
 
@@ -70,21 +71,20 @@ function drawSharedNames({ pen, frame, palette }, row) {
   }
 }
 
-// Returns the name of a row's handles. If it is too wide, `weak sender` becomes `weak`.
-function rowName(pen, row, room) {
-  const name = row.lives.length === 1 ? `${row.kind} ${row.lives[0].handle}` : `${row.kind}s`;
-  return pen.measureText(name).width <= room ? name : name.replace(/ senders?/, "");
-}
-
 // Names each row on the left. If a row has several handles, each is also named in the row.
 function drawRowNames(drawing) {
   const { pen, frame, band, palette } = drawing;
   for (const row of band.rows) {
-    pen.font = FONT;
-    pen.fillStyle = palette.mute;
-    pen.textAlign = "right";
-    pen.fillText(rowName(pen, row, frame.left - 20), frame.left - 10, row.base - 4);
-    if (row.lives.length > 1) drawSharedNames(drawing, row);
+    pen.font = SMALL;
+    pen.fillStyle = palette.ink;
+    const at = { x: 6, y: row.base - 6, room: frame.left - 14 };
+    if (row.lives.length === 1) {
+      drawRowName(drawing, band.channel, row.lives[0], at);
+    } else {
+      pen.textAlign = "left";
+      pen.fillText(`${row.kind}s`, 40, row.base - 4);
+      drawSharedNames(drawing, row);
+    }
   }
   if (band.left === 0) return;
   pen.textAlign = "left";

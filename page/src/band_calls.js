@@ -2,11 +2,12 @@
 
 import { fitted, flag } from "./canvas.js";
 import { LAGGED, MARK_NAMES } from "./marks.js";
-import { NUMBERS } from "./palette.js";
+import { CODE, NUMBERS } from "./palette.js";
 import { SHAPES } from "./shapes.js";
 
 const LARGEST = 4.6;
 const VALUE_COLUMN = 9;
+const CODE_COLUMN = 24;
 const VALUE_WIDTH = 48;
 const VALUE_SLANT = -Math.PI / 3.2;
 const POINTER = 5;
@@ -43,6 +44,13 @@ function drawSentValue({ pen, run, frame, band }, entry, x, y) {
   pen.restore();
 }
 
+// Draws the code of a caller that isn't the one whose row it is.
+function drawCaller({ pen, run }, entry, x, y) {
+  pen.font = CODE;
+  pen.textAlign = "left";
+  pen.fillText(run.actors.codes[entry.actor], x + LARGEST + 1, y + 1);
+}
+
 // Draws a dashed line from the handle that made another to the other's row.
 function drawMaking({ pen, band }, entry, x, y) {
   const made = band.rowOf.get(Number(entry.answer));
@@ -64,6 +72,7 @@ function drawNear(drawing, place, mark, row) {
   pen.fillStyle = pen.strokeStyle = mark === "closed" ? palette.closed : palette.actor(entry.actor);
   pen.lineWidth = 1.6;
   SHAPES[mark](pen, x, y, Math.min(LARGEST, frame.column / 2.2));
+  if (frame.column >= CODE_COLUMN && entry.actor !== row.lives[0].user) drawCaller(drawing, entry, x, y);
   if (mark === "sent" || mark === "unsent") drawSentValue(drawing, entry, x, y);
   if (mark === "made") drawMaking(drawing, entry, x, y);
 }

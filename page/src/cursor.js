@@ -1,11 +1,12 @@
 // Draws the place over the picture: its column, and what each live receiver has yet to read or see there.
 
 import { SMALL } from "./palette.js";
+import { versionOf } from "./versions.js";
 
 const LABEL_HEIGHT = 13;
 
 function labelsOf(channel, receiver, palette) {
-  if (channel.kind === "watch") return receiver.seen ? [] : [["not seen", palette["unseen-ink"]]];
+  if (channel.kind === "watch") return [[versionOf(channel, receiver), palette[receiver.seen ? "mute" : "unseen-ink"]]];
   const readable = receiver.unread - receiver.lag;
   const labels = [];
   if (receiver.lag) labels.push([`${receiver.lag} overwritten`, palette.lag]);

@@ -28,8 +28,8 @@ function hasOneOf(run, channel, table) {
 
 // Returns why the names are those of another run, or null if nothing speaks against them.
 export function misfit(names, run) {
-  const { channels, values } = names.tables;
-  const last = Math.max(largest(channels), largest(values));
+  const { channels, handles, values } = names.tables;
+  const last = Math.max(largest(channels), largest(handles), largest(values));
   if (last >= run.channels.length) {
     return `it names channel ${grouped(last)}, and this run has ${countOf(run.channels.length, "channel")}, from 0 on`;
   }

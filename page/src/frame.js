@@ -5,7 +5,7 @@ const NARROW = 560;
 
 // How wide the names on the left are.
 export function gutterOf(width) {
-  return width < NARROW ? 92 : 140;
+  return width < NARROW ? 104 : 230;
 }
 
 export class Frame {

@@ -2,7 +2,7 @@
 
 import { visible } from "./text.js";
 
-const KINDS = ["actors", "channels", "values"];
+const KINDS = ["actors", "channels", "handles", "values"];
 
 function isText(value) {
   return typeof value === "string";
@@ -17,11 +17,12 @@ export function readNames(text) {
   const tables = JSON.parse(text);
   if (!isTable(tables, () => true)) throw new Error("it is no object");
   for (const kind of Object.keys(tables)) if (!KINDS.includes(kind)) throw new Error(`it has a key "${kind}"`);
-  const { actors = {}, channels = {}, values = {} } = tables;
+  const { actors = {}, channels = {}, handles = {}, values = {} } = tables;
   if (!isTable(actors, isText)) throw new Error("its actors are no names by number");
   if (!isTable(channels, isText)) throw new Error("its channels are no names by number");
   if (!isTable(values, table => isTable(table, isText))) throw new Error("its values are no texts by number, by channel");
-  return new Names(actors, channels, values);
+  if (!isTable(handles, table => isTable(table, isText))) throw new Error("its handles are no names by number, by channel");
+  return new Names(actors, channels, values, handles);
 }
 
 function lookUp(table, key) {
@@ -33,8 +34,10 @@ function named(table, number, otherwise) {
 }
 
 export class Names {
-  constructor(actors = {}, channels = {}, values = {}) {
-    this.tables = { actors, channels, values };
+  constructor(actors = {}, channels = {}, values = {}, handles = {}) {
+    this.tables = { actors, channels, values, handles };
+    // The names that the run's own script gives to handles.
+    this.bindings = {};
   }
 
   actor(number) {
@@ -43,6 +46,12 @@ export class Names {
 
   channel(number) {
     return named(this.tables.channels, number, `channel ${number}`);
+  }
+
+  // Returns undefined for a handle without a name of its own.
+  handle(channel, number) {
+    const found = [this.tables.handles, this.bindings].map(tables => lookUp(lookUp(tables, channel) ?? {}, number)).find(name => name !== undefined);
+    return found && visible(found);
   }
 
   value(channel, number) {

@@ -1,6 +1,7 @@
 // Opens a run: reads it with the debugger, and shows it, or why it is refused.
 
 import { pushRun, readAddress } from "./address.js";
+import { bindingsOf } from "./bindings.js";
 import { byId, outside } from "./dom.js";
 import { OWN } from "./embedded.js";
 import { faultPanel } from "./faults.js";
@@ -13,6 +14,7 @@ import { during, showPart, tell, tellFault } from "./notice.js";
 import { countOf, sizeOf } from "./numbers.js";
 import { Run } from "./run.js";
 import { Screen } from "./screen.js";
+import { isJournal } from "./source.js";
 import { sample } from "./strip.js";
 import { isolated, visible } from "./text.js";
 import { unpacked } from "./unpacked.js";
@@ -104,7 +106,9 @@ export class Opener {
 
   show(opened, source) {
     const run = new Run(this.client, opened, new Names());
-    if (source.names) run.names = namesFor(run, source.names, source.namesFile) ?? run.names;
+    if (!isJournal(source.bytes)) run.bindings = bindingsOf(source.bytes, run);
+    run.rename(run.names);
+    if (source.names) run.rename(namesFor(run, source.names, source.namesFile) ?? run.names);
     if (opened.waitingLine) run.waiting = waitingCall(source.bytes, opened.waitingLine, run);
     byId("facts").replaceChildren(...factsOf(source, run));
     showPart("walk");
@@ -122,7 +126,7 @@ export class Opener {
     const names = namesFor(walk.run, bytes, name);
     if (names === null) return;
     tell();
-    walk.run.names = names;
+    walk.run.rename(names);
     source.names = bytes;
     source.namesFile = name;
     if (source.key !== OWN) this.keep(source);

@@ -2,6 +2,8 @@
 
 import { kindOf } from "./band.js";
 import { element, outside } from "./dom.js";
+import { rowName } from "./row_names.js";
+import { versionOf } from "./versions.js";
 
 const MOST_HANDLES = 64;
 
@@ -36,7 +38,8 @@ function retained(channel, index, names) {
  */
 function standing(channel, receiver) {
   if (channel.kind === "watch") {
-    return receiver.seen ? ["has seen it"] : [element("strong", { class: "unseen" }, "has not seen it")];
+    const version = versionOf(channel, receiver);
+    return receiver.seen ? [`${version}, seen`] : [element("strong", { class: "unseen" }, version)];
   }
   if (receiver.unread === 0) return ["up to date"];
   const readable = `${receiver.unread - receiver.lag} to read`;
@@ -45,7 +48,7 @@ function standing(channel, receiver) {
 }
 
 function row(name, ...children) {
-  return element("div", {}, element("dt", {}, name), element("dd", {}, ...children));
+  return element("div", {}, element("dt", {}, ...name), element("dd", {}, ...children));
 }
 
 function listed(numbers) {
@@ -53,13 +56,13 @@ function listed(numbers) {
   return `${numbers.slice(0, MOST_HANDLES).join(", ")} and ${numbers.length - MOST_HANDLES} more`;
 }
 
-function handles(channel) {
+function handles(channel, index, run) {
   const receivers = channel.receivers.slice(0, MOST_HANDLES);
-  const rows = receivers.map(receiver => row(`receiver ${receiver.handle}`, ...standing(channel, receiver)));
+  const rows = receivers.map(receiver => row(rowName(run, index, run.lifeOf(index, receiver.handle)), ...standing(channel, receiver)));
   const left = channel.receivers.length - receivers.length;
-  if (left) rows.push(row("receivers", `and ${left} more`));
-  rows.push(row("senders", listed(channel.senders)));
-  if (channel.weak) rows.push(row("weak senders", listed(channel.weak)));
+  if (left) rows.push(row(["receivers"], `and ${left} more`));
+  rows.push(row(["senders"], listed(channel.senders)));
+  if (channel.weak) rows.push(row(["weak senders"], listed(channel.weak)));
   return element("dl", {}, ...rows);
 }
 
@@ -67,9 +70,10 @@ function currentValue(channel, index, names) {
   return element("p", {}, element("span", { class: "box" }, outside(names.value(index, channel.value))), ` version ${channel.version}`);
 }
 
-export function statePanel(state, names) {
+export function statePanel(state, run) {
+  const { names } = run;
   return state.channels.map((channel, index) => element("section", {},
     heading(names.channel(index), channel),
     channel.kind === "watch" ? currentValue(channel, index, names) : retained(channel, index, names),
-    handles(channel)));
+    handles(channel, index, run)));
 }

@@ -3,7 +3,7 @@
 import { drawBand } from "./band.js";
 import { line, fitted } from "./canvas.js";
 import { grouped } from "./numbers.js";
-import { FONT, SMALL } from "./palette.js";
+import { SMALL } from "./palette.js";
 import { drawWaiting } from "./waiting.js";
 
 const DOT = 4.5;
@@ -11,12 +11,13 @@ const LABEL_EVERY = 46;
 const STEPS = [1, 2, 5];
 
 function drawActors({ pen, run, frame, layout, palette }) {
-  pen.font = FONT;
-  pen.textAlign = "right";
+  pen.font = SMALL;
+  pen.textAlign = "left";
   for (let actor = 0; actor < run.actorCount; actor++) {
     const y = layout.actorY(actor);
-    pen.fillStyle = palette.actor(actor);
-    pen.fillText(fitted(pen, run.names.actor(actor), frame.left - 20), frame.left - 10, y);
+    pen.fillStyle = palette.ink;
+    run.actors.drawBadge(pen, palette, actor, 6, y - 8);
+    pen.fillText(fitted(pen, run.actors.names[actor], frame.left - 50), 40, y);
     pen.strokeStyle = palette.line;
     pen.lineWidth = 1;
     line(pen, frame.left, y, frame.right, y);

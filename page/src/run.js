@@ -1,5 +1,6 @@
 // An opened run: its entries, and the states that are loaded.
 
+import { Actors } from "./actors.js";
 import { readEntry } from "./entries.js";
 import { commandsFor, readStates } from "./states.js";
 
@@ -23,11 +24,29 @@ export class Run {
     /** @type {ChannelState[]} */
     this.channels = opened.opening.channels;
     this.waiting = null;
-    this.names = names;
+    this.lifeTables = null;
+    this.bindings = {};
     this.actorCount = this.columns.actors.reduce((most, actor) => Math.max(most, actor + 1), 1);
+    this.rename(names);
     this.states = new Map(opened.states.map(state => [state.place, state]));
     this.states.set(0, opened.opening);
     this.stateLength = longestState(this.channels);
+  }
+
+  rename(names) {
+    this.names = names;
+    this.actors = new Actors(this.actorCount, names);
+    names.bindings = this.bindings;
+  }
+
+  // Returns whose a handle is: its own name where it has one, else that of the actor that used it last, if one did.
+  ownerOf(channel, life) {
+    return this.names.handle(channel, life.handle) ?? (life.user === null ? undefined : this.names.actor(life.user));
+  }
+
+  lifeOf(channel, handle) {
+    this.lifeTables ??= this.lives.map(lives => new Map(lives.map(life => [life.handle, life])));
+    return this.lifeTables[channel].get(handle);
   }
 
   /** @returns {Entry} */

@@ -30,8 +30,8 @@ export class Telling {
   show() {
     const { run, view } = this;
     const { place } = view;
-    byId("sentence").replaceChildren(...(place === 0 ? atTheStart() : sentence(run.entry(place), run.names)));
-    const spoken = byId("sentence").textContent.replace("● ", "");
+    byId("sentence").replaceChildren(...(place === 0 ? atTheStart() : sentence(run.entry(place), run)));
+    const spoken = byId("sentence").textContent.slice(place === 0 ? 0 : run.actors.codes[run.entry(place).actor].length).trim();
     fieldOf("slider").valueAsNumber = place;
     byId("slider").setAttribute("aria-valuetext", `place ${place} of ${run.lastPlace}: ${spoken}`);
     byId("place").textContent = `place ${grouped(place)} of ${grouped(run.lastPlace)}`;
@@ -45,7 +45,7 @@ export class Telling {
     const { run, view } = this;
     const state = run.state(view.place);
     if (state === undefined) return;
-    byId("state").replaceChildren(...statePanel(state, run.names));
+    byId("state").replaceChildren(...statePanel(state, run));
     byId("state").dataset.place = String(view.place);
     this.offer(conditionsAt(state, run));
     byId("picture").setAttribute("aria-label", `The calls from place ${view.from} to ${Math.min(view.to, run.lastPlace)}, drawn.`);

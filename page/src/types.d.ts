@@ -70,6 +70,8 @@ interface Life {
   kind: string;
   from: number;
   to: number;
+  /** The actor that used it last, or made it. */
+  user: number | null;
 }
 
 /** What is opened: a file's name and bytes, and those of its file of names. */

@@ -4,7 +4,7 @@ import { gutterOf } from "./frame.js";
 
 const FEWEST = 12;
 const MOST_DRAWN = 1500;
-const GOOD_COLUMN = 14;
+const GOOD_COLUMN = 12;
 const MOST_AT_FIRST = 64;
 
 // How many columns fit side by side at a good width.

@@ -1,8 +1,9 @@
 // The call that would wait: the script's line, who makes it, and a mark after the last place.
 
+import { stepsOf } from "./bindings.js";
 import { flag, line } from "./canvas.js";
 
-const STEP = /^(\d+) (\d+) ([a-z-]+) (\S+)/;
+const CALL = /^(\d+) (\d+) ([a-z-]+) (\S+)/;
 
 // Returns the handle that a step names: by its number, or by the name that an earlier step gave to the handle that it made. Each of
 // the earlier steps is an entry.
@@ -13,10 +14,9 @@ function handleOf(word, steps, run) {
 
 // Parses the call in this line of the script. The first line is 1.
 export function waitingCall(bytes, lineNumber, run) {
-  const lines = new TextDecoder().decode(bytes).split("\n").slice(0, lineNumber);
-  const steps = lines.filter(text => STEP.test(text));
+  const steps = stepsOf(bytes, lineNumber);
   const text = steps.pop();
-  const [, actor, channel, word, handle] = STEP.exec(text);
+  const [, actor, channel, word, handle] = CALL.exec(text);
   return { line: lineNumber, text, actor: Number(actor), channel: Number(channel), word, handle: handleOf(handle, steps, run) };
 }
 

@@ -48,7 +48,7 @@ def drop_with_names(tab, folder, journals):
         opening.settle(tab, 0)
         tab.key("l")
         opening.settle(tab, 23)
-        assert tab.text("sentence").startswith("● slow auditor on prices: recv 2 → lagged 2"), tab.text("sentence")
+        assert tab.text("sentence").startswith("sa slow auditor on prices: recv 2 → lagged 2"), tab.text("sentence")
     tab.drop(folder)
     told(tab, "notice", f"{os.path.basename(folder)} can't be read: ")
     opening.settle(tab, 23)

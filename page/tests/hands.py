@@ -10,7 +10,7 @@ import opening
 from opening import check_place
 from shown import points_of
 
-GUTTER, MARGIN = 140, 14
+GUTTER, MARGIN = 230, 14
 STOPS = [("rforward", "lagging 0 2"), ("rforward", "lagging 0 2"), ("rback", "actor 2"), ("rforward", "closed 1"),
          ("rback", "unseen 1 2"), ("rforward", "queue 0 4"), ("rforward", "reply nonsense"), ("rback", "sideways"),
          ("rback", "closed 0"), ("rforward", "lagging 99999999999999999999 1")]
@@ -256,7 +256,7 @@ def example(tab, folder, journals):
     opening.settle(tab, 0)
     tab.key("l")
     opening.settle(tab, 23)
-    assert tab.text("sentence").startswith("● slow auditor on prices: recv 2 → lagged 2 (2 values were overwritten"), tab.text("sentence")
+    assert tab.text("sentence").startswith("sa slow auditor on prices: recv 2 → lagged 2 (2 values were overwritten"), tab.text("sentence")
 
 
 def files_that_are_not_there(tab, folder, journals):

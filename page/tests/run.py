@@ -12,6 +12,7 @@ import hands
 import jumps
 import moves
 import native
+import owners
 import runs
 import shown
 import speed
@@ -38,6 +39,7 @@ TESTS = [
     hands.buttons, hands.mouse, moves.wheel, moves.stop_field, hands.drops, given.chosen_again, given.drop_with_names,
     given.places_of_two_runs, given.failed_opening, way_in.names_in_any_order, way_in.names_of_another_run, way_in.foreign_texts,
     way_in.several_runs, way_in.kept_for_a_reload, way_in.signs, jumps.history_of_jumps, jumps.address_keeps, jumps.console_commands,
+    owners.whose_rows, owners.long_owners, owners.told_apart, owners.versions,
     jumps.picture_as_png, jumps.help_of_keys, jumps.zoom_at_pointer, jumps.touch,
     hands.waiting_script, hands.refusals, hands.example, hands.files_that_are_not_there, hands.addresses, shown.large_runs,
     shown.quick_walking, shown.many_handles, weak.weak_senders, weak.weak_rows, texts.large_numbers, texts.long_texts, speed.figures,

@@ -119,7 +119,7 @@ def spoken(tab, folder, journals):
     wanted = {"Yovanelum", "channel 0 broadcast, capacity 4 open", "channel 1 watch open", "Calls around it"}
     assert set(headings) == wanted, headings
     texts = [name for role, name in told if role == "StaticText"]
-    assert "2 overwritten" in texts and "has not seen it" in texts
+    assert "2 overwritten" in texts and "has 0 of 1" in texts
     assert all(name for role, name in told if role in ("button", "textbox", "combobox", "slider")), "a control has no name"
 
 
