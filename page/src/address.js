@@ -1,5 +1,5 @@
-// The page's address, as `#place=42&view=10-74&stop=lagging+0+2`, so that a link leads to a place and to what is in view there; and the
-// steps of the browser's history. Each step belongs to a run, by its key.
+// The page's address, as `#place=42&view=10-74&fold=0.3&filter=jobs&stop=lagging+0+2`, so that a link leads to a place and to what is in
+// view there; and the steps of the browser's history. Each step belongs to a run, by its key.
 
 const QUIET = 250;
 const VIEW = /^(\d+)-(\d+)$/;
@@ -7,7 +7,7 @@ const NUMBER = /^\d+$/;
 
 let timer = 0;
 
-// Returns the place in an address, and what else it has: the columns in view, and the condition of a stop.
+// Returns the place in an address, and what else it has: the columns in view, the folded bands, the filter, and the condition of a stop.
 /** @returns {Address} */
 export function readAddress(address) {
   const parts = new URLSearchParams(new URL(address).hash.slice(1));
@@ -16,14 +16,16 @@ export function readAddress(address) {
   return {
     place: NUMBER.test(place) ? Number(place) : 0,
     view: view && [Number(view[1]), Number(view[2])],
+    fold: parts.get("fold"),
+    filter: parts.get("filter"),
     stop: parts.get("stop"),
   };
 }
 
 /** @param {Address} address */
-function hashOf({ place, view, stop }) {
+function hashOf({ place, view, fold, filter, stop }) {
   const parts = new URLSearchParams({ place: String(place), view: view.join("-") });
-  if (stop) parts.set("stop", stop);
+  for (const [name, text] of Object.entries({ fold, filter, stop })) if (text !== null) parts.set(name, text);
   return `#${parts}`;
 }
 

@@ -1,19 +1,26 @@
 // Where a column of the view is on a canvas.
 
 const MARGIN = 14;
-const NARROW = 560;
+const NARROW = 600;
+const MIDDLING = 900;
+const NARROW_STRIP = 84;
 
-// How wide the names on the left are.
+// How wide the names on the left are. On a narrow screen they are above their rows.
 export function gutterOf(width) {
-  return width < NARROW ? 104 : 230;
+  if (width < NARROW) return 0;
+  return width < MIDDLING ? 246 : 268;
+}
+
+export function stripGutterOf(width) {
+  return gutterOf(width) || NARROW_STRIP;
 }
 
 export class Frame {
-  constructor(from, to, width) {
+  constructor(from, to, width, left) {
     this.from = from;
     this.to = to;
     this.width = width;
-    this.left = gutterOf(width);
+    this.left = left;
     this.right = width - MARGIN;
     this.column = (this.right - this.left) / (to - from + 1);
   }

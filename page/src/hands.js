@@ -23,6 +23,23 @@ export function chosenIn(id, name, choose) {
   });
 }
 
+// A channel's head in the panel folds or unfolds it. Its content is made when it is shown.
+function turnChannel(page, event) {
+  const head = event.target.closest("summary");
+  if (!head) return;
+  event.preventDefault();
+  page.walk?.telling.turn(Number(head.parentElement.dataset.channel));
+}
+
+// On a narrow screen the picture and the state are shown one at a time.
+function listenToTabs(page) {
+  chosenIn("tabs", "tab", tab => {
+    document.body.dataset.tab = tab;
+    for (const button of byId("tabs").children) button.toggleAttribute("aria-current", button === byId("tabs").querySelector(`[data-tab=${tab}]`));
+    page.walk?.scrolled();
+  });
+}
+
 function listenToButtons(page) {
   press(page, "first", walk => walk.jumpTo(0));
   press(page, "back", walk => walk.by(-1));
@@ -33,9 +50,11 @@ function listenToButtons(page) {
   press(page, "farther", walk => walk.zoom(2));
   press(page, "nearer", walk => walk.zoom(0.5));
   press(page, "whole", walk => walk.whole());
+  press(page, "open-stops", walk => walk.ask());
   press(page, "copy", copyCommands);
   press(page, "save", walk => savePicture(walk, page.source.name));
   chosenIn("calls", "place", place => page.walk?.jumpTo(Number(place)));
+  byId("state").addEventListener("click", event => turnChannel(page, event));
   byId("told").addEventListener("toggle", () => page.walk?.telling.tellConsole());
 }
 
@@ -53,13 +72,17 @@ function listenToSlider(page) {
 
 function listenToStops(page) {
   const field = fieldOf("condition");
+  const closeStops = () => {
+    byId("stops").classList.remove("is-open");
+    field.blur();
+  };
   const seek = word => field.value.trim() && page.walk?.seek(word, field.value.trim());
   byId("stops").addEventListener("submit", event => {
     event.preventDefault();
     seek(/** @type {HTMLButtonElement} */ (event.submitter).value);
   });
   field.addEventListener("keydown", event => {
-    if (event.key === "Escape") field.blur();
+    if (event.key === "Escape") closeStops();
     if (event.key !== "Enter") return;
     event.preventDefault();
     seek(event.shiftKey ? "rback" : "rforward");
@@ -83,16 +106,37 @@ function wheeled(page, box, isStrip) {
   }, { passive: false });
 }
 
+// The rows' own scrolling, their filter and their folds.
+function listenToRows(page) {
+  const filter = fieldOf("filter");
+  let isWaiting = false;
+  byId("pane").addEventListener("scroll", () => {
+    if (isWaiting) return;
+    isWaiting = true;
+    requestAnimationFrame(() => {
+      isWaiting = false;
+      page.walk?.scrolled();
+    });
+  });
+  byId("strip-box").addEventListener("scroll", () => page.walk?.screen.measure());
+  new ResizeObserver(() => page.walk?.scrolled()).observe(byId("pane"));
+  filter.addEventListener("input", () => page.walk?.refold(folds => { folds.filter = filter.value; }));
+  filter.addEventListener("keydown", event => event.key === "Escape" && filter.blur());
+  press(page, "fold-all", walk => walk.refold(folds => folds.turnAll()));
+}
+
 export function listenToHands(page) {
   listenToButtons(page);
   listenToSlider(page);
   listenToStops(page);
+  listenToTabs(page);
   pointed(byId("picture-box"), {
-    pick: x => page.walk?.toPointInPicture(x),
-    jump: move => page.walk?.jump(move),
+    press: (x, y) => page.walk?.pressPicture(x, y),
+    follow: x => page.walk?.toPointInPicture(x),
     pan: (x, last) => page.walk?.pan(x, last) ?? 0,
   });
-  pointed(byId("strip-box"), { pick: x => page.walk?.toPointInStrip(x), jump: move => page.walk?.jump(move), pan: () => 0 });
-  wheeled(page, byId("picture-box"), false);
+  pointed(byId("strip-box"), { press: x => page.walk?.pressStrip(x), follow: x => page.walk?.toPointInStrip(x), pan: () => 0 });
+  wheeled(page, byId("pane"), false);
   wheeled(page, byId("strip-box"), true);
+  listenToRows(page);
 }

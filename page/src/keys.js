@@ -1,8 +1,9 @@
 // The keys, and what each does.
 
-import { byId, element } from "./dom.js";
+import { byId, element, fieldOf } from "./dom.js";
 
 const FAR = 10;
+const ROWS = 60;
 
 // Each key with its names in events, the name that is shown, what it does in words, and the move.
 const KEYS = [
@@ -19,6 +20,10 @@ const KEYS = [
   { keys: ["+", "="], shown: "+", does: "nearer", move: walk => walk.zoom(0.5) },
   { keys: ["-"], shown: "−", does: "farther", move: walk => walk.zoom(2) },
   { keys: ["0"], shown: "0", does: "the whole run", move: walk => walk.whole() },
+  { keys: ["ArrowDown"], shown: "↓, ↑", does: "scroll the rows", move: () => byId("pane").scrollBy(0, ROWS) },
+  { keys: ["ArrowUp"], move: () => byId("pane").scrollBy(0, -ROWS) },
+  { keys: ["f", "F"], shown: "F", does: "into the field that filters the rows by name; Escape leaves it", move: () => fieldOf("filter").select() },
+  { keys: ["z", "Z"], shown: "Z", does: "fold or unfold all", move: walk => walk.refold(folds => folds.turnAll()) },
   { keys: ["/"], shown: "/", does: "into the field for a stop; Enter there seeks on, with Shift back", move: walk => walk.ask() },
 ];
 
@@ -45,5 +50,5 @@ export function listenToKeys(page) {
 
 export function keyRows() {
   const rows = [...KEYS, { shown: "?", does: "the keys" }];
-  return rows.map(({ shown, does }) => element("div", {}, element("dt", {}, element("kbd", {}, shown)), element("dd", {}, does)));
+  return rows.filter(({ shown }) => shown).map(({ shown, does }) => element("div", {}, element("dt", {}, element("kbd", {}, shown)), element("dd", {}, does)));
 }

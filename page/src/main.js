@@ -56,8 +56,13 @@ async function openInHistory(opener) {
 // An address that is written by hand means a place in the opened run.
 function followHistory(opener) {
   if (runInHistory() === undefined) setRun(page.source?.key ?? null);
-  if (runInHistory() !== (page.source?.key ?? null)) openInHistory(opener).catch(tellFault);
-  else page.walk?.restore(readAddress(location.href));
+  if (runInHistory() === (page.source?.key ?? null)) {
+    page.walk?.restore(readAddress(location.href));
+  } else {
+    // The run that is left has to leave the other's address alone from now on.
+    page.walk?.leave();
+    openInHistory(opener).catch(tellFault);
+  }
 }
 
 function listen(opener, wayIn) {

@@ -3,10 +3,11 @@
 
 const STILL = 8;
 
-// `hand.pick(x)` goes to a point, `hand.jump(move)` makes a step of the history of a move, and `hand.pan(x, last)` pans from a point to
-// another, as far as whole columns fit, and returns how far that is.
+// `hand.press(x, y)` is called for a press or a tap, `hand.follow(x)` while the mouse is dragged, and `hand.pan(x, last)` pans from a point
+// to another, as far as whole columns fit, and returns how far that is.
 export function pointed(box, hand) {
   const at = event => event.clientX - box.getBoundingClientRect().left;
+  const press = event => hand.press(at(event), event.clientY - box.getBoundingClientRect().top);
   let finger = null;
   const lay = event => { finger = { start: at(event), last: at(event), isPanning: false }; };
   const move = event => {
@@ -17,15 +18,15 @@ export function pointed(box, hand) {
     if (event.button !== 0) return;
     box.setPointerCapture(event.pointerId);
     if (event.pointerType === "touch") lay(event);
-    else hand.jump(() => hand.pick(at(event)));
+    else press(event);
   });
   box.addEventListener("pointermove", event => {
     if (!box.hasPointerCapture(event.pointerId)) return;
-    if (event.pointerType !== "touch") hand.pick(at(event));
+    if (event.pointerType !== "touch") hand.follow(at(event));
     else if (finger) move(event);
   });
   box.addEventListener("pointerup", event => {
-    if (finger && !finger.isPanning) hand.jump(() => hand.pick(at(event)));
+    if (finger && !finger.isPanning) press(event);
     finger = null;
   });
   box.addEventListener("pointercancel", () => { finger = null; });

@@ -2,6 +2,7 @@
 
 import { Actors } from "./actors.js";
 import { readEntry } from "./entries.js";
+import { SENT } from "./marks.js";
 import { commandsFor, readStates } from "./states.js";
 
 // In characters: the output of one request, the states that are kept, and as a first guess a state without values, and a value in it.
@@ -25,6 +26,9 @@ export class Run {
     this.channels = opened.opening.channels;
     this.waiting = null;
     this.lifeTables = null;
+    this.sendCounts = this.channels.map(() => 0);
+    this.columns.marks.forEach((mark, place) => { if (mark === SENT) this.sendCounts[this.columns.channels[place]]++; });
+    this.receiverCounts = this.lives.map(lives => lives.filter(life => life.kind === "receiver").length);
     this.bindings = {};
     this.actorCount = this.columns.actors.reduce((most, actor) => Math.max(most, actor + 1), 1);
     this.rename(names);

@@ -12,7 +12,7 @@ const LEFT = 10;
 const LONG_ENOUGH = 60_000;
 
 // The drawings from top to bottom, each with its layers.
-const DRAWINGS = [["strip", "strip-cursor"], ["picture", "cursor"]];
+const DRAWINGS = [["strip", "strip-cursor"], ["axis"], ["picture", "cursor"]];
 
 export async function copyCommands(walk) {
   try {

@@ -55,6 +55,8 @@ interface ChannelState {
 interface Address {
   place: number;
   view: number[] | null;
+  fold: string | null;
+  filter: string | null;
   stop: string | null;
 }
 
@@ -87,4 +89,41 @@ interface Source {
   /** What is reported when it is opened. */
   notice?: (string | Node)[];
   size?: number;
+}
+
+/** A row of the picture, at its heights in the layout. Its lane is where calls are drawn, and its base the line below them. */
+interface Row {
+  kind: string;
+  lives: Life[];
+  y: number;
+  height: number;
+  lane: number;
+  base: number;
+  actor?: number;
+}
+
+/** A channel's rows, or those of the actors, below their head. */
+interface Band {
+  key: number | string;
+  channel: number | null;
+  y: number;
+  height: number;
+  rows: Row[];
+  rowOf: Map<number, Row>;
+  isFolded: boolean;
+}
+
+/** What the drawings of the picture pass on. `places` are those whose states are drawn, and top and bottom the heights in sight. */
+interface Drawing {
+  pen: CanvasRenderingContext2D;
+  run: import("./run.js").Run;
+  view: import("./view.js").View;
+  frame: import("./frame.js").Frame;
+  folds: import("./folds.js").Folds;
+  palette: any;
+  bands: Band[];
+  band: Band;
+  places: number[];
+  top: number;
+  bottom: number;
 }

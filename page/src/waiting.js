@@ -1,7 +1,7 @@
 // The call that would wait: the script's line, who makes it, and a mark after the last place.
 
 import { stepsOf } from "./bindings.js";
-import { flag, line } from "./canvas.js";
+import { flag } from "./canvas.js";
 
 const CALL = /^(\d+) (\d+) ([a-z-]+) (\S+)/;
 
@@ -20,18 +20,16 @@ export function waitingCall(bytes, lineNumber, run) {
   return { line: lineNumber, text, actor: Number(actor), channel: Number(channel), word, handle: handleOf(handle, steps, run) };
 }
 
-export function drawWaiting({ pen, run, view, frame, layout, palette }) {
+/** @param {Drawing} drawing */
+export function drawWaiting({ pen, run, view, frame, bands, palette }) {
   const column = run.lastPlace + 1;
   if (view.to < column) return;
   const { actor, channel, word, handle } = run.waiting;
-  const row = layout.bands[channel].rowOf.get(handle);
+  const band = bands.find(it => it.channel === channel);
+  if (band === undefined) return;
+  const row = band.rowOf.get(handle);
   const x = frame.middle(column);
-  const foot = row ? row.base : layout.bands[channel].head;
-  pen.strokeStyle = palette.actor(actor);
-  pen.lineWidth = 1.6;
-  pen.setLineDash([2, 3]);
-  line(pen, x, layout.actorY(actor), x, foot);
-  pen.setLineDash([]);
+  const foot = row ? row.base : band.y + band.height;
   flag(pen, `${word} would wait`, {
     x, y: foot - 15, colour: palette.actor(actor), ink: palette.card, least: frame.left, most: frame.right,
   });

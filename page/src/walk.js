@@ -1,10 +1,9 @@
 // The walk over an opened run: its place, and the moves.
 
 import { forgetAddress, pushAddress, putIntoAddress } from "./address.js";
-import { byId, fieldOf, outside } from "./dom.js";
+import { byId, fieldOf } from "./dom.js";
 import { Latest } from "./latest.js";
-import { during } from "./notice.js";
-import { seek } from "./stops.js";
+import { Searching } from "./searching.js";
 import { Telling } from "./telling.js";
 
 const NEIGHBOURS = 24;
@@ -16,20 +15,17 @@ export class Walk {
     this.view = view;
     this.screen = screen;
     this.onFault = onFault;
-    this.telling = new Telling(run, view, onFault);
+    this.telling = new Telling(run, view, screen, onFault);
     this.drawing = new Latest(() => this.draw(), onFault);
-    this.searching = Promise.resolve();
-    this.moves = 0;
+    this.searching = new Searching(run, () => view.place, place => this.jump(() => this.go(place)), onFault);
     this.isLeft = false;
-    // The last search that found a place: where it began, its command, and the place.
-    this.found = null;
-    byId("found").textContent = "";
   }
 
   // Called when another run is opened. Replies that arrive after that are not shown.
   leave() {
     this.isLeft = true;
     forgetAddress();
+    this.searching.stop();
     this.drawing.stop();
     this.telling.stop();
   }
@@ -38,38 +34,61 @@ export class Walk {
   /** @returns {Address} */
   get address() {
     const { place, from, to } = this.view;
+    const { folds } = this.screen;
     const stop = fieldOf("condition").value.trim();
-    return { place, view: [from, to], stop: stop === LAG ? null : stop };
+    return {
+      place, view: [from, to], fold: folds.areFirst ? null : folds.text, filter: folds.filter || null, stop: stop === LAG ? null : stop,
+    };
   }
 
-  // Goes where an address leads.
+  // Goes where an address leads. One with a place alone leaves folds and filter as they are.
   /** @param {Address} address */
-  restore({ place, view, stop }) {
-    this.stopSearching();
+  restore({ place, view, fold, filter, stop }) {
+    const { folds } = this.screen;
+    this.searching.stop();
     if (stop !== null) fieldOf("condition").value = stop;
+    if (view !== null) {
+      folds.text = fold ?? folds.first;
+      fieldOf("filter").value = folds.filter = filter ?? "";
+      this.screen.arrange();
+    }
     this.view.restore(place, view);
     this.show();
+    this.reveal();
   }
 
-  // Discards earlier searches and what they have reported.
-  stopSearching() {
-    this.moves++;
-    byId("found").textContent = "";
-  }
-
-  // Moves by hand, without a step of the browser's history.
-  to(place) {
-    this.stopSearching();
+  // Goes to a place, without a step of the browser's history, and without scrolling the rows.
+  go(place) {
     this.view.go(place);
     this.show();
   }
 
-  by(places) {
-    this.to(this.view.place + places);
+  // The same by hand. It discards earlier searches.
+  to(place) {
+    this.searching.stop();
+    this.go(place);
   }
 
-  // Jumps by hand. Each jump is a step of the browser's history.
+  by(places) {
+    this.to(this.view.place + places);
+    this.reveal();
+  }
+
+  // Scrolls in the row of the call that led to the place.
+  reveal() {
+    const { channels, handles } = this.run.columns;
+    const { place } = this.view;
+    if (place > 0) this.screen.reveal(channels[place], handles[place]);
+  }
+
+  // Jumps, and scrolls in where that led. Each jump is a step of the browser's history.
   jump(move) {
+    this.step(move);
+    this.reveal();
+  }
+
+  // Makes a step of the browser's history of a move.
+  step(move) {
     const from = this.address;
     move();
     pushAddress(from, this.address);
@@ -91,8 +110,27 @@ export class Walk {
     this.by(pages * this.view.width);
   }
 
+  // A press on a band's head folds or unfolds it. Elsewhere it goes to the place.
+  pressPicture(x, y) {
+    const key = this.screen.headAt(x, y);
+    if (key === null) this.step(() => this.toPointInPicture(x));
+    else this.refold(folds => folds.turn(key));
+  }
+
   toPointInPicture(x) {
     this.to(this.screen.placeInPicture(x));
+  }
+
+  // Changes what is folded or filtered.
+  refold(change) {
+    change(this.screen.folds);
+    byId("fold-all").textContent = this.screen.folds.areAll ? "unfold all" : "fold all";
+    this.screen.arrange();
+    this.show();
+  }
+
+  pressStrip(x) {
+    this.jump(() => this.toPointInStrip(x));
   }
 
   // Brings the place into view, with what is around it.
@@ -110,7 +148,7 @@ export class Walk {
 
   // Moves what is in view from one point of the picture to another, by whole columns. Returns how far that is.
   pan(x, last) {
-    const { column } = this.screen.frameOfPicture;
+    const { column } = this.screen.frame;
     const columns = Math.trunc((last - x) / column);
     this.scroll(columns);
     return -columns * column;
@@ -128,7 +166,7 @@ export class Walk {
 
   // Zooms so that the place under a point of the picture stays there.
   zoomAtPoint(factor, x) {
-    this.view.zoomAt(factor, this.screen.frameOfPicture.shareAt(x));
+    this.view.zoomAt(factor, this.screen.frame.shareAt(x));
     this.show();
   }
 
@@ -138,6 +176,7 @@ export class Walk {
   }
 
   ask() {
+    byId("stops").classList.add("is-open");
     fieldOf("condition").select();
   }
 
@@ -145,34 +184,14 @@ export class Walk {
     this.seek(isBack ? "rback" : "rforward", LAG);
   }
 
-  // Searches run one after the other, so that each begins where the one before has ended.
+  // Searches for a condition, and jumps to where it holds.
   seek(word, condition) {
-    const { moves } = this;
-    const isOver = () => this.isLeft || this.moves !== moves;
-    this.searching = this.searching.then(() => this.search(word, condition, isOver)).catch(this.onFault);
-  }
-
-  async search(word, condition, isOver) {
-    if (isOver()) return;
-    const what = ["searching ", word === "rback" ? "back" : "on", " for ", outside(condition)];
-    const start = this.view.place;
-    const found = await during(what, () => seek(this.run, start, word, condition));
-    if (isOver()) return;
-    byId("found").textContent = found.answer;
-    byId("found").classList.toggle("lag", found.place === null);
-    if (found.place === null) return;
-    this.found = { start, command: `${word} ${condition}`, place: found.place };
-    this.jump(() => {
-      this.view.go(found.place);
-      this.show();
-    });
+    this.searching.ask(word, condition);
   }
 
   // The commands that lead a console to this place, as the last search did if it led here.
   commands() {
-    const { place } = this.view;
-    const way = this.found?.place === place ? [`goto ${this.found.start}`, this.found.command] : [`goto ${place}`];
-    return [...way, "step", "state", ""].join("\n");
+    return [...(this.searching.wayTo(this.view.place) ?? [`goto ${this.view.place}`]), "step", "state", ""].join("\n");
   }
 
   // The texts change at once, and the picture when its states are loaded.
@@ -196,8 +215,19 @@ export class Walk {
     const places = this.neededPlaces();
     if (this.run.missing(places).length > 0) await this.run.load(places);
     if (this.isLeft) return;
+    this.redraw();
+    this.telling.describe();
+  }
+
+  // Draws after the rows were scrolled, or have another height.
+  scrolled() {
+    this.screen.measure();
+    this.redraw();
+  }
+
+  // Draws what is loaded.
+  redraw() {
     this.screen.drawView();
     this.screen.drawPlace();
-    this.telling.describe();
   }
 }

@@ -10,7 +10,7 @@ import opening
 from opening import check_place
 from shown import points_of
 
-GUTTER, MARGIN = 230, 14
+GUTTER, MARGIN = 268, 14
 STOPS = [("rforward", "lagging 0 2"), ("rforward", "lagging 0 2"), ("rback", "actor 2"), ("rforward", "closed 1"),
          ("rback", "unseen 1 2"), ("rforward", "queue 0 4"), ("rforward", "reply nonsense"), ("rback", "sideways"),
          ("rback", "closed 0"), ("rforward", "lagging 99999999999999999999 1")]
@@ -128,6 +128,8 @@ def buttons(tab, folder, journals):
     ask = opening.asker(journals[63])
     for name, place in (("#forward", 1), ("#forward", 2), ("#back", 1), ("#last", 63), ("#first", 0), ("#lag-after", 23),
                         ("#lag-after", 33), ("#lag-before", 23), ("#chips [data-condition='closed 0']", 52), ("#calls [data-place='50']", 50)):
+        if name.startswith("#chips"):
+            tab.click("#condition")
         tab.click(name)
         check_place(tab, ask, place)
     tab.run("(() => { const slider = document.getElementById('slider'); slider.value = 12; slider.dispatchEvent(new Event('input')); })()")

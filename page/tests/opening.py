@@ -69,7 +69,7 @@ def panel_of(state):
     return rows
 
 
-PANEL = """[...document.querySelectorAll('#state section')].flatMap(section => [section.querySelector('.tag').textContent,
+PANEL = """[...document.querySelectorAll('#state .channel')].sort((a, b) => a.dataset.channel - b.dataset.channel).flatMap(section => [section.querySelector('.tag').textContent,
     'values: ' + [...section.querySelectorAll('.values li, p .box')].map(box => box.textContent).join(' '),
     ...[...section.querySelectorAll('dl div')].map(row => (row.querySelector('[data-handle]') ?? row.children[0]).textContent + ': ' + row.children[1].textContent)])"""
 

@@ -16,9 +16,9 @@ ALERTED = "void (window.alert = () => { window.alerted = true; })"
 def lagging_picture(tab, folder, path):
     """A receiver that lags, with names for actors and channels."""
     opening.put(folder, "price_feed.names", runs.example_file("price_feed.names"))
-    tab.resize(1280, 1100)
+    tab.resize(1280, 540)
     opening.load(tab, opening.page_of(folder, "price_feed.ttd", runs.example()), 22)
-    tab.picture(path, "#picture-box")
+    tab.picture(path, "#left")
     tab.resize(1440, 920)
 
 
@@ -37,7 +37,7 @@ def pictures(tab, folder, journals):
     lagging_picture(tab, folder, os.path.join(out, "lagging.png"))
     opening.load(tab, opening.page_of(folder, "dark.journal", journals[63]), 33)
     tab.prefer("dark")
-    tab.wait("getComputedStyle(document.body).backgroundColor === 'rgb(17, 23, 30)'")
+    tab.wait("getComputedStyle(document.body).backgroundColor === 'rgb(25, 33, 42)'")
     tab.picture(os.path.join(out, "dark.png"))
     tab.prefer("light")
     tab.resize(390, 844)
