@@ -19,7 +19,7 @@ export function headY({ y, height }, top) {
 }
 
 function wordsOf({ run, band }) {
-  if (band.key === ACTORS) return [countOf(run.actorCount, "actor"), band.isFolded ? "folded: their badges stand on their rows" : "the calls of each"];
+  if (band.key === ACTORS) return [countOf(run.actorCount, "actor"), band.isFolded ? "folded" : "the calls of each"];
   return [run.names.channel(band.channel), `${kindOf(run.channels[band.channel])} · ${countOf(run.receiverCounts[band.channel], "receiver")}`];
 }
 

@@ -50,5 +50,6 @@ export function listenToKeys(page) {
 
 export function keyRows() {
   const rows = [...KEYS, { shown: "?", does: "the keys" }];
-  return rows.filter(({ shown }) => shown).map(({ shown, does }) => element("div", {}, element("dt", {}, element("kbd", {}, shown)), element("dd", {}, does)));
+  return rows.filter(({ shown }) => shown).map(({ shown, does }) =>
+    element("div", {}, element("dt", {}, element("kbd", {}, shown)), element("dd", {}, does)));
 }

@@ -151,6 +151,7 @@ export class Opener {
   }
 
   keep({ key, name, bytes, names, namesFile }) {
-    keep(key, { name, bytes, names, namesFile }).catch(fault => tell("This run won't survive a reload, since the browser doesn't keep it: ", fault.message));
+    const onFault = fault => tell("This run won't survive a reload, since the browser doesn't keep it: ", fault.message);
+    keep(key, { name, bytes, names, namesFile }).catch(onFault);
   }
 }

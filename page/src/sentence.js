@@ -32,7 +32,8 @@ function replyText(entry) {
 export function sentence(entry, run) {
   const { actors, names } = run;
   return [
-    actors.badge(entry.actor), " ", coloured(actorColour(entry.actor), outside(names.actor(entry.actor))), " on ", outside(names.channel(entry.channel)), ": ",
+    actors.badge(entry.actor), " ", coloured(actorColour(entry.actor), outside(names.actor(entry.actor))),
+    " on ", outside(names.channel(entry.channel)), ": ",
     element("b", {}, callText(entry)), " → ", element("b", { class: entry.reply }, replyText(entry)), meaning(entry, names),
   ];
 }
