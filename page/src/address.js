@@ -1,17 +1,79 @@
-// The place in the page's address, as `#place=42`, so that a link leads to a place.
+// The page's address, as `#place=42&view=10-74&fold=0.3&filter=jobs&stop=lagging+0+2`, so that a link leads to a place and to what is in
+// view there; and the steps of the browser's history. Each step belongs to a run, by its key.
 
-const PLACE = /^#place=(\d+)$/;
 const QUIET = 250;
+const VIEW = /^(\d+)-(\d+)$/;
+const NUMBER = /^\d+$/;
 
 let timer = 0;
 
-export function placeIn(address) {
-  const found = PLACE.exec(new URL(address).hash);
-  return found ? Number(found[1]) : 0;
+// Returns the place in an address, and what else it has: the columns in view, the folded bands, the filter, and the condition of a stop.
+/** @returns {Address} */
+export function readAddress(address) {
+  const parts = new URLSearchParams(new URL(address).hash.slice(1));
+  const place = parts.get("place") ?? "";
+  const view = VIEW.exec(parts.get("view") ?? "");
+  return {
+    place: NUMBER.test(place) ? Number(place) : 0,
+    view: view && [Number(view[1]), Number(view[2])],
+    fold: parts.get("fold"),
+    filter: parts.get("filter"),
+    stop: parts.get("stop"),
+  };
 }
 
-// Browsers limit how often the address may change, so it changes only when the walk pauses.
-export function putIntoAddress(place) {
+/** @param {Address} address */
+function hashOf({ place, view, fold, filter, stop }) {
+  const parts = new URLSearchParams({ place: String(place), view: view.join("-") });
+  for (const [name, text] of Object.entries({ fold, filter, stop })) if (text !== null) parts.set(name, text);
+  return `#${parts}`;
+}
+
+// Browsers limit how often the address may change. Some throw an error above that: then a later change has to do.
+function write(method, state, hash) {
+  try {
+    history[method](state, "", hash);
+  } catch {
+    return;
+  }
+}
+
+// Changes the address when the walk pauses.
+/** @param {Address} address */
+export function putIntoAddress(address) {
   clearTimeout(timer);
-  timer = setTimeout(() => history.replaceState(null, "", `#place=${place}`), QUIET);
+  timer = setTimeout(() => write("replaceState", history.state, hashOf(address)), QUIET);
+}
+
+// Makes a step of the history, from one address to another, unless they are the same.
+/**
+ * @param {Address} from
+ * @param {Address} to
+ */
+export function pushAddress(from, to) {
+  clearTimeout(timer);
+  if (hashOf(from) === hashOf(to)) return;
+  write("replaceState", history.state, hashOf(from));
+  write("pushState", history.state, hashOf(to));
+}
+
+// Discards a change of the address that waits, since the address leads elsewhere by now.
+export function forgetAddress() {
+  clearTimeout(timer);
+}
+
+// Returns the key of the run that this step of the history belongs to, or undefined if the address was written by hand.
+export function runInHistory() {
+  return history.state?.run;
+}
+
+// Says which run this step of the history belongs to.
+export function setRun(key) {
+  write("replaceState", { run: key }, location.hash);
+}
+
+// Makes a step of the history for a run that is opened at its start.
+export function pushRun(key) {
+  clearTimeout(timer);
+  write("pushState", { run: key }, "#place=0");
 }

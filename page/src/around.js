@@ -1,20 +1,17 @@
 // The calls around the place, as a list of buttons that go there.
 
-import { coloured, element } from "./dom.js";
-import { actorColour } from "./palette.js";
+import { element } from "./dom.js";
 import { shortLine } from "./sentence.js";
 
-const BEFORE = 6;
-const SHOWN = 14;
-
-export function callsAround(run, place) {
-  const first = Math.max(1, Math.min(place - BEFORE, run.lastPlace - SHOWN + 1));
+// Returns this many calls, with some before the place, as far as there are any.
+export function callsAround(run, place, { shown, before }) {
+  const first = Math.max(1, Math.min(place - before, run.lastPlace - shown + 1));
   const width = String(run.lastPlace).length;
   const lines = [];
-  for (let number = first; number <= Math.min(run.lastPlace, first + SHOWN - 1); number++) {
+  for (let number = first; number <= Math.min(run.lastPlace, first + shown - 1); number++) {
     const entry = run.entry(number);
     const line = element("button", { "data-place": number, class: entry.reply, tabindex: -1 },
-      coloured(actorColour(entry.actor), "● "), `${String(number).padStart(width)}  ${shortLine(entry)}`);
+      run.actors.badge(entry.actor), ` ${String(number).padStart(width)}  ${shortLine(entry)}`);
     if (number === place) line.setAttribute("aria-current", "step");
     lines.push(element("li", {}, line));
   }

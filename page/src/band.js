@@ -1,51 +1,28 @@
-// Draws a channel's band: its name, where it is closed, a row for each handle, and the calls on them.
+// Draws a channel's rows in sight: a line for each handle, what its receiver has to read, and the calls on it.
 
 import { drawBandCalls } from "./band_calls.js";
-import { fitted, hatched, line } from "./canvas.js";
+import { hatched, line } from "./canvas.js";
+import { HEAD } from "./layout.js";
 import { drawLevels, drawValues } from "./levels.js";
-import { grouped } from "./numbers.js";
-import { BOLD, FONT, SMALL_BOLD } from "./palette.js";
-
-const FLAG_HEIGHT = 17;
-
-export function kindOf(channel) {
-  return channel.kind === "broadcast" ? `broadcast, capacity ${channel.capacity}` : "watch";
-}
-
-function drawHead({ pen, run, frame, band, palette }) {
-  const channel = run.channels[band.channel];
-  pen.font = BOLD;
-  pen.textAlign = "left";
-  pen.fillStyle = palette.ink;
-  const name = fitted(pen, run.names.channel(band.channel), frame.right / 2);
-  pen.fillText(name, 10, band.head);
-  const width = pen.measureText(name).width;
-  pen.font = FONT;
-  pen.fillStyle = palette.mute;
-  pen.fillText(kindOf(channel), 18 + width, band.head);
-}
+import { SMALL, SMALL_BOLD } from "./palette.js";
+import { drawPlainName, drawRowName } from "./row_names.js";
 
 // Hatches a channel from the first place on at which it has no sender: from then on it is closed.
-function drawClosed({ pen, run, frame, places, band, palette }) {
+/** @param {Drawing} drawing */
+function drawClosed({ pen, run, frame, places, band, top, bottom, palette }) {
   const first = places.findIndex(place => run.state(place).channels[band.channel].closed);
   if (first < 0) return;
   const x = frame.x(places[first]);
-  hatched(pen, palette, x, band.y, frame.right - x, band.height);
-  if (first === 0) return;
-  pen.strokeStyle = pen.fillStyle = palette.closed;
-  pen.lineWidth = 2;
-  line(pen, x, band.y, x, band.y + band.height);
-  pen.font = SMALL_BOLD;
-  const width = pen.measureText("closed").width + 12;
-  const left = Math.min(x, frame.right - width);
-  pen.fillRect(left, band.y, width, FLAG_HEIGHT);
-  pen.fillStyle = palette["on-dark"];
-  pen.textAlign = "left";
-  pen.fillText("closed", left + 6, band.y + FLAG_HEIGHT / 2 + 0.5);
+  const y = Math.max(band.y + HEAD, top);
+  hatched(pen, palette, x, y, frame.right - x, Math.min(band.y + band.height, bottom) - y);
 }
 
+/** @param {Drawing} drawing */
 function drawRows({ pen, run, frame, band, palette }) {
   for (const row of band.rows) {
+    pen.fillStyle = palette.line;
+    pen.fillRect(0, row.y + row.height - 1, frame.width, 1);
+    if (row.kind === "value") continue;
     pen.strokeStyle = palette.line;
     pen.lineWidth = 1;
     line(pen, frame.left, row.base + 1.5, frame.right, row.base + 1.5);
@@ -53,47 +30,40 @@ function drawRows({ pen, run, frame, band, palette }) {
     for (const life of row.lives) {
       const x = Math.max(frame.left, frame.x(life.from));
       const end = Math.min(frame.right, frame.middle(life.to), frame.x(run.lastPlace + 1));
-      pen.fillRect(x, row.base, end - x, 3);
+      if (end > x) pen.fillRect(x, row.base, end - x, 3);
     }
   }
 }
 
-// Names each handle at the start of its line in the row. Far out, names that are wider than the line are left out.
-function drawSharedNames({ pen, frame, palette }, row) {
+// Names each handle in view at the start of its line in the row. Far out, names that are wider than the line are left out.
+function drawSharedNames({ pen, view, frame, palette }, row) {
   pen.font = SMALL_BOLD;
   pen.textAlign = "left";
   pen.fillStyle = palette.mute;
   for (const life of row.lives) {
+    if (life.from > view.to || life.to < view.from) continue;
     const x = Math.max(frame.left, frame.x(life.from));
     const room = Math.min(frame.right, frame.x(life.to)) - x;
     if (frame.isNear || pen.measureText(life.handle).width <= room) pen.fillText(life.handle, x, row.base + 9);
   }
 }
 
-// Returns the name of a row's handles. If it is too wide, `weak sender` becomes `weak`.
-function rowName(pen, row, room) {
-  const name = row.lives.length === 1 ? `${row.kind} ${row.lives[0].handle}` : `${row.kind}s`;
-  return pen.measureText(name).width <= room ? name : name.replace(/ senders?/, "");
-}
-
-// Names each row on the left. If a row has several handles, each is also named in the row.
+// Names each row. If a row has several handles, each is named in it, and the row has the name of the one at the place.
+/** @param {Drawing} drawing */
 function drawRowNames(drawing) {
   const { pen, frame, band, palette } = drawing;
   for (const row of band.rows) {
-    pen.font = FONT;
-    pen.fillStyle = palette.mute;
-    pen.textAlign = "right";
-    pen.fillText(rowName(pen, row, frame.left - 20), frame.left - 10, row.base - 4);
-    if (row.lives.length > 1) drawSharedNames(drawing, row);
+    pen.font = SMALL;
+    pen.fillStyle = palette.ink;
+    if (row.lives.length === 1) drawRowName(drawing, row, row.lives[0]);
+    else if (row.lives.length > 1) drawSharedNames(drawing, row);
+    else if (frame.left) drawPlainName(drawing, row, "value");
   }
-  if (band.left === 0) return;
-  pen.textAlign = "left";
-  pen.fillText(`and ${grouped(band.left)} more handles, which aren't drawn`, frame.left, band.y + band.height - 9);
 }
 
+/** @param {Drawing} drawing */
 export function drawBand(drawing) {
   drawClosed(drawing);
-  drawHead(drawing);
   drawRows(drawing);
   drawLevels(drawing);
   drawValues(drawing);

@@ -4,6 +4,9 @@ import { SMALL_BOLD } from "./palette.js";
 
 const MOST_PIXELS = 16000;
 
+// The first half of a character of two, at the end of a text that was cut.
+const HALF = /[\uD800-\uDBFF]$/;
+
 // Resizes a canvas to this many pixels, unless it has that size.
 function resize(canvas, width, height) {
   if (canvas.width === width && canvas.height === height) return;
@@ -34,7 +37,7 @@ export function line(pen, x1, y1, x2, y2) {
 // one letter for each pixel of the width, and then a binary search finds how many letters fit.
 export function fitted(pen, text, width) {
   const isFitting = part => pen.measureText(part).width <= width;
-  const cutTo = count => `${text.slice(0, count)}…`;
+  const cutTo = count => `${text.slice(0, count).replace(HALF, "")}…`;
   let most = Math.min(text.length, Math.max(0, Math.ceil(width)));
   if (most === text.length && isFitting(text)) return text;
   let least = 0;

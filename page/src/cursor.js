@@ -1,73 +1,89 @@
-// Draws the place over the picture: its column, and what each live receiver has yet to read or see there.
+// Draws the place over the picture: its column, the row of its call, and beside each row's name what its receiver has to read or see there.
 
-import { SMALL } from "./palette.js";
+import { SMALL, SMALL_BOLD } from "./palette.js";
+import { drawPlainName, drawRowName } from "./row_names.js";
+import { versionOf } from "./versions.js";
 
-const LABEL_HEIGHT = 13;
+const EDGE = 8;
+const GAP = 5;
 
-function labelsOf(channel, receiver, palette) {
-  if (channel.kind === "watch") return receiver.seen ? [] : [["not seen", palette["unseen-ink"]]];
+// The words about a receiver, from right to left, each with its colour and font.
+function wordsOf(channel, receiver, palette) {
+  if (channel.kind === "watch") {
+    return [[versionOf(channel, receiver).replace("has ", ""), receiver.seen ? palette.mute : palette["unseen-ink"], SMALL]];
+  }
   const readable = receiver.unread - receiver.lag;
-  const labels = [];
-  if (receiver.lag) labels.push([`${receiver.lag} overwritten`, palette.lag]);
-  if (readable) labels.push([`${readable} unread`, palette["unread-ink"]]);
-  return labels;
+  const words = [[String(readable), readable ? palette["unread-ink"] : palette.mute, SMALL]];
+  if (receiver.lag) words.push([`−${receiver.lag}`, palette.lag, SMALL_BOLD]);
+  return words;
 }
 
-function drawLabel({ pen, frame, view, palette }, text, colour, y) {
-  const width = pen.measureText(text).width + 8;
-  const right = frame.x(view.place) + frame.column + 2;
-  const x = right + width > frame.right ? frame.x(view.place) - width - 2 : right;
-  pen.globalAlpha = 0.9;
-  pen.fillStyle = palette.card;
-  pen.fillRect(x, y - LABEL_HEIGHT / 2, width, LABEL_HEIGHT);
-  pen.globalAlpha = 1;
-  pen.strokeStyle = pen.fillStyle = colour;
-  pen.lineWidth = 0.7;
-  pen.strokeRect(x, y - LABEL_HEIGHT / 2, width, LABEL_HEIGHT);
-  pen.fillText(text, x + 4, y + 0.5);
+function drawStanding({ pen, frame, palette }, channel, receiver, row) {
+  let x = (frame.left || frame.width) - EDGE;
+  const y = frame.left ? row.y + row.height / 2 : row.y + 8;
+  pen.textAlign = "right";
+  for (const [text, colour, font] of wordsOf(channel, receiver, palette)) {
+    pen.font = font;
+    pen.fillStyle = colour;
+    pen.fillText(text, x, y);
+    x -= pen.measureText(text).width + GAP;
+  }
 }
 
-function drawLabels(drawing, state) {
-  const { pen, layout, palette } = drawing;
-  pen.font = SMALL;
-  pen.textAlign = "left";
-  for (const band of layout.bands) {
+// Where several handles share a row, only one is alive at a place.
+/** @param {Drawing} drawing */
+function drawSharedNames(drawing) {
+  const { pen, view, palette } = drawing;
+  for (const row of drawing.band.rows.filter(({ lives }) => lives.length > 1)) {
+    const life = row.lives.find(({ from, to }) => from <= view.place && view.place < to);
+    pen.font = SMALL;
+    pen.fillStyle = life ? palette.ink : palette.mute;
+    if (life) drawRowName(drawing, row, life);
+    else drawPlainName(drawing, row, `${row.lives.length} ${row.kind}s`);
+  }
+}
+
+function drawStandings(drawing, state) {
+  for (const band of drawing.bands) {
+    if (band.channel === null) continue;
     const channel = state.channels[band.channel];
     for (const receiver of channel.receivers) {
       const row = band.rowOf.get(receiver.handle);
-      if (row === undefined) continue;
-      const labels = labelsOf(channel, receiver, palette);
-      labels.forEach(([text, colour], i) => {
-        drawLabel(drawing, text, colour, row.base - 9 - LABEL_HEIGHT * (labels.length - 1 - i));
-      });
+      if (row) drawStanding(drawing, channel, receiver, row);
     }
   }
 }
 
-function drawColumn({ pen, view, frame, layout, palette }) {
+/** @param {Drawing} drawing */
+function drawColumn({ pen, view, frame, top, bottom, palette }) {
   const x = frame.middle(view.place);
   pen.globalAlpha = 0.3;
   pen.fillStyle = palette.place;
-  pen.fillRect(frame.x(view.place), 0, Math.max(frame.column, 2), layout.foot);
+  pen.fillRect(frame.x(view.place), top, Math.max(frame.column, 2), bottom - top);
   pen.globalAlpha = 1;
-  pen.strokeStyle = pen.fillStyle = palette["place-line"];
-  pen.lineWidth = frame.isNear ? 0.8 : 1.5;
-  pen.beginPath();
-  pen.moveTo(x, 0);
-  pen.lineTo(x, layout.foot);
-  pen.stroke();
-  pen.beginPath();
-  pen.moveTo(x - 6, 0);
-  pen.lineTo(x + 6, 0);
-  pen.lineTo(x, 8);
-  pen.fill();
+  pen.fillStyle = palette["place-line"];
+  const width = frame.isNear ? 0.8 : 1.5;
+  pen.fillRect(x - width / 2, top, width, bottom - top);
 }
 
-// `drawing` is as for the picture. Nothing is drawn if the place is out of view.
+// Marks the name of the row in which the call at the place was made.
+/** @param {Drawing} drawing */
+function drawRow({ pen, run, view, frame, bands, palette }) {
+  if (view.place === 0) return;
+  const row = bands.find(band => band.channel === run.columns.channels[view.place])?.rowOf.get(run.columns.handles[view.place]);
+  if (row === undefined) return;
+  pen.globalAlpha = 0.3;
+  pen.fillStyle = palette.place;
+  pen.fillRect(0, row.y, frame.left || frame.width, frame.left ? row.height : row.lane - row.y);
+  pen.globalAlpha = 1;
+}
+
+// `drawing` is as for the picture. The column isn't drawn if the place is out of view.
 export function drawCursor(drawing) {
   const { run, view } = drawing;
-  if (view.place < view.from || view.place > view.to) return;
-  drawColumn(drawing);
+  if (view.place >= view.from && view.place <= view.to) drawColumn(drawing);
+  drawRow(drawing);
+  for (const band of drawing.bands) if (band.channel !== null) drawSharedNames({ ...drawing, band });
   const state = run.state(view.place);
-  if (state) drawLabels(drawing, state);
+  if (state) drawStandings(drawing, state);
 }

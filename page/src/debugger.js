@@ -32,6 +32,7 @@ export class Debugger {
   }
 
   start() {
+    /** @type {any} */
     this.exports = new WebAssembly.Instance(this.module).exports;
     this.countAt = this.take(COUNT_SIZE);
     this.room = FIRST_ROOM;

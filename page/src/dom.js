@@ -1,7 +1,15 @@
 // Elements made of texts: everything from a run or a file becomes text, never markup.
 
+import { visible } from "./text.js";
+
 export function byId(id) {
   return document.getElementById(id);
+}
+
+// The same for a field.
+/** @returns {HTMLInputElement} */
+export function fieldOf(id) {
+  return /** @type {HTMLInputElement} */ (document.getElementById(id));
 }
 
 // Creates an element with these attributes, and with these elements and texts in it.
@@ -12,9 +20,14 @@ export function element(tag, attributes = {}, ...children) {
   return made;
 }
 
+// A text from outside, apart from the direction of what stands around it, with its hidden characters written out.
+export function outside(text) {
+  return element("bdi", {}, visible(text));
+}
+
 // Creates an element with a text in the colour of an actor.
-export function coloured(colour, text) {
-  const made = element("span", { class: "actor" }, text);
+export function coloured(colour, ...children) {
+  const made = element("span", { class: "actor" }, ...children);
   made.style.setProperty("color", colour);
   return made;
 }

@@ -2,6 +2,9 @@
 
 import { byId } from "./dom.js";
 
+// The key of the run in the page's own file, in the browser's history.
+export const OWN = "own";
+
 function fromBase64(text) {
   if (Uint8Array.fromBase64) return Uint8Array.fromBase64(text);
   const decoded = atob(text);
@@ -23,10 +26,12 @@ export function exampleRun() {
   return { name: "an example", bytes: bytesOf("example"), names: bytesOf("example-names") };
 }
 
-// Returns a run's file name, its bytes, and those of its file of names, if it has one, or null without a run. Each part is one line.
+export function hasEmbeddedRun() {
+  return byId("run").firstChild !== null;
+}
+
+// Returns a run's file name, its bytes, and those of its file of names, if it has one, for a page that has a run. Each part is one line.
 export function embeddedRun() {
-  const parts = byId("run").textContent.split("\n").slice(1, -1);
-  if (parts.length === 0) return null;
-  const [name, bytes, names] = parts.map(fromBase64);
-  return { name: new TextDecoder().decode(name), bytes, names, isEmbedded: true };
+  const [name, bytes, names] = byId("run").textContent.split("\n").slice(1, -1).map(fromBase64);
+  return { key: OWN, name: new TextDecoder().decode(name), bytes, names };
 }

@@ -2,6 +2,7 @@
 
 const ENTRY = /^#(\d+) (\d+) (\d+) (\d+) (\S+) (\d+)(?: (.*?))? = (\S+)(?: (.*))?$/;
 
+/** @returns {Entry} */
 export function readEntry(line) {
   const [, number, stamp, actor, channel, word, handle, rest = "", reply, answer = ""] = ENTRY.exec(line);
   return {

@@ -1,6 +1,6 @@
 // A refused text: its fault as the debugger reports it, what that means, and the lines around it.
 
-import { element } from "./dom.js";
+import { element, outside } from "./dom.js";
 import { grouped } from "./numbers.js";
 
 const AROUND = 4;
@@ -38,7 +38,7 @@ function takeApart(text, lineCount) {
 
 function numbered(lines, number, isFaulty) {
   const text = lines[number - 1].slice(0, MOST_SHOWN);
-  return element("li", { value: number, ...(isFaulty ? { "aria-current": "true" } : {}) }, element("code", {}, text));
+  return element("li", { value: number, ...(isFaulty ? { "aria-current": "true" } : {}) }, element("code", {}, outside(text)));
 }
 
 // `fault` has the kind of text that is refused (`of`), and the text of the fault.

@@ -1,19 +1,26 @@
 // Where a column of the view is on a canvas.
 
 const MARGIN = 14;
-const NARROW = 560;
+const NARROW = 600;
+const MIDDLING = 900;
+const NARROW_STRIP = 84;
 
-// How wide the names on the left are.
+// How wide the names on the left are. On a narrow screen they are above their rows.
 export function gutterOf(width) {
-  return width < NARROW ? 92 : 140;
+  if (width < NARROW) return 0;
+  return width < MIDDLING ? 246 : 268;
+}
+
+export function stripGutterOf(width) {
+  return gutterOf(width) || NARROW_STRIP;
 }
 
 export class Frame {
-  constructor(from, to, width) {
+  constructor(from, to, width, left) {
     this.from = from;
     this.to = to;
     this.width = width;
-    this.left = gutterOf(width);
+    this.left = left;
     this.right = width - MARGIN;
     this.column = (this.right - this.left) / (to - from + 1);
   }
@@ -24,6 +31,11 @@ export class Frame {
 
   middle(column) {
     return this.x(column) + this.column / 2;
+  }
+
+  // Which share of the columns' width is left of a point.
+  shareAt(x) {
+    return Math.max(0, Math.min(0.999, (x - this.left) / (this.right - this.left)));
   }
 
   columnAt(x) {

@@ -1,17 +1,47 @@
-// Buttons, mouse and touch.
+// Buttons, mouse and wheel.
 
-import { byId } from "./dom.js";
+import { byId, fieldOf } from "./dom.js";
+import { pointed } from "./pointer.js";
+import { copyCommands, savePicture } from "./sharing.js";
 
-// The share of the view that one turn of the wheel scrolls.
+// The share of the view that one turn of the wheel scrolls, and the factor by which one zooms.
 const WHEEL_SHARE = 0.1;
+const WHEEL_ZOOM = 1.25;
 
 // `page.walk` is the walk over the opened run, if there is one.
 function press(page, id, move) {
   byId(id).addEventListener("click", () => page.walk && move(page.walk));
 }
 
+// Calls `choose` with the data of the element that is clicked in a list, if it has such data.
+export function chosenIn(id, name, choose) {
+  byId(id).addEventListener("click", event => {
+    const target = /** @type {HTMLElement} */ (event.target);
+    /** @type {HTMLElement} */
+    const found = target.closest(`[data-${name}]`);
+    if (found) choose(found.dataset[name]);
+  });
+}
+
+// A channel's head in the panel folds or unfolds it. Its content is made when it is shown.
+function turnChannel(page, event) {
+  const head = event.target.closest("summary");
+  if (!head) return;
+  event.preventDefault();
+  page.walk?.telling.turn(Number(head.parentElement.dataset.channel));
+}
+
+// On a narrow screen the picture and the state are shown one at a time.
+function listenToTabs(page) {
+  chosenIn("tabs", "tab", tab => {
+    document.body.dataset.tab = tab;
+    for (const button of byId("tabs").children) button.toggleAttribute("aria-current", button === byId("tabs").querySelector(`[data-tab=${tab}]`));
+    page.walk?.scrolled();
+  });
+}
+
 function listenToButtons(page) {
-  press(page, "first", walk => walk.to(0));
+  press(page, "first", walk => walk.jumpTo(0));
   press(page, "back", walk => walk.by(-1));
   press(page, "forward", walk => walk.by(1));
   press(page, "last", walk => walk.toEnd());
@@ -20,64 +50,93 @@ function listenToButtons(page) {
   press(page, "farther", walk => walk.zoom(2));
   press(page, "nearer", walk => walk.zoom(0.5));
   press(page, "whole", walk => walk.whole());
-  byId("slider").addEventListener("input", event => page.walk?.to(Number(event.target.value)));
-  byId("calls").addEventListener("click", event => {
-    const line = event.target.closest("[data-place]");
-    if (line) page.walk?.to(Number(line.dataset.place));
+  press(page, "open-stops", walk => walk.ask());
+  press(page, "copy", copyCommands);
+  press(page, "save", walk => savePicture(walk, page.source.name));
+  chosenIn("calls", "place", place => page.walk?.jumpTo(Number(place)));
+  byId("state").addEventListener("click", event => turnChannel(page, event));
+  byId("told").addEventListener("toggle", () => page.walk?.telling.tellConsole());
+}
+
+// Dragging the slider is one jump, from where it began.
+function listenToSlider(page) {
+  const slider = fieldOf("slider");
+  let isDragged = false;
+  slider.addEventListener("input", () => {
+    if (isDragged) page.walk?.to(slider.valueAsNumber);
+    else page.walk?.jumpTo(slider.valueAsNumber);
+    isDragged = true;
   });
-  byId("told").addEventListener("toggle", () => page.walk?.telling.ask());
+  slider.addEventListener("change", () => { isDragged = false; });
 }
 
 function listenToStops(page) {
-  const field = byId("condition");
+  const field = fieldOf("condition");
+  const closeStops = () => {
+    byId("stops").classList.remove("is-open");
+    field.blur();
+  };
   const seek = word => field.value.trim() && page.walk?.seek(word, field.value.trim());
   byId("stops").addEventListener("submit", event => {
     event.preventDefault();
-    seek(event.submitter.value);
+    seek(/** @type {HTMLButtonElement} */ (event.submitter).value);
   });
   field.addEventListener("keydown", event => {
-    if (event.key === "Escape") field.blur();
+    if (event.key === "Escape") closeStops();
     if (event.key !== "Enter") return;
     event.preventDefault();
     seek(event.shiftKey ? "rback" : "rforward");
   });
-  byId("chips").addEventListener("click", event => {
-    const { condition } = event.target.dataset;
-    if (!condition) return;
+  chosenIn("chips", "condition", condition => {
     field.value = condition;
     seek("rforward");
   });
 }
 
-// Pressing, and moving while pressed, goes to the place under the pointer.
-function dragged(box, go) {
-  const follow = event => go(event.clientX - box.getBoundingClientRect().left);
-  box.addEventListener("pointerdown", event => {
-    if (event.button !== 0) return;
-    box.setPointerCapture(event.pointerId);
-    follow(event);
-  });
-  box.addEventListener("pointermove", event => {
-    if (box.hasPointerCapture(event.pointerId)) follow(event);
-  });
-}
-
-// With Ctrl the wheel zooms. Sideways or with Shift it scrolls, and over the strip in every direction.
+// With Ctrl the wheel zooms, over the picture around the pointer. Sideways or with Shift it scrolls, and over the strip in every direction.
 function wheeled(page, box, isStrip) {
   box.addEventListener("wheel", event => {
     if (!event.ctrlKey && !event.shiftKey && !isStrip && Math.abs(event.deltaX) <= Math.abs(event.deltaY)) return;
     event.preventDefault();
     const turned = event.deltaX + event.deltaY;
-    if (event.ctrlKey) page.walk?.zoom(turned > 0 ? 1.25 : 0.8);
-    else page.walk?.scrollShare(Math.sign(turned) * WHEEL_SHARE);
+    const factor = turned > 0 ? WHEEL_ZOOM : 1 / WHEEL_ZOOM;
+    if (!event.ctrlKey) page.walk?.scrollShare(Math.sign(turned) * WHEEL_SHARE);
+    else if (isStrip) page.walk?.zoom(factor);
+    else page.walk?.zoomAtPoint(factor, event.clientX - box.getBoundingClientRect().left);
   }, { passive: false });
+}
+
+// The rows' own scrolling, their filter and their folds.
+function listenToRows(page) {
+  const filter = fieldOf("filter");
+  let isWaiting = false;
+  byId("pane").addEventListener("scroll", () => {
+    if (isWaiting) return;
+    isWaiting = true;
+    requestAnimationFrame(() => {
+      isWaiting = false;
+      page.walk?.scrolled();
+    });
+  });
+  byId("strip-box").addEventListener("scroll", () => page.walk?.screen.measure());
+  new ResizeObserver(() => page.walk?.scrolled()).observe(byId("pane"));
+  filter.addEventListener("input", () => page.walk?.refold(folds => { folds.filter = filter.value; }));
+  filter.addEventListener("keydown", event => event.key === "Escape" && filter.blur());
+  press(page, "fold-all", walk => walk.refold(folds => folds.turnAll()));
 }
 
 export function listenToHands(page) {
   listenToButtons(page);
+  listenToSlider(page);
   listenToStops(page);
-  dragged(byId("picture-box"), x => page.walk?.toPointInPicture(x));
-  dragged(byId("strip-box"), x => page.walk?.toPointInStrip(x));
-  wheeled(page, byId("picture-box"), false);
+  listenToTabs(page);
+  pointed(byId("picture-box"), {
+    press: (x, y) => page.walk?.pressPicture(x, y),
+    follow: x => page.walk?.toPointInPicture(x),
+    pan: (x, last) => page.walk?.pan(x, last) ?? 0,
+  });
+  pointed(byId("strip-box"), { press: x => page.walk?.pressStrip(x), follow: x => page.walk?.toPointInStrip(x), pan: () => 0 });
+  wheeled(page, byId("pane"), false);
   wheeled(page, byId("strip-box"), true);
+  listenToRows(page);
 }

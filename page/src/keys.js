@@ -1,14 +1,15 @@
 // The keys, and what each does.
 
-import { element } from "./dom.js";
+import { byId, element, fieldOf } from "./dom.js";
 
 const FAR = 10;
+const ROWS = 60;
 
 // Each key with its names in events, the name that is shown, what it does in words, and the move.
 const KEYS = [
   { keys: ["ArrowRight"], shown: "→, with Shift ten", does: "next place", move: (walk, far) => walk.by(far ? FAR : 1) },
   { keys: ["ArrowLeft"], shown: "←, with Shift ten", does: "place before", move: (walk, far) => walk.by(far ? -FAR : -1) },
-  { keys: ["Home"], shown: "Home", does: "the start", move: walk => walk.to(0) },
+  { keys: ["Home"], shown: "Home", does: "the start", move: walk => walk.jumpTo(0) },
   { keys: ["End"], shown: "End", does: "the end", move: walk => walk.toEnd() },
   {
     keys: ["l", "L"], shown: "L, with Shift back",
@@ -19,17 +20,27 @@ const KEYS = [
   { keys: ["+", "="], shown: "+", does: "nearer", move: walk => walk.zoom(0.5) },
   { keys: ["-"], shown: "−", does: "farther", move: walk => walk.zoom(2) },
   { keys: ["0"], shown: "0", does: "the whole run", move: walk => walk.whole() },
+  { keys: ["ArrowDown"], shown: "↓, ↑", does: "scroll the rows", move: () => byId("pane").scrollBy(0, ROWS) },
+  { keys: ["ArrowUp"], move: () => byId("pane").scrollBy(0, -ROWS) },
+  { keys: ["f", "F"], shown: "F", does: "into the field that filters the rows by name; Escape leaves it", move: () => fieldOf("filter").select() },
+  { keys: ["z", "Z"], shown: "Z", does: "fold or unfold all", move: walk => walk.refold(folds => folds.turnAll()) },
   { keys: ["/"], shown: "/", does: "into the field for a stop; Enter there seeks on, with Shift back", move: walk => walk.ask() },
 ];
 
-function isTyping(target) {
-  return target.tagName === "INPUT" && target.type !== "range";
+// Whether a key belongs to a field, or to the help that is shown.
+function isTaken(target) {
+  return byId("help").hasAttribute("open") || (target.tagName === "INPUT" && target.type !== "range");
+}
+
+export function showHelp() {
+  /** @type {HTMLDialogElement} */ (byId("help")).showModal();
 }
 
 // `page.walk` is the walk over the opened run, if there is one.
 export function listenToKeys(page) {
   document.addEventListener("keydown", event => {
-    if (event.ctrlKey || event.metaKey || event.altKey || isTyping(event.target)) return;
+    if (event.ctrlKey || event.metaKey || event.altKey || isTaken(event.target)) return;
+    if (event.key === "?") return showHelp();
     const found = KEYS.find(({ keys }) => keys.includes(event.key));
     if (!found || !page.walk) return;
     event.preventDefault();
@@ -38,5 +49,7 @@ export function listenToKeys(page) {
 }
 
 export function keyRows() {
-  return KEYS.map(({ shown, does }) => element("div", {}, element("dt", {}, element("kbd", {}, shown)), element("dd", {}, does)));
+  const rows = [...KEYS, { shown: "?", does: "the keys" }];
+  return rows.filter(({ shown }) => shown).map(({ shown, does }) =>
+    element("div", {}, element("dt", {}, element("kbd", {}, shown)), element("dd", {}, does)));
 }

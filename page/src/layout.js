@@ -1,85 +1,105 @@
-// Where the rows of the picture are: one for each actor, and for each channel a band with a row for each handle in view. If that
-// would be very many rows, handles that live one after the other share one, and far out the receivers are first.
+// Where the rows of the picture are: for each channel a band with a head and a row for each handle, and last a band with a row for each
+// actor. They are the same wherever the view is, so nothing moves when it changes. If a channel has very many handles of a kind, those that
+// live one after the other share a row.
 
-const TOP = 8;
+import { ACTORS } from "./folds.js";
+
+export const HEAD = 24;
+const VALUE_ROW = 20;
 const ACTOR_ROW = 18;
-const HEAD = 28;
-const AXIS = 22;
-const FOOT = 6;
-const SHARED_FOOT = 14;
-const SENDER_ROW = 38;
-const SHARED_SENDER_ROW = 26;
-const FAR_SENDER_ROW = 20;
-const LEAST_RECEIVER_ROW = 36;
-const MOST_RECEIVER_ROW = 58;
+const SENDER_ROW = 24;
+const RECEIVER_ROW = 34;
+const NAME_LINE = 14;
+const FOOT = 5;
+const SHARED_FOOT = 13;
 const MANY_HANDLES = 14;
-const MOST_ROWS = 32;
-const LABEL_WIDTH = 34;
-const LEAST_GAP = 4;
+const KINDS = ["sender", "weak sender", "receiver"];
+const HEIGHTS = { sender: SENDER_ROW, "weak sender": SENDER_ROW, receiver: RECEIVER_ROW, value: VALUE_ROW, actor: ACTOR_ROW };
 
-const NEAR_ORDER = ["sender", "weak sender", "receiver"];
-const FAR_ORDER = NEAR_ORDER.toReversed();
-
-function livesInView(lives, view) {
-  return lives.filter(life => life.from <= view.to && life.to >= view.from);
-}
-
-function ownRows(lives) {
-  return lives.toSorted((a, b) => a.handle - b.handle).map(life => ({ kind: life.kind, lives: [life] }));
-}
-
-// Puts each life of a kind into the first row that is free again, with a gap between them. There are `MOST_ROWS` at most.
-function sharedRows(lives, kind, gap) {
+// Puts each life into a row that is free again, or into a new one. The lives are in the order in which they begin.
+function sharedRows(lives, kind) {
   const rows = [];
-  for (const life of lives.filter(it => it.kind === kind).sort((a, b) => a.from - b.from || a.handle - b.handle)) {
-    const free = rows.find(row => row.lives.at(-1).to + gap < life.from);
-    if (free) free.lives.push(life);
-    else if (rows.length < MOST_ROWS) rows.push({ kind, lives: [life] });
+  const free = [];
+  const rowOf = new Map();
+  const ends = [...lives].sort((a, b) => a.to - b.to);
+  let ended = 0;
+  for (const life of lives) {
+    while (ends[ended].to < life.from) free.push(rowOf.get(ends[ended++]));
+    const row = free.pop() ?? { kind, lives: [] };
+    if (row.lives.length === 0) rows.push(row);
+    row.lives.push(life);
+    rowOf.set(life, row);
   }
   return rows;
 }
 
-function bandOf(channel, lives, rows) {
-  const drawn = rows.reduce((sum, row) => sum + row.lives.length, 0);
-  return { channel, rows, left: lives.length - drawn };
+function rowsOfKind(lives, kind) {
+  const those = lives.filter(life => life.kind === kind).sort((a, b) => a.from - b.from || a.handle - b.handle);
+  return those.length > MANY_HANDLES ? sharedRows(those, kind) : those.map(life => ({ kind, lives: [life] }));
 }
 
-// Arranges a band's rows under each other, and returns where the next band begins.
-function stand(band, foot, heightOf) {
-  band.rowOf = new Map();
-  let y = band.y + HEAD;
-  for (const row of band.rows) {
-    row.y = y;
-    row.height = heightOf(row);
-    row.base = y + row.height - foot;
-    for (const life of row.lives) band.rowOf.set(life.handle, row);
-    y += row.height;
+// Returns the rows of each channel, the same for every view.
+export function rowsOf(run) {
+  return run.channels.map(({ kind }, channel) => [
+    ...(kind === "watch" ? [{ kind: "value", lives: [] }] : []),
+    ...KINDS.flatMap(it => rowsOfKind(run.lives[channel], it)),
+  ]);
+}
+
+// Returns the rows of a channel whose names have the text of the filter: all, if the channel's name has it.
+function filtered(run, folds, channel, rows) {
+  if (folds.matches(run.names.channel(channel))) return rows;
+  return rows.filter(({ lives }) => lives.some(life => folds.matches(`${run.ownerOf(channel, life) ?? ""} · ${life.kind} ${life.handle}`)));
+}
+
+function actorRows(run, folds) {
+  return run.actors.names.map((name, actor) => ({ kind: "actor", actor, lives: [], name })).filter(({ name }) => folds.matches(name));
+}
+
+// Arranges rows below each other from `y` on. If there is no room for names beside them, they are above them.
+function stood(rows, y, isNarrow) {
+  return rows.map(row => {
+    const named = isNarrow && row.kind !== "value" ? NAME_LINE : 0;
+    const height = HEIGHTS[row.kind] + named + (row.lives.length > 1 ? SHARED_FOOT - FOOT : 0);
+    const foot = row.lives.length > 1 ? SHARED_FOOT : FOOT;
+    const placed = { ...row, y, height, lane: y + named, base: y + height - foot };
+    y += height;
+    return placed;
+  });
+}
+
+function bandOf(key, rows, y, folds, isNarrow) {
+  const isFolded = folds.has(key) && folds.filter === "";
+  const placed = isFolded ? [] : stood(rows, y + HEAD, isNarrow);
+  const end = placed.length ? placed.at(-1).y + placed.at(-1).height : y + HEAD;
+  return { key, channel: key === ACTORS ? null : key, y, height: end - y, rows: placed, isFolded, count: rows.length };
+}
+
+// Arranges the bands below each other. Those without a row that passes the filter are left out.
+export function layOut(run, rows, folds, isNarrow) {
+  const bands = [];
+  let y = 0;
+  const parts = rows.map((those, channel) => [channel, filtered(run, folds, channel, those)]);
+  for (const [key, those] of [...parts, [ACTORS, actorRows(run, folds)]]) {
+    if (those.length === 0) continue;
+    const band = bandOf(key, those, y, folds, isNarrow);
+    bands.push(band);
+    y += band.height;
   }
-  band.height = y - band.y + (band.left ? ACTOR_ROW : 0);
-  return band.y + band.height + 12;
+  return { bands, height: y, isNarrow };
 }
 
-function receiverHeight(room, bands) {
-  const count = bands.reduce((sum, band) => sum + band.rows.length, 0);
-  return Math.max(LEAST_RECEIVER_ROW, Math.min(MOST_RECEIVER_ROW, Math.floor(room / Math.max(1, count))));
+// Returns the bands in sight between two heights, each with its rows in sight, by their handles too.
+export function inSight({ bands }, top, bottom) {
+  const isSeen = it => it.y + it.height > top && it.y < bottom;
+  return bands.filter(isSeen).map(band => {
+    const rows = band.rows.filter(isSeen);
+    return { ...band, rows, rowOf: new Map(rows.flatMap(row => row.lives.map(life => [life.handle, row]))) };
+  });
 }
 
-// `room` is the height that the picture should have, as far as its rows allow.
-export function layOut(run, view, frame, room) {
-  const seen = run.lives.map(lives => livesInView(lives, view));
-  const shared = seen.reduce((sum, lives) => sum + lives.length, 0) > MANY_HANDLES;
-  const gap = Math.ceil((frame.isNear ? LABEL_WIDTH : LEAST_GAP) / frame.column);
-  const order = frame.isNear ? NEAR_ORDER : FAR_ORDER;
-  const rowsOf = lives => (shared ? order.flatMap(kind => sharedRows(lives, kind, gap)) : ownRows(lives));
-  const bands = seen.map((lives, channel) => bandOf(channel, lives, rowsOf(lives)));
-  const actorY = actor => TOP + actor * ACTOR_ROW + ACTOR_ROW / 2;
-  let y = TOP + run.actorCount * ACTOR_ROW + 10;
-  const receiverRow = receiverHeight(room - y, bands);
-  const senderRow = shared ? (frame.isNear ? SHARED_SENDER_ROW : FAR_SENDER_ROW) : SENDER_ROW;
-  for (const band of bands) {
-    band.y = y;
-    band.head = y + HEAD / 2 - 2;
-    y = stand(band, shared ? SHARED_FOOT : FOOT, row => (row.kind === "receiver" ? receiverRow : senderRow));
-  }
-  return { bands, shared, actorY, height: y + AXIS, axis: y + AXIS / 2, foot: y };
+// Returns the row of a handle, or the whole band where it is folded or filtered out.
+export function rowOfHandle({ bands }, channel, handle) {
+  const band = bands.find(it => it.channel === channel);
+  return band && (band.rows.find(row => row.lives.some(life => life.handle === handle)) ?? band);
 }

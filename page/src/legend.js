@@ -1,8 +1,7 @@
 // The legend: what colours and shapes mean.
 
 import { cleared, hatched } from "./canvas.js";
-import { coloured, element } from "./dom.js";
-import { actorColour } from "./palette.js";
+import { element, outside } from "./dom.js";
 import { SHAPES } from "./shapes.js";
 
 const SIZE = 14;
@@ -35,13 +34,13 @@ function shapeSwatch(palette, shape) {
 }
 
 function item(picture, text) {
-  return element("li", {}, picture, ` ${text}`);
+  return element("li", {}, picture, " ", text);
 }
 
 export function legend(run, palette) {
   const items = [];
   for (let actor = 0; actor < run.actorCount; actor++) {
-    items.push(item(coloured(actorColour(actor), "●"), run.names.actor(actor)));
+    items.push(item(run.actors.badge(actor), outside(run.actors.names[actor])));
   }
   items.push(item(colourSwatch(palette.unread), "unread"), item(colourSwatch(palette.lag), "overwritten before it was read"));
   items.push(item(element("span", { class: "flag" }, "lost 2"), "the receiver is told"));

@@ -6,7 +6,7 @@ import { NUMBERS } from "./palette.js";
 const FULL = 0.72;
 const LEAST_LAG = 4;
 const UNSEEN_HEIGHT = 15;
-const ABOVE_ROW = 6;
+const ABOVE = 2;
 const VALUE_GAP = 3;
 
 function standsSame(a, b) {
@@ -33,12 +33,13 @@ function eachStretch({ run, view, places, band }, show) {
 
 // For a broadcast: blue is what a receiver can still read. Red on top of it is what it has lost and no receive has reported yet.
 function drawUnread({ pen, palette }, row, receiver, capacity, x, width) {
-  const most = (row.height - 16) * FULL;
+  const room = row.base - row.lane - ABOVE;
+  const most = room * FULL;
   const readable = most * (receiver.unread - receiver.lag) / capacity;
   pen.fillStyle = palette.unread;
   pen.fillRect(x, row.base - readable, width, readable);
   if (receiver.lag === 0) return;
-  const lost = Math.max(LEAST_LAG, Math.min(row.height - 16 - readable + ABOVE_ROW, most * receiver.lag / capacity));
+  const lost = Math.max(LEAST_LAG, Math.min(room - readable, most * receiver.lag / capacity));
   pen.fillStyle = palette.lag;
   pen.fillRect(x, row.base - readable - lost, width, lost);
 }
@@ -48,6 +49,7 @@ function drawUnseen({ pen, palette }, row, x, width) {
   pen.fillRect(x, row.base - UNSEEN_HEIGHT, width, UNSEEN_HEIGHT);
 }
 
+/** @param {Drawing} drawing */
 export function drawLevels(drawing) {
   const { run, frame, band } = drawing;
   const { kind, capacity } = run.channels[band.channel];
@@ -71,8 +73,11 @@ function changesOf(run, places, channel) {
 }
 
 // For a watch: its value where it changes, cut to the width before the next one.
+/** @param {Drawing} drawing */
 export function drawValues({ pen, run, frame, places, band, palette }) {
-  if (run.channels[band.channel].kind !== "watch" || !frame.isNear) return;
+  const row = band.rows.find(it => it.kind === "value");
+  if (row === undefined || !frame.isNear) return;
+  const middle = row.y + row.height / 2;
   pen.font = NUMBERS;
   pen.textAlign = "left";
   pen.fillStyle = pen.strokeStyle = palette["unseen-ink"];
@@ -80,7 +85,7 @@ export function drawValues({ pen, run, frame, places, band, palette }) {
   changesOf(run, places, band.channel).forEach(({ place, value }, i, changes) => {
     const x = frame.x(place);
     const end = i + 1 < changes.length ? frame.x(changes[i + 1].place) : frame.right;
-    pen.fillText(fitted(pen, `= ${run.names.value(band.channel, value)}`, end - x - VALUE_GAP), x + VALUE_GAP, band.head + 16);
-    line(pen, x, band.head + 9, x, band.head + 23);
+    pen.fillText(fitted(pen, `= ${run.names.value(band.channel, value)}`, end - x - VALUE_GAP), x + VALUE_GAP, middle);
+    line(pen, x, row.y + 3, x, row.y + row.height - 3);
   });
 }

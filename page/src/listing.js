@@ -14,7 +14,7 @@ function emptyColumns(count) {
   };
 }
 
-// Also records in `lives` where each handle is made or dropped.
+// Also records in `lives` where each handle is made or dropped, and who uses it.
 export function readListing(bytes, text, count, lives) {
   const columns = emptyColumns(count);
   const scanner = new Scanner(bytes, text);
@@ -23,18 +23,20 @@ export function readListing(bytes, text, count, lives) {
     scanner.skip(1);
     scanner.number();
     scanner.number();
-    columns.actors[number] = scanner.number();
+    const actor = scanner.number();
     const channel = scanner.number();
     const word = scanner.word();
     const handle = scanner.number();
     scanner.goBehind(EQUALS);
     scanner.skip(1);
     const reply = scanner.word();
+    columns.actors[number] = actor;
     columns.channels[number] = channel;
     columns.handles[number] = handle;
     columns.marks[number] = MARK_NAMES.indexOf(markOf(word, reply));
-    if (reply === "new") lives.begin(channel, scanner.number(), word, number);
-    if (reply === "dropped") lives.end(channel, handle, number);
+    if (reply === "dropped") lives.end(channel, handle, number, actor);
+    else lives.use(channel, handle, actor);
+    if (reply === "new") lives.begin(channel, scanner.number(), word, number, actor);
     scanner.goBehind(LINE_END);
   }
   columns.starts[count + 1] = scanner.at;

@@ -1,4 +1,4 @@
-// From which place to which each handle lives, by the replies: `new H` makes a handle, `dropped` ends one.
+// From which place to which each handle lives, by the replies: `new H` makes a handle, `dropped` ends one. And who uses it.
 
 const KIND_MADE_BY = {
   subscribe: "receiver", resubscribe: "receiver", "clone-receiver": "receiver",
@@ -11,21 +11,30 @@ export class Lives {
     this.past = lastPlace + 1;
     this.channels = opening.channels.map(channel => {
       const lives = new Map();
-      for (const handle of channel.senders) this.add(lives, handle, "sender", 0);
-      for (const receiver of channel.receivers) this.add(lives, receiver.handle, "receiver", 0);
+      for (const handle of channel.senders) this.add(lives, handle, "sender", 0, null);
+      for (const receiver of channel.receivers) this.add(lives, receiver.handle, "receiver", 0, null);
       return lives;
     });
   }
 
-  add(lives, handle, kind, from) {
-    lives.set(handle, { handle, kind, from, to: this.past });
+  add(lives, handle, kind, from, maker) {
+    lives.set(handle, { handle, kind, from, to: this.past, user: maker });
   }
 
-  begin(channel, handle, word, place) {
-    this.add(this.channels[channel], handle, KIND_MADE_BY[word], place);
+  begin(channel, handle, word, place, maker) {
+    this.add(this.channels[channel], handle, KIND_MADE_BY[word], place, maker);
   }
 
-  end(channel, handle, place) {
-    this.channels[channel].get(handle).to = place;
+  // Who used a handle last is whose it is. The call may name a handle that there is not.
+  use(channel, handle, actor) {
+    const life = this.channels[channel].get(handle);
+    if (life) life.user = actor;
+  }
+
+  // A drop is no use, unless nobody has used or made the handle before.
+  end(channel, handle, place, actor) {
+    const life = this.channels[channel].get(handle);
+    life.to = place;
+    life.user ??= actor;
   }
 }

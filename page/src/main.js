@@ -1,162 +1,81 @@
 // The page: opens what it is given, and shows it.
 
-import { placeIn } from "./address.js";
+import { readAddress, runInHistory, setRun } from "./address.js";
 import { Client } from "./client.js";
-import { byId } from "./dom.js";
-import { embeddedRun, exampleRun, moduleBytes, workerText } from "./embedded.js";
-import { faultPanel } from "./faults.js";
-import { readFiles } from "./files.js";
-import { listenToHands } from "./hands.js";
-import { keyRows, listenToKeys } from "./keys.js";
-import { Latest } from "./latest.js";
-import { legend } from "./legend.js";
-import { Names, readNames } from "./names.js";
-import { countOf } from "./numbers.js";
-import { Run } from "./run.js";
-import { Screen } from "./screen.js";
-import { sample } from "./strip.js";
-import { View, columnsThatFit, placesAtFirst } from "./view.js";
-import { waitingCall } from "./waiting.js";
-import { Walk } from "./walk.js";
+import { byId, fieldOf } from "./dom.js";
+import { OWN, embeddedRun, exampleRun, hasEmbeddedRun, moduleBytes, workerText } from "./embedded.js";
+import { chosenIn, listenToHands } from "./hands.js";
+import { recall } from "./kept.js";
+import { keyRows, listenToKeys, showHelp } from "./keys.js";
+import { during, showPart, tell, tellFault } from "./notice.js";
+import { Opener } from "./opener.js";
+import { WayIn } from "./way_in.js";
 
 // A module that has only a memory with 64-bit addresses.
 const WIDE_MEMORY = Uint8Array.of(0, 97, 115, 109, 1, 0, 0, 0, 5, 3, 1, 4, 1);
 
-const page = { walk: null };
+const page = { walk: null, source: null };
 
-function tell(text) {
-  byId("notice").textContent = text;
-  byId("notice").hidden = text === "";
+function isOfFiles(event) {
+  return event.dataTransfer.types.includes("Files");
 }
 
-function tellFault(fault) {
-  tell(`The debugger failed: ${fault.message}.`);
-}
-
-// Shows one of the page's parts, or none: the welcome before a run, a run, or why a text is refused.
-function showPart(part) {
-  for (const id of ["welcome", "refusal", "walk"]) byId(id).hidden = id !== part;
-}
-
-function namesOf(bytes) {
-  if (bytes === undefined) return new Names();
-  try {
-    return readNames(new TextDecoder().decode(bytes));
-  } catch (fault) {
-    tell(`The file of names isn't read: ${fault.message}.`);
-    return new Names();
-  }
-}
-
-function factsOf(name, run) {
-  const facts = [name, countOf(run.lastPlace, "call"), countOf(run.channels.length, "channel"), countOf(run.actorCount, "actor")];
-  if (run.waiting) facts.push(`line ${run.waiting.line} would wait: ${run.waiting.text}`);
-  if (run.names.core) facts.push(run.names.core);
-  return facts.join(" · ");
-}
-
-async function showRun(client, opened, { name, bytes, names }, place) {
-  const run = new Run(client, opened, namesOf(names));
-  if (opened.waitingLine) run.waiting = waitingCall(bytes, opened.waitingLine, run);
-  byId("facts").textContent = factsOf(name, run);
-  showPart("walk");
-  const view = new View(run.lastPlace, run.lastPlace + (run.waiting ? 1 : 0), columnsThatFit(byId("picture-box").clientWidth));
-  const screen = new Screen(run, view);
-  byId("legend").replaceChildren(...legend(run, screen.palette));
-  page.walk = new Walk(run, view, screen, tellFault);
-  page.walk.to(place);
-  addSamples(page.walk);
-}
-
-// The strip's samples are states from all over the run, so they are loaded last.
-async function addSamples(walk) {
-  try {
-    const samples = await sample(walk.run);
-    if (!walk.isLeft) walk.screen.addSamples(samples);
-  } catch (fault) {
-    tellFault(fault);
-  }
-}
-
-// Leaves the opened run, so that none of it is shown under the name of the next one.
-function leave() {
-  page.walk?.leave();
-  page.walk = null;
-  showPart(null);
-}
-
-// Opens a run. One in the page's own file is opened at the place in the address. Others are opened at their start, since the address
-// may have a place of the run before.
-async function open(client, source) {
-  tell("");
-  leave();
-  byId("facts").textContent = source.name;
-  document.title = `${source.name} · Yovanelum`;
-  const place = () => (source.isEmbedded ? placeIn(location.href) : 0);
-  const opened = await client.request("open", source.bytes, placesAtFirst(place()));
-  if (opened.fault === undefined) return showRun(client, opened, source, place());
-  byId("refusal").replaceChildren(...faultPanel(opened.fault, source.bytes));
-  showPart("refusal");
-}
-
-async function openOrTell(client, source) {
-  try {
-    await open(client, source);
-  } catch (fault) {
-    leave();
-    showPart("welcome");
-    tellFault(fault);
-  }
-}
-
-// Returns a function that opens sources one after the other. Of those that wait, only the last is opened.
-function opener(client) {
-  let next = null;
-  const opening = new Latest(() => openOrTell(client, next), tellFault);
-  return source => {
-    next = source;
-    return opening.ask();
-  };
-}
-
-function redraw() {
-  if (!page.walk) return;
-  page.walk.screen.resize();
-  byId("legend").replaceChildren(...legend(page.walk.run, page.walk.screen.palette));
-  page.walk.show();
-}
-
-// Opens the run among these files. What is dropped may be text, which has no files, or a folder, which can't be read.
-async function openFiles(openSource, files) {
-  if (files.length === 0) return;
-  try {
-    const source = await readFiles(files);
-    if (source.bytes) openSource(source);
-    else tell(`There is no journal or script beside ${files[0].name}.`);
-  } catch (fault) {
-    tell(`${files.map(file => file.name).join(", ")} can't be read: ${fault.message}`);
-  }
-}
-
-// Empties the field, since it reports a chosen file only if it differs from the last, and the same file may have changed.
-function takeChosen(openSource) {
-  const files = [...byId("file").files];
-  byId("file").value = "";
-  openFiles(openSource, files);
-}
-
-function listen(openSource) {
-  byId("choose").addEventListener("click", () => byId("file").click());
-  byId("file").addEventListener("change", () => takeChosen(openSource));
-  byId("example-button").addEventListener("click", () => openSource(exampleRun()));
+// While files are dragged over the window, a sign covers it. It has no part of its own, so leaving it means leaving the window.
+function listenToDrags(wayIn) {
+  const sign = shown => { byId("drop-sign").hidden = !shown; };
+  document.addEventListener("dragenter", event => isOfFiles(event) && sign(true));
+  document.addEventListener("dragleave", event => event.relatedTarget === null && sign(false));
   document.addEventListener("dragover", event => event.preventDefault());
   document.addEventListener("drop", event => {
     event.preventDefault();
-    openFiles(openSource, [...event.dataTransfer.files]);
+    sign(false);
+    wayIn.take([...event.dataTransfer.files]);
   });
-  window.addEventListener("hashchange", event => page.walk?.to(placeIn(event.newURL)));
-  window.addEventListener("resize", redraw);
-  matchMedia("(prefers-color-scheme: dark)").addEventListener("change", redraw);
+}
+
+// Empties the field, since it reports a chosen file only if it differs from the last, and the same file may have changed.
+function takeChosen(wayIn) {
+  const files = [...fieldOf("file").files];
+  fieldOf("file").value = "";
+  wayIn.take(files);
+}
+
+// Opens the run that this step of the browser's history belongs to: the page's own, a kept one, or none.
+async function openInHistory(opener) {
+  const key = runInHistory();
+  if (key === OWN) return opener.ask(embeddedRun());
+  const kept = key && await during(["opening the run again"], () => recall(key));
+  if (kept) return opener.ask({ ...kept, key });
+  opener.leave();
+  page.source = null;
+  byId("facts").textContent = "";
+  showPart("welcome");
+  if (key) tell("The browser doesn't keep this run any more: drop it again.");
+}
+
+// An address that is written by hand means a place in the opened run.
+function followHistory(opener) {
+  if (runInHistory() === undefined) setRun(page.source?.key ?? null);
+  if (runInHistory() === (page.source?.key ?? null)) {
+    page.walk?.restore(readAddress(location.href));
+  } else {
+    // The run that is left has to leave the other's address alone from now on.
+    page.walk?.leave();
+    openInHistory(opener).catch(tellFault);
+  }
+}
+
+function listen(opener, wayIn) {
+  byId("choose").addEventListener("click", () => byId("file").click());
+  byId("file").addEventListener("change", () => takeChosen(wayIn));
+  byId("runs").addEventListener("click", () => wayIn.turn());
+  chosenIn("choice", "run", index => wayIn.choose(Number(index)));
+  byId("example-button").addEventListener("click", () => opener.ask(exampleRun()));
+  byId("help-button").addEventListener("click", showHelp);
+  listenToDrags(wayIn);
+  window.addEventListener("popstate", () => followHistory(opener));
+  window.addEventListener("resize", () => opener.redraw());
+  matchMedia("(prefers-color-scheme: dark)").addEventListener("change", () => opener.redraw());
   listenToHands(page);
   listenToKeys(page);
 }
@@ -170,9 +89,10 @@ function answersOf(client) {
   };
 }
 
-function openEmbedded(openSource) {
-  const embedded = embeddedRun();
-  if (embedded) openSource(embedded);
+// Opens the run in the page's own file, or after a reload the run that was dropped.
+function openAtFirst(opener) {
+  if (runInHistory() === undefined) setRun(hasEmbeddedRun() ? OWN : null);
+  if (runInHistory() !== null) openInHistory(opener).catch(tellFault);
 }
 
 // The debugger starts while the browser still reads the run, which is after this script in the page's file.
@@ -184,10 +104,10 @@ function start() {
   }
   const client = new Client(workerText(), moduleBytes);
   client.started.catch(tellFault);
-  const openSource = opener(client);
-  listen(openSource);
+  const opener = new Opener(client, page);
+  listen(opener, new WayIn(page, opener));
   window.ttd = answersOf(client);
-  document.addEventListener("DOMContentLoaded", () => openEmbedded(openSource));
+  document.addEventListener("DOMContentLoaded", () => openAtFirst(opener));
 }
 
 start();

@@ -3,6 +3,7 @@
 export const MARK_NAMES = ["asked", "sent", "unsent", "received", "made", "dropped", "lagged", "closed", "refused"];
 
 export const LAGGED = MARK_NAMES.indexOf("lagged");
+export const SENT = MARK_NAMES.indexOf("sent");
 
 const MARK_OF_REPLY = {
   sent: "sent", stored: "sent", old: "sent", told: "sent",

@@ -4,6 +4,14 @@ export function grouped(number) {
   return String(number).replace(/\B(?=(\d{3})+$)/g, ",");
 }
 
+const KILO = 1000;
+
+// A size in bytes, in the unit that gives it the fewest digits.
+export function sizeOf(bytes) {
+  const [unit, name] = bytes < KILO ? [1, "bytes"] : bytes < KILO * KILO ? [KILO, "KB"] : [KILO * KILO, "MB"];
+  return `${grouped(Math.round(bytes / unit))} ${name}`;
+}
+
 export function countOf(number, one, many = `${one}s`) {
   return `${grouped(number)} ${number === 1 ? one : many}`;
 }

@@ -1,15 +1,17 @@
 // The colours of the picture, which the style sheet names for light and dark.
 
-const ACTOR_COLOURS = 8;
-const NAMES = ["ink", "mute", "line", "card", "lag", "lag-pale", "unread", "unread-ink", "unseen", "unseen-ink", "closed", "hatch",
-  "hatch-line", "place", "place-line", "alive", "alive-sender", "frame", "on-dark"];
+export const ACTOR_COLOURS = 8;
+const NAMES = ["ink", "mute", "line", "card", "head", "lag", "lag-pale", "unread", "unread-ink", "unseen", "unseen-ink", "closed", "hatch",
+  "hatch-line", "place", "place-line", "alive", "alive-sender", "frame", "on-dark", "on-actor"];
 
 export const FONT = "12px system-ui, 'DejaVu Sans', sans-serif";
 export const BOLD = `bold ${FONT}`;
 export const SMALL = "11px system-ui, 'DejaVu Sans', sans-serif";
 export const SMALL_BOLD = `bold ${SMALL}`;
+export const CODE = "bold 10px ui-monospace, 'DejaVu Sans Mono', monospace";
 export const NUMBERS = "11px ui-monospace, 'DejaVu Sans Mono', monospace";
 
+/** @returns {any} */
 export function readPalette() {
   const style = getComputedStyle(document.documentElement);
   const colour = name => style.getPropertyValue(`--${name}`).trim();

@@ -1,19 +1,17 @@
-// The state at the place, channel by channel, as text.
+// The state at the place, channel by channel, as text. The channel of the call comes first, then the calls around it, then the others.
 
-import { kindOf } from "./band.js";
-import { element } from "./dom.js";
+import { element, outside } from "./dom.js";
+import { kindOf } from "./heads.js";
+import { rowName } from "./row_names.js";
+import { versionOf } from "./versions.js";
 
 const MOST_HANDLES = 64;
+const FEW_CHANNELS = 4;
 
-function heading(name, channel) {
-  const word = channel.closed ? "closed" : "open";
-  return element("h3", {}, name, element("small", {}, ` ${kindOf(channel)} `), element("span", { class: `tag ${word}` }, word));
-}
-
-// A retained value, and under it the receivers that read it next.
+// A retained value, and beside it the receivers that read it next.
 function valueBox(text, readers) {
   const marks = readers.map(receiver => element("span", { class: receiver.lag ? "reader lag" : "reader" }, `↑ ${receiver.handle}`));
-  return element("li", {}, element("span", { class: "box" }, text), ...marks);
+  return element("li", {}, element("span", { class: "box", title: text }, outside(text)), ...marks);
 }
 
 // The newest of the retained values, and how many there are before them.
@@ -30,9 +28,14 @@ function retained(channel, index, names) {
   return element("ol", { class: "values", "aria-label": "retained values, the oldest first" }, ...boxes);
 }
 
+/**
+ * @param {ChannelState} channel
+ * @param {ReceiverState} receiver
+ */
 function standing(channel, receiver) {
   if (channel.kind === "watch") {
-    return receiver.seen ? ["has seen it"] : [element("strong", { class: "unseen" }, "has not seen it")];
+    const version = versionOf(channel, receiver);
+    return receiver.seen ? [`${version}, seen`] : [element("strong", { class: "unseen" }, version)];
   }
   if (receiver.unread === 0) return ["up to date"];
   const readable = `${receiver.unread - receiver.lag} to read`;
@@ -41,7 +44,7 @@ function standing(channel, receiver) {
 }
 
 function row(name, ...children) {
-  return element("div", {}, element("dt", {}, name), element("dd", {}, ...children));
+  return element("div", {}, element("dt", {}, ...name), element("dd", {}, ...children));
 }
 
 function listed(numbers) {
@@ -49,23 +52,49 @@ function listed(numbers) {
   return `${numbers.slice(0, MOST_HANDLES).join(", ")} and ${numbers.length - MOST_HANDLES} more`;
 }
 
-function handles(channel) {
+function handles(channel, index, run) {
   const receivers = channel.receivers.slice(0, MOST_HANDLES);
-  const rows = receivers.map(receiver => row(`receiver ${receiver.handle}`, ...standing(channel, receiver)));
+  const rows = receivers.map(receiver => row(rowName(run, index, run.lifeOf(index, receiver.handle)), ...standing(channel, receiver)));
   const left = channel.receivers.length - receivers.length;
-  if (left) rows.push(row("receivers", `and ${left} more`));
-  rows.push(row("senders", listed(channel.senders)));
-  if (channel.weak) rows.push(row("weak senders", listed(channel.weak)));
+  if (left) rows.push(row(["receivers"], `and ${left} more`));
+  rows.push(row(["senders"], listed(channel.senders)));
+  if (channel.weak) rows.push(row(["weak senders"], listed(channel.weak)));
   return element("dl", {}, ...rows);
 }
 
 function currentValue(channel, index, names) {
-  return element("p", {}, element("span", { class: "box" }, names.value(index, channel.value)), ` version ${channel.version}`);
+  const text = names.value(index, channel.value);
+  return element("p", { class: "current" }, element("span", { class: "box", title: text }, outside(text)), ` version ${channel.version}`);
 }
 
-export function statePanel(state, names) {
-  return state.channels.map((channel, index) => element("section", {},
-    heading(names.channel(index), channel),
-    channel.kind === "watch" ? currentValue(channel, index, names) : retained(channel, index, names),
-    handles(channel)));
+// What a channel that isn't unfolded says of its receivers.
+function summary(channel) {
+  if (channel.kind === "watch") {
+    const unseen = channel.receivers.filter(receiver => !receiver.seen).length;
+    return unseen ? element("small", { class: "unseen" }, ` ${unseen} not up to date`) : "";
+  }
+  const lags = channel.receivers.map(receiver => receiver.lag).filter(lag => lag > 0);
+  const sum = lags.reduce((all, lag) => all + lag, 0);
+  return lags.length ? element("small", { class: "lag" }, ` ${lags.length} lag, −${sum}`) : "";
+}
+
+function section(channel, index, run, isOpen) {
+  const word = channel.closed ? "closed" : "open";
+  const name = outside(run.names.channel(index));
+  const kind = element("small", {}, ` ${kindOf(channel)} `);
+  const tag = element("span", { class: `tag ${word}` }, word);
+  const head = element("summary", {}, element("h3", {}, name, ...(isOpen ? [kind, tag] : [" ", tag, summary(channel), kind])));
+  const made = element("details", { class: "channel", "data-channel": index, ...(isOpen ? { open: "" } : {}) }, head);
+  if (!isOpen) return made;
+  const values = channel.kind === "watch" ? currentValue(channel, index, run.names) : retained(channel, index, run.names);
+  made.append(values, handles(channel, index, run));
+  return made;
+}
+
+// Returns the parts of the panel. `turned` has the channels that were unfolded or folded by hand, and `calls` the part with the calls.
+export function statePanel(state, run, first, turned, calls) {
+  const isFew = run.channels.length <= FEW_CHANNELS;
+  const order = [first, ...run.channels.keys()].filter((index, i) => i === 0 || index !== first);
+  const parts = order.map(index => section(state.channels[index], index, run, (isFew || index === first) !== turned.has(index)));
+  return [parts[0], ...calls, ...parts.slice(1)];
 }

@@ -1,6 +1,8 @@
 // An opened run: its entries, and the states that are loaded.
 
+import { Actors } from "./actors.js";
 import { readEntry } from "./entries.js";
+import { SENT } from "./marks.js";
 import { commandsFor, readStates } from "./states.js";
 
 // In characters: the output of one request, the states that are kept, and as a first guess a state without values, and a value in it.
@@ -20,15 +22,38 @@ export class Run {
     this.listing = opened.listing;
     this.columns = opened.columns;
     this.lives = opened.lives;
+    /** @type {ChannelState[]} */
     this.channels = opened.opening.channels;
     this.waiting = null;
-    this.names = names;
+    this.lifeTables = null;
+    this.sendCounts = this.channels.map(() => 0);
+    this.columns.marks.forEach((mark, place) => { if (mark === SENT) this.sendCounts[this.columns.channels[place]]++; });
+    this.receiverCounts = this.lives.map(lives => lives.filter(life => life.kind === "receiver").length);
+    this.bindings = {};
     this.actorCount = this.columns.actors.reduce((most, actor) => Math.max(most, actor + 1), 1);
+    this.rename(names);
     this.states = new Map(opened.states.map(state => [state.place, state]));
     this.states.set(0, opened.opening);
     this.stateLength = longestState(this.channels);
   }
 
+  rename(names) {
+    this.names = names;
+    this.actors = new Actors(this.actorCount, names);
+    names.bindings = this.bindings;
+  }
+
+  // Returns whose a handle is: its own name where it has one, else that of the actor that used it last, if one did.
+  ownerOf(channel, life) {
+    return this.names.handle(channel, life.handle) ?? (life.user === null ? undefined : this.names.actor(life.user));
+  }
+
+  lifeOf(channel, handle) {
+    this.lifeTables ??= this.lives.map(lives => new Map(lives.map(life => [life.handle, life])));
+    return this.lifeTables[channel].get(handle);
+  }
+
+  /** @returns {Entry} */
   entry(number) {
     return readEntry(this.line(number));
   }
@@ -39,6 +64,7 @@ export class Run {
   }
 
   // Returns the state at a place, if it is loaded.
+  /** @returns {RunState | undefined} */
   state(place) {
     return this.states.get(place);
   }

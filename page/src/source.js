@@ -3,7 +3,7 @@
 const JOURNAL_BEGINS = "ttd-journal";
 const LINE_END = 10;
 
-function isJournal(bytes) {
+export function isJournal(bytes) {
   return new TextDecoder().decode(bytes.subarray(0, JOURNAL_BEGINS.length)) === JOURNAL_BEGINS;
 }
 

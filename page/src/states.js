@@ -16,6 +16,7 @@ function kept(state) {
 }
 
 // Parses a state. Numbers that a browser would round become strings.
+/** @returns {RunState} */
 export function readState(line) {
   return kept(JSON.parse(line.replace(LONG_NUMBER, '"$&"')));
 }

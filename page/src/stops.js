@@ -1,5 +1,7 @@
 // Stops: the console's own search for a condition, from a place on.
 
+import { isolated } from "./text.js";
+
 const MOST_RECEIVERS = 16;
 const HIT = /^hit (\d+) of/;
 
@@ -19,7 +21,7 @@ export function conditionsAt(state, run) {
     ["reply closed", "a receiver is told that the channel is closed"],
   ];
   state.channels.forEach((channel, index) => {
-    const name = names.channel(index);
+    const name = isolated(names.channel(index));
     for (const { handle } of channel.receivers.slice(0, MOST_RECEIVERS)) {
       if (channel.kind === "broadcast") offers.push([`lagging ${index} ${handle}`, `receiver ${handle} of ${name} begins to lag`]);
       else offers.push([`unseen ${index} ${handle}`, `receiver ${handle} of ${name} has a value that it hasn't seen`]);
@@ -27,6 +29,6 @@ export function conditionsAt(state, run) {
     offers.push([`closed ${index}`, `${name} is closed`]);
     if (channel.kind === "broadcast") offers.push([`queue ${index} ${channel.capacity}`, `${name} is full`]);
   });
-  for (let actor = 0; actor < run.actorCount; actor++) offers.push([`actor ${actor}`, `a call of ${names.actor(actor)}`]);
+  for (let actor = 0; actor < run.actorCount; actor++) offers.push([`actor ${actor}`, `a call of ${isolated(names.actor(actor))}`]);
   return offers;
 }

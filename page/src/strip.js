@@ -5,13 +5,28 @@ import { LAGGED } from "./marks.js";
 import { SMALL } from "./palette.js";
 
 const MOST_SAMPLES = 600;
-const ROW = 24;
-const BAR = 20;
-const TOP = 10;
+const ROW = 13;
+const HIGH_ROW = 20;
+const FEW = 4;
+const GAP = 2;
+const TOP = 2;
 const MANY_PLACES = 2000;
+const UNREAD_SHARE = 0.62;
+
+// Where a channel's row of the strip is. Few channels have higher rows.
+export function stripRow(run, channel) {
+  const height = run.channels.length <= FEW ? HIGH_ROW : ROW;
+  return { y: TOP + channel * height, height, bar: height - GAP };
+}
 
 export function stripHeight(run) {
-  return TOP + run.channels.length * ROW + 6;
+  return stripRow(run, run.channels.length).y + TOP;
+}
+
+// Returns the height for as many whole rows as fit into a share of the window.
+export function stripCap(run, share) {
+  const { height } = stripRow(run, 0);
+  return TOP + Math.floor((innerHeight * share - TOP) / height) * height;
 }
 
 function summaryOf(channel) {
@@ -33,39 +48,40 @@ export async function sample(run) {
   return { stride, rows: states.map(state => ({ place: state.place, channels: state.channels.map(summaryOf) })) };
 }
 
-function drawSummary({ pen, palette }, summary, x, y, width) {
-  if (summary.closed) hatched(pen, palette, x, y, width, BAR);
+function drawSummary({ pen, palette }, summary, x, { y, bar }, width) {
+  if (summary.closed) hatched(pen, palette, x, y, width, bar);
   if (summary.unread) {
+    const height = bar * UNREAD_SHARE * summary.unread;
     pen.fillStyle = palette.unread;
-    pen.fillRect(x, y + BAR - 12 * summary.unread, width, 12 * summary.unread);
+    pen.fillRect(x, y + bar - height, width, height);
   }
   if (summary.lagging) {
     pen.fillStyle = palette["lag-pale"];
-    pen.fillRect(x, y, width, 7);
+    pen.fillRect(x, y, width, bar * (1 - UNREAD_SHARE));
   }
   if (summary.unseen) {
     pen.fillStyle = palette.unseen;
-    pen.fillRect(x, y + 9, width, 11);
+    pen.fillRect(x, y + bar / 2, width, bar / 2);
   }
 }
 
 // Draws each reply `lagged`, at its exact place.
-function drawLags({ pen, run, frame, palette }, channel, y) {
+function drawLags({ pen, run, frame, palette }, channel, { y, bar }) {
   const { marks, channels } = run.columns;
   pen.fillStyle = palette.lag;
   pen.globalAlpha = run.lastPlace > MANY_PLACES ? 0.45 : 1;
   for (let place = 1; place <= run.lastPlace; place++) {
-    if (marks[place] === LAGGED && channels[place] === channel) pen.fillRect(frame.middle(place) - 0.7, y, 1.4, BAR);
+    if (marks[place] === LAGGED && channels[place] === channel) pen.fillRect(frame.middle(place) - 0.7, y, 1.4, bar);
   }
   pen.globalAlpha = 1;
 }
 
-function drawSamples(drawing, channel, y) {
+function drawSamples(drawing, channel, row) {
   const { frame, samples } = drawing;
   const width = Math.max(1, samples.stride * frame.column) + 0.4;
   for (const { place, channels } of samples.rows) {
     const x = frame.x(place);
-    drawSummary(drawing, channels[channel], x, y, Math.min(width, frame.right - x));
+    drawSummary(drawing, channels[channel], x, row, Math.min(width, frame.right - x));
   }
 }
 
@@ -74,14 +90,14 @@ export function drawStrip(drawing) {
   const { pen, run, frame, palette, samples } = drawing;
   pen.font = SMALL;
   run.channels.forEach((_, channel) => {
-    const y = TOP + channel * ROW;
+    const row = stripRow(run, channel);
     pen.textAlign = "right";
     pen.fillStyle = palette.mute;
-    pen.fillText(fitted(pen, run.names.channel(channel), frame.left - 20), frame.left - 10, y + BAR / 2);
+    pen.fillText(fitted(pen, run.names.channel(channel), frame.left - 20), frame.left - 10, row.y + row.bar / 2);
     pen.fillStyle = palette.line;
-    pen.fillRect(frame.left, y, frame.right - frame.left, BAR);
-    if (samples) drawSamples(drawing, channel, y);
-    drawLags(drawing, channel, y);
+    pen.fillRect(frame.left, row.y, frame.right - frame.left, row.bar);
+    if (samples) drawSamples(drawing, channel, row);
+    drawLags(drawing, channel, row);
   });
 }
 
@@ -91,11 +107,11 @@ export function drawStripCursor({ pen, view, frame, palette, height }) {
   const width = Math.max(frame.x(view.to + 1) - x, 3);
   pen.globalAlpha = 0.1;
   pen.fillStyle = palette.frame;
-  pen.fillRect(x, 4, width, height - 8);
+  pen.fillRect(x, 1, width, height - 2);
   pen.globalAlpha = 1;
   pen.strokeStyle = palette.frame;
   pen.lineWidth = 1.5;
-  pen.strokeRect(x, 4, width, height - 8);
+  pen.strokeRect(x, 1, width, height - 2);
   pen.fillStyle = palette["place-line"];
-  pen.fillRect(frame.middle(view.place) - 1, 2, 2, height - 4);
+  pen.fillRect(frame.middle(view.place) - 1, 0, 2, height);
 }

@@ -4,7 +4,7 @@ import { gutterOf } from "./frame.js";
 
 const FEWEST = 12;
 const MOST_DRAWN = 1500;
-const GOOD_COLUMN = 14;
+const GOOD_COLUMN = 12;
 const MOST_AT_FIRST = 64;
 
 // How many columns fit side by side at a good width.
@@ -62,6 +62,20 @@ export class View {
     const fixed = within(this.from, this.place, this.to);
     const share = this.width ? (fixed - this.from) / this.width : 0;
     this.show(Math.round(fixed - width * share), width);
+  }
+
+  // The column at this share of the picture's width stays there.
+  zoomAt(factor, share) {
+    const width = within(Math.min(FEWEST, this.lastColumn), Math.round(this.width * factor), this.lastColumn);
+    const fixed = this.from + Math.floor(share * (this.width + 1));
+    this.show(fixed - Math.floor(share * (width + 1)), width);
+  }
+
+  // Goes to a place, with these columns in view if they are known.
+  restore(place, view) {
+    if (view === null) return this.go(place);
+    this.place = within(0, place, this.lastPlace);
+    this.show(view[0], view[1] - view[0]);
   }
 
   whole() {

@@ -1,8 +1,9 @@
 // The call that would wait: the script's line, who makes it, and a mark after the last place.
 
-import { flag, line } from "./canvas.js";
+import { stepsOf } from "./bindings.js";
+import { flag } from "./canvas.js";
 
-const STEP = /^(\d+) (\d+) ([a-z-]+) (\S+)/;
+const CALL = /^(\d+) (\d+) ([a-z-]+) (\S+)/;
 
 // Returns the handle that a step names: by its number, or by the name that an earlier step gave to the handle that it made. Each of
 // the earlier steps is an entry.
@@ -13,25 +14,22 @@ function handleOf(word, steps, run) {
 
 // Parses the call in this line of the script. The first line is 1.
 export function waitingCall(bytes, lineNumber, run) {
-  const lines = new TextDecoder().decode(bytes).split("\n").slice(0, lineNumber);
-  const steps = lines.filter(text => STEP.test(text));
+  const steps = stepsOf(bytes, lineNumber);
   const text = steps.pop();
-  const [, actor, channel, word, handle] = STEP.exec(text);
+  const [, actor, channel, word, handle] = CALL.exec(text);
   return { line: lineNumber, text, actor: Number(actor), channel: Number(channel), word, handle: handleOf(handle, steps, run) };
 }
 
-export function drawWaiting({ pen, run, view, frame, layout, palette }) {
+/** @param {Drawing} drawing */
+export function drawWaiting({ pen, run, view, frame, bands, palette }) {
   const column = run.lastPlace + 1;
   if (view.to < column) return;
   const { actor, channel, word, handle } = run.waiting;
-  const row = layout.bands[channel].rowOf.get(handle);
+  const band = bands.find(it => it.channel === channel);
+  if (band === undefined) return;
+  const row = band.rowOf.get(handle);
   const x = frame.middle(column);
-  const foot = row ? row.base : layout.bands[channel].head;
-  pen.strokeStyle = palette.actor(actor);
-  pen.lineWidth = 1.6;
-  pen.setLineDash([2, 3]);
-  line(pen, x, layout.actorY(actor), x, foot);
-  pen.setLineDash([]);
+  const foot = row ? row.base : band.y + band.height;
   flag(pen, `${word} would wait`, {
     x, y: foot - 15, colour: palette.actor(actor), ink: palette.card, least: frame.left, most: frame.right,
   });

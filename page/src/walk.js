@@ -1,16 +1,12 @@
-// The walk over an opened run: its place, and what the page shows there.
+// The walk over an opened run: its place, and the moves.
 
-import { putIntoAddress } from "./address.js";
-import { callsAround } from "./around.js";
-import { byId, element } from "./dom.js";
+import { forgetAddress, pushAddress, putIntoAddress } from "./address.js";
+import { byId, fieldOf } from "./dom.js";
 import { Latest } from "./latest.js";
-import { grouped } from "./numbers.js";
-import { statePanel } from "./panel.js";
-import { atTheStart, sentence } from "./sentence.js";
-import { conditionsAt, seek } from "./stops.js";
+import { Searching } from "./searching.js";
+import { Telling } from "./telling.js";
 
 const NEIGHBOURS = 24;
-const MOST_CHIPS = 8;
 const LAG = "reply lagged";
 
 export class Walk {
@@ -19,37 +15,94 @@ export class Walk {
     this.view = view;
     this.screen = screen;
     this.onFault = onFault;
+    this.telling = new Telling(run, view, screen, onFault);
     this.drawing = new Latest(() => this.draw(), onFault);
-    this.telling = new Latest(() => this.tell(), onFault);
-    this.searching = Promise.resolve();
-    this.moves = 0;
+    this.searching = new Searching(run, () => view.place, place => this.jump(() => this.go(place)), onFault);
     this.isLeft = false;
-    byId("slider").max = run.lastPlace;
-    byId("found").textContent = "";
   }
 
   // Called when another run is opened. Replies that arrive after that are not shown.
   leave() {
     this.isLeft = true;
+    forgetAddress();
+    this.searching.stop();
     this.drawing.stop();
     this.telling.stop();
   }
 
-  // Goes to a place by hand. This discards earlier searches and what they have reported.
-  to(place) {
-    this.moves++;
-    byId("found").textContent = "";
+  // Returns what the page's address has to keep.
+  /** @returns {Address} */
+  get address() {
+    const { place, from, to } = this.view;
+    const { folds } = this.screen;
+    const stop = fieldOf("condition").value.trim();
+    return {
+      place, view: [from, to], fold: folds.areFirst ? null : folds.text, filter: folds.filter || null, stop: stop === LAG ? null : stop,
+    };
+  }
+
+  // Goes where an address leads. One with a place alone leaves folds and filter as they are.
+  /** @param {Address} address */
+  restore({ place, view, fold, filter, stop }) {
+    const { folds } = this.screen;
+    this.searching.stop();
+    if (stop !== null) fieldOf("condition").value = stop;
+    if (view !== null) {
+      folds.text = fold ?? folds.first;
+      fieldOf("filter").value = folds.filter = filter ?? "";
+      this.screen.arrange();
+    }
+    this.view.restore(place, view);
+    this.show();
+    this.reveal();
+  }
+
+  // Goes to a place, without a step of the browser's history, and without scrolling the rows.
+  go(place) {
     this.view.go(place);
     this.show();
   }
 
+  // The same by hand. It discards earlier searches.
+  to(place) {
+    this.searching.stop();
+    this.go(place);
+  }
+
   by(places) {
     this.to(this.view.place + places);
+    this.reveal();
+  }
+
+  // Scrolls in the row of the call that led to the place.
+  reveal() {
+    const { channels, handles } = this.run.columns;
+    const { place } = this.view;
+    if (place > 0) this.screen.reveal(channels[place], handles[place]);
+  }
+
+  // Jumps, and scrolls in where that led. Each jump is a step of the browser's history.
+  jump(move) {
+    this.step(move);
+    this.reveal();
+  }
+
+  // Makes a step of the browser's history of a move.
+  step(move) {
+    const from = this.address;
+    move();
+    pushAddress(from, this.address);
+  }
+
+  jumpTo(place) {
+    this.jump(() => this.to(place));
   }
 
   toEnd() {
-    this.view.show(this.view.lastColumn - this.view.width, this.view.width);
-    this.to(this.run.lastPlace);
+    this.jump(() => {
+      this.view.show(this.view.lastColumn - this.view.width, this.view.width);
+      this.to(this.run.lastPlace);
+    });
   }
 
   turn(pages) {
@@ -57,8 +110,27 @@ export class Walk {
     this.by(pages * this.view.width);
   }
 
+  // A press on a band's head folds or unfolds it. Elsewhere it goes to the place.
+  pressPicture(x, y) {
+    const key = this.screen.headAt(x, y);
+    if (key === null) this.step(() => this.toPointInPicture(x));
+    else this.refold(folds => folds.turn(key));
+  }
+
   toPointInPicture(x) {
     this.to(this.screen.placeInPicture(x));
+  }
+
+  // Changes what is folded or filtered.
+  refold(change) {
+    change(this.screen.folds);
+    byId("fold-all").textContent = this.screen.folds.areAll ? "unfold all" : "fold all";
+    this.screen.arrange();
+    this.show();
+  }
+
+  pressStrip(x) {
+    this.jump(() => this.toPointInStrip(x));
   }
 
   // Brings the place into view, with what is around it.
@@ -68,14 +140,33 @@ export class Walk {
     this.to(place);
   }
 
+  scroll(columns) {
+    if (columns === 0) return;
+    this.view.scroll(columns);
+    this.show();
+  }
+
+  // Moves what is in view from one point of the picture to another, by whole columns. Returns how far that is.
+  pan(x, last) {
+    const { column } = this.screen.frame;
+    const columns = Math.trunc((last - x) / column);
+    this.scroll(columns);
+    return -columns * column;
+  }
+
   // Scrolls by a share of what is in view.
   scrollShare(share) {
-    this.view.scroll(Math.sign(share) * Math.max(1, Math.round(this.view.width * Math.abs(share))));
-    this.show();
+    this.scroll(Math.sign(share) * Math.max(1, Math.round(this.view.width * Math.abs(share))));
   }
 
   zoom(factor) {
     this.view.zoom(factor);
+    this.show();
+  }
+
+  // Zooms so that the place under a point of the picture stays there.
+  zoomAtPoint(factor, x) {
+    this.view.zoomAt(factor, this.screen.frame.shareAt(x));
     this.show();
   }
 
@@ -85,44 +176,29 @@ export class Walk {
   }
 
   ask() {
-    byId("condition").select();
+    byId("stops").classList.add("is-open");
+    fieldOf("condition").select();
   }
 
   toLag(isBack) {
     this.seek(isBack ? "rback" : "rforward", LAG);
   }
 
-  // Searches run one after the other, so that each begins where the one before has ended.
+  // Searches for a condition, and jumps to where it holds.
   seek(word, condition) {
-    const { moves } = this;
-    const isOver = () => this.isLeft || this.moves !== moves;
-    this.searching = this.searching.then(() => this.search(word, condition, isOver)).catch(this.onFault);
+    this.searching.ask(word, condition);
   }
 
-  async search(word, condition, isOver) {
-    if (isOver()) return;
-    const found = await seek(this.run, this.view.place, word, condition);
-    if (isOver()) return;
-    byId("found").textContent = found.answer;
-    byId("found").classList.toggle("lag", found.place === null);
-    if (found.place === null) return;
-    this.view.go(found.place);
-    this.show();
+  // The commands that lead a console to this place, as the last search did if it led here.
+  commands() {
+    return [...(this.searching.wayTo(this.view.place) ?? [`goto ${this.view.place}`]), "step", "state", ""].join("\n");
   }
 
   // The texts change at once, and the picture when its states are loaded.
   show() {
-    const { run, view } = this;
-    const { place } = view;
-    byId("sentence").replaceChildren(...(place === 0 ? atTheStart() : sentence(run.entry(place), run.names)));
-    const spoken = byId("sentence").textContent.replace("● ", "");
-    byId("slider").value = place;
-    byId("slider").setAttribute("aria-valuetext", `place ${place} of ${run.lastPlace}: ${spoken}`);
-    byId("place").textContent = `place ${grouped(place)} of ${grouped(run.lastPlace)}`;
-    byId("calls").replaceChildren(...callsAround(run, place));
-    putIntoAddress(place);
+    this.telling.show();
+    putIntoAddress(this.address);
     this.drawing.ask();
-    if (byId("told").open) this.telling.ask();
   }
 
   // Returns the places whose states are needed. If the state of the current place isn't loaded, its neighbours are included.
@@ -139,34 +215,19 @@ export class Walk {
     const places = this.neededPlaces();
     if (this.run.missing(places).length > 0) await this.run.load(places);
     if (this.isLeft) return;
+    this.redraw();
+    this.telling.describe();
+  }
+
+  // Draws after the rows were scrolled, or have another height.
+  scrolled() {
+    this.screen.measure();
+    this.redraw();
+  }
+
+  // Draws what is loaded.
+  redraw() {
     this.screen.drawView();
     this.screen.drawPlace();
-    this.describe();
-  }
-
-  describe() {
-    const { run, view } = this;
-    const state = run.state(view.place);
-    if (state === undefined) return;
-    byId("state").replaceChildren(...statePanel(state, run.names));
-    byId("state").dataset.place = view.place;
-    this.offer(conditionsAt(state, run));
-    byId("picture").setAttribute("aria-label", `The calls from place ${view.from} to ${Math.min(view.to, run.lastPlace)}, drawn.`);
-  }
-
-  // Offers conditions to choose from, unless they are those of the place before, as they mostly are.
-  offer(offers) {
-    const offered = JSON.stringify(offers);
-    if (this.offered === offered) return;
-    this.offered = offered;
-    byId("chips").replaceChildren(...offers.slice(0, MOST_CHIPS).map(([condition, meaning]) =>
-      element("button", { type: "button", "data-condition": condition, title: meaning }, condition)));
-    byId("conditions").replaceChildren(...offers.map(([condition, meaning]) => element("option", { value: condition }, meaning)));
-  }
-
-  // Shows the step and the state as the console writes them.
-  async tell() {
-    const told = await this.run.ask(`goto ${this.view.place}\nstep\nstate\n`);
-    if (!this.isLeft) byId("told-text").textContent = told;
   }
 }

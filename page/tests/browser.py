@@ -86,7 +86,7 @@ def pass_pipes(to_read, to_write):
 class Tab:
     """A page in the browser, with hands."""
 
-    KEYS = {"ArrowLeft": 37, "ArrowRight": 39, "Home": 36, "End": 35, "PageUp": 33, "PageDown": 34, "Enter": 13}
+    KEYS = {"ArrowLeft": 37, "ArrowRight": 39, "Home": 36, "End": 35, "PageUp": 33, "PageDown": 34, "Enter": 13, "Escape": 27}
 
     def __init__(self, browser, width=1440, height=920):
         self.browser = browser

@@ -39,7 +39,7 @@ def chosen_again(tab, folder, journals):
 
 
 def drop_with_names(tab, folder, journals):
-    """A journal is dropped together with its file of names, in either order. A drop without a run, or of a folder, is reported."""
+    """A journal is dropped together with its file of names, in either order. A drop of a folder is reported."""
     journal = opening.put(folder, "named.journal", journals[63])
     names = opening.put(folder, "named.names", runs.example_file("price_feed.names"))
     for files in ([journal, names], [names, journal]):
@@ -48,9 +48,7 @@ def drop_with_names(tab, folder, journals):
         opening.settle(tab, 0)
         tab.key("l")
         opening.settle(tab, 23)
-        assert tab.text("sentence").startswith("● slow auditor on prices: recv 2 → lagged 2"), tab.text("sentence")
-    tab.drop(names)
-    told(tab, "notice", "There is no journal or script beside named.names.")
+        assert tab.text("sentence").startswith("sa slow auditor on prices: recv 2 → lagged 2"), tab.text("sentence")
     tab.drop(folder)
     told(tab, "notice", f"{os.path.basename(folder)} can't be read: ")
     opening.settle(tab, 23)
@@ -76,11 +74,11 @@ def places_of_two_runs(tab, folder, journals):
     """The place in the address is one of the run in the page's own file. A run that is dropped on the page is opened at its start."""
     opening.load(tab, opening.page_of(folder, "first.journal", journals[63]), 3)
     tab.key("ArrowLeft")
-    tab.wait("location.hash === '#place=2'")
+    tab.wait("location.hash.startsWith('#place=2&')")
     tab.drop(opening.put(folder, "second.ttd", SCRIPT))
     told(tab, "facts", "second.ttd · 4 calls")
     check_place(tab, script_asker(SCRIPT), 0)
-    tab.wait("location.hash === '#place=0'")
+    tab.wait("location.hash.startsWith('#place=0&')")
 
 
 def failed_opening(tab, folder, journals):

@@ -10,7 +10,7 @@ import opening
 from opening import check_place
 from shown import points_of
 
-GUTTER, MARGIN = 140, 14
+GUTTER, MARGIN = 268, 14
 STOPS = [("rforward", "lagging 0 2"), ("rforward", "lagging 0 2"), ("rback", "actor 2"), ("rforward", "closed 1"),
          ("rback", "unseen 1 2"), ("rforward", "queue 0 4"), ("rforward", "reply nonsense"), ("rback", "sideways"),
          ("rback", "closed 0"), ("rforward", "lagging 99999999999999999999 1")]
@@ -128,6 +128,8 @@ def buttons(tab, folder, journals):
     ask = opening.asker(journals[63])
     for name, place in (("#forward", 1), ("#forward", 2), ("#back", 1), ("#last", 63), ("#first", 0), ("#lag-after", 23),
                         ("#lag-after", 33), ("#lag-before", 23), ("#chips [data-condition='closed 0']", 52), ("#calls [data-place='50']", 50)):
+        if name.startswith("#chips"):
+            tab.click("#condition")
         tab.click(name)
         check_place(tab, ask, place)
     tab.run("(() => { const slider = document.getElementById('slider'); slider.value = 12; slider.dispatchEvent(new Event('input')); })()")
@@ -256,7 +258,7 @@ def example(tab, folder, journals):
     opening.settle(tab, 0)
     tab.key("l")
     opening.settle(tab, 23)
-    assert tab.text("sentence").startswith("● slow auditor on prices: recv 2 → lagged 2 (2 values were overwritten"), tab.text("sentence")
+    assert tab.text("sentence").startswith("sa slow auditor on prices: recv 2 → lagged 2 (2 values were overwritten"), tab.text("sentence")
 
 
 def files_that_are_not_there(tab, folder, journals):
@@ -273,6 +275,6 @@ def addresses(tab, folder, journals):
     opening.load(tab, path, 42)
     check_place(tab, ask, 42)
     tab.key("ArrowRight")
-    tab.wait("location.hash === '#place=43'")
+    tab.wait("location.hash.startsWith('#place=43&')")
     tab.run("void (location.hash = '#place=7')")
     check_place(tab, ask, 7)

@@ -6,12 +6,12 @@ from opening import check_place
 SHIFT, CTRL = 8, 2
 
 # Turns of the wheel one after the other: over what, how far sideways and down, with which keys; and then the first and the last place in
-# view. A turn scrolls a tenth of what is in view. Zooming keeps the first place in view, if the current place is out of view.
+# view. A turn scrolls a tenth of what is in view. Zooming over the strip keeps the first place in view, if the current place is out of view.
 TURNS = [
     ("#strip-box", 0, 120, 0, [6, 70]), ("#strip-box", 0, 120, 0, [12, 76]), ("#strip-box", 0, -120, 0, [6, 70]),
     ("#strip-box", 120, 0, 0, [12, 76]), ("#picture-box", 0, 120, 0, [12, 76]), ("#picture-box", 120, 0, 0, [18, 82]),
-    ("#picture-box", 0, 120, SHIFT, [24, 88]), ("#picture-box", 0, -120, SHIFT, [18, 82]), ("#picture-box", 0, 120, CTRL, [18, 98]),
-    ("#picture-box", 0, 120, CTRL, [18, 118]), ("#picture-box", 0, -120, CTRL, [18, 98]), ("#strip-box", 0, -120, CTRL, [18, 82]),
+    ("#picture-box", 0, 120, SHIFT, [24, 88]), ("#picture-box", 0, -120, SHIFT, [18, 82]), ("#strip-box", 0, 120, CTRL, [18, 98]),
+    ("#strip-box", 0, 120, CTRL, [18, 118]), ("#strip-box", 0, -120, CTRL, [18, 98]), ("#strip-box", 0, -120, CTRL, [18, 82]),
     ("#picture-box", -120, 0, 0, [12, 76]), ("#strip-box", 0, -120, 0, [6, 70]), ("#strip-box", 0, -120, 0, [0, 64]),
     ("#strip-box", 0, -120, 0, [0, 64]),
 ]
@@ -25,7 +25,7 @@ def turn(tab, box, sideways, down, modifiers):
 
 
 def wheel(tab, folder, journals):
-    """The wheel scrolls through time over the strip, and over the picture sideways or with Shift; with Ctrl it zooms. The place stays."""
+    """The wheel scrolls through time over the strip, and over the picture sideways or with Shift; with Ctrl over the strip it zooms. The place stays."""
     opening.load(tab, opening.page_of(folder, "wheel.journal", journals[10_000]))
     assert places_in_view(tab) == [0, 64]
     for number, (box, sideways, down, modifiers, wanted) in enumerate(TURNS):

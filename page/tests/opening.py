@@ -33,10 +33,11 @@ def settle(tab, place=None):
     tab.wait(f"{shown} !== undefined" if place is None else f"{shown} === '{place}'")
 
 
-def standing(receiver):
+def standing(receiver, channel):
     """The page's text about a receiver."""
     if "seen" in receiver:
-        return "has seen it" if receiver["seen"] else "has not seen it"
+        mark, missed = receiver["mark"], channel["version"] - receiver["mark"] - 1
+        return f"has {mark}, seen" if receiver["seen"] else f"has {mark} of {channel['version']}" + (f", missed {missed}" if missed else "")
     if receiver["unread"] == 0:
         return "up to date"
     lost = f", {receiver['lag']} overwritten" if receiver["lag"] else ""
@@ -61,16 +62,16 @@ def panel_of(state):
     for channel in state["channels"]:
         rows.append("closed" if channel["closed"] else "open")
         rows.append("values: " + " ".join(boxes_of(channel)))
-        rows += [f"receiver {it['handle']}: {standing(it)}" for it in channel["receivers"]]
+        rows += [f"receiver {it['handle']}: {standing(it, channel)}" for it in channel["receivers"]]
         rows.append("senders: " + (", ".join(map(str, channel["senders"])) or "none"))
         if "weak" in channel:
             rows.append("weak senders: " + ", ".join(map(str, channel["weak"])))
     return rows
 
 
-PANEL = """[...document.querySelectorAll('#state section')].flatMap(section => [section.querySelector('.tag').textContent,
+PANEL = """[...document.querySelectorAll('#state .channel')].sort((a, b) => a.dataset.channel - b.dataset.channel).flatMap(section => [section.querySelector('.tag').textContent,
     'values: ' + [...section.querySelectorAll('.values li, p .box')].map(box => box.textContent).join(' '),
-    ...[...section.querySelectorAll('dl div')].map(row => row.children[0].textContent + ': ' + row.children[1].textContent)])"""
+    ...[...section.querySelectorAll('dl div')].map(row => (row.querySelector('[data-handle]') ?? row.children[0]).textContent + ': ' + row.children[1].textContent)])"""
 
 
 def check_place(tab, ask, place):
@@ -84,7 +85,7 @@ def check_place(tab, ask, place):
         assert "the start" in sentence
     else:
         _, _, actor, channel, call = entry.split(" ", 4)
-        wanted = f"● actor {actor} on channel {channel}: {call.replace(' = ', ' → ')}"
+        wanted = f"a{actor} actor {actor} on channel {channel}: {call.replace(' = ', ' → ')}"
         assert sentence.startswith(wanted), f"{sentence!r}, not {wanted!r}"
     shown = tab.run(PANEL)
     assert shown == panel_of(json.loads(state.split("\n")[-2])), shown

@@ -16,9 +16,9 @@ ALERTED = "void (window.alert = () => { window.alerted = true; })"
 def lagging_picture(tab, folder, path):
     """A receiver that lags, with names for actors and channels."""
     opening.put(folder, "price_feed.names", runs.example_file("price_feed.names"))
-    tab.resize(1280, 1100)
+    tab.resize(1280, 540)
     opening.load(tab, opening.page_of(folder, "price_feed.ttd", runs.example()), 22)
-    tab.picture(path, "#picture-box")
+    tab.picture(path, "#left")
     tab.resize(1440, 920)
 
 
@@ -37,7 +37,7 @@ def pictures(tab, folder, journals):
     lagging_picture(tab, folder, os.path.join(out, "lagging.png"))
     opening.load(tab, opening.page_of(folder, "dark.journal", journals[63]), 33)
     tab.prefer("dark")
-    tab.wait("getComputedStyle(document.body).backgroundColor === 'rgb(17, 23, 30)'")
+    tab.wait("getComputedStyle(document.body).backgroundColor === 'rgb(25, 33, 42)'")
     tab.picture(os.path.join(out, "dark.png"))
     tab.prefer("light")
     tab.resize(390, 844)
@@ -74,7 +74,7 @@ def lagging_is_red(tab, folder, journals):
 def hostile_names(tab, folder, journals):
     """Names, values and the file's own name are shown as they are, and none of them is markup or runs."""
     texts = {str(number): text for number, text in enumerate(HOSTILE)}
-    names = {"actors": texts, "channels": texts, "values": {"0": {"107": HOSTILE[0], "104": HOSTILE[1]}, "1": {"450": HOSTILE[2]}}}
+    names = {"actors": texts, "channels": {key: texts[key] for key in "01"}, "values": {"0": {"107": HOSTILE[0], "104": HOSTILE[1]}, "1": {"450": HOSTILE[2]}}}
     opening.put(folder, "hostile <img src=x onerror=alert(5)>.names", json.dumps(names).encode())
     path = opening.page_of(folder, "hostile <img src=x onerror=alert(5)>.journal", journals[63])
     tab.load(path.replace(" ", "%20").replace("<", "%3C").replace(">", "%3E"), 22)
@@ -119,7 +119,7 @@ def spoken(tab, folder, journals):
     wanted = {"Yovanelum", "channel 0 broadcast, capacity 4 open", "channel 1 watch open", "Calls around it"}
     assert set(headings) == wanted, headings
     texts = [name for role, name in told if role == "StaticText"]
-    assert "2 overwritten" in texts and "has not seen it" in texts
+    assert "2 overwritten" in texts and "has 0 of 1" in texts
     assert all(name for role, name in told if role in ("button", "textbox", "combobox", "slider")), "a control has no name"
 
 

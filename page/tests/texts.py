@@ -50,7 +50,7 @@ def large_numbers(tab, folder, journals):
     ask = opening.asker(journal)
     for place in range(9):
         check_place(tab, ask, place)
-        assert tab.run("document.querySelector('#state .box').textContent") == str([LARGEST, LARGEST - 1, ROUNDED][(place > 1) + (place > 3)])
+        assert tab.run("document.querySelector('#state [data-channel=\"0\"] .box').textContent") == str([LARGEST, LARGEST - 1, ROUNDED][(place > 1) + (place > 3)])
         tab.key("ArrowRight")
     assert [text for text, _, _ in watch_values(tab)] == [f"= {LARGEST}", f"= {LARGEST - 1}", f"= {ROUNDED}"]
     names = {"values": {"0": {str(LARGEST - 1): "the last but one"}, "1": {str(LARGEST): "the last one"}}}

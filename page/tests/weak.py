@@ -64,9 +64,9 @@ def weak_senders(tab, folder, journals):
 
 
 def drawn(tab, folder, name, script):
-    """How many pixels of the picture are of a sender's line, and the picture's height."""
+    """How many pixels of the picture are of a sender's line, and the height of its rows."""
     opening.load(tab, opening.page_of(folder, name, native.record(script)))
-    return points_of(tab, "--alive-sender"), tab.run("document.getElementById('picture').height")
+    return points_of(tab, "--alive-sender"), tab.run("parseFloat(document.getElementById('space').style.height)")
 
 
 def weak_rows(tab, folder, journals):

@@ -1,0 +1,129 @@
+// The things that many modules pass on, for the type checker alone: no byte of this file is in the page.
+
+interface Window {
+  ttd: { [request: string]: (...values: any[]) => Promise<any> };
+}
+
+declare class DecompressionStream {
+  constructor(format: string);
+  readonly readable: ReadableStream;
+  readonly writable: WritableStream;
+}
+
+interface Uint8ArrayConstructor {
+  fromBase64?(text: string): Uint8Array;
+}
+
+/** An entry, as the console's `list` writes it. Stamps, values and counts stay texts: a browser would round large ones. */
+interface Entry {
+  number: number;
+  stamp: string;
+  actor: number;
+  channel: number;
+  word: string;
+  handle: number;
+  rest: string;
+  reply: string;
+  answer: string;
+}
+
+/** A receiver in a state: of a broadcast it has a position, unread and lag, of a watch a mark and whether the value is seen. */
+interface ReceiverState {
+  handle: number;
+  position?: number;
+  unread?: number;
+  lag?: number;
+  mark?: number;
+  seen?: boolean;
+}
+
+interface ChannelState {
+  kind: "broadcast" | "watch";
+  closed: boolean;
+  capacity?: number;
+  sent?: number;
+  window?: (number | string)[];
+  retained?: number;
+  value?: number | string;
+  version?: number;
+  receivers: ReceiverState[];
+  senders: number[];
+  weak?: number[];
+}
+
+/** What the page's address has. */
+interface Address {
+  place: number;
+  view: number[] | null;
+  fold: string | null;
+  filter: string | null;
+  stop: string | null;
+}
+
+interface RunState {
+  place: number;
+  len: number;
+  channels: ChannelState[];
+}
+
+/** A handle's life: past the last place if it is never dropped. */
+interface Life {
+  handle: number;
+  kind: string;
+  from: number;
+  to: number;
+  /** The actor that used it last, or made it. */
+  user: number | null;
+}
+
+/** What is opened: a file's name and bytes, and those of its file of names. */
+interface Source {
+  name: string;
+  bytes: Uint8Array;
+  names?: Uint8Array;
+  namesFile?: string;
+  /** What the bytes were before they were unpacked, once that is known. */
+  notes?: string[];
+  /** Under which the run is kept, and which the browser's history has. */
+  key?: string;
+  /** What is reported when it is opened. */
+  notice?: (string | Node)[];
+  size?: number;
+}
+
+/** A row of the picture, at its heights in the layout. Its lane is where calls are drawn, and its base the line below them. */
+interface Row {
+  kind: string;
+  lives: Life[];
+  y: number;
+  height: number;
+  lane: number;
+  base: number;
+  actor?: number;
+}
+
+/** A channel's rows, or those of the actors, below their head. */
+interface Band {
+  key: number | string;
+  channel: number | null;
+  y: number;
+  height: number;
+  rows: Row[];
+  rowOf: Map<number, Row>;
+  isFolded: boolean;
+}
+
+/** What the drawings of the picture pass on. `places` are those whose states are drawn, and top and bottom the heights in sight. */
+interface Drawing {
+  pen: CanvasRenderingContext2D;
+  run: import("./run.js").Run;
+  view: import("./view.js").View;
+  frame: import("./frame.js").Frame;
+  folds: import("./folds.js").Folds;
+  palette: any;
+  bands: Band[];
+  band: Band;
+  places: number[];
+  top: number;
+  bottom: number;
+}

@@ -1,0 +1,214 @@
+"""Jumps are steps of the browser's history, the address keeps what is seen, and what is seen can be taken along."""
+import json
+import os
+
+import opening
+import real_runs
+from hands import GUTTER, MARGIN, column_x, places_in_view
+from opening import check_place
+
+# Keeps what is written to the clipboard, as a browser does that allows it.
+CLIPBOARD = "Object.defineProperty(navigator, 'clipboard', { value: { writeText: async text => { window.copied = text; } } })"
+
+# Keeps the picture that is saved.
+SAVED = """(() => {
+    const { createObjectURL } = URL;
+    URL.createObjectURL = blob => createObjectURL(window.saved = blob);
+})()"""
+
+# Its size, how many of its points can be looked through, and the colours of its left upper point and of the point below all drawings.
+POINTS = """createImageBitmap(saved).then(image => {
+    const pen = new OffscreenCanvas(image.width, image.height).getContext('2d');
+    pen.drawImage(image, 0, 0);
+    const { data } = pen.getImageData(0, 0, image.width, image.height);
+    let clear = 0;
+    for (let i = 3; i < data.length; i += 4) if (data[i] !== 255) clear++;
+    return { type: saved.type, width: image.width, height: image.height, clear, corner: [...data.slice(0, 3)] };
+})"""
+
+
+def bus_page(folder):
+    journal, names = real_runs.bus()
+    opening.put(folder, "bus.names", names)
+    return opening.page_of(folder, "bus.journal", journal), opening.asker(journal)
+
+
+def step_of_history(tab, by):
+    tab.run(f"history.go({by})")
+
+
+def history_of_jumps(tab, folder, journals):
+    """Back and forward go through the places from which jumps were made: L, Home, End, clicks on a call, the strip and the picture."""
+    path, ask = bus_page(folder)
+    opening.load(tab, path)
+    lags = [int(answer.split(" ")[1]) for answer in (ask("start\n" + "rforward reply lagged\n" * (i + 1)).rstrip("\n").split("\n")[-1] for i in range(2))]
+    steps = [0]
+    for key, place in (("l", lags[0]), ("l", lags[1]), ("End", 648), ("Home", 0)):
+        tab.key(key)
+        opening.settle(tab, place)
+        steps.append(place)
+    tab.click("#calls [data-place='9']")
+    opening.settle(tab, 9)
+    tab.key("ArrowRight")
+    tab.key("ArrowRight")
+    opening.settle(tab, 11)
+    x, top = column_x(tab, "#strip-box", 300, 649)
+    tab.click_at(x, top + 20)
+    opening.settle(tab, 300)
+    steps += [11, 300]
+    for place in reversed(steps[:-1]):
+        step_of_history(tab, -1)
+        opening.settle(tab, place)
+    for place in steps[1:]:
+        step_of_history(tab, 1)
+        opening.settle(tab, place)
+    check_names(tab, ask, 300)
+
+
+def check_names(tab, ask, place):
+    """The place that is shown, and the entry that the program writes for it."""
+    step = ask(f"goto {place}\nstep\n").split("\n")[1]
+    assert tab.text("place") == f"place {place} of 648" and step.split(" = ")[1].split(" ")[0] in tab.text("sentence"), tab.text("sentence")
+
+
+def address_keeps(tab, folder, journals):
+    """The address keeps the place, what is in view and the condition, and opens there again."""
+    path, _ = bus_page(folder)
+    opening.load(tab, path, 120)
+    for key in ("+", "PageDown", "-"):
+        tab.key(key)
+    tab.run("document.getElementById('condition').select()")
+    tab.type("lagging 0 6")
+    tab.key("Enter")
+    tab.wait("document.getElementById('found').textContent.startsWith('hit')")
+    tab.run("document.activeElement.blur()")
+    place = tab.run("document.getElementById('slider').valueAsNumber")
+    opening.settle(tab, place)
+    tab.key("+")
+    tab.wait("new URLSearchParams(location.hash.slice(1)).get('view').split('-').map(Number).reduce((from, to) => to - from) === 32")
+    address, view = tab.run("location.hash"), places_in_view(tab)
+    assert address == f"#place={place}&view={view[0]}-{view[1]}&stop=lagging+0+6", address
+    tab.load(f"{path}{address}")
+    opening.settle(tab, place)
+    assert places_in_view(tab) == view
+    assert tab.run("document.getElementById('condition').value") == "lagging 0 6"
+    for wrong in ("#place=x&view=9-", "#view=99999-9999999999", "#place=99999&view=5-1", "#stop=%00"):
+        tab.load(f"{path}{wrong}")
+        opening.settle(tab, 648 if "99999&" in wrong else 0)
+
+
+def console_commands(tab, folder, journals):
+    """What is copied leads the console to the place, by the search that led there or by its number."""
+    path, ask = bus_page(folder)
+    opening.load(tab, path, 30)
+    tab.run(f"void {CLIPBOARD}")
+    tab.key("l")
+    tab.wait("document.getElementById('found').textContent.startsWith('hit')")
+    place = tab.run("document.getElementById('slider').valueAsNumber")
+    opening.settle(tab, place)
+    tab.click("#copy")
+    tab.wait("document.getElementById('copied').textContent === 'copied'")
+    copied = tab.run("copied")
+    assert copied == "goto 30\nrforward reply lagged\nstep\nstate\n", copied
+    assert ask(copied).split("\n", 2)[2] == ask(f"goto {place}\nstep\nstate\n").split("\n", 1)[1]
+    tab.key("ArrowRight")
+    tab.click("#copy")
+    tab.wait(f"copied === 'goto {place + 1}\\nstep\\nstate\\n'")
+
+
+def picture_as_png(tab, folder, journals):
+    """The picture is saved as a PNG that can't be looked through, in the light and in the dark."""
+    path, _ = bus_page(folder)
+    opening.load(tab, path, 30)
+    tab.run(SAVED)
+    downloads = os.path.join(folder, "downloads")
+    tab.browser.call("Browser.setDownloadBehavior", behavior="allow", downloadPath=downloads, eventsEnabled=True)
+    for scheme, card in (("light", [255, 255, 255]), ("dark", [25, 33, 42])):
+        tab.prefer(scheme)
+        tab.run("void delete window.saved")
+        tab.click("#save")
+        tab.wait("window.saved")
+        saved = tab.run(POINTS)
+        assert saved["type"] == "image/png" and saved["clear"] == 0 and saved["corner"] == card, saved
+        heights = "['strip', 'picture'].reduce((sum, name) => sum + document.getElementById(name).height, 0)"
+        assert saved["width"] == tab.run("document.getElementById('picture').width") and saved["height"] > tab.run(heights), saved
+        while tab.browser.event("Browser.downloadProgress", None)["state"] != "completed":
+            pass
+    tab.prefer("light")
+    with open(os.path.join(downloads, "bus.journal.place-30.png"), "rb") as file:
+        assert file.read(8) == b"\x89PNG\r\n\x1a\n"
+
+
+def help_of_keys(tab, folder, journals):
+    """`?` shows the keys. While they are shown no key walks, and Escape or the button hides them."""
+    path, _ = bus_page(folder)
+    opening.load(tab, path, 3)
+    tab.key("?")
+    tab.wait("document.getElementById('help').open")
+    rows = tab.run("[...document.querySelectorAll('#help dt')].map(it => it.textContent)")
+    assert {"?", "L, with Shift back", "/", "0"} <= set(rows), rows
+    tab.key("ArrowRight")
+    tab.click("#help form button")
+    tab.wait("!document.getElementById('help').open")
+    tab.click("#help-button")
+    tab.wait("document.getElementById('help').open")
+    tab.key("Escape")
+    tab.wait("!document.getElementById('help').open")
+    opening.settle(tab, 3)
+    tab.key("ArrowRight")
+    opening.settle(tab, 4)
+
+
+def place_under(tab, x):
+    """The place in the picture under a point of the window, by what is in view and how wide the picture is."""
+    left, _, width, _ = tab.box("#picture-box")
+    first, last = places_in_view(tab)
+    return first + int((x - left - GUTTER) / (width - GUTTER - MARGIN) * (last - first + 1))
+
+
+def zoom_at_pointer(tab, folder, journals):
+    """With Ctrl the wheel zooms around the place under the pointer."""
+    path, _ = bus_page(folder)
+    opening.load(tab, path, 300)
+    left, top, width, _ = tab.box("#picture-box")
+    for share in (0.207, 0.503, 0.771):
+        x = round(left + GUTTER + share * (width - GUTTER - MARGIN))
+        under = place_under(tab, x)
+        for turned in (-120, -120, 120, 120, 120, -120):
+            before = places_in_view(tab)
+            tab.mouse("mouseWheel", x, top + 90, deltaX=0, deltaY=turned, modifiers=2)
+            tab.wait(f"!document.getElementById('picture').getAttribute('aria-label').includes({json.dumps('from place %d to %d,' % tuple(before))})")
+            assert place_under(tab, x) == under, (share, turned, before, places_in_view(tab))
+    opening.settle(tab, 300)
+
+
+def touched(tab, kind, *points):
+    tab.call("Input.dispatchTouchEvent", type=kind, touchPoints=[{"x": x, "y": y} for x, y in points])
+
+
+def touch(tab, folder, journals):
+    """A finger that moves over the picture pans it, and one that is lifted where it was laid picks. A swipe over the strip picks nothing."""
+    path, _ = bus_page(folder)
+    tab.call("Emulation.setTouchEmulationEnabled", enabled=True)
+    opening.load(tab, path, 300)
+    x, top = column_x(tab, "#picture-box", 40, 65)
+    before = places_in_view(tab)
+    pitch = (tab.box("#picture-box")[2] - GUTTER - MARGIN) / 65
+    touched(tab, "touchStart", (x, top + 90))
+    for step in range(1, 11):
+        touched(tab, "touchMove", (x - (step + 0.2) * pitch, top + 90))
+    touched(tab, "touchEnd")
+    tab.wait(f"document.getElementById('picture').getAttribute('aria-label').includes('from place {before[0] + 10} to')")
+    opening.settle(tab, 300)
+    touched(tab, "touchStart", (x, top + 90))
+    touched(tab, "touchEnd")
+    opening.settle(tab, before[0] + 10 + 40)
+    x, top = column_x(tab, "#strip-box", 500, 649)
+    touched(tab, "touchStart", (x, top + 20))
+    for step in range(1, 6):
+        touched(tab, "touchMove", (x - 20 * step, top + 20))
+    touched(tab, "touchEnd")
+    opening.settle(tab, before[0] + 10 + 40)
+    touched(tab, "touchStart", (x, top + 20))
+    touched(tab, "touchEnd")
+    opening.settle(tab, 500)

@@ -1,0 +1,181 @@
+"""The picture of many channels: what stays in sight, which rows are drawn, their order, folds and filter."""
+import json
+
+import native
+import opening
+import real_runs
+from hands import GUTTER, places_in_view
+
+SIZES = [(1440, 900), (1024, 768), (390, 844)]
+HITS = 8
+
+# Draws again, and returns each text of a canvas with where it is on it: left, middle, and width.
+DRAWN = """(name => {
+    const pens = CanvasRenderingContext2D.prototype, { fillText } = pens, texts = [];
+    pens.fillText = function (text, x, y, ...rest) {
+        const { e, f } = this.getTransform(), { width } = this.measureText(text);
+        const left = this.textAlign === 'right' ? x - width : this.textAlign === 'center' ? x - width / 2 : x;
+        if (this.canvas.id === name) texts.push([String(text), left + e, y + f, width]);
+        return fillText.call(this, text, x, y, ...rest);
+    };
+    dispatchEvent(new Event('resize'));
+    pens.fillText = fillText;
+    return texts;
+})"""
+
+# The boxes of the parts in the window: left, top, right, bottom.
+BOXES = """(names => names.map(name => {
+    const { left, top, right, bottom } = document.querySelector(name).getBoundingClientRect();
+    return [left, top, right, bottom];
+}))"""
+
+
+def drawn(tab, name="picture"):
+    return tab.run(f"{DRAWN}({json.dumps(name)})")
+
+
+def boxes(tab, *names):
+    return tab.run(f"{BOXES}({json.dumps(names)})")
+
+
+def page_of(folder, name, run):
+    journal, names = run
+    opening.put(folder, f"{name}.names", names)
+    return opening.page_of(folder, f"{name}.journal", journal), opening.asker(journal)
+
+
+def wide():
+    """64 channels, each with 30 receivers, and 64 actors."""
+    head = "broadcast 4\n" * 64 + "actors 64\n"
+    made = "".join(f"{channel} {channel} subscribe 0\n" * 30 for channel in range(64))
+    calls = "".join(f"{turn % 64} {turn % 64} send 0 {turn}\n{turn % 64} {turn % 64} try-recv {turn % 29 + 1}\n" for turn in range(500))
+    return native.record((head + made + calls).encode())
+
+
+def seen_after_lags(tab, folder, journals):
+    """After each L in the pool, on three sizes, flag, sentence and list are inside the window, and so are strip, controls and axis."""
+    path, ask = page_of(folder, "pool", real_runs.pool())
+    for width, height in SIZES:
+        tab.resize(width, height)
+        opening.load(tab, path)
+        place = 0
+        for _ in range(HITS):
+            place = int(ask(f"goto {place}\nrforward reply lagged\n").split("hit ")[1].split(" ")[0])
+            tab.key("l")
+            opening.settle(tab, place)
+            look_at_hit(tab, ask, width, height, place)
+    tab.resize(1440, 920)
+
+
+def look_at_hit(tab, ask, width, height, place):
+    lost = ask(f"goto {place}\nstep\n").split("lagged ")[1].split("\n")[0]
+    strip, bar, sentence, axis, pane, current = boxes(tab, "#strip-box", ".bar", "#sentence", "#axis", "#pane", "#calls [aria-current]")
+    for left, top, right, bottom in (strip, bar, sentence, axis, pane, current):
+        assert left >= 0 and right <= width and top >= 0 and bottom <= height and bottom > top, (width, place, left, top, right, bottom)
+    assert strip[3] - strip[1] <= height / 5 + 1, strip
+    assert pane[3] - pane[1] > height / 4, pane
+    assert tab.run("[document.documentElement.scrollHeight, document.documentElement.scrollWidth]") == [height, width]
+    size = [pane[2] - pane[0], pane[3] - pane[1]]
+    flags = [it for it in drawn(tab) if it[0] == f"lost {lost}"]
+    assert any(0 <= x and x + wide <= size[0] and 8 <= y <= size[1] - 8 for _, x, y, wide in flags), (width, place, flags, size)
+    names = [it for it in drawn(tab, "strip")]
+    channel = tab.run("document.querySelector('#state .channel').dataset.channel")
+    assert f" on jobs.{int(channel):02}:" in tab.text("sentence"), "the call's channel isn't the first of the panel"
+    rows = tab.run("document.getElementById('strip-box').scrollTop")
+    (_, _, y, _), = [it for it in names if it[0] == f"jobs.{int(channel):02}"]
+    assert rows <= y <= rows + strip[3] - strip[1], "the channel's row of the strip is out of sight"
+
+
+def rows_in_sight(tab, folder, journals):
+    """Of 2,000 rows only those in sight are drawn, on a canvas as high as the pane. Scrolling shows the others."""
+    opening.load(tab, opening.page_of(folder, "wide.journal", wide()), 2_500)
+    height = tab.run("document.getElementById('pane').clientHeight")
+    assert tab.run("document.getElementById('picture').height") == height
+    assert tab.run("document.getElementById('space').offsetHeight") > 60_000
+    assert len(drawn(tab)) < 300, len(drawn(tab))
+    tab.run("void (document.getElementById('pane').scrollTop = 50_000)")
+    tab.wait(f"{DRAWN}('picture').some(([text]) => /^channel 4\\d$/.test(text))")
+    assert all(-40 < y < height + 40 for _, _, y, _ in drawn(tab))
+
+
+def order_of_rows(tab):
+    """The names of the picture's rows and bands, with their heights."""
+    return [[text, y] for text, x, y, _ in drawn(tab) if x < GUTTER and "·" in text and "receivers" not in text]
+
+
+def same_order(tab, folder, journals):
+    """The rows keep their order and their heights at every zoom and place, and what is written about them covers no flag."""
+    path, _ = page_of(folder, "bus", real_runs.bus())
+    opening.load(tab, path, 300)
+    first = order_of_rows(tab)
+    assert [text for text, _ in first][:4] == ["publisher · sender 0", "main · receiver 1", "ui · receiver 2", "metrics · receiver 3"], first
+    for key in ("-", "-", "0", "+", "+", "End", "Home", "PageDown"):
+        tab.key(key)
+        tab.run("ttd.ask('')")
+        assert order_of_rows(tab) == first, (key, order_of_rows(tab))
+    opening.load(tab, path, 300)
+    assert drawn(tab, "cursor") and all(x + width <= GUTTER for _, x, _, width in drawn(tab, "cursor")), drawn(tab, "cursor")
+
+
+def nothing_moves(tab, folder, journals):
+    """Nothing of the page moves when an answer comes, nor where the sentence is long."""
+    path, _ = page_of(folder, "bus", real_runs.bus())
+    parts = ["#strip-box", ".bar", "#place", "#lag-after", "#stops", "#said", "#axis", "#pane", "aside"]
+    for width, height in SIZES:
+        tab.resize(width, height)
+        opening.load(tab, path)
+        before = boxes(tab, *parts)
+        for key in ("l", "ArrowRight", "End", "l", "Home"):
+            tab.key(key)
+            tab.run("ttd.ask('').then(() => ttd.ask(''))")
+            assert boxes(tab, *parts) == before, (width, key, boxes(tab, *parts), before)
+    tab.resize(1440, 920)
+
+
+def texts_of(tab):
+    return [text for text, _, _, _ in drawn(tab)]
+
+
+def folds_and_filter(tab, folder, journals):
+    """The field filters the rows by name, a head folds its rows, Z folds all, and the address keeps both."""
+    path, _ = page_of(folder, "pool", real_runs.pool())
+    opening.load(tab, path, 100)
+    tab.key("f")
+    tab.type("worker-03")
+    rows = [text for text in texts_of(tab) if " · " in text and "receiver " in text]
+    assert rows and all(text.startswith("worker-03 · receiver ") for text in rows), rows
+    tab.wait("location.hash.endsWith('&filter=worker-03')")
+    tab.run("(() => { const field = document.getElementById('filter'); field.value = 'nobody'; field.dispatchEvent(new Event('input')); })()")
+    assert texts_of(tab) == ["no row has “nobody” in its name"], texts_of(tab)
+    tab.run("(() => { const field = document.getElementById('filter'); field.value = ''; field.dispatchEvent(new Event('input')); field.blur(); })()")
+    high = tab.run("document.getElementById('space').offsetHeight")
+    left, top, _, _ = tab.box("#picture-box")
+    tab.run("void (document.getElementById('pane').scrollTop = 0)")
+    tab.wait(f"{DRAWN}('picture').some(([text]) => text === 'jobs.00')")
+    tab.click_at(left + 40, top + 10)
+    tab.wait(f"document.getElementById('space').offsetHeight < {high}")
+    assert "▸" in texts_of(tab)
+    opening.settle(tab, 100)
+    tab.wait("location.hash.includes('&fold=0.actors')")
+    address = tab.run("location.hash")
+    tab.key("z")
+    tab.wait("document.getElementById('fold-all').textContent === 'unfold all'")
+    assert not any(" · receiver " in text for text in texts_of(tab))
+    tab.load(f"{path}{address}")
+    opening.settle(tab, 100)
+    assert [text for text in texts_of(tab) if text in "▸▾"].count("▸") == 1, texts_of(tab)
+    assert places_in_view(tab)
+
+
+def narrow_tabs(tab, folder, journals):
+    """On a narrow screen picture and state are shown one at a time."""
+    path, _ = page_of(folder, "bus", real_runs.bus())
+    tab.resize(390, 844)
+    opening.load(tab, path, 300)
+    shown = "['left', 'state'].map(name => document.getElementById(name).checkVisibility())"
+    assert tab.run(shown) == [True, False]
+    tab.click("#tabs [data-tab=state]")
+    assert tab.run(shown) == [False, True]
+    tab.click("#tabs [data-tab=picture]")
+    assert tab.run(shown) == [True, False]
+    tab.resize(1440, 920)
