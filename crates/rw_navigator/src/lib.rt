@@ -25,4 +25,4 @@ pub use counting::Counted;
 pub use hit_index::HitIndex;
 pub use moves::{Move, OutOfRange};
 pub use places::{MOST_PLACES, Navigator};
-pub use worlds::{Cond, Debugger};
+pub use worlds::{Cond, Debugger, Loss, LossEnd, losses_of};

@@ -2,6 +2,8 @@
 
 mod condition;
 mod debugger;
+mod losses;
 
 pub use condition::Cond;
 pub use debugger::Debugger;
+pub use losses::{Loss, LossEnd, losses_of};
