@@ -45,7 +45,7 @@ module _ {V : Type 0} (at : ℕ → List (ChanShown V)) (last : ℕ) where
   nothing_more : (c k : ℕ) (losses : List Loss) → (0 < lag_of (lags_at at last) c k last → ⊥) → AreThose (lags_at at last) last (IsFound c k) losses → AreThose (lags_at at last) last (IsFound c (suc k)) losses
   nothing_more c k losses rests are =
       those_again (lags_at at last) last (IsFound c k) (IsFound c (suc k)) losses
-      (λ loss found. elim found [ | inl done ↦ inl done | inr (inl before) ↦ inr (inl before) | inr (inr this) ↦ inr (inr (this.0, omega (arith, this.1))) ])
+      (λ loss found. elim found [ inl done ↦ inl done | inr (inl before) ↦ inr (inl before) | inr (inr this) ↦ inr (inr (this.0, omega (arith, this.1))) ])
       (λ loss is found. elim found [
         | inl done ↦ inl done
         | inr (inl before) ↦ inr (inl before)
@@ -107,9 +107,9 @@ module _ {V : Type 0} (at : ℕ → List (ChanShown V)) (last : ℕ) where
           elim (cases_lt 0 (lag x p)) [
             | inl lags ↦ subst (λ o. AreThose (lags_at at last) last (IsFound c (suc k)) (with_loss losses o)) (sym (loss_found x t c last is k p Open here lags))
                 (one_more (lags_at at last) last (IsFound c k) (IsFound c (suc k)) losses (the_loss x t c last is k p Open) (open_loss k p here lags)
-                (λ found. elim found [ | inl done ↦ omega (arith, done) | inr (inl before) ↦ omega (arith, before) | inr (inr this) ↦ omega (arith, this.1) ])
+                (λ found. elim found [ inl done ↦ omega (arith, done) | inr (inl before) ↦ omega (arith, before) | inr (inr this) ↦ omega (arith, this.1) ])
                 (inr (inr (refl, omega arith)))
-                (λ loss found. elim found [ | inl done ↦ inl done | inr (inl before) ↦ inr (inl before) | inr (inr this) ↦ inr (inr (this.0, omega (arith, this.1))) ])
+                (λ loss found. elim found [ inl done ↦ inl done | inr (inl before) ↦ inr (inl before) | inr (inr this) ↦ inr (inr (this.0, omega (arith, this.1))) ])
                 (only_open k p here lags) others)
             | inr rested ↦ with_none (loss_none x t c last is k p Open here (omega arith)) (λ lags. omega (arith, lag_is, lags, rested))
           ]
@@ -124,7 +124,7 @@ module _ {V : Type 0} (at : ℕ → List (ChanShown V)) (last : ℕ) where
     next_channel : (m n : ℕ) (found : List Loss) → ((h : ℕ) → 0 < lag_of (lags_at at last) m h last → h < n) → AreThose (lags_at at last) last (IsFound m n) found → AreThose (lags_at at last) last (IsFound (suc m) 0) found
     next_channel m n found few are =
         those_again (lags_at at last) last (IsFound m n) (IsFound (suc m) 0) found
-        (λ loss is_found. elim is_found [ | inl done ↦ inl done | inr (inl before) ↦ inr (inl (omega (arith, before))) | inr (inr this) ↦ inr (inl (omega (arith, this.0))) ])
+        (λ loss is_found. elim is_found [ inl done ↦ inl done | inr (inl before) ↦ inr (inl (omega (arith, before))) | inr (inr this) ↦ inr (inl (omega (arith, this.0))) ])
         (λ loss is is_found. elim is_found [
           | inl done ↦ inl done
           | inr (inl before) ↦ elim (cases_lt loss.channel m) [
@@ -160,7 +160,7 @@ module _ {V : Type 0} (at : ℕ → List (ChanShown V)) (last : ℕ) where
     more_channels : (m : ℕ) → AreThose (lags_at at last) last (IsFound m 0) (with_open losses ts m)
     more_channels zero =
         those_again (lags_at at last) last (λ loss. stop_of last loss.end ≤ last) (IsFound 0 0) losses (λ loss done. inl done)
-        (λ loss is found. elim found [ | inl done ↦ done | inr (inl before) ↦ absurd (omega (arith, before)) | inr (inr this) ↦ absurd (omega (arith, this.1)) ]) passed.found
+        (λ loss is found. elim found [ inl done ↦ done | inr (inl before) ↦ absurd (omega (arith, before)) | inr (inr this) ↦ absurd (omega (arith, this.1)) ]) passed.found
     more_channels (suc m) = at_channel m (slice_get (at last) m) (slice_get ts m) refl (passed.tracked m) (passed.since m) (with_open losses ts m) (more_channels m)
 
     -- a channel with a receiver that lags has a track
@@ -178,4 +178,4 @@ module _ {V : Type 0} (at : ℕ → List (ChanShown V)) (last : ℕ) where
     pub all_found : AreThose (lags_at at last) last (λ loss. Unit {0}) (with_open losses ts (length ts))
     all_found =
         those_again (lags_at at last) last (IsFound (length ts) 0) (λ loss. Unit {0}) (with_open losses ts (length ts)) (λ loss found. tt)
-        (λ loss is found. elim (ended_or_last loss is) [ | inl done ↦ inl done | inr on ↦ inr (inl (within_tracks loss.channel loss.receiver on.2)) ]) (more_channels (length ts))
+        (λ loss is found. elim (ended_or_last loss is) [ inl done ↦ inl done | inr on ↦ inr (inl (within_tracks loss.channel loss.receiver on.2)) ]) (more_channels (length ts))

@@ -116,10 +116,11 @@ module _ {V : Type 0} where
       -- a loss that ends at the next place is one of this channel
       ends_here : (loss : Loss) → IsStretch lags_at last loss → stop_of last loss.end ≡ n + 1 → (0 < lag_of lags_at loss.channel loss.receiver (n + 1) → ⊥) × (0 < lag_of lags_at loss.channel loss.receiver n) × (loss.from ≤ n)
       ends_here loss is stop =
-          let begun : loss.from ≤ n = omega (arith, is.some, stop) in
-          (λ lags. omega (arith, lags, rests lags_at last loss.channel loss.receiver loss.end is.ends (omega (arith, stop, inside)), ap (λ p. lag_of lags_at loss.channel loss.receiver p) stop),
+          let begun : loss.from ≤ n = omega (arith, is.some, stop) in (
+            λ lags. omega (arith, lags, rests lags_at last loss.channel loss.receiver loss.end is.ends (omega (arith, stop, inside)), ap (λ p. lag_of lags_at loss.channel loss.receiver p) stop),
             is.lags n begun (omega (arith, stop)),
-            begun)
+            begun,
+          )
 
       not_there : (loss : Loss) → IsStretch lags_at last loss → stop_of last loss.end ≡ n + 1 → call.channel ≡ loss.channel
       not_there loss is stop =

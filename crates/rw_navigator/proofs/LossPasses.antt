@@ -139,12 +139,13 @@ module _ {V : Type 0} where
       ends_is loss q ended stop ends =
           let p : ℕ = ended.from_position in
           let begun : IsOpenSince of c loss.receiver loss.from n =
-          subst (λ f. IsOpenSince of c loss.receiver f n) (sym ended.from_is) (since loss.receiver p ended.here ended.lags) in
-          (ends_now of last n loss (subst (λ k. IsOpenSince of k loss.receiver loss.from n) (sym ended.channel_is) begun) stop ends
-              (ap (λ k. lag_of of k loss.receiver n) ended.channel_is ∙ lag_now loss.receiver p ended.here ∙ sym ended.lost_is),
+          subst (λ f. IsOpenSince of c loss.receiver f n) (sym ended.from_is) (since loss.receiver p ended.here ended.lags) in (
+            ends_now of last n loss (subst (λ k. IsOpenSince of k loss.receiver loss.from n) (sym ended.channel_is) begun) stop ends
+                (ap (λ k. lag_of of k loss.receiver n) ended.channel_is ∙ lag_now loss.receiver p ended.here ∙ sym ended.lost_is),
             ended.channel_is,
             stop,
-            λ h apart lags. still_lags h (ended.others h apart) lags)
+            λ h apart lags. still_lags h (ended.others h apart) lags,
+          )
 
       one_ends : (loss : Loss) → IsEnded x y t c (n + 1) loss → Ends of last c n (Some loss)
       one_ends loss ended =

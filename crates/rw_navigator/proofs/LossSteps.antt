@@ -194,7 +194,7 @@ module _ {V : Type 0} where
         elim (cases_order g h) [
           | inl same ↦ let at : position_of slot ≡ Some q = sym (own h slot was here) ∙ ap (λ k. position_at (slice_get (set x.slots h slot) k)) (sym same) ∙ there in
               absurd (omega (arith, none q at, lags))
-          | inr apart ↦ sym (other h g slot (λ same. elim apart [ | inl below ↦ omega (arith, same, below) | inr above ↦ omega (arith, same, above) ])) ∙ there
+          | inr apart ↦ sym (other h g slot (λ same. elim apart [ inl below ↦ omega (arith, same, below) | inr above ↦ omega (arith, same, above) ])) ∙ there
         ]
 
     stays_put : (h g : ℕ) (slot : Slot ℕ) → g ≢ h → Stays x (record x { slots = set x.slots h slot }) g

@@ -1,4 +1,4 @@
-//! Conditions on the runs of worlds, and the debugger that walks over such a run.
+//! Conditions on the runs of worlds, the debugger that walks over such a run, and its losses.
 
 mod condition;
 mod debugger;
