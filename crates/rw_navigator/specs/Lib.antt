@@ -7,3 +7,5 @@ pub mod Conditions
 pub mod Places
 pub mod Hits
 pub mod Debugger
+pub mod Losses
+pub mod LossTracks

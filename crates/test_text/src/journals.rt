@@ -3,4 +3,5 @@
 mod debuggers;
 mod drafts;
 mod indexes;
+mod losses;
 mod worlds;

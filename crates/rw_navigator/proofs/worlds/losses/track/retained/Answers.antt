@@ -1,0 +1,16 @@
+use Rattle.std.proofs.Common.{◌≡◌}
+use Rattle.std.specs.Int.{IsNextPowerOfTwo}
+use Rattle.rw_broadcast.proofs.Powers.{retains_next_power, one_next_power}
+use Rattle.rw_navigator.proofs.LossSteps.{positions_at}
+use Rattle.rw_navigator.proofs.LossStretches.{same_stretch}
+use Rattle.rw_navigator.proofs.LossPasses.{IsTracked}
+use Rattle.rw_navigator.proofs.LossEntries.{IsPassed}
+use Rattle.rw_navigator.proofs.LossEndings.{all_found}
+use Rattle.rw_navigator.proofs.LossRuns.{at_place}
+use Rattle.rw_navigator.proofs.worlds.losses.track.retained.Goals as goal
+
+pub returns : goal.returns
+returns c =
+    let found : IsNextPowerOfTwo c.from.result c.next_power_of_two.result = (c.next_power_of_two.ensures.power, c.next_power_of_two.ensures.lower_bound, c.next_power_of_two.ensures.upper_bound) in
+    let same : c.from.result ≡ c.args.asked = cc in
+    one_next_power c.args.asked _ _ (rw same at found) (retains_next_power c.args.asked c.requires.some c.requires.small)

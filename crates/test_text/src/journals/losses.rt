@@ -1,0 +1,91 @@
+//! The losses of runs.
+
+use crate::plain::same;
+use crate::texts::rows::{OVERRUN, run_of};
+use rw_journal::Run;
+use rw_law::NoMemory;
+use rw_navigator::{Loss, LossEnd, losses_of};
+use std::alloc::Global;
+use std::test::Fail;
+
+/// Returns a loss on channel 0.
+const fn lost(receiver: u32, from: u64, lost: u64, end: LossEnd) -> Loss {
+    Loss {
+        channel: 0,
+        receiver,
+        from,
+        lost,
+        end,
+    }
+}
+
+/// A script for each row: what it is about, its lines, and the losses of its run.
+static ROWS: [(&str, &[u8], &[Loss]); 8] = [
+    ("told", OVERRUN, &[lost(1, 3, 1, LossEnd::Told(4))]),
+    (
+        "capacity_is_rounded_up",
+        b"broadcast 3\n0 0 send 0 1\n0 0 send 0 2\n0 0 send 0 3\n0 0 send 0 4\n0 0 send 0 5\n0 0 try-recv 1\n",
+        &[lost(1, 5, 1, LossEnd::Told(6))],
+    ),
+    (
+        "told_after_the_close",
+        b"broadcast 1\n0 0 send 0 1\n0 0 send 0 2\n0 0 drop 0\n0 0 try-recv 1\n0 0 try-recv 1\n0 0 try-recv 1\n",
+        &[lost(1, 2, 1, LossEnd::Told(4))],
+    ),
+    (
+        "dropped_with_unread_values",
+        b"broadcast 4\n0 0 send 0 5\n0 0 send 0 6\n0 0 drop 1\n",
+        &[],
+    ),
+    (
+        "never_told",
+        b"broadcast 2\n0 0 send 0 1\n0 0 send 0 2\n0 0 send 0 3\n0 0 send 0 4\n0 0 send 0 5\n0 0 resubscribe 1\n0 0 send 0 6\n0 0 receiver-len 1\n0 0 receiver-len 2\n",
+        &[lost(1, 3, 4, LossEnd::Open)],
+    ),
+    (
+        "dropped_while_it_lags",
+        b"broadcast 1\n0 0 send 0 1\n0 0 send 0 2\n0 0 send 0 3\n0 0 drop 1\n",
+        &[lost(1, 2, 2, LossEnd::Dropped(4))],
+    ),
+    (
+        "two_of_one_receiver",
+        b"broadcast 1\n0 0 send 0 1\n0 0 send 0 2\n0 0 try-recv 1\n0 0 send 0 3\n0 0 send 0 4\n0 0 try-recv 1\n",
+        &[
+            lost(1, 2, 1, LossEnd::Told(3)),
+            lost(1, 4, 2, LossEnd::Told(6)),
+        ],
+    ),
+    (
+        "in_order",
+        b"broadcast 1\nwatch 4\nbroadcast 1\n0 0 subscribe 0\n0 0 send 0 1\n0 2 send 0 1\n0 2 send 0 2\n0 0 send 0 2\n0 1 send 0 5\n0 0 try-recv 2\n0 2 drop 1\n0 0 send 0 3\n0 0 drop 1\n",
+        &[
+            Loss {
+                channel: 2,
+                receiver: 1,
+                from: 4,
+                lost: 1,
+                end: LossEnd::Dropped(8),
+            },
+            lost(1, 5, 2, LossEnd::Dropped(10)),
+            lost(2, 5, 1, LossEnd::Told(7)),
+            lost(2, 9, 1, LossEnd::Open),
+        ],
+    ),
+];
+
+/// Returns the losses of a run, which is dropped.
+fn found_in<V: Copy>(alloc: Global, run: Run<V>) -> Result<Vec<Loss>, NoMemory> {
+    let losses = losses_of(alloc, &run);
+    drop(run);
+    losses
+}
+
+#[test]
+fn losses_are_found(rt: HostRuntime) -> Result<(), Fail> {
+    for (name, script, told) in &ROWS {
+        let losses = found_in(rt.alloc(), run_of(rt.alloc(), script)?)?;
+        same(&rt, name, &losses.as_slice(), told);
+        drop(losses);
+    }
+    Ok(())
+}
