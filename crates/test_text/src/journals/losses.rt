@@ -8,29 +8,40 @@ use rw_navigator::{Loss, LossEnd, losses_of};
 use std::alloc::Global;
 use std::test::Fail;
 
-/// Returns a loss on channel 0.
-const fn lost(receiver: u32, from: u64, lost: u64, end: LossEnd) -> Loss {
-    Loss {
-        channel: 0,
-        receiver,
-        from,
-        lost,
-        end,
-    }
-}
-
 /// A script for each row: what it is about, its lines, and the losses of its run.
 static ROWS: [(&str, &[u8], &[Loss]); 8] = [
-    ("told", OVERRUN, &[lost(1, 3, 1, LossEnd::Told(4))]),
+    (
+        "told",
+        OVERRUN,
+        &[Loss {
+            channel: 0,
+            receiver: 1,
+            from: 3,
+            lost: 1,
+            end: LossEnd::Told(4),
+        }],
+    ),
     (
         "capacity_is_rounded_up",
         b"broadcast 3\n0 0 send 0 1\n0 0 send 0 2\n0 0 send 0 3\n0 0 send 0 4\n0 0 send 0 5\n0 0 try-recv 1\n",
-        &[lost(1, 5, 1, LossEnd::Told(6))],
+        &[Loss {
+            channel: 0,
+            receiver: 1,
+            from: 5,
+            lost: 1,
+            end: LossEnd::Told(6),
+        }],
     ),
     (
         "told_after_the_close",
         b"broadcast 1\n0 0 send 0 1\n0 0 send 0 2\n0 0 drop 0\n0 0 try-recv 1\n0 0 try-recv 1\n0 0 try-recv 1\n",
-        &[lost(1, 2, 1, LossEnd::Told(4))],
+        &[Loss {
+            channel: 0,
+            receiver: 1,
+            from: 2,
+            lost: 1,
+            end: LossEnd::Told(4),
+        }],
     ),
     (
         "dropped_with_unread_values",
@@ -40,19 +51,43 @@ static ROWS: [(&str, &[u8], &[Loss]); 8] = [
     (
         "never_told",
         b"broadcast 2\n0 0 send 0 1\n0 0 send 0 2\n0 0 send 0 3\n0 0 send 0 4\n0 0 send 0 5\n0 0 resubscribe 1\n0 0 send 0 6\n0 0 receiver-len 1\n0 0 receiver-len 2\n",
-        &[lost(1, 3, 4, LossEnd::Open)],
+        &[Loss {
+            channel: 0,
+            receiver: 1,
+            from: 3,
+            lost: 4,
+            end: LossEnd::Open,
+        }],
     ),
     (
         "dropped_while_it_lags",
         b"broadcast 1\n0 0 send 0 1\n0 0 send 0 2\n0 0 send 0 3\n0 0 drop 1\n",
-        &[lost(1, 2, 2, LossEnd::Dropped(4))],
+        &[Loss {
+            channel: 0,
+            receiver: 1,
+            from: 2,
+            lost: 2,
+            end: LossEnd::Dropped(4),
+        }],
     ),
     (
         "two_of_one_receiver",
         b"broadcast 1\n0 0 send 0 1\n0 0 send 0 2\n0 0 try-recv 1\n0 0 send 0 3\n0 0 send 0 4\n0 0 try-recv 1\n",
         &[
-            lost(1, 2, 1, LossEnd::Told(3)),
-            lost(1, 4, 2, LossEnd::Told(6)),
+            Loss {
+                channel: 0,
+                receiver: 1,
+                from: 2,
+                lost: 1,
+                end: LossEnd::Told(3),
+            },
+            Loss {
+                channel: 0,
+                receiver: 1,
+                from: 4,
+                lost: 2,
+                end: LossEnd::Told(6),
+            },
         ],
     ),
     (
@@ -66,9 +101,27 @@ static ROWS: [(&str, &[u8], &[Loss]); 8] = [
                 lost: 1,
                 end: LossEnd::Dropped(8),
             },
-            lost(1, 5, 2, LossEnd::Dropped(10)),
-            lost(2, 5, 1, LossEnd::Told(7)),
-            lost(2, 9, 1, LossEnd::Open),
+            Loss {
+                channel: 0,
+                receiver: 1,
+                from: 5,
+                lost: 2,
+                end: LossEnd::Dropped(10),
+            },
+            Loss {
+                channel: 0,
+                receiver: 2,
+                from: 5,
+                lost: 1,
+                end: LossEnd::Told(7),
+            },
+            Loss {
+                channel: 0,
+                receiver: 2,
+                from: 9,
+                lost: 1,
+                end: LossEnd::Open,
+            },
         ],
     ),
 ];
