@@ -20,7 +20,7 @@ export function element(tag, attributes = {}, ...children) {
   return made;
 }
 
-// A text from outside, apart from the direction of what stands around it, with its hidden characters written out.
+// A text from outside, whose direction leaves the text around it alone, with its hidden characters written out.
 export function outside(text) {
   return element("bdi", {}, visible(text));
 }

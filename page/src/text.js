@@ -17,7 +17,7 @@ export function visible(text) {
   return text.replace(HIDDEN, writtenOut);
 }
 
-// A visible text, for a place that can't have an element of its own: letters from right to left are kept from what stands around them.
+// A visible text, for a place that has no element of its own: letters from right to left don't change the direction of the text around them.
 export function isolated(text) {
   return RIGHT_TO_LEFT.test(text) ? `\u2068${text}\u2069` : text;
 }
