@@ -1,6 +1,6 @@
 -- One entry of a run in the search for losses.
-use Rattle.std.proofs.Common.{◌≡◌, ◌≢◌, ℕ, zero, suc, ◌+◌, ◌-◌, ◌<◌, ◌≤◌, ◌⊎◌, List, [], ◌∷◌, ◌++◌, length, inl, inr, refl, ap, sym, ◌∙◌, subst, arith}
-use Rattle.std.specs.Prelude.{Option, Some, None, MatchOption, unwrap_or, slice_get, option_map, option_and_then}
+use Rattle.std.proofs.Common.{◌≡◌, ◌≢◌, ℕ, zero, suc, ◌+◌, ◌<◌, ◌≤◌, ◌⊎◌, List, [], ◌∷◌, inl, inr, refl, ap, sym, ◌∙◌, subst, arith}
+use Rattle.std.specs.Prelude.{Option, Some, None, MatchOption, slice_get, option_map}
 use Rattle.std.proofs.lemmas.Bool.{cases_order, cases_lt}
 use Rattle.rw_world.specs.Lists.{map_at, Each}
 use Rattle.rw_world.specs.Machines.{ChanShown, of_chan, of_world}
@@ -12,10 +12,10 @@ use Rattle.rw_world.specs.declared.channels.ChanReply.TheVariants as reply_of
 use Rattle.rw_world.proofs.Modifying.{get-modified_other}
 use Rattle.rw_navigator.specs.Conditions.{lag_at}
 use Rattle.rw_navigator.specs.declared.worlds.losses.loss.Loss.{Loss}
-use Rattle.rw_navigator.specs.Losses.{stop_of, lag_of, EndsAs, IsStretch}
+use Rattle.rw_navigator.specs.Losses.{stop_of, lag_of, IsStretch}
 use Rattle.rw_navigator.specs.LossTracks.{Track, with_call, with_call_on, loss_on, with_loss}
 use Rattle.rw_navigator.proofs.LossStretches.{IsOpenSince, open_at, same_start, rests, same_stretch, AreThose, those_again, one_more}
-use Rattle.rw_navigator.proofs.LossPasses.{lag_in_channel, IsTracked, Since, Ends, idle_since, idle_ends, shown_then, reply_to, track_then, loss_then, StepsOn, AllowedAt, steps_on}
+use Rattle.rw_navigator.proofs.LossPasses.{lag_in_channel, IsTracked, Since, Ends, idle_since, idle_ends, shown_then, reply_to, track_then, loss_then, StepsOn, steps_on}
 
 get-modified : {X : Type 0} (f : X → X) (xs : List X) (i : ℕ) → slice_get (map_at f xs i) i ≡ option_map f (slice_get xs i)
 get-modified f [] i = refl

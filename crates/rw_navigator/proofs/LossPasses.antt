@@ -1,29 +1,26 @@
 -- The search for losses, entry by entry: what is kept of the channels, and the losses that have ended.
-use Rattle.std.proofs.Common.{◌≡◌, ◌≢◌, ℕ, zero, suc, ◌+◌, ◌-◌, ◌<◌, ◌≤◌, ◌⊎◌, List, [], ◌∷◌, ◌++◌, length, get_or, inl, inr, refl, ap, sym, ◌∙◌, subst, arith}
-use Rattle.std.specs.Prelude.{Option, Some, None, MatchOption, unwrap_or, slice_get, option_map, option_and_then}
+use Rattle.std.proofs.Common.{◌≡◌, ◌≢◌, ℕ, ◌+◌, ◌-◌, ◌<◌, ◌≤◌, [], ◌∷◌, ◌++◌, length, get_or, inl, inr, refl, ap, sym, ◌∙◌, subst, arith}
+use Rattle.std.specs.Prelude.{Option, Some, None, MatchOption, unwrap_or, option_map, option_and_then}
 use Rattle.std.specs.Option.{option_map_or}
-use Rattle.std.proofs.lemmas.Bool.{cases_order, cases_lt}
+use Rattle.std.proofs.lemmas.Bool.{cases_lt}
 use Rattle.std.proofs.lemmas.List.{get_or_append_left}
 use Rattle.std.proofs.Math.Seq.{get_or-append_seam}
 use Rattle.rw_broadcast.specs.declared.calls.BCall.{BCall}
 use Rattle.rw_broadcast.specs.declared.calls.BReply.{BReply}
-use Rattle.rw_broadcast.specs.Channel.{Change, oldest, effect}
-use Rattle.rw_broadcast.specs.Shown.{Shown, channel_of, with_change, IsAllowed}
+use Rattle.rw_broadcast.specs.Channel.{Change, effect}
+use Rattle.rw_broadcast.specs.Shown.{Shown, channel_of, with_change}
 use Rattle.rw_world.specs.Kinds.{broadcast_shown, watch_shown}
-use Rattle.rw_world.specs.Lists.{map_at}
-use Rattle.rw_world.specs.Machines.{ChanShown, of_chan, of_world}
+use Rattle.rw_world.specs.Machines.{ChanShown, of_chan}
 use Rattle.rw_world.specs.declared.channels.ChanCall.{ChanCall}
 use Rattle.rw_world.specs.declared.channels.ChanCall.TheVariants as call_of
 use Rattle.rw_world.specs.declared.channels.ChanReply.{ChanReply}
 use Rattle.rw_world.specs.declared.channels.ChanReply.TheVariants as reply_of
-use Rattle.rw_navigator.specs.Conditions.{as_broadcast, lag_at}
+use Rattle.rw_navigator.specs.Conditions.{as_broadcast}
 use Rattle.rw_navigator.specs.declared.worlds.losses.loss.Loss.{Loss}
-use Rattle.rw_navigator.specs.declared.worlds.losses.loss.LossEnd.{LossEnd}
-use Rattle.rw_navigator.specs.declared.worlds.losses.loss.LossEnd.TheVariants.{Told, Dropped, Open}
 use Rattle.rw_navigator.specs.Losses.{stop_of, lag_of, EndsAs, IsStretch}
-use Rattle.rw_navigator.specs.LossTracks.{Track, loss_by, with_call, with_call_on, loss_on, with_loss}
-use Rattle.rw_navigator.proofs.LossSteps.{position, lag, IsTrackOf, Stays, EndsAt, IsEnded, EndsOne, SendsOn, Tracks, tracks}
-use Rattle.rw_navigator.proofs.LossStretches.{IsOpenSince, open_on, opens_now, same_start, open_at, rests, same_stretch, AreThose, those_again, one_more}
+use Rattle.rw_navigator.specs.LossTracks.{Track, loss_by, with_call}
+use Rattle.rw_navigator.proofs.LossSteps.{position, lag, IsTrackOf, Stays, IsEnded, EndsOne, Tracks, tracks}
+use Rattle.rw_navigator.proofs.LossStretches.{IsOpenSince, open_on, opens_now}
 
 module _ (of : (channel receiver place : ℕ) → Option ℕ) (last : ℕ) where
   -- a stretch that ends at place n + 1

@@ -1,26 +1,23 @@
 -- The search for losses over a run: its beginning, its entries, its end, and the order of the list.
-use Rattle.std.proofs.Common.{◌≡◌, ◌≢◌, ℕ, zero, suc, ◌+◌, ◌-◌, ◌*◌, ◌<◌, ◌≤◌, ◌⊎◌, Bool, true, false, cond, List, [], ◌∷◌, ◌++◌, length, get_or, set, length-set, take, map, inl, inr, refl, ap, sym, ◌∙◌, subst, arith}
-use Rattle.std.specs.Prelude.{Option, Some, None, MatchOption, unwrap_or, slice_get, option_map, nat_eq, nat_lt, ◌||◌}
+use Rattle.std.proofs.Common.{◌≡◌, ◌≢◌, ℕ, zero, suc, ◌+◌, ◌-◌, ◌<◌, ◌≤◌, ◌⊎◌, Bool, true, false, cond, List, [], ◌∷◌, length, get_or, set, length-set, take, inl, inr, refl, ap, sym, ◌∙◌, subst, arith}
+use Rattle.std.specs.Prelude.{Option, Some, None, MatchOption, unwrap_or, slice_get, option_map, nat_eq, nat_lt}
 use Rattle.std.specs.List as lists
-use Rattle.std.specs.List.{All, Contains}
+use Rattle.std.specs.List.{All}
 use Rattle.std.specs.List.Sorted.{IsPermutation, IsNonDecreasingBy}
-use Rattle.std.proofs.lemmas.Bool.{cases_order, cases_lt, cases_eq, ltb-false, eqb-false}
+use Rattle.std.proofs.lemmas.Bool.{cases_order, cases_eq, ltb-false}
 use Rattle.std.proofs.lemmas.List.{length-map}
 use Rattle.std.proofs.lemmas.List.Edits.{Swapped, swapped_from_swap}
 use Rattle.std.proofs.lemmas.List.Elements.{All-get_or, All-weaker}
-use Rattle.std.proofs.lemmas.List.Sorted.{IsPermutation-keeps, All-permutation, Contains-permutation, length_permutation}
+use Rattle.std.proofs.lemmas.List.Sorted.{IsPermutation-keeps, All-permutation, Contains-permutation}
 use Rattle.std.proofs.lemmas.Option.{slice_get_within, slice_get-get_or}
 use Rattle.rw_handles.specs.declared.table.TheConstants.{MOST_HANDLES}
-use Rattle.rw_broadcast.specs.Shown.{Shown}
-use Rattle.rw_journal.specs.Run.{Run, IsRun}
-use Rattle.rw_law.specs.Journal.{after_all, after, IsLegal, IsStep, LawsOf}
+use Rattle.rw_journal.specs.Run.{Run}
+use Rattle.rw_law.specs.Journal.{after_all, after, IsLegal, IsStep}
 use Rattle.rw_law.proofs.Journals.{after_more, step_at, after_all-allowed}
-use Rattle.rw_ring.specs.declared.ring.TheConstants.{MOST_CAPACITY}
 use Rattle.rw_world.specs.Channel.{no_channel}
 use Rattle.rw_world.specs.Kinds.{broadcast_shown, watch_shown}
-use Rattle.rw_world.specs.Lists.{map_at, Each}
 use Rattle.rw_world.specs.Machines.{ChanShown, of_chan, of_world}
-use Rattle.rw_world.specs.Openings.{opening_row, opened_channel, has_bad_capacity, refusal}
+use Rattle.rw_world.specs.Openings.{opening_row, opened_channel, refusal}
 use Rattle.rw_world.specs.Records.{ShowsAtPlaces}
 use Rattle.rw_world.specs.RowLaws.{row_laws}
 use Rattle.rw_world.specs.Specified.{WorldEntry}
@@ -37,8 +34,8 @@ use Rattle.rw_navigator.specs.declared.worlds.losses.loss.Loss.{Loss}
 use Rattle.rw_navigator.specs.declared.worlds.losses.loss.LossEnd.{LossEnd}
 use Rattle.rw_navigator.specs.declared.worlds.losses.loss.LossEnd.TheVariants.{Told, Dropped, Open}
 use Rattle.rw_navigator.specs.Losses.{stop_of, lag_of, EndsAs, IsStretch, IsLoss, ComesBefore, AreLosses, order_of}
-use Rattle.rw_navigator.specs.LossTracks.{Track, opened_tracks, track_of, with_entry, loss_of_entry, with_loss, with_open, HasFewHandles}
-use Rattle.rw_navigator.proofs.LossSteps.{IsTrackOf, position_of, position, lag}
+use Rattle.rw_navigator.specs.LossTracks.{Track, opened_tracks, with_entry, loss_of_entry, with_loss, with_open, HasFewHandles}
+use Rattle.rw_navigator.proofs.LossSteps.{position_of, position, lag}
 use Rattle.rw_navigator.proofs.LossStretches.{IsDistinct, same_stretch, AreThose, none_of}
 use Rattle.rw_navigator.proofs.LossPasses.{lag_in_channel, IsTracked, Since}
 use Rattle.rw_navigator.proofs.LossEntries.{lags_at, IsPassed, passed_on, each_at}

@@ -1,5 +1,4 @@
-use Rattle.std.proofs.Common.{◌≡◌, ◌<◌, ◌≤◌, false, length, get_or, None, sym, ap, ◌∙◌}
-use Rattle.std.specs.Option.{IsNone}
+use Rattle.std.proofs.Common.{ap, ◌∙◌}
 use Rattle.rw_world.specs.Openings.{has_bad_capacity}
 use Rattle.rw_navigator.proofs.LossCode.{good_capacity, is_none_from}
 use Rattle.rw_navigator.proofs.worlds.losses.finding.open_tracks.Goals as goal

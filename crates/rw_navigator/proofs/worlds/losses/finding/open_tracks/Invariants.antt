@@ -1,4 +1,4 @@
-use Rattle.std.proofs.Common.{◌≡◌, ◌+◌, ◌≤◌, take, map, length, vec_len, vec_capacity}
+use Rattle.std.proofs.Common.{◌≡◌, take, length, vec_capacity}
 use Rattle.rw_navigator.specs.LossTracks.{opened_tracks}
 use Rattle.rw_navigator.proofs.worlds.losses.finding.open_tracks.Given as goal
 

@@ -1,12 +1,6 @@
 use Rattle.std.proofs.Common.{◌≡◌}
 use Rattle.std.specs.Int.{IsNextPowerOfTwo}
 use Rattle.rw_broadcast.proofs.Powers.{retains_next_power, one_next_power}
-use Rattle.rw_navigator.proofs.LossSteps.{positions_at}
-use Rattle.rw_navigator.proofs.LossStretches.{same_stretch}
-use Rattle.rw_navigator.proofs.LossPasses.{IsTracked}
-use Rattle.rw_navigator.proofs.LossEntries.{IsPassed}
-use Rattle.rw_navigator.proofs.LossEndings.{all_found}
-use Rattle.rw_navigator.proofs.LossRuns.{at_place}
 use Rattle.rw_navigator.proofs.worlds.losses.track.retained.Goals as goal
 
 pub returns : goal.returns
