@@ -1,3 +1,4 @@
+-- `next_line` reads exactly the next line, or the end of the input, within the bytes that are allowed.
 use Rattle.std.proofs.Common.{◌++◌, ◌∷◌, [], arith, refl}
 use Rattle.std.proofs.lemmas.Result.{err_from_is_err_and}
 use Rattle.std.proofs.lemmas.Grind.{common_steps}

@@ -1,3 +1,4 @@
+-- `w_try_for` records an update, which ends the wait or not, and then a wait for a change. Before a fault the recorded steps stand.
 use Rattle.std.proofs.Common.{Bool, true, false, Some, None, IsErrOf, IsTrue, ◌↔◌, refl, subst, sym, inl, inr}
 use Rattle.std.specs.Fn.{FnReturnsAt}
 use Rattle.rw_watch.specs.declared.calls.WCall.TheVariants.{Update, Changed}

@@ -1,3 +1,4 @@
+-- `back_to_state` goes to the greatest place below at which the condition begins to hold, or finds that there is none and returns.
 use Rattle.std.proofs.Common.{◌≡◌, ◌≤◌, ℕ, ◌+◌, ◌-◌, subst, arith}
 use Rattle.std.specs.Prelude.{not, ◌&&◌}
 use Rattle.rw_navigator.specs.Search.{state_hit}

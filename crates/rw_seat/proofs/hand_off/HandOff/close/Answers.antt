@@ -1,3 +1,4 @@
+-- `close` returns a book that extends the front of each seat. Where a seat is missing, it returns all that it was given.
 use Rattle.std.proofs.Common.{rules, arith, ◌≡◌, ◌⊎◌, ◌<◌, ℕ, List, [], ◌∷◌, map, Option, Some, IsSome, refl, sym, ap, ◌∙◌, subst, inl, inr, ⊎_elim}
 use Rattle.std.proofs.lemmas.Grind.{common_steps}
 use mathlib.Core.Option.{some-injective}

@@ -1,3 +1,4 @@
+-- `deal` makes a seat of each number, in order, all with the front of the seat that it splits.
 use Rattle.std.proofs.Common.{rules, arith, ◌≡◌, refl, ◌<◌, ℕ, List, [], ◌∷◌, ◌+◌, ◌-◌, map, Option, sym, ap, ◌∙◌, subst}
 use Rattle.atomic_table.specs.Table.{Me}
 use Rattle.rw_seat.specs.declared.view.View.{View}

@@ -1,3 +1,4 @@
+-- `call` leaves a seat of the desk, which has the call as its last one, or has the calls from before and a fault.
 use Rattle.std.proofs.Common.{◌≡◌, List, refl, sym, ap, ◌∙◌, subst, IfOk, IfErr}
 use Rattle.std.specs.List.{insert, remove}
 use Rattle.rw_desk.specs.Passes.{Pass}

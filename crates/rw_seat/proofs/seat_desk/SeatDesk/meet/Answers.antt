@@ -1,3 +1,4 @@
+-- After `meet` on a channel, one of the two fronts there extends the other, and each extends its earlier ones. All else of the seats is as before.
 use Rattle.std.proofs.Common.{◌≡◌, ℕ, List, ◌++◌, length, sym, ap, ◌∙◌, subst}
 use Rattle.rw_world.specs.Specified.{ChanEntry}
 use Rattle.rw_seat.specs.Fronts.{HasGoneOn, IsFrontOf, author_of}
