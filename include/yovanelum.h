@@ -22,6 +22,12 @@ struct Held { void *channel; };
 /* What channels have recorded up to one stamp, or null, for which the same holds. It stays on its thread. */
 struct HeldCut { void *cut; };
 
+/* What was found in the run of a journal text, or null, for which the same holds. It stays on its thread. */
+struct HeldFindings { void *findings; };
+
+/* The run of a journal text that is read call by call, or null, for which the same holds. It stays on its thread. */
+struct HeldRun { void *run; };
+
 /* What a call returns: a kind of reply, and the number that the reply carries, or 0. */
 struct Answer { uint32_t kind; uint64_t number; };
 
@@ -126,6 +132,109 @@ bool yovanelum_cut_text(struct HeldCut *cut, uint8_t *room, size_t len);
 
 /* Frees the cut. Nothing is held then. */
 void yovanelum_cut_free(struct HeldCut *cut);
+
+/* Why a text isn't read: 0 if it is. 1 malformed, 2 a limit is exceeded, 3 wrong order, 4 wrong reply, each with the number of its line, counted
+   from 1; 5 the text is cut off, 6 there is no memory. */
+struct Refusal { uint32_t kind; uint64_t line; };
+
+/* A loss: values of a broadcast that a receiver never got. It began at place `from`, where the first of them was overwritten, and ended at place
+   `to`: `end` is 1 if the receiver was told there, 2 if it was dropped there, and 0 if the run ends before, where `to` is 0. `is_some` is 0 if
+   there is no loss of that index, and then so is all else. */
+struct LossFound {
+  uint32_t is_some; uint32_t channel; uint32_t receiver; uint32_t end;
+  uint64_t from; uint64_t lost; uint64_t to;
+};
+
+/* What a receiver got and missed. `kind` is 1 for a broadcast: how many values it received, how often it was told that it lags, how many values
+   were overwritten before it had received them, its greatest lag and the first place that has it (0 if it never lagged), and how many values it
+   had yet to receive at the end (0 if it was dropped). It is 2 for a watch: `received` is of how many changes `changed` told it, and `unseen` how
+   many changes came while it was there that it never marked as seen. What is of the other kind is 0. `is_some` is as in LossFound. */
+struct ReaderFound {
+  uint32_t is_some; uint32_t channel; uint32_t receiver; uint32_t kind;
+  uint64_t received; uint64_t told; uint64_t lost; uint64_t worst; uint64_t worst_place; uint64_t unread; uint64_t unseen;
+};
+
+/* A channel that was closed: `place` is where the drop of its last sender leads. `is_some` is as in LossFound. */
+struct ClosingFound { uint32_t is_some; uint32_t channel; uint64_t place; };
+
+/* What a receiver did that was there where its channel was closed: the place at which it was first told of that (0 if it never was), and how many
+   values it received after the close, or of how many changes of a watch it was told. `is_some` is as in LossFound. */
+struct LateReaderFound { uint32_t is_some; uint32_t channel; uint32_t receiver; uint64_t told_at; uint64_t read_on; };
+
+/* Reads the run of a journal text, of any version, and finds what is below. `findings` must be null. If the kind isn't 0, nothing is held. */
+struct Refusal yovanelum_findings_open(struct HeldFindings *findings, const uint8_t *text, size_t len);
+
+/* How many entries the run has. */
+uint64_t yovanelum_findings_entries(struct HeldFindings *findings);
+
+/* How many losses there are, and the one of an index, in the order of the places at which they began, then of channels, then of receivers. */
+uint64_t yovanelum_findings_losses(struct HeldFindings *findings);
+struct LossFound yovanelum_findings_loss(struct HeldFindings *findings, uint64_t index);
+
+/* How many receivers the channels ever had, and the one of an index, in the order of channels, then of receivers. */
+uint64_t yovanelum_findings_readers(struct HeldFindings *findings);
+struct ReaderFound yovanelum_findings_reader(struct HeldFindings *findings, uint64_t index);
+
+/* How many channels were closed, and the closing of an index, in the order of channels. */
+uint64_t yovanelum_findings_closings(struct HeldFindings *findings);
+struct ClosingFound yovanelum_findings_closing(struct HeldFindings *findings, uint64_t index);
+
+/* How many receivers were there where their channel was closed, and the one of an index, in the order of channels, then of receivers. */
+uint64_t yovanelum_findings_late_readers(struct HeldFindings *findings);
+struct LateReaderFound yovanelum_findings_late_reader(struct HeldFindings *findings, uint64_t index);
+
+/* Frees the findings. Nothing is held then. */
+void yovanelum_findings_free(struct HeldFindings *findings);
+
+/* The number of each call, which has the name of its export. */
+enum YovanelumCallNumber {
+  YOVANELUM_BROADCAST_SEND = 0,
+  YOVANELUM_BROADCAST_SUBSCRIBE = 1,
+  YOVANELUM_BROADCAST_CLONE_SENDER = 2,
+  YOVANELUM_BROADCAST_RESUBSCRIBE = 3,
+  YOVANELUM_BROADCAST_TRY_RECV = 4,
+  YOVANELUM_BROADCAST_RECV = 5,
+  YOVANELUM_BROADCAST_DROP = 6,
+  YOVANELUM_BROADCAST_SENDER_LEN = 7,
+  YOVANELUM_BROADCAST_RECEIVER_COUNT = 8,
+  YOVANELUM_BROADCAST_RECEIVER_LEN = 9,
+  YOVANELUM_BROADCAST_DOWNGRADE = 10,
+  YOVANELUM_BROADCAST_UPGRADE = 11,
+  YOVANELUM_BROADCAST_CLONE_WEAK = 12,
+  YOVANELUM_WATCH_SEND = 13,
+  YOVANELUM_WATCH_SEND_REPLACE = 14,
+  YOVANELUM_WATCH_MODIFY = 15,
+  YOVANELUM_WATCH_SUBSCRIBE = 16,
+  YOVANELUM_WATCH_CLONE_SENDER = 17,
+  YOVANELUM_WATCH_CLONE_RECEIVER = 18,
+  YOVANELUM_WATCH_BORROW = 19,
+  YOVANELUM_WATCH_UPDATE = 20,
+  YOVANELUM_WATCH_HAS_CHANGED = 21,
+  YOVANELUM_WATCH_CHANGED = 22,
+  YOVANELUM_WATCH_MARK_CHANGED = 23,
+  YOVANELUM_WATCH_MARK_UNCHANGED = 24,
+  YOVANELUM_WATCH_DROP = 25,
+  YOVANELUM_WATCH_RECEIVER_COUNT = 26,
+  YOVANELUM_WATCH_IS_CLOSED = 27,
+  YOVANELUM_WATCH_CLOSED = 28
+};
+
+/* A call of a run with its reply: its actor, channel and stamp; the number of the call, its handle, and the value that it sends, or 0; `told` is 1
+   for a modified value of which receivers are notified; `kind` and `number` are those of an Answer. `is_some` is 0 if there is no further call, and
+   then so is all else. */
+struct CallFound {
+  uint32_t is_some; uint32_t actor; uint32_t channel; uint32_t call; uint32_t handle; uint32_t told; uint32_t kind;
+  uint64_t stamp; uint64_t value; uint64_t number;
+};
+
+/* Reads the run of a journal text, of any version. `run` must be null. If the kind isn't 0, nothing is held. */
+struct Refusal yovanelum_run_open(struct HeldRun *run, const uint8_t *text, size_t len);
+
+/* The next call, in the order of the journal, at first that of the first entry. It needs no memory. After the last one the run is unchanged. */
+struct CallFound yovanelum_run_next_call(struct HeldRun *run);
+
+/* Frees the run. Nothing is held then. */
+void yovanelum_run_free(struct HeldRun *run);
 
 /* The heap, which the program defines: `malloc`, `realloc` and `free` serve. A size is less than 2^63, an alignment is 16 at most, and no block that
    is passed is null. Blocks are aligned to 16 bytes. A resized block keeps its first `old` bytes, and it may have more than that. If there is

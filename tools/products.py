@@ -1,8 +1,6 @@
 """What is built: the program, the archives for C and Rust, and the page, each as the bytes of its files under rust/built/."""
-import base64
 import hashlib
 import os
-import re
 import sys
 import tempfile
 
@@ -69,10 +67,13 @@ def page(top, work):
 def page_again(top):
     """The page with the current scripts and the module of the built page, for work on the page alone. It needs no kit."""
     built = read(f"{top}/rust/built/{PAGE}").decode()
-    found = re.search(r'<script type="[\w/-]+" id="module">([^<]*)</script>', built)
-    if not found:
+    module_there = document.module_of(built)
+    if module_there is None:
         raise kit.Refused(f"rust/built/{PAGE} has no module: build it whole")
-    return {PAGE: document.page(f"{top}/page", base64.b64decode(found[1])).encode()}
+    try:
+        return {PAGE: document.page(f"{top}/page", module_there).encode()}
+    except document.Refused as why:
+        raise kit.Refused(str(why)) from why
 
 
 # What is built under each name: how, and of which crate.

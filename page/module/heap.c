@@ -53,15 +53,14 @@ static void give(byte *block) {
   freed[power] = block;
 }
 
-/* The heap as the proved code declares it. Each alignment that it requests divides 16. */
+/* The heap as the proved code declares it. Each alignment that it requests divides 16, and one above that is refused. */
 Tried rattle_alloc(word size, word align) {
-  (void)align;
-  byte *block = take(size);
+  byte *block = align > HEAD ? 0 : take(size);
   return (Tried){block != 0, block};
 }
 
 Tried rattle_realloc(byte *block, word kept, word size, word align) {
-  if (size <= (word)1 << *power_before(block)) return (Tried){1, block};
+  if (align <= HEAD && size <= (word)1 << *power_before(block)) return (Tried){1, block};
   Tried moved = rattle_alloc(size, align);
   if (!moved.is_there) return (Tried){0, block};
   __builtin_memcpy(moved.block, block, kept);

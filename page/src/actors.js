@@ -31,7 +31,7 @@ function codesOf(names) {
 export class Actors {
   constructor(count, names) {
     this.names = Array.from({ length: count }, (_, number) => names.actor(number));
-    this.codes = codesOf(this.names);
+    this.codes = codesOf(this.names.map((_, number) => names.shortActor(number)));
   }
 
   get count() {

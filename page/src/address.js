@@ -1,4 +1,4 @@
-// The page's address, as `#place=42&view=10-74&fold=0.3&filter=jobs&stop=lagging+0+2`, so that a link leads to a place and to what is in
+// The page's address, as `#place=42&view=10-74&fold=0.3&filter=jobs&order=number&stop=lagging+0+2`, so that a link leads to a place and to what is in
 // view there; and the steps of the browser's history. Each step belongs to a run, by its key.
 
 const QUIET = 250;
@@ -7,7 +7,8 @@ const NUMBER = /^\d+$/;
 
 let timer = 0;
 
-// Returns the place in an address, and what else it has: the columns in view, the folded bands, the filter, and the condition of a stop.
+// Returns the place in an address, and what else it has: the columns in view, the folded bands, the filter, the channels' order, and the condition
+// of a stop.
 /** @returns {Address} */
 export function readAddress(address) {
   const parts = new URLSearchParams(new URL(address).hash.slice(1));
@@ -18,14 +19,15 @@ export function readAddress(address) {
     view: view && [Number(view[1]), Number(view[2])],
     fold: parts.get("fold"),
     filter: parts.get("filter"),
+    order: parts.get("order"),
     stop: parts.get("stop"),
   };
 }
 
 /** @param {Address} address */
-function hashOf({ place, view, fold, filter, stop }) {
+function hashOf({ place, view, fold, filter, order, stop }) {
   const parts = new URLSearchParams({ place: String(place), view: view.join("-") });
-  for (const [name, text] of Object.entries({ fold, filter, stop })) if (text !== null) parts.set(name, text);
+  for (const [name, text] of Object.entries({ fold, filter, order, stop })) if (text !== null) parts.set(name, text);
   return `#${parts}`;
 }
 

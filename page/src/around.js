@@ -11,7 +11,7 @@ export function callsAround(run, place, { shown, before }) {
   for (let number = first; number <= Math.min(run.lastPlace, first + shown - 1); number++) {
     const entry = run.entry(number);
     const line = element("button", { "data-place": number, class: entry.reply, tabindex: -1 },
-      run.actors.badge(entry.actor), ` ${String(number).padStart(width)}  ${shortLine(entry)}`);
+      run.actors.badge(entry.actor), ` ${String(number).padStart(width)}  `, ...shortLine(entry, run));
     if (number === place) line.setAttribute("aria-current", "step");
     lines.push(element("li", {}, line));
   }

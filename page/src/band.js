@@ -2,17 +2,18 @@
 
 import { drawBandCalls } from "./band_calls.js";
 import { hatched, line } from "./canvas.js";
-import { HEAD } from "./layout.js";
+import { BAND, HEAD } from "./layout.js";
 import { drawLevels, drawValues } from "./levels.js";
+import { drawLossBand, drawPosts } from "./loss_band.js";
 import { SMALL, SMALL_BOLD } from "./palette.js";
 import { drawPlainName, drawRowName } from "./row_names.js";
 
-// Hatches a channel from the first place on at which it has no sender: from then on it is closed.
+// Hatches a channel from the place on where it is closed.
 /** @param {Drawing} drawing */
-function drawClosed({ pen, run, frame, places, band, top, bottom, palette }) {
-  const first = places.findIndex(place => run.state(place).channels[band.channel].closed);
-  if (first < 0) return;
-  const x = frame.x(places[first]);
+function drawClosed({ pen, run, view, frame, band, top, bottom, palette }) {
+  const closing = run.closings.places[band.channel];
+  if (closing === null || closing > view.to) return;
+  const x = Math.max(frame.left, frame.x(closing));
   const y = Math.max(band.y + HEAD, top);
   hatched(pen, palette, x, y, frame.right - x, Math.min(band.y + band.height, bottom) - y);
 }
@@ -35,16 +36,18 @@ function drawRows({ pen, run, frame, band, palette }) {
   }
 }
 
-// Names each handle in view at the start of its line in the row. Far out, names that are wider than the line are left out.
+// Names each handle in view at the start of its line in the row. Far out, names that are wider than the line are left out. Of the very many there
+// may be, measuring each would be slow, and digits are of one width.
 function drawSharedNames({ pen, view, frame, palette }, row) {
   pen.font = SMALL_BOLD;
+  const digit = pen.measureText("0").width;
   pen.textAlign = "left";
   pen.fillStyle = palette.mute;
   for (const life of row.lives) {
     if (life.from > view.to || life.to < view.from) continue;
     const x = Math.max(frame.left, frame.x(life.from));
     const room = Math.min(frame.right, frame.x(life.to)) - x;
-    if (frame.isNear || pen.measureText(life.handle).width <= room) pen.fillText(life.handle, x, row.base + 9);
+    if (frame.isNear || String(life.handle).length * digit <= room) pen.fillText(life.handle, x, row.base + 9);
   }
 }
 
@@ -61,11 +64,23 @@ function drawRowNames(drawing) {
   }
 }
 
+// Draws the losses of each receiver, with a post from a told one down to the line of the row.
+/** @param {Drawing} drawing */
+function drawLosses(drawing) {
+  const { run, band } = drawing;
+  for (const row of band.rows.filter(({ kind }) => kind === "receiver")) {
+    const losses = run.losses.along(band.channel, row.lives);
+    drawPosts(drawing, losses, row.lane + 2, row.base);
+    drawLossBand(drawing, losses, row.lane + 2, BAND);
+  }
+}
+
 /** @param {Drawing} drawing */
 export function drawBand(drawing) {
   drawClosed(drawing);
   drawRows(drawing);
   drawLevels(drawing);
+  drawLosses(drawing);
   drawValues(drawing);
   drawRowNames(drawing);
   drawBandCalls(drawing);

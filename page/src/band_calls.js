@@ -1,38 +1,23 @@
 // Draws the calls on a channel, each in its handle's row.
 
-import { fitted, flag } from "./canvas.js";
-import { LAGGED, MARK_NAMES } from "./marks.js";
+import { fitted } from "./canvas.js";
+import { MARK_NAMES } from "./marks.js";
 import { CODE, NUMBERS } from "./palette.js";
 import { SHAPES } from "./shapes.js";
+import { countUpTo } from "./values.js";
 
 const LARGEST = 4.6;
 const CODE_COLUMN = 24;
 const VALUE_GAP = 7;
 const LEAST_VALUE = 12;
-const POINTER = 5;
 const VALUED = new Set(["sent", "unsent"]);
 
 // The calls that are drawn far out, since they are rare.
-const FAR = new Set(["lagged", "closed", "dropped"]);
+const FAR = new Set(["closed", "dropped"]);
 
 // Returns the height of a mark: on the row's line if a handle is made or dropped, else just above the line.
 function heightOf(mark, row) {
   return mark === "made" || mark === "dropped" ? row.base + 1.5 : row.base - 5;
-}
-
-// For a reply `lagged`: a red flag with the number of lost values.
-/** @param {Drawing} drawing */
-function drawLag({ pen, run, frame, palette }, place, row) {
-  const x = frame.middle(place);
-  flag(pen, `lost ${run.entry(place).answer}`, {
-    x, y: row.lane + 1, colour: palette.lag, ink: palette["on-dark"], least: frame.left, most: frame.right,
-  });
-  pen.fillStyle = palette.lag;
-  pen.beginPath();
-  pen.moveTo(x - POINTER, row.lane + 15);
-  pen.lineTo(x + POINTER, row.lane + 15);
-  pen.lineTo(x, row.lane + 21);
-  pen.fill();
 }
 
 // Draws each sent value behind its mark, cut where the next mark of its row begins. The values of a watch have a row of their own.
@@ -75,51 +60,65 @@ function drawMaking({ pen, band }, entry, x, y) {
 
 /** @param {Drawing} drawing */
 function drawNear(drawing, place, mark, row) {
-  if (mark === "lagged") return;
   const { pen, run, frame, palette } = drawing;
   const entry = run.entry(place);
   const x = frame.middle(place);
   const y = heightOf(mark, row);
-  pen.fillStyle = pen.strokeStyle = mark === "closed" ? palette.closed : palette.actor(entry.actor);
+  pen.fillStyle = pen.strokeStyle = mark === "closed" ? palette.closed : mark === "lagged" ? palette.lag : palette.actor(entry.actor);
   pen.lineWidth = 1.6;
   SHAPES[mark](pen, x, y, Math.min(LARGEST, frame.column / 2.2));
   if (frame.column >= CODE_COLUMN && entry.actor !== row.lives[0].user) drawCaller(drawing, entry, x, y);
   if (mark === "made") drawMaking(drawing, entry, x, y);
 }
 
-// Far out only rare calls are drawn: lags, drops of handles, and replies that the channel is closed.
+// Far out only rare calls are drawn: drops of handles, and replies that the channel is closed.
 /** @param {Drawing} drawing */
-function drawFar({ pen, frame, palette }, place, mark, row) {
-  const x = frame.middle(place);
-  if (mark === "lagged") {
-    pen.fillStyle = palette.lag;
-    pen.fillRect(x - 0.75, row.lane + 2, 1.5, row.base - row.lane - 2);
-  } else {
-    pen.fillStyle = palette.closed;
-    pen.fillRect(x - 0.5, row.base - 8, 1, 12);
-  }
+function drawFar({ pen, frame, palette }, place, row) {
+  pen.fillStyle = palette.closed;
+  pen.fillRect(frame.middle(place) - 0.5, row.base - 8, 1, 12);
 }
 
 // Calls `show` for each call in view whose handle has a row in the band, with its mark, from the first on or from the last back.
 /** @param {Drawing} drawing */
-function eachCall({ run, view, band }, show, { isBack = false, isWanted = null } = {}) {
+function eachCall({ run, view, band }, show, { isBack = false } = {}) {
   const { channels, handles, marks } = run.columns;
   const first = Math.max(1, view.from);
   const last = Math.min(view.to, run.lastPlace);
   for (let i = 0; i <= last - first; i++) {
     const place = isBack ? last - i : first + i;
-    if (channels[place] !== band.channel || isWanted?.(marks[place]) === false) continue;
+    if (channels[place] !== band.channel) continue;
     const row = band.rowOf.get(handles[place]);
     if (row) show(place, marks[place], row);
   }
 }
 
-// Lags are drawn last, so that nothing covers them.
+// The places of each channel's rare calls.
+function rareCalls({ columns: { channels, marks }, channels: { length } }) {
+  const isRare = MARK_NAMES.map(mark => FAR.has(mark));
+  const places = Array.from({ length }, () => []);
+  for (let place = 1; place < marks.length; place++) if (isRare[marks[place]]) places[channels[place]].push(place);
+  return places;
+}
+
+// Draws the rare calls in view, those of one row on the same point once.
+/** @param {Drawing} drawing */
+function drawAllFar(drawing) {
+  const { run, view, frame, band } = drawing;
+  run.rareCalls ??= rareCalls(run);
+  const places = run.rareCalls[band.channel];
+  const ends = new Map();
+  for (let i = countUpTo(places, view.from - 1); i < places.length && places[i] <= view.to; i++) {
+    const row = band.rowOf.get(run.columns.handles[places[i]]);
+    const x = Math.round(frame.middle(places[i]));
+    if (!row || ends.get(row) === x) continue;
+    ends.set(row, x);
+    drawFar(drawing, places[i], row);
+  }
+}
+
 /** @param {Drawing} drawing */
 export function drawBandCalls(drawing) {
-  const isWanted = mark => FAR.has(MARK_NAMES[mark]);
-  if (!drawing.frame.isNear) return eachCall(drawing, (place, mark, row) => drawFar(drawing, place, MARK_NAMES[mark], row), { isWanted });
+  if (!drawing.frame.isNear) return drawAllFar(drawing);
   drawSentValues(drawing);
   eachCall(drawing, (place, mark, row) => drawNear(drawing, place, MARK_NAMES[mark], row));
-  eachCall(drawing, (place, mark, row) => mark === LAGGED && drawLag(drawing, place, row));
 }

@@ -50,24 +50,29 @@ export function fitted(pen, text, width) {
 }
 
 // Fills a box with slanted lines.
-export function hatched(pen, palette, x, y, width, height) {
+export function slanted(pen, { x, y, width, height, ground, colour, thickness = 1.4, step = 5 }) {
   if (width <= 0) return;
   pen.save();
   pen.beginPath();
   pen.rect(x, y, width, height);
   pen.clip();
-  pen.fillStyle = palette.hatch;
+  pen.fillStyle = ground;
   pen.fillRect(x, y, width, height);
-  pen.strokeStyle = palette["hatch-line"];
-  pen.lineWidth = 2;
+  pen.strokeStyle = colour;
+  pen.lineWidth = thickness;
   pen.beginPath();
-  const first = x - height - ((x - height) % 8);
-  for (let at = first; at < x + width; at += 8) {
+  const first = x - height - ((x - height) % step);
+  for (let at = first; at < x + width; at += step) {
     pen.moveTo(at, y + height);
     pen.lineTo(at + height, y);
   }
   pen.stroke();
   pen.restore();
+}
+
+// Fills a box as where a channel is closed.
+export function hatched(pen, palette, x, y, width, height) {
+  slanted(pen, { x, y, width, height, ground: palette.hatch, colour: palette["hatch-line"], thickness: 2, step: 8 });
 }
 
 // Draws a small flag with a text, centred on x and between two edges.

@@ -1,11 +1,15 @@
 // Draws the place over the picture: its column, the row of its call, and beside each row's name what its receiver has to read or see there.
 
+import { line } from "./canvas.js";
+import { BAND } from "./layout.js";
+import { stretchOf } from "./loss_band.js";
 import { SMALL, SMALL_BOLD } from "./palette.js";
 import { drawPlainName, drawRowName } from "./row_names.js";
 import { versionOf } from "./versions.js";
 
 const EDGE = 8;
 const GAP = 5;
+const RING = 8;
 
 // The words about a receiver, from right to left, each with its colour and font.
 function wordsOf(channel, receiver, palette) {
@@ -14,7 +18,7 @@ function wordsOf(channel, receiver, palette) {
   }
   const readable = receiver.unread - receiver.lag;
   const words = [[String(readable), readable ? palette["unread-ink"] : palette.mute, SMALL]];
-  if (receiver.lag) words.push([`−${receiver.lag}`, palette.lag, SMALL_BOLD]);
+  if (receiver.lag) words.push([`−${receiver.lag}`, palette["lag-ink"], SMALL_BOLD]);
   return words;
 }
 
@@ -78,12 +82,44 @@ function drawRow({ pen, run, view, frame, bands, palette }) {
   pen.globalAlpha = 1;
 }
 
+// Rings the send by which a loss began, and leads from there to the loss.
+/** @param {Drawing} drawing */
+function drawCause({ pen, run, view, frame, bands, palette }, loss) {
+  const band = bands.find(({ channel }) => channel === loss.channel);
+  const from = band?.rowOf.get(run.columns.handles[loss.from]);
+  const to = band?.rowOf.get(loss.receiver);
+  if (!from || !to || loss.from < view.from || loss.from > view.to) return;
+  const x = frame.middle(loss.from);
+  pen.strokeStyle = palette.lag;
+  pen.lineWidth = 1.5;
+  pen.beginPath();
+  pen.arc(x, from.base - 5, RING, 0, 2 * Math.PI);
+  pen.stroke();
+  pen.setLineDash([3, 3]);
+  line(pen, x, from.base - 5 + (to.lane > from.lane ? RING : -RING), x, to.lane > from.lane ? to.lane + 2 : to.lane + 2 + BAND);
+  pen.setLineDash([]);
+}
+
+// Draws an edge around the loss that is shown.
+/** @param {Drawing} drawing */
+function drawChosen({ pen, view, frame, bands, palette }, loss) {
+  const row = bands.find(({ channel }) => channel === loss.channel)?.rowOf.get(loss.receiver);
+  if (!row || loss.to < view.from || loss.from > view.to) return;
+  const { x, end } = stretchOf(frame, loss);
+  pen.strokeStyle = palette.ink;
+  pen.lineWidth = 1.5;
+  pen.strokeRect(x - 0.75, row.lane + 1.25, end - x + 1.5, BAND + 1.5);
+}
+
 // `drawing` is as for the picture. The column isn't drawn if the place is out of view.
 export function drawCursor(drawing) {
-  const { run, view } = drawing;
+  const { run, view, loss } = drawing;
   if (view.place >= view.from && view.place <= view.to) drawColumn(drawing);
   drawRow(drawing);
   for (const band of drawing.bands) if (band.channel !== null) drawSharedNames({ ...drawing, band });
   const state = run.state(view.place);
   if (state) drawStandings(drawing, state);
+  if (loss === null) return;
+  drawChosen(drawing, loss);
+  drawCause(drawing, loss);
 }

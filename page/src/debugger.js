@@ -1,4 +1,4 @@
-// The proved debugger: the two exports of its module. Bytes are passed to and from them in the module's memory.
+// The proved debugger: the exports of its module. Bytes are passed to and from them in the module's memory.
 
 const ANSWERED = 0;
 const TOO_SMALL = 1;
@@ -21,10 +21,11 @@ export class Debugger {
     return this.call("ttd_session", [input]);
   }
 
-  // A trap leaves the memory half written. So after any failure the next call uses a fresh instance.
-  call(name, inputs) {
+  // Calls an export with some bytes, and then numbers, and returns what it writes. A trap leaves the memory half written. So after any
+  // failure the next call uses a fresh instance.
+  call(name, inputs, numbers = []) {
     try {
-      return this.answer(this.exports[name], inputs);
+      return this.answer(this.exports[name], inputs, numbers);
     } catch (error) {
       this.start();
       throw error;
@@ -39,12 +40,12 @@ export class Debugger {
     this.roomAt = this.take(this.room);
   }
 
-  answer(ask, inputs) {
+  answer(ask, inputs, numbers) {
     // A listing is somewhat longer than its journal. If the room is too small, everything is computed twice.
     const likely = inputs.reduce((sum, bytes) => sum + 2 * bytes.length, FIRST_ROOM);
     if (likely > this.room) this.widen(likely);
     const slices = inputs.flatMap(bytes => [this.put(bytes), BigInt(bytes.length)]);
-    const tried = () => ask(...slices, this.roomAt, BigInt(this.room), this.countAt);
+    const tried = () => ask(...slices, ...numbers, this.roomAt, BigInt(this.room), this.countAt);
     let status = tried();
     if (status === TOO_SMALL) {
       this.widen(this.count());

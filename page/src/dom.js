@@ -25,6 +25,11 @@ export function outside(text) {
   return element("bdi", {}, visible(text));
 }
 
+// The same between quotation marks, and uncut under the pointer.
+export function quoted(text) {
+  return element("q", { title: visible(text) }, outside(text));
+}
+
 // Creates an element with a text in the colour of an actor.
 export function coloured(colour, ...children) {
   const made = element("span", { class: "actor" }, ...children);

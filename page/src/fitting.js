@@ -28,8 +28,8 @@ function hasOneOf(run, channel, table) {
 
 // Returns why the names are those of another run, or null if nothing speaks against them.
 export function misfit(names, run) {
-  const { channels, handles, values } = names.tables;
-  const last = Math.max(largest(channels), largest(handles), largest(values));
+  const { channels, handles, values, calls } = names.tables;
+  const last = Math.max(...[channels, handles, values, calls].map(largest));
   if (last >= run.channels.length) {
     return `it names channel ${grouped(last)}, and this run has ${countOf(run.channels.length, "channel")}, from 0 on`;
   }
@@ -38,6 +38,17 @@ export function misfit(names, run) {
     if (count > 0 && !hasOneOf(run, Number(channel), table)) {
       return `none of the ${countOf(count, "value")} that it names on channel ${channel} is sent there in this run`;
     }
+  }
+  return misfitOfCalls(names.tables.calls, run);
+}
+
+// The places of calls are by the order of a channel's entries, so there are as many: of a run that was cut off, perhaps more.
+function misfitOfCalls(calls, run) {
+  const counts = run.channels.map(() => 0);
+  run.columns.channels.forEach((channel, number) => { if (number > 0) counts[channel]++; });
+  for (const [channel, list] of Object.entries(calls)) {
+    if (list.length === counts[channel] || (run.isCut && list.length > counts[channel])) continue;
+    return `it has ${countOf(list.length, "call")} of channel ${channel}, and this run has ${grouped(counts[channel])}`;
   }
   return null;
 }

@@ -1,19 +1,34 @@
-// Which of the picture's bands are folded, and by which text its rows are filtered.
+// Which of the picture's bands are folded, by which text its rows are filtered, and in which order the channels are.
 
 export const ACTORS = "actors";
 
 const MANY_ACTORS = 10;
+const MANY_CHANNELS = 24;
+
+// What is folded at first: very many actors, and of very many channels those that lost nothing.
+function firstKeys(run) {
+  const quiet = [...run.channels.keys()].filter(channel => run.losses.sums[channel].lost === 0);
+  return [...(run.channels.length > MANY_CHANNELS ? quiet : []), ...(run.actorCount > MANY_ACTORS ? [ACTORS] : [])];
+}
 
 export class Folds {
   constructor(run) {
     this.run = run;
     this.filter = "";
-    this.keys = new Set(run.actorCount > MANY_ACTORS ? [ACTORS] : []);
+    this.isByNumber = false;
+    this.keys = new Set(firstKeys(run));
     this.first = this.text;
   }
 
   has(key) {
     return this.keys.has(key);
+  }
+
+  // The channels in their order: those that lost most first, or by number.
+  get channels() {
+    const { sums } = this.run.losses;
+    const numbers = [...this.run.channels.keys()];
+    return this.isByNumber ? numbers : numbers.sort((a, b) => sums[b].lost - sums[a].lost || a - b);
   }
 
   turn(key) {

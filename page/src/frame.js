@@ -16,12 +16,12 @@ export function stripGutterOf(width) {
 }
 
 export class Frame {
-  constructor(from, to, width, left) {
+  constructor(from, to, width, left, margin = MARGIN) {
     this.from = from;
     this.to = to;
     this.width = width;
     this.left = left;
-    this.right = width - MARGIN;
+    this.right = width - margin;
     this.column = (this.right - this.left) / (to - from + 1);
   }
 

@@ -31,12 +31,29 @@ function turnChannel(page, event) {
   page.walk?.telling.turn(Number(head.parentElement.dataset.channel));
 }
 
-// On a narrow screen the picture and the state are shown one at a time.
-function listenToTabs(page) {
-  chosenIn("tabs", "tab", tab => {
-    document.body.dataset.tab = tab;
-    for (const button of byId("tabs").children) button.toggleAttribute("aria-current", button === byId("tabs").querySelector(`[data-tab=${tab}]`));
-    page.walk?.scrolled();
+// On a narrow screen the picture, the state and the table of receivers are shown one at a time.
+function showTab(page, tab) {
+  document.body.dataset.tab = tab;
+  for (const button of byId("tabs").children) button.toggleAttribute("aria-current", button === byId("tabs").querySelector(`[data-tab=${tab}]`));
+  page.walk?.scrolled();
+  page.walk?.table.draw();
+}
+
+// The table of receivers: its line folds it, a head sorts it, and a row goes to its receiver.
+function listenToTable(page) {
+  const box = byId("table-box");
+  press(page, "loss-line", walk => walk.lossMoves.turnTable());
+  chosenIn("table-box", "sort", key => page.walk?.table.sort(key));
+  box.addEventListener("scroll", () => page.walk?.table.draw());
+  const go = row => {
+    const [channel, receiver] = row.split(" ").map(Number);
+    showTab(page, "picture");
+    page.walk?.lossMoves.toReceiver(channel, receiver);
+  };
+  chosenIn("table-box", "receiver", go);
+  box.addEventListener("keydown", event => {
+    const row = /** @type {HTMLElement} */ (event.target).dataset.receiver;
+    if (event.key === "Enter" && row) go(row);
   });
 }
 
@@ -45,16 +62,20 @@ function listenToButtons(page) {
   press(page, "back", walk => walk.by(-1));
   press(page, "forward", walk => walk.by(1));
   press(page, "last", walk => walk.toEnd());
-  press(page, "lag-before", walk => walk.toLag(true));
-  press(page, "lag-after", walk => walk.toLag(false));
+  press(page, "loss-before", walk => walk.lossMoves.next(true));
+  press(page, "loss-after", walk => walk.lossMoves.next(false));
   press(page, "farther", walk => walk.zoom(2));
   press(page, "nearer", walk => walk.zoom(0.5));
   press(page, "whole", walk => walk.whole());
   press(page, "open-stops", walk => walk.ask());
   press(page, "copy", copyCommands);
   press(page, "save", walk => savePicture(walk, page.source.name));
-  chosenIn("calls", "place", place => page.walk?.jumpTo(Number(place)));
+  chosenIn("state", "place", place => page.walk?.lossMoves.to(Number(place)));
+  chosenIn("dock", "place", place => page.walk?.jumpTo(Number(place)));
   byId("state").addEventListener("click", event => turnChannel(page, event));
+  chosenIn("state", "loss", what => (what === "all" ? page.walk?.lossMoves.showAll() : page.walk?.lossMoves.turn()));
+  press(page, "said", walk => walk.telling.turnWhole());
+  press(page, "peek", () => showTab(page, "state"));
   byId("told").addEventListener("toggle", () => page.walk?.telling.tellConsole());
 }
 
@@ -118,10 +139,11 @@ function listenToRows(page) {
       page.walk?.scrolled();
     });
   });
-  byId("strip-box").addEventListener("scroll", () => page.walk?.screen.measure());
+  byId("strip-box").addEventListener("scroll", () => page.walk?.screen.measureStrip());
   new ResizeObserver(() => page.walk?.scrolled()).observe(byId("pane"));
   filter.addEventListener("input", () => page.walk?.refold(folds => { folds.filter = filter.value; }));
   filter.addEventListener("keydown", event => event.key === "Escape" && filter.blur());
+  press(page, "order", walk => walk.reorder());
   press(page, "fold-all", walk => walk.refold(folds => folds.turnAll()));
 }
 
@@ -129,13 +151,16 @@ export function listenToHands(page) {
   listenToButtons(page);
   listenToSlider(page);
   listenToStops(page);
-  listenToTabs(page);
+  chosenIn("tabs", "tab", tab => showTab(page, tab));
+  listenToTable(page);
   pointed(byId("picture-box"), {
     press: (x, y) => page.walk?.pressPicture(x, y),
     follow: x => page.walk?.toPointInPicture(x),
     pan: (x, last) => page.walk?.pan(x, last) ?? 0,
+    hover: (x, y) => page.walk?.tip(x, y),
+    leave: () => page.walk?.tip(null, null),
   });
-  pointed(byId("strip-box"), { press: x => page.walk?.pressStrip(x), follow: x => page.walk?.toPointInStrip(x), pan: () => 0 });
+  pointed(byId("strip-box"), { press: x => page.walk?.pressStrip(x), follow: x => page.walk?.toPointInStrip(x), pan: () => 0, hover: () => {}, leave: () => {} });
   wheeled(page, byId("pane"), false);
   wheeled(page, byId("strip-box"), true);
   listenToRows(page);

@@ -2,12 +2,14 @@
 
 import { fitted } from "./canvas.js";
 import { ACTORS } from "./folds.js";
-import { HEAD } from "./layout.js";
-import { LAGGED } from "./marks.js";
-import { countOf } from "./numbers.js";
+import { BAND, HEAD } from "./layout.js";
+import { drawLossBand } from "./loss_band.js";
+import { countOf, grouped } from "./numbers.js";
 import { BOLD, SMALL, SMALL_BOLD } from "./palette.js";
+import { drawLostCount } from "./strip.js";
 
 const NAME = 22;
+const COUNT = 70;
 
 export function kindOf(channel) {
   return channel.kind === "broadcast" ? `broadcast, capacity ${channel.capacity}` : "watch";
@@ -20,36 +22,40 @@ export function headY({ y, height }, top) {
 
 function wordsOf({ run, band }) {
   if (band.key === ACTORS) return [countOf(run.actorCount, "actor"), band.isFolded ? "folded" : "the calls of each"];
-  return [run.names.channel(band.channel), `${kindOf(run.channels[band.channel])} · ${countOf(run.receiverCounts[band.channel], "receiver")}`];
+  const receivers = run.isBeginning ? [] : [countOf(run.receiverCounts[band.channel], "receiver")];
+  return [run.names.channel(band.channel), [kindOf(run.channels[band.channel]), ...receivers].join(" · ")];
 }
 
 // Says in a head where its channel is closed.
 /** @param {Drawing} drawing */
-function drawClosed({ pen, run, frame, places, band, palette }, y) {
-  const first = places.findIndex(place => run.state(place).channels[band.channel].closed);
-  if (first < 0) return;
+function drawClosed({ pen, run, view, frame, band, palette }, y) {
+  const closing = run.closings.places[band.channel];
+  if (closing === null || closing > view.to) return;
   pen.font = SMALL_BOLD;
   pen.textAlign = "left";
   pen.fillStyle = palette.closed;
-  const x = frame.x(places[first]);
-  if (first > 0) pen.fillRect(x, y + 3, 2, HEAD - 6);
+  const x = Math.max(frame.left, frame.x(closing));
+  if (closing > view.from) pen.fillRect(x, y + 3, 2, HEAD - 6);
   const width = pen.measureText("closed").width;
   pen.fillText("closed", Math.min(x + 6, frame.right - width), y + HEAD / 2);
 }
 
-// The lags of a folded channel, at their places.
+// The losses of a folded channel in one band, at the right of its name how many values were lost.
 /** @param {Drawing} drawing */
-function drawLags({ pen, run, view, frame, band, palette }, y) {
-  const { channels, marks } = run.columns;
-  pen.fillStyle = palette.lag;
-  for (let place = Math.max(1, view.from); place <= Math.min(view.to, run.lastPlace); place++) {
-    if (marks[place] === LAGGED && channels[place] === band.channel) pen.fillRect(frame.middle(place) - 1, y + 5, 2, HEAD - 10);
-  }
+function drawLosses(drawing, y) {
+  const { run, frame, band } = drawing;
+  drawLossBand(drawing, run.losses.on(band.channel), y + (HEAD - BAND) / 2, BAND);
+  drawLostCount(drawing, band.channel, (frame.left || frame.width) - 6, y + HEAD / 2);
+}
+
+function lostText({ lost, untold }) {
+  if (lost === 0) return "";
+  return `lost ${grouped(lost)}${untold ? `, ${grouped(untold)} untold` : ""}`;
 }
 
 /** @param {Drawing} drawing */
 export function drawHead(drawing) {
-  const { pen, frame, band, top, palette } = drawing;
+  const { pen, run, frame, band, top, palette } = drawing;
   const y = headY(band, top);
   const [name, facts] = wordsOf(drawing);
   pen.fillStyle = palette.head;
@@ -68,8 +74,17 @@ export function drawHead(drawing) {
   const x = NAME + 8 + pen.measureText(shown).width;
   pen.font = SMALL;
   pen.fillStyle = palette.mute;
-  pen.fillText(band.isFolded || frame.left === 0 ? fitted(pen, facts, room - x) : facts, x, y + HEAD / 2);
+  const lost = band.key === ACTORS ? "" : lostText(run.losses.sums[band.channel]);
+  const isCut = band.isFolded || frame.left === 0;
+  const text = isCut ? fitted(pen, facts, room - x - (lost ? COUNT : 0)) : facts;
+  pen.fillText(text, x, y + HEAD / 2);
   if (band.key === ACTORS) return;
-  if (band.isFolded) drawLags(drawing, y);
   drawClosed(drawing, y);
+  if (band.isFolded) return drawLosses(drawing, y);
+  if (isCut) return drawLostCount(drawing, band.channel, room + NAME - 6, y + HEAD / 2);
+  const end = x + pen.measureText(text).width + 12;
+  pen.font = SMALL_BOLD;
+  pen.textAlign = "left";
+  pen.fillStyle = palette["lag-ink"];
+  pen.fillText(lost, end, y + HEAD / 2);
 }

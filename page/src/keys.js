@@ -11,10 +11,14 @@ const KEYS = [
   { keys: ["ArrowLeft"], shown: "←, with Shift ten", does: "place before", move: (walk, far) => walk.by(far ? -FAR : -1) },
   { keys: ["Home"], shown: "Home", does: "the start", move: walk => walk.jumpTo(0) },
   { keys: ["End"], shown: "End", does: "the end", move: walk => walk.toEnd() },
-  {
-    keys: ["l", "L"], shown: "L, with Shift back",
-    does: "next place where a receiver is told that it lagged", move: (walk, back) => walk.toLag(back),
-  },
+  { keys: ["l", "L"], shown: "L, with Shift back", does: "next place where a loss begins or ends", move: (walk, back) => walk.lossMoves.next(back) },
+  { keys: ["c", "C"], shown: "C", does: "the cause of the loss: the send that overwrote first", move: walk => walk.lossMoves.toCause() },
+  { keys: ["e", "E"], shown: "E", does: "the end of the loss: where it was told, or dropped", move: walk => walk.lossMoves.toEnd() },
+  { keys: ["n", "N"], shown: "N", does: "the next receiver that lags at the place", move: walk => walk.lossMoves.turn() },
+  { keys: ["u", "U"], shown: "U, with Shift back", does: "next change that a receiver of a watch hasn't seen", move: (walk, back) => walk.toUnseen(back) },
+  { keys: ["t", "T"], shown: "T", does: "unfold or fold the table of receivers", move: walk => walk.lossMoves.turnTable() },
+  { keys: ["i", "I"], shown: "I", does: "the call in whole, uncut; Escape closes it", move: walk => walk.telling.turnWhole() },
+  { keys: ["Escape"], move: walk => walk.telling.turnWhole(false) },
   { keys: ["PageDown"], shown: "Page Down", does: "the places behind those in view", move: walk => walk.turn(1) },
   { keys: ["PageUp"], shown: "Page Up", does: "the places before those in view", move: walk => walk.turn(-1) },
   { keys: ["+", "="], shown: "+", does: "nearer", move: walk => walk.zoom(0.5) },
@@ -24,6 +28,7 @@ const KEYS = [
   { keys: ["ArrowUp"], move: () => byId("pane").scrollBy(0, -ROWS) },
   { keys: ["f", "F"], shown: "F", does: "into the field that filters the rows by name; Escape leaves it", move: () => fieldOf("filter").select() },
   { keys: ["z", "Z"], shown: "Z", does: "fold or unfold all", move: walk => walk.refold(folds => folds.turnAll()) },
+  { keys: ["o", "O"], shown: "O", does: "the channels that lost most first, or all by number", move: walk => walk.reorder() },
   { keys: ["/"], shown: "/", does: "into the field for a stop; Enter there seeks on, with Shift back", move: walk => walk.ask() },
 ];
 

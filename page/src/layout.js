@@ -5,6 +5,8 @@
 import { ACTORS } from "./folds.js";
 
 export const HEAD = 24;
+// How high the band of a receiver's losses is, above what it has to read.
+export const BAND = 11;
 const VALUE_ROW = 20;
 const ACTOR_ROW = 18;
 const SENDER_ROW = 24;
@@ -79,7 +81,7 @@ function bandOf(key, rows, y, folds, isNarrow) {
 export function layOut(run, rows, folds, isNarrow) {
   const bands = [];
   let y = 0;
-  const parts = rows.map((those, channel) => [channel, filtered(run, folds, channel, those)]);
+  const parts = folds.channels.map(channel => [channel, filtered(run, folds, channel, rows[channel])]);
   for (const [key, those] of [...parts, [ACTORS, actorRows(run, folds)]]) {
     if (those.length === 0) continue;
     const band = bandOf(key, those, y, folds, isNarrow);

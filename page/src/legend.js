@@ -2,13 +2,14 @@
 
 import { cleared, hatched } from "./canvas.js";
 import { element, outside } from "./dom.js";
+import { drawStretch } from "./loss_band.js";
 import { SHAPES } from "./shapes.js";
 
 const SIZE = 14;
 
 const SHAPE_MEANINGS = {
   sent: "sent", unsent: "nobody to send to", received: "received or seen", asked: "nothing there, or only asked", made: "a handle made",
-  dropped: "dropped", closed: "told: closed", refused: "refused",
+  dropped: "dropped", lagged: "told: lagged", closed: "told: closed", refused: "refused",
 };
 
 function swatch(draw) {
@@ -42,8 +43,8 @@ export function legend(run, palette) {
   for (let actor = 0; actor < run.actorCount; actor++) {
     items.push(item(run.actors.badge(actor), outside(run.actors.names[actor])));
   }
-  items.push(item(colourSwatch(palette.unread), "unread"), item(colourSwatch(palette.lag), "overwritten before it was read"));
-  items.push(item(element("span", { class: "flag" }, "lost 2"), "the receiver is told"));
+  items.push(item(colourSwatch(palette.unread), "to read"), item(colourSwatch(palette.lag), "lost: overwritten before it was read"));
+  items.push(item(swatch(pen => drawStretch(pen, palette, { x: 0, end: SIZE }, 2, SIZE - 4, false)), "lost, and nobody was told"));
   items.push(item(colourSwatch(palette.unseen), "value not seen"));
   items.push(item(swatch(pen => hatched(pen, palette, 0, 1, SIZE, SIZE - 2)), "channel closed"));
   for (const [shape, meaning] of Object.entries(SHAPE_MEANINGS)) items.push(item(shapeSwatch(palette, shape), meaning));

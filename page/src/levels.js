@@ -1,65 +1,48 @@
-// Draws the state of receivers: what each has yet to read, and what was overwritten before it was read.
+// Draws the levels of receivers: what each has yet to read, or that it hasn't seen a watch's value.
 
 import { fitted, line } from "./canvas.js";
+import { BAND } from "./layout.js";
 import { NUMBERS } from "./palette.js";
 
-const FULL = 0.72;
-const LEAST_LAG = 4;
 const UNSEEN_HEIGHT = 15;
-const ABOVE = 2;
+const ABOVE = 4;
 const VALUE_GAP = 3;
 
-function standsSame(a, b) {
-  return a.unread === b.unread && a.lag === b.lag && a.seen === b.seen;
-}
-
-// Joins neighbouring places at which a receiver's state is the same. Calls `show` once for each such stretch, with the place after it.
-function eachStretch({ run, view, places, band }, show) {
+// Joins neighbouring places at which a receiver's level is the same, and calls `show` for each such stretch as an overview does.
+function eachLevel({ run, places, band }, show) {
   const open = new Map();
+  const close = (handle, { level, from, end }) => level > 0 && show(handle, level, from, end);
   for (const place of places) {
-    for (const receiver of run.state(place).channels[band.channel].receivers) {
-      if (!band.rowOf.has(receiver.handle)) continue;
-      const stretch = open.get(receiver.handle);
-      if (stretch && standsSame(stretch.receiver, receiver)) {
-        stretch.end = place + view.stride;
+    for (const { handle, seen, unread, lag } of run.state(place).channels[band.channel].receivers) {
+      if (!band.rowOf.has(handle)) continue;
+      const level = seen === undefined ? unread - lag : Number(!seen);
+      const stretch = open.get(handle);
+      if (stretch?.level === level) {
+        stretch.end = place + 1;
       } else {
-        if (stretch) show(stretch);
-        open.set(receiver.handle, { receiver, from: place, end: place + view.stride });
+        if (stretch) close(handle, stretch);
+        open.set(handle, { level, from: place, end: place + 1 });
       }
     }
   }
-  for (const stretch of open.values()) show(stretch);
+  open.forEach((stretch, handle) => close(handle, stretch));
 }
 
-// For a broadcast: blue is what a receiver can still read. Red on top of it is what it has lost and no receive has reported yet.
-function drawUnread({ pen, palette }, row, receiver, capacity, x, width) {
-  const room = row.base - row.lane - ABOVE;
-  const most = room * FULL;
-  const readable = most * (receiver.unread - receiver.lag) / capacity;
-  pen.fillStyle = palette.unread;
-  pen.fillRect(x, row.base - readable, width, readable);
-  if (receiver.lag === 0) return;
-  const lost = Math.max(LEAST_LAG, Math.min(room - readable, most * receiver.lag / capacity));
-  pen.fillStyle = palette.lag;
-  pen.fillRect(x, row.base - readable - lost, width, lost);
-}
-
-function drawUnseen({ pen, palette }, row, x, width) {
-  pen.fillStyle = palette.unseen;
-  pen.fillRect(x, row.base - UNSEEN_HEIGHT, width, UNSEEN_HEIGHT);
-}
-
+// For a broadcast, blue is what a receiver can still read, below the band of what it has lost. For a watch, amber is a value that isn't seen.
 /** @param {Drawing} drawing */
 export function drawLevels(drawing) {
-  const { run, frame, band } = drawing;
+  const { pen, run, view, frame, band, palette, overview } = drawing;
   const { kind, capacity } = run.channels[band.channel];
-  eachStretch(drawing, ({ receiver, from, end }) => {
-    const row = band.rowOf.get(receiver.handle);
-    const x = Math.round(frame.x(from));
-    const width = Math.round(Math.min(frame.right, frame.x(Math.min(end, run.lastPlace + 1)))) - x;
-    if (kind === "broadcast") drawUnread(drawing, row, receiver, capacity, x, width);
-    else if (!receiver.seen) drawUnseen(drawing, row, x, width);
-  });
+  pen.fillStyle = kind === "broadcast" ? palette.unread : palette.unseen;
+  const show = (handle, level, from, end) => {
+    const row = band.rowOf.get(handle);
+    const x = Math.round(frame.x(Math.max(from, view.from)));
+    const width = Math.max(1, Math.round(Math.min(frame.right, frame.x(Math.min(end, run.lastPlace + 1)))) - x);
+    const height = kind === "broadcast" ? (row.base - row.lane - BAND - ABOVE) * level / capacity : UNSEEN_HEIGHT;
+    pen.fillRect(x, row.base - height, width, height);
+  };
+  if (view.stride === 1) eachLevel(drawing, show);
+  else if (overview.has(view.from, view.to, view.stride, band.channel)) overview.eachLevel(band.channel, band.rowOf.keys(), show);
 }
 
 // Returns the first place and each place at which the value of a watch changes, with the values.

@@ -18,7 +18,7 @@ export class Lives {
   }
 
   add(lives, handle, kind, from, maker) {
-    lives.set(handle, { handle, kind, from, to: this.past, user: maker });
+    lives.set(handle, { handle, kind, from, to: this.past, user: maker, maker, last: from });
   }
 
   begin(channel, handle, word, place, maker) {
@@ -26,9 +26,11 @@ export class Lives {
   }
 
   // Who used a handle last is whose it is. The call may name a handle that there is not.
-  use(channel, handle, actor) {
+  use(channel, handle, actor, place) {
     const life = this.channels[channel].get(handle);
-    if (life) life.user = actor;
+    if (!life) return;
+    life.user = actor;
+    life.last = place;
   }
 
   // A drop is no use, unless nobody has used or made the handle before.

@@ -1,9 +1,8 @@
-// The mark of a call in the picture: by the word of its reply, and in one case by the word of the call too.
+// The mark of a call in the picture, as its number in these names: by the word of its reply, and in one case by the word of the call too.
 
 export const MARK_NAMES = ["asked", "sent", "unsent", "received", "made", "dropped", "lagged", "closed", "refused"];
 
-export const LAGGED = MARK_NAMES.indexOf("lagged");
-export const SENT = MARK_NAMES.indexOf("sent");
+export const RECEIVED = MARK_NAMES.indexOf("received");
 
 const MARK_OF_REPLY = {
   sent: "sent", stored: "sent", old: "sent", told: "sent",
@@ -13,7 +12,10 @@ const MARK_OF_REPLY = {
   unknown: "refused", gone: "refused", "wrong-kind": "refused", "too-many-handles": "refused", "no-sender": "refused",
 };
 
+const NUMBERS = new Map(Object.entries(MARK_OF_REPLY).map(([reply, mark]) => [reply, MARK_NAMES.indexOf(mark)]));
+const ASKED = MARK_NAMES.indexOf("asked");
+
 export function markOf(word, reply) {
-  if (word === "borrow" && reply === "value") return "asked";
-  return MARK_OF_REPLY[reply] ?? "asked";
+  if (word === "borrow" && reply === "value") return ASKED;
+  return NUMBERS.get(reply) ?? ASKED;
 }

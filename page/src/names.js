@@ -1,34 +1,63 @@
-// Names of actors and channels, and texts of values: from a file of names if there is one, else numbers. What hides in them is written out.
-// Such a file may also have a note on the core that answered the calls.
+// Names of actors, channels and handles, texts of values, and places in sources: from a file of names if there is one, else numbers. What hides
+// in them is written out. Such a file may also have a note on the core that answered the calls, and the calls that waited when it was written.
 
 import { visible } from "./text.js";
 
-const KINDS = ["core", "actors", "channels", "handles", "values"];
+const NEWEST = 2;
 
 function isText(value) {
   return typeof value === "string";
+}
+
+function isNumber(value) {
+  return Number.isSafeInteger(value) && value >= 0;
 }
 
 function isTable(value, isPart) {
   return typeof value === "object" && value !== null && !Array.isArray(value) && Object.values(value).every(isPart);
 }
 
+function isList(value, isPart) {
+  return Array.isArray(value) && value.every(isPart);
+}
+
+function isLocation(value) {
+  return isList(value, () => true) && value.length === 3 && isText(value[0]) && isNumber(value[1]) && isNumber(value[2]);
+}
+
+function isWait(value) {
+  return isTable(value, () => true) && isText(value.call) && ["actor", "channel", "handle", "since"].every(key => isNumber(value[key]));
+}
+
+// Each key that a file of names may have, with the test of its value, and what is wrong where that fails.
+const KEYS = {
+  version: [value => isNumber(value) && value <= NEWEST, `its version isn't one up to ${NEWEST}`],
+  core: [isText, "its note on the core is no text"],
+  actors: [value => isTable(value, isText), "its actors are no names by number"],
+  channels: [value => isTable(value, isText), "its channels are no names by number"],
+  values: [value => isTable(value, table => isTable(table, isText)), "its values are no texts by number, by channel"],
+  handles: [value => isTable(value, table => isTable(table, isText)), "its handles are no names by number, by channel"],
+  locations: [value => isList(value, isLocation), "its locations are no files with line and column"],
+  made: [value => isTable(value, table => isTable(table, isNumber)), "its key \"made\" has no numbers of locations by handle, by channel"],
+  calls: [value => isTable(value, list => isList(list, it => it === null || isNumber(it))), "its calls are no lists of locations by channel"],
+  tasks: [value => isTable(value, isNumber), "its tasks are no numbers of locations by actor"],
+  waiting: [value => isList(value, isWait), "its waiting calls have no actor, channel, handle, call and stamp"],
+};
+
 // Reads a file of names, or throws an error that says what is wrong with it.
 export function readNames(text) {
   const tables = JSON.parse(text);
   if (!isTable(tables, () => true)) throw new Error("it is no object");
-  for (const kind of Object.keys(tables)) if (!KINDS.includes(kind)) throw new Error(`it has a key "${kind}"`);
-  const { core = "", actors = {}, channels = {}, handles = {}, values = {} } = tables;
-  if (!isText(core)) throw new Error("its note on the core is no text");
-  if (!isTable(actors, isText)) throw new Error("its actors are no names by number");
-  if (!isTable(channels, isText)) throw new Error("its channels are no names by number");
-  if (!isTable(values, table => isTable(table, isText))) throw new Error("its values are no texts by number, by channel");
-  if (!isTable(handles, table => isTable(table, isText))) throw new Error("its handles are no names by number, by channel");
-  return new Names(actors, channels, values, handles, core);
+  for (const [key, value] of Object.entries(tables)) {
+    if (!Object.hasOwn(KEYS, key)) throw new Error(`it has a key "${key}"`);
+    const [isRight, fault] = KEYS[key];
+    if (!isRight(value)) throw new Error(fault);
+  }
+  return new Names(tables);
 }
 
 function lookUp(table, key) {
-  return Object.hasOwn(table, key) ? table[key] : undefined;
+  return table !== undefined && Object.hasOwn(table, key) ? table[key] : undefined;
 }
 
 function named(table, number, otherwise) {
@@ -36,14 +65,23 @@ function named(table, number, otherwise) {
 }
 
 export class Names {
-  constructor(actors = {}, channels = {}, values = {}, handles = {}, core = "") {
-    this.tables = { actors, channels, values, handles };
+  constructor({ core = "", actors = {}, channels = {}, values = {}, handles = {}, locations = [], made = {}, calls = {}, tasks = {}, waiting = [] } = {}) {
+    this.tables = { actors, channels, values, handles, locations, made, calls, tasks };
     this.core = visible(core);
+    /** @type {{ actor: number, channel: number, handle: number, call: string, since: number, location?: number }[]} */
+    this.waiting = waiting;
     // The names that the run's own script gives to handles.
     this.bindings = {};
   }
 
+  // Without a name, an actor that is a task has the place of its first call beside its number.
   actor(number) {
+    const task = this.location(lookUp(this.tables.tasks, number));
+    return this.shortActor(number) + (task && !Object.hasOwn(this.tables.actors, number) ? `, ${task}` : "");
+  }
+
+  // The same without that place.
+  shortActor(number) {
     return named(this.tables.actors, number, `actor ${number}`);
   }
 
@@ -53,11 +91,31 @@ export class Names {
 
   // Returns undefined for a handle without a name of its own.
   handle(channel, number) {
-    const found = [this.tables.handles, this.bindings].map(tables => lookUp(lookUp(tables, channel) ?? {}, number)).find(name => name !== undefined);
+    const found = [this.tables.handles, this.bindings].map(tables => lookUp(lookUp(tables, channel), number)).find(name => name !== undefined);
     return found && visible(found);
   }
 
   value(channel, number) {
-    return named(lookUp(this.tables.values, channel) ?? {}, number, String(number));
+    return named(lookUp(this.tables.values, channel), number, String(number));
+  }
+
+  // A place in the sources by its number, as `src/bus.rs:15`, or undefined.
+  location(number) {
+    const found = number === undefined || number === null ? undefined : this.tables.locations[number];
+    return found && visible(`${found[0]}:${found[1]}`);
+  }
+
+  // Where a handle was made in the sources, or undefined.
+  madeAt(channel, handle) {
+    return this.location(lookUp(lookUp(this.tables.made, channel), handle));
+  }
+
+  // Where one of a channel's calls was made in the sources, or undefined.
+  calledAt(channel, index) {
+    return this.location(lookUp(this.tables.calls, channel)?.[index]);
+  }
+
+  get hasCalls() {
+    return Object.keys(this.tables.calls).length > 0;
   }
 }

@@ -1,6 +1,7 @@
 // Opens a run: reads it with the debugger, and shows it, or why it is refused.
 
 import { pushRun, readAddress } from "./address.js";
+import { asBeginning, beginningOf } from "./beginning.js";
 import { bindingsOf } from "./bindings.js";
 import { byId, outside } from "./dom.js";
 import { OWN } from "./embedded.js";
@@ -9,13 +10,13 @@ import { misfit } from "./fitting.js";
 import { keep, newKey } from "./kept.js";
 import { Latest } from "./latest.js";
 import { legend } from "./legend.js";
+import { LossTable, NARROW } from "./loss_table.js";
 import { Names, readNames } from "./names.js";
 import { during, showPart, tell, tellFault } from "./notice.js";
-import { countOf, sizeOf } from "./numbers.js";
+import { countOf, grouped, sizeOf } from "./numbers.js";
 import { Run } from "./run.js";
 import { Screen } from "./screen.js";
 import { isJournal } from "./source.js";
-import { sample } from "./strip.js";
 import { isolated, visible } from "./text.js";
 import { unpacked } from "./unpacked.js";
 import { View, columnsThatFit, placesAtFirst } from "./view.js";
@@ -27,16 +28,18 @@ function factsOf(source, run) {
   const facts = [outside(source.name), ` · ${counts.join(" · ")}`];
   if (source.notes.length > 0) facts.push(` · read from ${source.notes.join(", ")}`);
   if (run.waiting) facts.push(` · line ${run.waiting.line} would wait: `, outside(run.waiting.text));
+  else if (run.waits.length > 0) facts.push(` · ${countOf(run.waits.length, "call")} ${run.waits.length === 1 ? "waits" : "wait"}: `, outside(run.waits.map(it => it.text).join("; ")));
   if (run.names.core !== "") facts.push(" · ", outside(run.names.core));
   return facts;
 }
 
-// Reads a file of names for a run. If that fails, or the names are those of another run, the notice says why, and the result is null.
-function namesFor(run, bytes, file) {
+// Reads a file of names for a run. If that fails, or the names are those of another run, the notice says why, and the result is null. Whether they
+// are isn't known at the beginning of a run.
+function namesFor(run, bytes, file, isBeginning = false) {
   const what = file === undefined ? "The file of names" : outside(file);
   try {
     const names = readNames(new TextDecoder().decode(bytes));
-    const why = misfit(names, run);
+    const why = isBeginning ? null : misfit(names, run);
     if (why === null) return names;
     tell(what, ` isn't of this run: ${why}.`);
   } catch (fault) {
@@ -45,14 +48,12 @@ function namesFor(run, bytes, file) {
   return null;
 }
 
-// The strip's samples are states from all over the run, so they are loaded last.
-async function addSamples(walk) {
-  try {
-    const samples = await sample(walk.run);
-    if (!walk.isLeft) walk.screen.addSamples(samples);
-  } catch (fault) {
-    tellFault(fault);
-  }
+// Says above a run that its journal was cut off.
+function tellCut({ kept, bytes }, run) {
+  byId("cut").hidden = !run.isCut;
+  if (!run.isCut) return;
+  const sizes = `${grouped(kept)} of ${countOf(bytes.length, "byte")}`;
+  byId("cut").textContent = `This journal was cut off. Its whole lines are shown: ${sizes}, with ${countOf(run.lastPlace, "call")}. What came after them isn't known.`;
 }
 
 // `page.walk` is the walk over the opened run, and `page.source` what was opened.
@@ -61,6 +62,8 @@ export class Opener {
     this.client = client;
     this.page = page;
     this.next = null;
+    // The walk over the beginning of a run, while all of it is read.
+    this.beginning = null;
     this.opening = new Latest(() => this.openOrTell(this.next), tellFault);
   }
 
@@ -85,7 +88,15 @@ export class Opener {
   leave() {
     this.page.walk?.leave();
     this.page.walk = null;
+    this.leaveBeginning();
+    byId("cut").hidden = true;
     showPart(null);
+  }
+
+  leaveBeginning() {
+    this.beginning?.leave();
+    this.beginning = null;
+    byId("walk").removeAttribute("aria-busy");
   }
 
   // Opens a run at the place in the address. A run that is dropped or chosen gets an address of its own, at its start.
@@ -99,26 +110,75 @@ export class Opener {
     this.remember(source);
     if (!source.notes) Object.assign(source, await unpacked(source.bytes));
     const what = ["opening ", outside(source.name), `, ${sizeOf(source.bytes.length)}`];
-    const opened = await during(what, () => this.client.request("open", source.bytes, placesAtFirst(readAddress(location.href).place)));
+    const opened = await during(what, async () => {
+      await this.showBeginning(source);
+      return this.read(source);
+    });
+    this.leaveBeginning();
     if (opened.fault === undefined) return this.show(opened, source);
     byId("refusal").replaceChildren(...faultPanel(opened.fault, source.bytes));
     showPart("refusal");
   }
 
+  // Reads a run with the debugger. Of a journal that was cut off, what is left of it is read.
+  async read(source) {
+    const places = placesAtFirst(readAddress(location.href).place);
+    const opened = await this.openText(source.bytes, places);
+    if (opened.fault?.text !== "truncated") return opened;
+    const left = await this.client.request("salvage", source.bytes);
+    const again = left && await this.openText(left.bytes, places);
+    if (again === null || again.fault !== undefined) return opened;
+    source.kept = left.kept;
+    return again;
+  }
+
+  // Shows the first calls of a long journal, if the address leads there. They can be walked once all of it is read.
+  async showBeginning(source) {
+    const text = isJournal(source.bytes) ? beginningOf(source.bytes) : null;
+    if (text === null) return;
+    const address = readAddress(location.href);
+    const places = placesAtFirst(address.place);
+    const opened = await this.openText(text, places);
+    if (opened.fault || Math.max(...places, ...(address.view ?? [])) > opened.lastPlace) return;
+    const run = new Run(this.client, asBeginning(opened, source.bytes), new Names());
+    const names = source.names && namesFor(run, source.names, source.namesFile, true);
+    await run.findBeginning();
+    // The calls that wait do so after the last call.
+    if (names) run.rename(Object.assign(names, { waiting: [] }));
+    byId("walk").setAttribute("aria-busy", "true");
+    this.beginning = this.walkOver(run);
+  }
+
+  async openText(bytes, places) {
+    const opened = await this.client.request("open", bytes, places);
+    opened.journal ??= bytes;
+    return opened;
+  }
+
   show(opened, source) {
     const run = new Run(this.client, opened, new Names());
+    run.isCut = source.kept !== undefined;
+    tellCut(source, run);
     if (!isJournal(source.bytes)) run.bindings = bindingsOf(source.bytes, run);
+    if (opened.waitingLine) run.waiting = waitingCall(source.bytes, opened.waitingLine, run);
     run.rename(run.names);
     if (source.names) run.rename(namesFor(run, source.names, source.namesFile) ?? run.names);
-    if (opened.waitingLine) run.waiting = waitingCall(source.bytes, opened.waitingLine, run);
     byId("facts").replaceChildren(...factsOf(source, run));
+    this.page.walk = this.walkOver(run);
+    this.page.walk.loadFindings();
+    this.page.walk.loadWhole();
+  }
+
+  // Shows a run, or its beginning, at the place in the address.
+  walkOver(run) {
     showPart("walk");
-    const view = new View(run.lastPlace, run.lastPlace + (run.waiting ? 1 : 0), columnsThatFit(byId("picture-box").clientWidth));
+    const view = new View(run.lastPlace, run.lastColumn, columnsThatFit(byId("picture-box").clientWidth));
+    const table = new LossTable(run, innerWidth >= NARROW);
     const screen = new Screen(run, view);
     byId("legend").replaceChildren(...legend(run, screen.palette));
-    this.page.walk = new Walk(run, view, screen, tellFault);
-    this.page.walk.restore(readAddress(location.href));
-    addSamples(this.page.walk);
+    const walk = new Walk(run, view, screen, table, tellFault);
+    walk.restore(readAddress(location.href));
+    return walk;
   }
 
   // Gives the opened run the names in a file, unless they are those of another run.
@@ -127,7 +187,8 @@ export class Opener {
     const names = namesFor(walk.run, bytes, name);
     if (names === null) return;
     tell();
-    walk.run.rename(names);
+    walk.rename(names);
+    byId("facts").replaceChildren(...factsOf(source, walk.run));
     source.names = bytes;
     source.namesFile = name;
     if (source.key !== OWN) this.keep(source);

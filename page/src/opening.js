@@ -1,6 +1,7 @@
 // Opens a run by what the debugger writes: whether it is refused, how many places it has, and what happened in it.
 
-import { readListing } from "./listing.js";
+import { readColumns } from "./columns.js";
+import { journalOf, lossesIn } from "./findings.js";
 import { Lives } from "./lives.js";
 import { commandsFor, readState } from "./states.js";
 
@@ -31,10 +32,11 @@ function statesAt(places, front) {
   });
 }
 
-// `ask` returns the bytes that commands write, after a heading if a call of the script would wait. The states at `places` are read
-// together with the opening, since each request reads the whole journal.
-export function openRun(ask, places) {
-  const front = new Front(ask(`${commandsFor([0, ...places])}list\n`));
+// `engine` is the debugger, and `ask` returns the bytes that commands write, after a heading if a call of the script would wait. The states at `places` are read
+// together with the opening, since each request reads the whole journal. `text` is the journal text, or null for a script: its entries are listed.
+// A run has one journal text, so the lines of one that the debugger has read are the entries.
+export function openRun(engine, ask, places, text) {
+  const front = new Front(ask(`${commandsFor([0, ...places])}end\nstate json\n${text ? "" : "list\n"}`));
   const first = front.line();
   const fault = FAULT.exec(first);
   if (fault) return { fault: { of: fault[1], text: fault[2] }, heading: "" };
@@ -42,11 +44,13 @@ export function openRun(ask, places) {
   const lastPlace = Number(PLACE.exec(waits ? front.line() : first)[1]);
   const opening = readState(front.line());
   const states = statesAt(places, front);
+  const [ending] = statesAt([lastPlace], front);
   const lives = new Lives(opening, lastPlace);
-  const listing = new TextDecoder().decode(front.rest);
-  const columns = readListing(front.rest, listing, lastPlace, lives);
+  const journal = text ?? journalOf(opening, front.rest);
+  const columns = readColumns(journal, opening.channels.length, lastPlace, lives);
   return {
-    lastPlace, opening, states, listing, columns,
+    lastPlace, opening, states, ending, journal, columns,
+    losses: lossesIn(engine, journal, lastPlace),
     lives: lives.channels.map(handles => [...handles.values()]),
     heading: waits ? `${first}\n` : "",
     waitingLine: waits && Number(waits[1]),

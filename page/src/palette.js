@@ -1,7 +1,7 @@
 // The colours of the picture, which the style sheet names for light and dark.
 
 export const ACTOR_COLOURS = 8;
-const NAMES = ["ink", "mute", "line", "card", "head", "lag", "lag-pale", "unread", "unread-ink", "unseen", "unseen-ink", "closed", "hatch",
+const NAMES = ["ink", "mute", "line", "card", "head", "lag", "lag-ink", "lag-ground", "unread", "unread-ink", "unseen", "unseen-ink", "closed", "hatch",
   "hatch-line", "place", "place-line", "alive", "alive-sender", "frame", "on-dark", "on-actor"];
 
 export const FONT = "12px system-ui, 'DejaVu Sans', sans-serif";

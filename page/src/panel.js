@@ -7,11 +7,24 @@ import { versionOf } from "./versions.js";
 
 const MOST_HANDLES = 64;
 const FEW_CHANNELS = 4;
+const MOST_OVERWRITTEN = 3;
 
 // A retained value, and beside it the receivers that read it next.
 function valueBox(text, readers) {
   const marks = readers.map(receiver => element("span", { class: receiver.lag ? "reader lag" : "reader" }, `↑ ${receiver.handle}`));
   return element("li", {}, element("span", { class: "box", title: text }, outside(text)), ...marks);
+}
+
+// The values before the retained ones that a receiver hadn't read yet, struck out: the last of them, and how many there are before those.
+function overwritten(channel, index, run) {
+  const oldest = channel.sent - channel.retained;
+  const first = channel.receivers.reduce((least, { lag, position }) => (lag ? Math.min(least, position) : least), oldest);
+  if (first === oldest) return "";
+  const shown = Array.from({ length: Math.min(MOST_OVERWRITTEN, oldest - first) }, (_, i) => run.values.text(index, oldest - i - 1)).reverse();
+  const boxes = shown.map(text => element("li", {}, element("del", { class: "box", title: text }, outside(text))));
+  const hidden = oldest - first - shown.length;
+  if (hidden) boxes.unshift(element("li", {}, element("span", { class: "box older" }, `+${hidden}`)));
+  return element("ol", { class: "overwritten", "aria-label": "overwritten values that receivers lost, the oldest first" }, ...boxes);
 }
 
 // The newest of the retained values, and how many there are before them.
@@ -86,15 +99,17 @@ function section(channel, index, run, isOpen) {
   const head = element("summary", {}, element("h3", {}, name, ...(isOpen ? [kind, tag] : [" ", tag, summary(channel), kind])));
   const made = element("details", { class: "channel", "data-channel": index, ...(isOpen ? { open: "" } : {}) }, head);
   if (!isOpen) return made;
-  const values = channel.kind === "watch" ? currentValue(channel, index, run.names) : retained(channel, index, run.names);
-  made.append(values, handles(channel, index, run));
+  const values = channel.kind === "watch" ? [currentValue(channel, index, run.names)]
+    : [overwritten(channel, index, run), retained(channel, index, run.names)];
+  made.append(...values, handles(channel, index, run));
   return made;
 }
 
-// Returns the parts of the panel. `turned` has the channels that were unfolded or folded by hand, and `calls` the part with the calls.
-export function statePanel(state, run, first, turned, calls) {
+// Returns the parts of the panel. `channels` has the channels in their order, `turned` those that were unfolded or folded by hand, `calls` is the part
+// with the calls, and `card` the loss at the place, below which the calls come first.
+export function statePanel(state, run, channels, turned, calls, card) {
   const isFew = run.channels.length <= FEW_CHANNELS;
-  const order = [first, ...run.channels.keys()].filter((index, i) => i === 0 || index !== first);
-  const parts = order.map(index => section(state.channels[index], index, run, (isFew || index === first) !== turned.has(index)));
-  return [parts[0], ...calls, ...parts.slice(1)];
+  const [first] = channels;
+  const parts = channels.map(index => section(state.channels[index], index, run, (isFew || index === first) !== turned.has(index)));
+  return card.length > 0 ? [...card, ...calls, ...parts] : [parts[0], ...calls, ...parts.slice(1)];
 }

@@ -5,16 +5,22 @@ import { line, fitted } from "./canvas.js";
 import { ACTORS } from "./folds.js";
 import { drawHead } from "./heads.js";
 import { SMALL } from "./palette.js";
-import { drawWaiting } from "./waiting.js";
+import { drawWaits } from "./waiting.js";
 
 const DOT = 4.5;
 const BADGE_ROOM = 40;
 
+// The height of an actor's line.
+function middleOf({ lane, y, height }) {
+  return lane + (height - (lane - y)) / 2;
+}
+
 /** @param {Drawing} drawing */
 function drawActorRows({ pen, run, frame, band, palette }) {
   pen.font = SMALL;
-  for (const { actor, lane, y, height } of band.rows) {
-    const middle = lane + (height - (lane - y)) / 2;
+  for (const row of band.rows) {
+    const { actor, y } = row;
+    const middle = middleOf(row);
     const nameY = frame.left ? middle : y + 8;
     pen.textAlign = "left";
     pen.fillStyle = palette.ink;
@@ -29,21 +35,22 @@ function drawActorRows({ pen, run, frame, band, palette }) {
 /** @param {Drawing} drawing */
 function drawActorCalls({ pen, run, view, frame, band, palette }) {
   const { actors } = run.columns;
-  const middles = new Map(band.rows.map(({ actor, lane, y, height }) => [actor, lane + (height - (lane - y)) / 2]));
-  // Far out, many calls are on the same point: it is drawn once.
-  const ends = [];
+  const middles = new Map(band.rows.map(row => [row.actor, middleOf(row)]));
   for (let place = Math.max(1, view.from); place <= Math.min(view.to, run.lastPlace); place++) {
     const y = middles.get(actors[place]);
     if (y === undefined) continue;
     pen.fillStyle = palette.actor(actors[place]);
-    if (frame.isNear) {
-      pen.beginPath();
-      pen.arc(frame.middle(place), y, Math.min(DOT, frame.column / 2), 0, 2 * Math.PI);
-      pen.fill();
-    } else if (ends[actors[place]] !== Math.round(frame.middle(place))) {
-      ends[actors[place]] = Math.round(frame.middle(place));
-      pen.fillRect(ends[actors[place]], y - 5, 1, 10);
-    }
+    pen.beginPath();
+    pen.arc(frame.middle(place), y, Math.min(DOT, frame.column / 2), 0, 2 * Math.PI);
+    pen.fill();
+  }
+}
+
+/** @param {Drawing} drawing */
+function drawActorsFar({ pen, dots, frame, band, palette }) {
+  for (const row of band.rows) {
+    pen.fillStyle = palette.actor(row.actor);
+    dots.each(frame, row.actor, (x, width) => pen.fillRect(x, middleOf(row) - 5, width, 10));
   }
 }
 
@@ -55,18 +62,18 @@ function drawNothing({ pen, folds, palette }) {
 }
 
 // `drawing` has the pen, the run, the view, its frame, the bands in sight, how far the rows are scrolled, the places whose states are drawn,
-// the folds and the palette. The pen's heights are those of the layout.
+// the actors' dots, the folds and the palette. The pen's heights are those of the layout.
 export function drawPicture(drawing) {
   for (const band of drawing.bands) {
     const part = { ...drawing, band };
     if (band.key === ACTORS) {
       drawActorRows(part);
-      drawActorCalls(part);
+      (drawing.frame.isNear ? drawActorCalls : drawActorsFar)(part);
     } else {
       drawBand(part);
     }
   }
-  if (drawing.run.waiting) drawWaiting(drawing);
+  drawWaits(drawing);
   for (const band of drawing.bands) drawHead({ ...drawing, band });
   if (drawing.bands.length === 0) drawNothing(drawing);
 }

@@ -4,10 +4,12 @@
 const STILL = 8;
 
 // `hand.press(x, y)` is called for a press or a tap, `hand.follow(x)` while the mouse is dragged, and `hand.pan(x, last)` pans from a point
-// to another, as far as whole columns fit, and returns how far that is.
+// to another, as far as whole columns fit, and returns how far that is. `hand.hover(x, y)` is called where the mouse points or a finger taps, and
+// `hand.leave()` where it no longer does.
 export function pointed(box, hand) {
   const at = event => event.clientX - box.getBoundingClientRect().left;
-  const press = event => hand.press(at(event), event.clientY - box.getBoundingClientRect().top);
+  const height = event => event.clientY - box.getBoundingClientRect().top;
+  const press = event => hand.press(at(event), height(event));
   let finger = null;
   const lay = event => { finger = { start: at(event), last: at(event), isPanning: false }; };
   const move = event => {
@@ -21,13 +23,18 @@ export function pointed(box, hand) {
     else press(event);
   });
   box.addEventListener("pointermove", event => {
+    if (event.pointerType !== "touch" && event.buttons === 0) hand.hover(at(event), height(event));
     if (!box.hasPointerCapture(event.pointerId)) return;
     if (event.pointerType !== "touch") hand.follow(at(event));
     else if (finger) move(event);
   });
   box.addEventListener("pointerup", event => {
-    if (finger && !finger.isPanning) press(event);
+    if (finger && !finger.isPanning) {
+      press(event);
+      hand.hover(at(event), height(event));
+    }
     finger = null;
   });
+  box.addEventListener("pointerleave", event => event.pointerType !== "touch" && hand.leave());
   box.addEventListener("pointercancel", () => { finger = null; });
 }

@@ -16,7 +16,7 @@ const DIGIT = 20;
 
 function standingWidth(run, channel) {
   if (run.channels[channel].kind === "broadcast") return TO_READ;
-  return VERSIONS + DIGIT * (String(run.sendCounts[channel]).length - 1);
+  return VERSIONS + DIGIT * (String(run.ending.channels[channel].version).length - 1);
 }
 
 // Returns where a row's name is, and its room: left of the row, or above it on a narrow screen.
@@ -34,19 +34,27 @@ export function drawPlainName(drawing, row, text) {
   drawing.pen.fillText(text, x + BADGE_ROOM, y);
 }
 
+// A handle's name, cut to a width.
+function cutName({ pen, run, band: { channel } }, life, width) {
+  const owner = run.ownerOf(channel, life);
+  const separator = owner ? " · " : "";
+  const isShort = pen.measureText(`${separator}${life.kind} ${life.handle}`).width > width * 0.7;
+  const tail = `${separator}${isShort ? "" : `${life.kind} `}${life.handle}`;
+  return (owner ? isolated(fitted(pen, owner, width - pen.measureText(tail).width)) : "") + tail;
+}
+
+// The names that were drawn last, by their rows, since measuring texts is slow. Rows are made anew when names or widths change.
+const cutNames = new WeakMap();
+
 // Draws the badge of the handle's user and the name, as far as the room allows.
 /** @param {Drawing} drawing */
 export function drawRowName(drawing, row, life) {
-  const { pen, run, palette, band: { channel } } = drawing;
+  const { pen, run, palette } = drawing;
   const { x, y, room } = nameRoom(drawing, row);
   if (life.user !== null) run.actors.drawBadge(pen, palette, life.user, x, y - 8);
-  const owner = run.ownerOf(channel, life);
-  const separator = owner ? " · " : "";
-  const isShort = pen.measureText(`${separator}${life.kind} ${life.handle}`).width > (room - BADGE_ROOM) * 0.7;
-  const tail = `${separator}${isShort ? "" : `${life.kind} `}${life.handle}`;
-  const name = owner ? isolated(fitted(pen, owner, room - BADGE_ROOM - pen.measureText(tail).width)) : "";
+  if (cutNames.get(row)?.life !== life) cutNames.set(row, { life, text: cutName(drawing, life, room - BADGE_ROOM) });
   pen.textAlign = "left";
-  pen.fillText(name + tail, x + BADGE_ROOM, y);
+  pen.fillText(cutNames.get(row).text, x + BADGE_ROOM, y);
 }
 
 // The same as elements.

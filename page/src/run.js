@@ -2,8 +2,11 @@
 
 import { Actors } from "./actors.js";
 import { readEntry } from "./entries.js";
-import { SENT } from "./marks.js";
+import { Losses } from "./losses.js";
 import { commandsFor, readStates } from "./states.js";
+import { isolated } from "./text.js";
+import { Values } from "./values.js";
+import { waitsOf } from "./waiting.js";
 
 // In characters: the output of one request, the states that are kept, and as a first guess a state without values, and a value in it.
 const MOST_ASKED = 8 << 20;
@@ -11,29 +14,56 @@ const MOST_KEPT = 16 << 20;
 const SHORT_STATE = 1000;
 const VALUE = 8;
 
+const decoder = new TextDecoder();
+
 function longestState(channels) {
   return channels.reduce((length, channel) => length + VALUE * (channel.capacity ?? 1), SHORT_STATE);
+}
+
+// How many entries of its channel come before each entry.
+function ordersOf(channels, count) {
+  const counts = new Uint32Array(count);
+  const orders = new Uint32Array(channels.length);
+  for (let number = 1; number < channels.length; number++) orders[number] = counts[channels[number]]++;
+  return orders;
 }
 
 export class Run {
   constructor(client, opened, names) {
     this.client = client;
     this.lastPlace = opened.lastPlace;
-    this.listing = opened.listing;
+    /** @type {Uint8Array} the journal text, whose lines are the entries */
+    this.journal = opened.journal;
     this.columns = opened.columns;
     this.lives = opened.lives;
     /** @type {ChannelState[]} */
     this.channels = opened.opening.channels;
+    // The call of a script that would wait, with its line, or null.
     this.waiting = null;
+    this.waits = [];
+    this.isCut = false;
+    // Whether only the first calls are read so far, so that nothing can be counted.
+    this.isBeginning = opened.isBeginning ?? false;
     this.lifeTables = null;
-    this.sendCounts = this.channels.map(() => 0);
-    this.columns.marks.forEach((mark, place) => { if (mark === SENT) this.sendCounts[this.columns.channels[place]]++; });
+    this.orders = null;
+    /** @type {number[][] | null} the places of each channel's calls that are drawn from far too, once they are needed */
+    this.rareCalls = null;
+    this.values = new Values(this);
+    this.losses = new Losses(this, opened.losses);
+    /** @type {RunState} */
+    this.ending = opened.ending;
+    // What is counted in the whole run, once it is loaded.
+    /** @type {Closings} */
+    this.closings = { places: this.channels.map(() => null), told: this.channels.map(() => new Map()) };
+    /** @type {Totals[] | null} */
+    this.totals = null;
     this.receiverCounts = this.lives.map(lives => lives.filter(life => life.kind === "receiver").length);
     this.bindings = {};
-    this.actorCount = this.columns.actors.reduce((most, actor) => Math.max(most, actor + 1), 1);
+    this.actorCount = this.columns.actorCount;
     this.rename(names);
     this.states = new Map(opened.states.map(state => [state.place, state]));
     this.states.set(0, opened.opening);
+    this.states.set(this.lastPlace, opened.ending);
     this.stateLength = longestState(this.channels);
   }
 
@@ -41,6 +71,12 @@ export class Run {
     this.names = names;
     this.actors = new Actors(this.actorCount, names);
     names.bindings = this.bindings;
+    this.waits = this.waiting ? [this.waiting] : waitsOf(this);
+  }
+
+  // The last column that is drawn. Where calls wait at the end, there is one after the last place.
+  get lastColumn() {
+    return this.lastPlace + (this.waits.length > 0 ? 1 : 0);
   }
 
   // Returns whose a handle is: its own name where it has one, else that of the actor that used it last, if one did.
@@ -48,6 +84,14 @@ export class Run {
     return this.names.handle(channel, life.handle) ?? (life.user === null ? undefined : this.names.actor(life.user));
   }
 
+  // A handle's name in a text: whose it is, its kind and number.
+  titleOf(channel, handle) {
+    const life = this.lifeOf(channel, handle);
+    const owner = this.ownerOf(channel, life);
+    return `${owner === undefined ? "" : `${isolated(owner)} · `}${life.kind} ${handle}`;
+  }
+
+  /** @returns {Life} */
   lifeOf(channel, handle) {
     this.lifeTables ??= this.lives.map(lives => new Map(lives.map(life => [life.handle, life])));
     return this.lifeTables[channel].get(handle);
@@ -58,9 +102,35 @@ export class Run {
     return readEntry(this.line(number));
   }
 
+  // Where the call of an entry stands in the sources, if the names say so: they have one item for each of a channel's entries.
+  sourceOf(number) {
+    if (!this.names.hasCalls) return undefined;
+    this.orders ??= ordersOf(this.columns.channels, this.channels.length);
+    return this.names.calledAt(this.columns.channels[number], this.orders[number]);
+  }
+
+  // The last place up to a stamp. Entries are in the order of their stamps.
+  placeOf(stamp) {
+    let least = 0;
+    let most = this.lastPlace;
+    while (least < most) {
+      const middle = Math.ceil((least + most) / 2);
+      if (Number(this.entry(middle).stamp) <= stamp) least = middle;
+      else most = middle - 1;
+    }
+    return least;
+  }
+
+  // The text of the value that was sent at a place.
+  valueSent(place) {
+    const { channel, rest } = this.entry(place);
+    return this.names.value(channel, rest.split(" ")[0]);
+  }
+
   // An entry's line, as the console writes it.
   line(number) {
-    return this.listing.slice(this.columns.starts[number], this.columns.starts[number + 1] - 1);
+    const { starts } = this.columns;
+    return `#${number} ${decoder.decode(this.journal.subarray(starts[number], starts[number + 1] - 1))}`;
   }
 
   // Returns the state at a place, if it is loaded.
@@ -85,6 +155,21 @@ export class Run {
       if (this.states.size * this.stateLength <= MOST_KEPT) return;
       if (!needed.has(place)) this.states.delete(place);
     }
+  }
+
+  // Loads what is counted in the whole run, once, and goes on after each part of it. Each is asked for when the one before is there, so that a step
+  // waits for one of them at most. The values of channels where none was lost aren't needed.
+  async *findings() {
+    yield this.closings = await this.client.request("closings");
+    yield this.totals = await this.client.request("totals");
+    for (const channel of this.losses.channels) yield this.values.load(channel);
+  }
+
+  // Loads what is found in the beginning of a run. Losses that are open at its end are left out, so their channels aren't known.
+  async findBeginning() {
+    this.closings = await this.client.request("closings");
+    const channels = [...this.channels.keys()].filter(channel => this.channels[channel].kind === "broadcast");
+    await Promise.all(channels.map(channel => this.values.load(channel)));
   }
 
   async statesAt(places) {

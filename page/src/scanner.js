@@ -1,13 +1,21 @@
 // Reads an ASCII text by numbers and words. After each it moves past the byte that ends it.
 
 const SPACE = 32;
+const DASH = 45;
 const ZERO = 48;
+const FACTOR = 31;
+
+function isSame(word, bytes, start) {
+  for (let i = 0; i < word.length; i++) if (word.charCodeAt(i) !== bytes[start + i]) return false;
+  return true;
+}
 
 export class Scanner {
-  constructor(bytes, text) {
+  constructor(bytes) {
     this.bytes = bytes;
-    this.text = text;
     this.at = 0;
+    // The words so far by a sum of their bytes, since the same few come again and again.
+    this.words = new Map();
   }
 
   number() {
@@ -17,10 +25,23 @@ export class Scanner {
     return value;
   }
 
+  // A number, or null where there is a dash.
+  numberOrNone() {
+    if (this.bytes[this.at] !== DASH) return this.number();
+    this.at += 2;
+    return null;
+  }
+
   word() {
     const start = this.at;
-    while (this.bytes[this.at] > SPACE) this.at++;
-    return this.text.slice(start, this.at++);
+    let sum = 0;
+    while (this.bytes[this.at] > SPACE) sum = (FACTOR * sum + this.bytes[this.at++]) | 0;
+    const known = this.words.get(sum);
+    const length = this.at++ - start;
+    if (known?.length === length && isSame(known, this.bytes, start)) return known;
+    const word = String.fromCharCode(...this.bytes.subarray(start, start + length));
+    this.words.set(sum, word);
+    return word;
   }
 
   // Moves past the next such byte, unless the last byte passed was one.
@@ -28,7 +49,9 @@ export class Scanner {
     while (this.bytes[this.at - 1] !== byte) this.at++;
   }
 
-  skip(count) {
-    this.at += count;
+  // Moves past the next such byte.
+  skipBehind(byte) {
+    while (this.bytes[this.at] !== byte) this.at++;
+    this.at++;
   }
 }

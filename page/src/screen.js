@@ -1,5 +1,6 @@
 // The drawings: the strip, the axis, and the picture, whose rows scroll. What moves with the place has a layer of its own.
 
+import { ActorDots } from "./actor_dots.js";
 import { AXIS_HEIGHT, drawAxis } from "./axis.js";
 import { cleared } from "./canvas.js";
 import { drawCursor } from "./cursor.js";
@@ -8,6 +9,7 @@ import { Folds } from "./folds.js";
 import { Frame, gutterOf, stripGutterOf } from "./frame.js";
 import { headY } from "./heads.js";
 import { HEAD, inSight, layOut, rowOfHandle, rowsOf } from "./layout.js";
+import { Overview } from "./overview.js";
 import { readPalette } from "./palette.js";
 import { drawPicture } from "./picture.js";
 import { drawStrip, drawStripCursor, stripCap, stripHeight, stripRow } from "./strip.js";
@@ -15,7 +17,14 @@ import { drawStrip, drawStripCursor, stripCap, stripHeight, stripRow } from "./s
 // How much of a row's surroundings is scrolled in with it.
 const AROUND = 60;
 
-// The share of the window that the strip may have, and on a narrow screen.
+// How far from a call a point may be that means it.
+const NEAR = 6;
+const TIP = 14;
+
+// How wide the numbers of lost values are, right of the strip, on a narrow screen.
+const COUNTS = 58;
+
+// The share of the window that the strip may have, and on a narrow screen or below a table.
 const SHARE = 0.2;
 const LOW_SHARE = 0.14;
 
@@ -23,16 +32,42 @@ export class Screen {
   constructor(run, view) {
     this.run = run;
     this.view = view;
-    this.samples = null;
+    // The levels of the whole run, which the strip has too, and those of another view.
+    this.whole = new Overview(run);
+    this.levels = new Overview(run);
+    this.dots = new ActorDots(run);
+    /** @type {Loss | null} the loss whose cause is drawn */
+    this.loss = null;
     this.folds = new Folds(run);
+    this.sight = { top: 0, bottom: 0 };
     this.rows = rowsOf(run);
     this.resize();
   }
 
-  // Draws the strip again, with the states of the channels at samples of the run.
-  addSamples(samples) {
-    this.samples = samples;
+  // Loads the levels of the whole run, and draws the strip again with them.
+  async loadWhole() {
+    const { from, to, stride } = this.view.all;
+    await this.whole.load(from, to, stride, [...this.run.channels.keys()]);
     this.drawStrip();
+  }
+
+  // The levels of what is in view.
+  get inView() {
+    return this.view.width === this.view.lastColumn ? this.whole : this.levels;
+  }
+
+  // The channels in sight whose levels aren't loaded, for so many places in view that their states aren't drawn one by one. Those of the whole
+  // run are loaded for the strip.
+  get missingLevels() {
+    const { from, to, stride } = this.view;
+    if (stride === 1 || this.inView === this.whole) return [];
+    const bands = inSight(this.layout, this.sight.top, this.sight.bottom).filter(({ channel, rows }) => channel !== null && rows.length);
+    return bands.map(({ channel }) => channel).filter(channel => !this.levels.has(from, to, stride, channel));
+  }
+
+  async loadLevels() {
+    const { from, to, stride } = this.view;
+    await this.levels.load(from, to, stride, this.missingLevels);
   }
 
   // Called after a change of the window's size, of names, or between light and dark.
@@ -40,11 +75,11 @@ export class Screen {
     this.palette = readPalette();
     // The pane has no width while another part of a narrow page is shown.
     this.width = byId("pane").clientWidth || this.width || 0;
-    const cap = stripCap(this.run, this.isNarrow ? LOW_SHARE : SHARE);
+    const cap = stripCap(this.run, this.isNarrow || byId("losses").classList.contains("is-open") ? LOW_SHARE : SHARE);
     byId("strip-box").style.maxHeight = `${cap}px`;
     this.strip = {
       cap, run: this.run, view: this.view, palette: this.palette, height: stripHeight(this.run),
-      frame: new Frame(0, this.view.lastColumn, this.width, stripGutterOf(this.width)),
+      frame: new Frame(0, this.view.lastColumn, this.width, stripGutterOf(this.width), this.isNarrow && this.run.losses.all.length ? COUNTS : undefined),
     };
     this.drawStrip();
     this.arrange();
@@ -55,22 +90,28 @@ export class Screen {
     this.layout = layOut(this.run, this.rows, this.folds, this.isNarrow);
     byId("space").style.height = `${this.layout.height}px`;
     this.measure();
+    this.measureStrip();
     this.drawn = null;
   }
 
   drawStrip() {
-    drawStrip({ ...this.strip, samples: this.samples, pen: this.pen("strip", this.strip.height) });
+    drawStrip({ ...this.strip, order: this.folds.channels, whole: this.whole, pen: this.pen("strip", this.strip.height) });
   }
 
   pen(id, height) {
     return cleared(byId(id), this.width, height);
   }
 
-  // Reads how far pane and strip are scrolled, and how high the pane is. That is slow while the page is being changed, so it is read only
-  // after they have changed.
+  // Reads how far the pane is scrolled, and how high it is, and returns whether other rows are in sight. That is slow while the page is being
+  // changed, so it is read only after they have changed.
   measure() {
     const { scrollTop, clientHeight } = byId("pane");
+    const { top, bottom } = this.sight;
     this.sight = { top: scrollTop, bottom: scrollTop + clientHeight };
+    return this.sight.top !== top || this.sight.bottom !== bottom;
+  }
+
+  measureStrip() {
     this.stripTop = byId("strip-box").scrollTop;
   }
 
@@ -96,10 +137,10 @@ export class Screen {
     const { run, view, palette, folds, frame } = this;
     const places = view.drawnPlaces().filter(place => run.state(place));
     const { top, bottom } = this.sight;
-    const wanted = `${view.from} ${view.to} ${places.length} ${top} ${bottom}`;
+    const wanted = `${view.from} ${view.to} ${places.length} ${this.inView.tables.size} ${top} ${bottom}`;
     if (this.drawn === wanted) return;
     const bands = inSight(this.layout, top, bottom);
-    this.picture = { run, view, frame, bands, top, bottom, palette, folds };
+    this.picture = { run, view, frame, bands, top, bottom, palette, folds, overview: this.inView, dots: this.dots };
     const pen = this.pen("picture", bottom - top);
     pen.translate(0, -top);
     drawPicture({ ...this.picture, places, pen });
@@ -113,7 +154,7 @@ export class Screen {
     if (!this.picture) return;
     const pen = this.pen("cursor", this.picture.bottom - this.picture.top);
     pen.translate(0, -this.picture.top);
-    drawCursor({ ...this.picture, pen });
+    drawCursor({ ...this.picture, pen, loss: this.loss });
   }
 
   // Scrolls the row of a call in, with the head of its band if that fits, and its channel's row of the strip.
@@ -125,7 +166,7 @@ export class Screen {
       const isNear = row.y + row.height - band.y + AROUND < bottom - top;
       this.scrollTo(isNear ? band.y : row.y + row.height / 2 - (bottom - top) / 2);
     }
-    this.revealInStrip(stripRow(this.run, channel));
+    this.revealInStrip(stripRow(this.run, this.folds.channels.indexOf(channel)));
   }
 
   revealInStrip({ y, height }) {
@@ -141,6 +182,43 @@ export class Screen {
     const { top, bands, frame } = this.picture;
     const found = bands.filter(band => y + top >= headY(band, top) && y + top < headY(band, top) + HEAD).at(-1);
     return found !== undefined && (found.isFolded || x < (frame.left || frame.width)) ? found.key : null;
+  }
+
+  // Returns the row under a point of the picture, its channel, and whether the point is on its name.
+  rowAt(x, y) {
+    const { top, bands, frame } = this.picture ?? { top: 0, bands: [], frame: this.frame };
+    for (const { channel, rows } of bands) {
+      const row = rows.find(it => y + top >= it.y && y + top < it.y + it.height);
+      if (row) return { row, channel, isName: frame.left ? x < frame.left : y + top < row.lane };
+    }
+    return { row: null, channel: null, isName: false };
+  }
+
+  // Returns the place of the call in a row that is nearest to a point of the picture, or null if none is near it.
+  callAt(x, y) {
+    const { row, channel, isName } = this.rowAt(x, y);
+    if (row === null || isName || (row.kind === "value")) return null;
+    const { channels, handles, actors } = this.run.columns;
+    const { frame } = this;
+    const isCall = row.kind === "actor" ? place => actors[place] === row.actor
+      : place => channels[place] === channel && row.lives.some(life => life.handle === handles[place]);
+    let nearest = null;
+    for (let place = Math.max(1, frame.columnAt(x - NEAR)); place <= Math.min(frame.columnAt(x + NEAR), this.view.to, this.run.lastPlace); place++) {
+      const distance = Math.abs(frame.middle(place) - x);
+      if (isCall(place) && distance <= NEAR && (nearest === null || distance < Math.abs(frame.middle(nearest) - x))) nearest = place;
+    }
+    return nearest;
+  }
+
+  // Puts the tip beside a place's column, above or below a height of the picture, inside the window.
+  standTip(place, y) {
+    const tip = byId("tip");
+    const box = byId("picture-box").getBoundingClientRect();
+    const { width, height } = tip.getBoundingClientRect();
+    const left = box.left + this.frame.middle(place) + TIP;
+    const top = box.top + y;
+    tip.style.left = `${Math.max(0, left + width > innerWidth ? left - width - 2 * TIP : left)}px`;
+    tip.style.top = `${top + height + TIP > innerHeight ? top - height - TIP : top + TIP}px`;
   }
 
   // Returns the place under a point of the picture. Before the first picture, and left of the columns, it is the current place.

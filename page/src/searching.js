@@ -24,22 +24,24 @@ export class Searching {
     byId("found").textContent = "";
   }
 
-  ask(word, condition) {
+  // Asks for the nearest place where one of some conditions holds.
+  ask(word, ...conditions) {
     const { stops } = this;
     const isOver = () => this.stops !== stops;
-    this.last = this.last.then(() => this.search(word, condition, isOver)).catch(this.onFault);
+    this.last = this.last.then(() => this.search(word, conditions, isOver)).catch(this.onFault);
   }
 
-  async search(word, condition, isOver) {
+  async search(word, conditions, isOver) {
     if (isOver()) return;
-    const what = ["searching ", word === "rback" ? "back" : "on", " for ", outside(condition)];
+    const more = conditions.length > 1 ? `, or ${conditions.length - 1} like it` : "";
+    const what = ["searching ", word === "rback" ? "back" : "on", " for ", outside(conditions[0]), more];
     const start = this.placeNow();
-    const found = await during(what, () => seek(this.run, start, word, condition));
+    const found = await during(what, () => seek(this.run, start, word, conditions));
     if (isOver()) return;
     byId("found").textContent = found.answer;
     byId("found").classList.toggle("lag", found.place === null);
     if (found.place === null) return;
-    this.found = { start, command: `${word} ${condition}`, place: found.place };
+    this.found = { start, command: `${word} ${found.condition}`, place: found.place };
     this.jump(found.place);
   }
 

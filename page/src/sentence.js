@@ -1,48 +1,95 @@
 // The call that led to a place, in words.
 
-import { coloured, element, outside } from "./dom.js";
-import { countOf } from "./numbers.js";
+import { coloured, element, outside, quoted } from "./dom.js";
+import { grouped } from "./numbers.js";
 import { actorColour } from "./palette.js";
+import { rowName } from "./row_names.js";
+
+const FEW = 2;
+const MOST_NAMED = 3;
 
 // Asking whether a watch has changed fails once it is closed, even if the last change wasn't seen: then one receive still succeeds.
 function closedMeaning(entry) {
   return entry.word === "has-changed" ? ", and one change that it hasn't seen may still come" : " and nothing more will come";
 }
 
-// What a reply means, if its word alone may be unclear.
-function meaning(entry, names) {
-  if (entry.reply === "lagged") {
-    const lost = countOf(Number(entry.answer), "value was", "values were");
-    return element("strong", { class: "lag" }, ` (${lost} overwritten before handle ${entry.handle} read them)`);
-  }
-  if (entry.reply === "closed") return element("span", { class: "unseen" }, ` (no sender is left${closedMeaning(entry)})`);
-  if (entry.reply !== "value") return "";
-  const text = names.value(entry.channel, entry.answer);
-  return text === entry.answer ? "" : element("span", {}, " (", outside(text), ")");
+// The first texts of lost values, and how many more there are.
+function lostTexts(run, loss, count) {
+  const texts = run.losses.valuesOf(loss, Math.min(FEW, count)).flatMap(({ text }, i) => (i ? [", ", quoted(text)] : [quoted(text)]));
+  return count > FEW ? [...texts, ` and ${grouped(count - FEW)} more`] : texts;
 }
 
-function callText(entry) {
+function lag(...children) {
+  return element("strong", { class: "lag" }, ...children);
+}
+
+function readers(run, losses) {
+  const named = losses.slice(0, MOST_NAMED).flatMap((it, i) => [i ? ", " : "", ...rowName(run, it.channel, run.lifeOf(it.channel, it.receiver))]);
+  return losses.length > MOST_NAMED ? [...named, ` and ${grouped(losses.length - MOST_NAMED)} more`] : named;
+}
+
+// What receivers of the call's channel lost at it, or have lost by then. `here` has the losses at the place.
+function lossMeaning(entry, run, here) {
+  const those = here.filter(({ channel }) => channel === entry.channel);
+  const ended = those.find(({ receiver, to }) => receiver === entry.handle && to === entry.number);
+  if (ended?.end === "told") return [lag(": lost ", ...lostTexts(run, ended, ended.lost))];
+  if (ended) return [lag(` and was never told that it lost ${grouped(ended.lost)}: `, ...lostTexts(run, ended, ended.lost))];
+  const lagging = those.filter(({ to }) => to > entry.number);
+  if (lagging.length === 0) return [];
+  const [loss] = lagging;
+  const now = run.losses.lostAt(loss, entry.number);
+  if (entry.reply !== "sent") return [lag(" · ", ...readers(run, [loss]), " has lost ", ...lostTexts(run, loss, now))];
+  const overwritten = run.values.text(loss.channel, run.losses.firstOf(loss) + now - 1);
+  return [lag(" overwrites ", quoted(overwritten), ", not read by ", ...readers(run, lagging))];
+}
+
+// The text of the value that a call sends or gets, or null if it has none but its number.
+export function textOf(entry, names) {
+  const [number] = (entry.reply === "value" ? entry.answer : entry.rest).split(" ");
+  const text = number === "" ? "" : names.value(entry.channel, number);
+  return text === number ? null : text;
+}
+
+function meaning(entry, run) {
+  if (entry.reply === "closed") return [element("span", { class: "unseen" }, ` (no sender is left${closedMeaning(entry)})`)];
+  const text = textOf(entry, run.names);
+  return text === null ? [] : [" ", quoted(text)];
+}
+
+export function callText(entry) {
   return [entry.word, entry.handle, entry.rest].filter(part => part !== "").join(" ");
 }
 
-function replyText(entry) {
+export function replyText(entry) {
   return [entry.reply, entry.answer].filter(part => part !== "").join(" ");
 }
 
-export function sentence(entry, run) {
+// `here` has the losses at the place, first the one that the sentence names.
+export function sentence(entry, run, here) {
   const { actors, names } = run;
+  const source = run.sourceOf(entry.number);
+  const losses = lossMeaning(entry, run, here);
   return [
     actors.badge(entry.actor), " ", coloured(actorColour(entry.actor), outside(names.actor(entry.actor))),
     " on ", outside(names.channel(entry.channel)), ": ",
-    element("b", {}, callText(entry)), " → ", element("b", { class: entry.reply }, replyText(entry)), meaning(entry, names),
+    element("b", {}, callText(entry)), " → ", element("b", { class: entry.reply }, replyText(entry)),
+    // What was lost comes before the call's own text, since what is last may be cut.
+    ...losses, ...(losses.length > 0 ? [] : meaning(entry, run)),
+    ...(source ? [element("span", { class: "mute" }, " at ", outside(source))] : []),
   ];
 }
 
-export function atTheStart() {
-  return [element("span", { class: "mute" }, "the start: no call has been made")];
+export function atTheStart(run) {
+  const hint = run.losses.all.length ? ". L goes to the first loss" : "";
+  return [element("span", { class: "mute" }, `the start: no call has been made${hint}`)];
 }
 
-// A call in one short line, for a list.
-export function shortLine(entry) {
-  return `${entry.channel}: ${callText(entry)} → ${replyText(entry)}`;
+// A call in one short line, for a list, and where it stands in the sources.
+export function shortLine(entry, run) {
+  const text = textOf(entry, run.names);
+  const source = run.sourceOf(entry.number);
+  return [
+    element("span", {}, `${entry.channel}: ${callText(entry)} → ${replyText(entry)}`, ...(text === null ? [] : [" ", quoted(text)])),
+    ...(source ? [element("small", {}, outside(source))] : []),
+  ];
 }

@@ -25,6 +25,16 @@ function diamond(pen, x, y, size) {
   pen.closePath();
 }
 
+// A flag on a mast.
+function pennant(pen, x, y, size) {
+  pen.fillRect(x - size, y - size, 2, 2 * size);
+  pen.beginPath();
+  pen.moveTo(x - size + 1, y - size);
+  pen.lineTo(x + size, y - size / 3);
+  pen.lineTo(x - size + 1, y + size / 3);
+  pen.fill();
+}
+
 function cross(pen, x, y, size) {
   line(pen, x - size, y - size, x + size, y + size);
   line(pen, x + size, y - size, x - size, y + size);
@@ -37,6 +47,7 @@ export const SHAPES = {
   asked: (pen, x, y, size) => { circle(pen, x, y, size - 0.8); pen.stroke(); },
   made: (pen, x, y, size) => { circle(pen, x, y, size - 0.6); pen.fill(); },
   dropped: (pen, x, y, size) => { pen.lineWidth = 2.4; cross(pen, x, y, size); },
+  lagged: (pen, x, y, size) => pennant(pen, x, y, size + 0.6),
   closed: (pen, x, y, size) => pen.fillRect(x - size, y - size, 2 * size, 2 * size),
   refused: (pen, x, y, size) => { diamond(pen, x, y, size); pen.stroke(); },
 };

@@ -5,12 +5,23 @@ import { isolated } from "./text.js";
 const MOST_RECEIVERS = 16;
 const HIT = /^hit (\d+) of/;
 
-// Searches for the nearest hit by `rback` or `rforward`. Returns the line that the console writes, and the hit's place, if there is one.
-export async function seek(run, place, word, condition) {
-  const lines = (await run.ask(`goto ${place}\n${word} ${condition}\n`)).trimEnd().split("\n");
-  const answer = lines.at(-1);
-  const hit = HIT.exec(answer);
-  return { answer, place: hit && Number(hit[1]) };
+// Searches for the nearest hit of some conditions by `rback` or `rforward`. Returns the line that the console writes for it, its place, if there is
+// one, and the condition.
+export async function seek(run, place, word, conditions) {
+  const lines = (await run.ask(conditions.map(condition => `goto ${place}\n${word} ${condition}\n`).join(""))).trimEnd().split("\n");
+  const answers = conditions.map((condition, i) => {
+    const answer = lines[2 * i + 1];
+    const hit = HIT.exec(answer);
+    return { condition, answer, place: hit && Number(hit[1]) };
+  });
+  const away = it => (it.place === null ? Infinity : Math.abs(it.place - place));
+  return answers.reduce((nearest, it) => (away(it) < away(nearest) ? it : nearest));
+}
+
+// The conditions that a receiver of a watch has a value that it hasn't seen, for all of them.
+export function unseenConditions(run) {
+  return run.channels.flatMap(({ kind }, channel) => (kind === "watch" ? run.lives[channel] : []).filter(life => life.kind === "receiver")
+    .map(({ handle }) => `unseen ${channel} ${handle}`));
 }
 
 // Returns the conditions that are offered at a state, each with its meaning in words.

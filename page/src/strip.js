@@ -1,22 +1,25 @@
 // The strip of the whole run: where each channel's receivers fell behind and lost values, and which part is in view.
 
 import { fitted, hatched } from "./canvas.js";
-import { LAGGED } from "./marks.js";
-import { SMALL } from "./palette.js";
+import { drawStretch, stretchOf, uncovered } from "./loss_band.js";
+import { grouped } from "./numbers.js";
+import { CODE, SMALL } from "./palette.js";
 
-const MOST_SAMPLES = 600;
 const ROW = 13;
 const HIGH_ROW = 20;
 const FEW = 4;
 const GAP = 2;
 const TOP = 2;
-const MANY_PLACES = 2000;
-const UNREAD_SHARE = 0.62;
+const LEAST_UNTOLD = 5;
 
-// Where a channel's row of the strip is. Few channels have higher rows.
-export function stripRow(run, channel) {
+// At the right of the names: how much was lost, and a sign where some of it was never told.
+const COUNT = 78;
+const SIGN = { right: 10, width: 12, height: 8 };
+
+// Where a row of the strip is. Few channels have higher rows.
+export function stripRow(run, index) {
   const height = run.channels.length <= FEW ? HIGH_ROW : ROW;
-  return { y: TOP + channel * height, height, bar: height - GAP };
+  return { y: TOP + index * height, height, bar: height - GAP };
 }
 
 export function stripHeight(run) {
@@ -29,75 +32,64 @@ export function stripCap(run, share) {
   return TOP + Math.floor((innerHeight * share - TOP) / height) * height;
 }
 
-function summaryOf(channel) {
-  if (channel.kind === "watch") {
-    return { closed: channel.closed, unseen: channel.receivers.some(receiver => !receiver.seen) };
+// A stretch may be narrower than a point, so each point has the greatest level of the stretches in it.
+function drawLevels({ pen, run, frame, palette, whole }, channel, { y, bar }) {
+  const { kind, capacity } = run.channels[channel];
+  const levels = new Uint32Array(Math.ceil(frame.right) + 1);
+  for (const { level, from, to } of whole.levelsOf(channel)) {
+    const end = Math.max(Math.floor(frame.x(from)) + 1, Math.ceil(frame.x(Math.min(to, run.lastPlace + 1))));
+    for (let x = Math.floor(frame.x(from)); x < end; x++) levels[x] = Math.max(levels[x], level);
   }
-  const shares = channel.receivers.map(receiver => (receiver.unread - receiver.lag) / channel.capacity);
-  return {
-    closed: channel.closed, unread: shares.reduce((most, share) => Math.max(most, share), 0),
-    lagging: channel.receivers.some(receiver => receiver.lag > 0),
-  };
+  pen.fillStyle = kind === "broadcast" ? palette.unread : palette.unseen;
+  levels.forEach((level, x) => {
+    if (level === 0 || x >= frame.right) return;
+    const height = kind === "broadcast" ? bar * level / capacity : bar * level / 2;
+    pen.fillRect(x, y + bar - height, 1, height);
+  });
 }
 
-// Returns the states of the channels at up to 601 places of the run.
-export async function sample(run) {
-  const stride = Math.max(1, Math.ceil(run.lastPlace / MOST_SAMPLES));
-  const places = Array.from({ length: Math.floor(run.lastPlace / stride) + 1 }, (_, i) => i * stride);
-  const states = await run.statesAt(places);
-  return { stride, rows: states.map(state => ({ place: state.place, channels: state.channels.map(summaryOf) })) };
+// Losses that nobody was told of are drawn last and lower, so that none of the others hides them.
+function drawLosses({ pen, run, frame, palette }, channel, { y, bar }) {
+  const height = Math.ceil(bar / 2);
+  const losses = run.losses.on(channel);
+  const told = losses.filter(({ end }) => end === "told").map(loss => stretchOf(frame, loss));
+  const untold = losses.filter(({ end }) => end !== "told").map(loss => stretchOf(frame, loss, LEAST_UNTOLD));
+  for (const stretch of uncovered(told)) drawStretch(pen, palette, stretch, y, height, true);
+  for (const stretch of uncovered(untold)) drawStretch(pen, palette, stretch, y + bar - height, height, false);
 }
 
-function drawSummary({ pen, palette }, summary, x, { y, bar }, width) {
-  if (summary.closed) hatched(pen, palette, x, y, width, bar);
-  if (summary.unread) {
-    const height = bar * UNREAD_SHARE * summary.unread;
-    pen.fillStyle = palette.unread;
-    pen.fillRect(x, y + bar - height, width, height);
-  }
-  if (summary.lagging) {
-    pen.fillStyle = palette["lag-pale"];
-    pen.fillRect(x, y, width, bar * (1 - UNREAD_SHARE));
-  }
-  if (summary.unseen) {
-    pen.fillStyle = palette.unseen;
-    pen.fillRect(x, y + bar / 2, width, bar / 2);
-  }
+// How many values a channel's receivers lost, and a sign where nobody was told of some.
+export function drawLostCount({ pen, run, palette }, channel, right, middle) {
+  const { lost, untold } = run.losses.sums[channel];
+  if (lost === 0) return;
+  const { height, width } = SIGN;
+  pen.font = CODE;
+  pen.textAlign = "right";
+  pen.fillStyle = palette["lag-ink"];
+  pen.fillText(`−${grouped(lost)}`, right - width - 4, middle);
+  if (untold === 0) return;
+  drawStretch(pen, palette, { x: right - width, end: right }, middle - height / 2, height, false);
 }
 
-// Draws each reply `lagged`, at its exact place.
-function drawLags({ pen, run, frame, palette }, channel, { y, bar }) {
-  const { marks, channels } = run.columns;
-  pen.fillStyle = palette.lag;
-  pen.globalAlpha = run.lastPlace > MANY_PLACES ? 0.45 : 1;
-  for (let place = 1; place <= run.lastPlace; place++) {
-    if (marks[place] === LAGGED && channels[place] === channel) pen.fillRect(frame.middle(place) - 0.7, y, 1.4, bar);
-  }
-  pen.globalAlpha = 1;
-}
-
-function drawSamples(drawing, channel, row) {
-  const { frame, samples } = drawing;
-  const width = Math.max(1, samples.stride * frame.column) + 0.4;
-  for (const { place, channels } of samples.rows) {
-    const x = frame.x(place);
-    drawSummary(drawing, channels[channel], x, row, Math.min(width, frame.right - x));
-  }
-}
-
-// `drawing` has the pen, the run, a frame over all of it, the palette, and the samples, once they are loaded.
+// `drawing` has the pen, the run, a frame over all of it, the palette, the order of the channels, and the levels by stretches, once they are loaded.
 export function drawStrip(drawing) {
-  const { pen, run, frame, palette, samples } = drawing;
-  pen.font = SMALL;
-  run.channels.forEach((_, channel) => {
-    const row = stripRow(run, channel);
+  const { pen, run, frame, palette, whole, order } = drawing;
+  const room = run.losses.all.length ? COUNT : SIGN.right;
+  order.forEach((channel, index) => {
+    const row = stripRow(run, index);
+    const middle = row.y + row.bar / 2;
+    pen.font = SMALL;
     pen.textAlign = "right";
     pen.fillStyle = palette.mute;
-    pen.fillText(fitted(pen, run.names.channel(channel), frame.left - 20), frame.left - 10, row.y + row.bar / 2);
+    const isNarrow = frame.left < 2 * COUNT;
+    pen.fillText(fitted(pen, run.names.channel(channel), frame.left - (isNarrow ? 14 : room + SIGN.right)), frame.left - (isNarrow ? 8 : room), middle);
     pen.fillStyle = palette.line;
     pen.fillRect(frame.left, row.y, frame.right - frame.left, row.bar);
-    if (samples) drawSamples(drawing, channel, row);
-    drawLags(drawing, channel, row);
+    const closing = run.closings.places[channel];
+    if (whole.tables.has(channel)) drawLevels(drawing, channel, row);
+    if (closing !== null) hatched(pen, palette, frame.x(closing), row.y, frame.right - frame.x(closing), row.bar);
+    drawLosses(drawing, channel, row);
+    drawLostCount(drawing, channel, isNarrow ? frame.width - 2 : frame.left - SIGN.right, middle);
   });
 }
 

@@ -4,10 +4,12 @@
 import { callsAround } from "./around.js";
 import { byId, element, fieldOf } from "./dom.js";
 import { Latest } from "./latest.js";
+import { lossCard, lossPeek } from "./loss_card.js";
 import { grouped } from "./numbers.js";
 import { statePanel } from "./panel.js";
 import { atTheStart, sentence } from "./sentence.js";
 import { conditionsAt } from "./stops.js";
+import { wholeCall } from "./whole_call.js";
 
 const MOST_CHIPS = 8;
 
@@ -22,8 +24,18 @@ function placeText(place, last) {
   return `place ${grouped(place)} of ${grouped(last)}`;
 }
 
+// A text as it is read out, without the codes of actors.
+function spokenText(box) {
+  const copy = box.cloneNode(true);
+  for (const badge of copy.querySelectorAll(".badge")) badge.remove();
+  return copy.textContent.replace(/\s+/g, " ").trim();
+}
+
 export class Telling {
-  constructor(run, view, screen, onFault) {
+  // `losses` are the moves by losses, and `table` the table of receivers.
+  constructor(run, view, screen, losses, table, onFault) {
+    this.losses = losses;
+    this.table = table;
     this.run = run;
     this.view = view;
     this.screen = screen;
@@ -37,9 +49,12 @@ export class Telling {
     byId("place").style.minWidth = `${placeText(run.lastPlace, run.lastPlace).length * LETTER}ch`;
   }
 
-  // The channel that comes first in the panel: that of the call that led to the place.
-  get channel() {
-    return this.view.place === 0 ? 0 : this.run.columns.channels[this.view.place];
+  // The channels in the order of the panel: first that of the call that led to the place.
+  get channels() {
+    const { channels } = this.screen.folds;
+    if (this.view.place === 0) return channels;
+    const first = this.run.columns.channels[this.view.place];
+    return [first, ...channels.filter(channel => channel !== first)];
   }
 
   // Folds or unfolds a channel in the panel.
@@ -58,25 +73,43 @@ export class Telling {
   show() {
     const { run, view } = this;
     const { place } = view;
-    byId("sentence").replaceChildren(...(place === 0 ? atTheStart() : sentence(run.entry(place), run)));
-    const spoken = byId("sentence").textContent.slice(place === 0 ? 0 : run.actors.codes[run.entry(place).actor].length).trim();
+    const { here, areNamed } = this.losses;
+    byId("sentence").replaceChildren(...(place === 0 ? atTheStart(run) : sentence(run.entry(place), run, areNamed ? here : [])));
     fieldOf("slider").valueAsNumber = place;
-    byId("slider").setAttribute("aria-valuetext", `place ${place} of ${run.lastPlace}: ${spoken}`);
+    byId("slider").setAttribute("aria-valuetext", `place ${place} of ${run.lastPlace}: ${spokenText(byId("sentence"))}`);
     byId("place").textContent = placeText(place, run.lastPlace);
     byId("calls").replaceChildren(...callsAround(run, place, this.screen.isNarrow ? FEW_CALLS : CALLS));
     byId("copied").textContent = "";
+    this.table.mark(here[0] ?? null);
+    const isPeek = here.length > 0 && areNamed;
+    byId("peek").hidden = !isPeek;
+    if (isPeek) byId("peek").replaceChildren(...lossPeek(run, here));
+    this.tellWhole();
     this.tellConsole();
   }
 
-  // Tells the state at the place, if it is loaded.
+  // Shows the call in whole over what is below the sentence, or no more.
+  turnWhole(isWhole = byId("whole-call").hidden) {
+    byId("whole-call").hidden = !isWhole;
+    this.tellWhole();
+  }
+
+  tellWhole() {
+    const { place } = this.view;
+    if (byId("whole-call").hidden) return;
+    byId("whole-call").replaceChildren(...(place === 0 ? atTheStart(this.run) : wholeCall(this.run.entry(place), this.run)));
+  }
+
+  // Tells the state at the place, if it is loaded, and so are the values that are lost there.
   describe() {
     const { run, view } = this;
     const state = run.state(view.place);
-    if (state === undefined) return;
+    if (state === undefined || !this.losses.areNamed) return;
     const { isNarrow } = this.screen;
     const calls = isNarrow ? [] : [this.calls];
     if (isNarrow) byId("dock").replaceChildren(this.calls);
-    byId("state").replaceChildren(...statePanel(state, run, this.channel, this.turned, calls));
+    const card = lossCard(run, this.losses.here, view.place, this.losses.isAll);
+    byId("state").replaceChildren(...statePanel(state, run, this.channels, this.turned, calls, card));
     byId("state").dataset.place = String(view.place);
     this.offer(conditionsAt(state, run));
     byId("picture").setAttribute("aria-label", `The calls from place ${view.from} to ${Math.min(view.to, run.lastPlace)}, drawn.`);

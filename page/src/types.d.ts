@@ -57,6 +57,7 @@ interface Address {
   view: number[] | null;
   fold: string | null;
   filter: string | null;
+  order: string | null;
   stop: string | null;
 }
 
@@ -74,6 +75,42 @@ interface Life {
   to: number;
   /** The actor that used it last, or made it. */
   user: number | null;
+  /** The actor that made it. */
+  maker: number | null;
+  /** The place of its last call, or of the one that made it. */
+  last: number;
+}
+
+/**
+ * What a receiver of a broadcast received and lost in the whole run, its greatest lag with the first place that has it, and how many values it has
+ * yet to receive, the overwritten ones too, unless it was dropped. A receiver of a watch has no counts here.
+ */
+interface Totals {
+  channel: number;
+  receiver: number;
+  counts: { received: number, lost: number, worst: number, worstPlace: number, unread: number | null } | null;
+}
+
+/** By channel: the place from which on it is closed, and where the receivers that were there then were told so. */
+interface Closings {
+  places: (number | null)[];
+  told: Map<number, number | null>[];
+}
+
+/** Where the values of a channel were sent and overwritten, by number. */
+interface ValuePlaces {
+  sends: Uint32Array;
+  overwritten: Uint32Array;
+}
+
+/** A receiver's longest stretch of places at which it lags: from the send that overwrote first to the call that told it, its drop, or past the end. */
+interface Loss {
+  channel: number;
+  receiver: number;
+  from: number;
+  lost: number;
+  end: "told" | "dropped" | "open";
+  to: number;
 }
 
 /** What is opened: a file's name and bytes, and those of its file of names. */
@@ -88,6 +125,8 @@ interface Source {
   key?: string;
   /** What is reported when it is opened. */
   notice?: (string | Node)[];
+  /** Of a journal that was cut off: how many of its bytes are in whole lines. */
+  kept?: number;
   size?: number;
 }
 
@@ -113,7 +152,10 @@ interface Band {
   isFolded: boolean;
 }
 
-/** What the drawings of the picture pass on. `places` are those whose states are drawn, and top and bottom the heights in sight. */
+/**
+ * What the drawings of the picture pass on. `places` are those whose states are drawn, `overview` has the levels by stretches where there are
+ * too many places, and top and bottom are the heights in sight.
+ */
 interface Drawing {
   pen: CanvasRenderingContext2D;
   run: import("./run.js").Run;
@@ -124,6 +166,8 @@ interface Drawing {
   bands: Band[];
   band: Band;
   places: number[];
+  overview: import("./overview.js").Overview;
+  dots: import("./actor_dots.js").ActorDots;
   top: number;
   bottom: number;
 }

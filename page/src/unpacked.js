@@ -1,5 +1,7 @@
 // The bytes of a file as the debugger reads them: unpacked, in UTF-8 without a byte order mark, with lines that end in LF.
 
+import { inflated } from "./inflating.js";
+
 const CR = 13;
 const LF = 10;
 const GZIP = [0x1f, 0x8b];
@@ -11,15 +13,6 @@ const OTHERS = { zip: [0x50, 0x4b, 3, 4], zstd: [0x28, 0xb5, 0x2f, 0xfd], xz: [0
 
 function beginsWith(bytes, beginning) {
   return beginning.every((byte, i) => bytes[i] === byte);
-}
-
-async function inflated(bytes) {
-  const stream = new Blob([bytes]).stream().pipeThrough(new DecompressionStream("gzip"));
-  try {
-    return new Uint8Array(await new Response(stream).arrayBuffer());
-  } catch {
-    throw new Error("it is no whole gzip file");
-  }
 }
 
 function withoutCr(bytes) {
@@ -49,7 +42,7 @@ export async function unpacked(file) {
   let bytes = file;
   if (beginsWith(bytes, GZIP)) {
     notes.push("gzip");
-    bytes = await inflated(bytes);
+    bytes = await inflated(bytes, "gzip").catch(() => { throw new Error("it is no whole gzip file"); });
   }
   const other = Object.keys(OTHERS).find(name => beginsWith(bytes, OTHERS[name]));
   if (other) throw new Error(`it is packed by ${other}, and only gzip is unpacked here`);

@@ -18,6 +18,11 @@ export function placesAtFirst(place) {
   return Array.from({ length: MOST_AT_FIRST + 1 }, (_, i) => from + i);
 }
 
+// How many places are drawn as one, where very many are in view.
+function strideOf(width) {
+  return Math.max(1, Math.ceil(width / MOST_DRAWN));
+}
+
 function within(least, number, most) {
   return Math.max(least, Math.min(most, number));
 }
@@ -82,15 +87,18 @@ export class View {
     this.show(0, this.lastColumn);
   }
 
-  // If very many places are in view, only every `stride`th is drawn.
   get stride() {
-    return Math.max(1, Math.ceil(this.width / MOST_DRAWN));
+    return strideOf(this.width);
   }
 
+  // What is in view when the whole run is: from which column, to which, and the stride.
+  get all() {
+    return { from: 0, to: this.lastColumn, stride: strideOf(this.lastColumn) };
+  }
+
+  // The places whose states are drawn: all in view, unless they are very many.
   drawnPlaces() {
-    const places = [];
-    const first = Math.ceil(this.from / this.stride) * this.stride;
-    for (let place = first; place <= Math.min(this.to, this.lastPlace); place += this.stride) places.push(place);
-    return places;
+    if (this.stride > 1) return [];
+    return Array.from({ length: Math.min(this.to, this.lastPlace) - this.from + 1 }, (_, i) => this.from + i);
   }
 }

@@ -1,7 +1,10 @@
-// The call that would wait: the script's line, who makes it, and a mark after the last place.
+// The calls that wait at the end: of a script the one that would wait, and of a recorded run those that its file of names has. Each has a mark
+// after the last place.
 
 import { stepsOf } from "./bindings.js";
 import { flag } from "./canvas.js";
+import { grouped } from "./numbers.js";
+import { isolated, visible } from "./text.js";
 
 const CALL = /^(\d+) (\d+) ([a-z-]+) (\S+)/;
 
@@ -17,20 +20,39 @@ export function waitingCall(bytes, lineNumber, run) {
   const steps = stepsOf(bytes, lineNumber);
   const text = steps.pop();
   const [, actor, channel, word, handle] = CALL.exec(text);
-  return { line: lineNumber, text, actor: Number(actor), channel: Number(channel), word, handle: handleOf(handle, steps, run) };
+  return { line: lineNumber, text, actor: Number(actor), channel: Number(channel), word, handle: handleOf(handle, steps, run), isTried: true };
+}
+
+// Returns the calls that waited when the names were written, unless they are of channels that this run doesn't have.
+export function waitsOf(run) {
+  return run.names.waiting.filter(({ channel }) => channel < run.channels.length).map(it => ({
+    actor: it.actor, channel: it.channel, handle: it.handle, word: it.call, text: waitText(it, run),
+  }));
+}
+
+function waitText({ actor, channel, handle, call, since, location }, run) {
+  const place = run.names.location(location);
+  const whose = run.lifeOf(channel, handle) ? run.titleOf(channel, handle) : `handle ${handle}`;
+  const who = isolated(run.names.actor(actor));
+  const where = isolated(run.names.channel(channel));
+  return `${who} waits in ${visible(call)} of ${whose} on ${where} since place ${grouped(run.placeOf(since))}${place ? `, at ${place}` : ""}`;
 }
 
 /** @param {Drawing} drawing */
-export function drawWaiting({ pen, run, view, frame, bands, palette }) {
+export function drawWaits(drawing) {
+  const { run, view } = drawing;
+  if (view.to > run.lastPlace) for (const wait of run.waits) drawWait(drawing, wait);
+}
+
+/** @param {Drawing} drawing */
+function drawWait({ pen, run, frame, bands, palette }, { actor, channel, word, handle, isTried }) {
   const column = run.lastPlace + 1;
-  if (view.to < column) return;
-  const { actor, channel, word, handle } = run.waiting;
   const band = bands.find(it => it.channel === channel);
   if (band === undefined) return;
   const row = band.rowOf.get(handle);
   const x = frame.middle(column);
   const foot = row ? row.base : band.y + band.height;
-  flag(pen, `${word} would wait`, {
+  flag(pen, `${word} ${isTried ? "would wait" : "waits"}`, {
     x, y: foot - 15, colour: palette.actor(actor), ink: palette.card, least: frame.left, most: frame.right,
   });
 }

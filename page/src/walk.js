@@ -3,20 +3,28 @@
 import { forgetAddress, pushAddress, putIntoAddress } from "./address.js";
 import { byId, fieldOf } from "./dom.js";
 import { Latest } from "./latest.js";
+import { LossMoves } from "./loss_moves.js";
+import { LossWalk } from "./loss_walk.js";
 import { Searching } from "./searching.js";
+import { unseenConditions } from "./stops.js";
 import { Telling } from "./telling.js";
+import { wholeCall } from "./whole_call.js";
 
 const NEIGHBOURS = 24;
 const LAG = "reply lagged";
 
 export class Walk {
-  constructor(run, view, screen, onFault) {
+  constructor(run, view, screen, table, onFault) {
     this.run = run;
     this.view = view;
     this.screen = screen;
-    this.onFault = onFault;
-    this.telling = new Telling(run, view, screen, onFault);
+    this.table = table;
+    this.losses = new LossWalk(run, view);
+    this.lossMoves = new LossMoves(this);
+    this.telling = new Telling(run, view, screen, this.losses, table, onFault);
     this.drawing = new Latest(() => this.draw(), onFault);
+    this.levelling = new Latest(() => this.drawLevels(), onFault);
+    this.onFault = onFault;
     this.searching = new Searching(run, () => view.place, place => this.jump(() => this.go(place)), onFault);
     this.isLeft = false;
   }
@@ -24,9 +32,12 @@ export class Walk {
   // Called when another run is opened. Replies that arrive after that are not shown.
   leave() {
     this.isLeft = true;
+    byId("losses").removeAttribute("aria-busy");
+    this.telling.turnWhole(false);
     forgetAddress();
     this.searching.stop();
     this.drawing.stop();
+    this.levelling.stop();
     this.telling.stop();
   }
 
@@ -37,28 +48,39 @@ export class Walk {
     const { folds } = this.screen;
     const stop = fieldOf("condition").value.trim();
     return {
-      place, view: [from, to], fold: folds.areFirst ? null : folds.text, filter: folds.filter || null, stop: stop === LAG ? null : stop,
+      place, view: [from, to], fold: folds.areFirst ? null : folds.text, filter: folds.filter || null, order: folds.isByNumber ? "number" : null,
+      stop: stop === LAG ? null : stop,
     };
   }
 
   // Goes where an address leads. One with a place alone leaves folds and filter as they are.
   /** @param {Address} address */
-  restore({ place, view, fold, filter, stop }) {
+  restore({ place, view, fold, filter, order, stop }) {
     const { folds } = this.screen;
     this.searching.stop();
     if (stop !== null) fieldOf("condition").value = stop;
     if (view !== null) {
       folds.text = fold ?? folds.first;
       fieldOf("filter").value = folds.filter = filter ?? "";
-      this.screen.arrange();
+      this.order(order === "number");
     }
     this.view.restore(place, view);
-    this.show();
     this.reveal();
+    this.show();
+  }
+
+  // Gives the run other names.
+  rename(names) {
+    this.run.rename(names);
+    this.view.lastColumn = this.run.lastColumn;
+    this.view.show(this.view.from, this.view.width);
+    this.table.fill();
+    this.loadWhole();
   }
 
   // Goes to a place, without a step of the browser's history, and without scrolling the rows.
   go(place) {
+    this.losses.isAll = false;
     this.view.go(place);
     this.show();
   }
@@ -69,12 +91,16 @@ export class Walk {
     this.go(place);
   }
 
+  // Scrolls before anything is changed, since the browser lays out the page for it.
   by(places) {
-    this.to(this.view.place + places);
+    this.searching.stop();
+    this.losses.isAll = false;
+    this.view.go(this.view.place + places);
     this.reveal();
+    this.show();
   }
 
-  // Scrolls in the row of the call that led to the place.
+  // Scrolls in the row of the call that led to the place. Drawing it is left to what follows.
   reveal() {
     const { channels, handles } = this.run.columns;
     const { place } = this.view;
@@ -85,6 +111,7 @@ export class Walk {
   jump(move) {
     this.step(move);
     this.reveal();
+    this.redraw();
   }
 
   // Makes a step of the browser's history of a move.
@@ -110,11 +137,25 @@ export class Walk {
     this.by(pages * this.view.width);
   }
 
-  // A press on a band's head folds or unfolds it. Elsewhere it goes to the place.
+  // A press on a band's head folds or unfolds it, and one on a receiver's name goes to its worst loss. Elsewhere it goes to the nearest call
+  // in the row, or to the place, with the loss there.
   pressPicture(x, y) {
     const key = this.screen.headAt(x, y);
-    if (key === null) this.step(() => this.toPointInPicture(x));
-    else this.refold(folds => folds.turn(key));
+    if (key !== null) return this.refold(folds => folds.turn(key));
+    const { row, channel, isName } = this.screen.rowAt(x, y);
+    if (isName && row.kind === "receiver" && row.lives.length === 1) return this.lossMoves.toReceiver(channel, row.lives[0].handle);
+    const place = this.screen.callAt(x, y) ?? this.screen.placeInPicture(x);
+    this.losses.chosen = this.run.losses.at(place).find(it => it.channel === channel && row?.lives.some(life => life.handle === it.receiver)) ?? null;
+    this.step(() => this.to(place));
+  }
+
+  // Shows the call near a point of the picture in whole, beside it, or none.
+  tip(x, y) {
+    const place = x === null ? null : this.screen.callAt(x, y);
+    byId("tip").hidden = place === null;
+    if (place === null) return;
+    byId("tip").replaceChildren(...wholeCall(this.run.entry(place), this.run));
+    this.screen.standTip(place, y);
   }
 
   toPointInPicture(x) {
@@ -127,6 +168,19 @@ export class Walk {
     byId("fold-all").textContent = this.screen.folds.areAll ? "unfold all" : "fold all";
     this.screen.arrange();
     this.show();
+  }
+
+  // Changes the order of the channels, in strip, picture and panel.
+  reorder() {
+    this.order(!this.screen.folds.isByNumber);
+    this.reveal();
+    this.show();
+  }
+
+  order(isByNumber) {
+    this.screen.folds.isByNumber = isByNumber;
+    byId("order").textContent = isByNumber ? "by number" : "lossy first";
+    this.screen.resize();
   }
 
   pressStrip(x) {
@@ -180,13 +234,15 @@ export class Walk {
     fieldOf("condition").select();
   }
 
-  toLag(isBack) {
-    this.seek(isBack ? "rback" : "rforward", LAG);
-  }
-
   // Searches for a condition, and jumps to where it holds.
   seek(word, condition) {
     this.searching.ask(word, condition);
+  }
+
+  // Searches for the nearest place where a receiver of a watch begins to have a value that it hasn't seen.
+  toUnseen(isBack) {
+    const conditions = unseenConditions(this.run);
+    if (conditions.length > 0) this.searching.ask(isBack ? "rback" : "rforward", ...conditions);
   }
 
   // The commands that lead a console to this place, as the last search did if it led here.
@@ -211,22 +267,73 @@ export class Walk {
     return [...places];
   }
 
+  // The state at the place is shown before the levels from far are loaded, which takes longer.
   async draw() {
     const places = this.neededPlaces();
     if (this.run.missing(places).length > 0) await this.run.load(places);
     if (this.isLeft) return;
     this.redraw();
+    if (!this.losses.areNamed) await this.nameLost();
+    if (this.isLeft) return;
     this.telling.describe();
+    this.levelling.ask();
   }
 
-  // Draws after the rows were scrolled, or have another height.
-  scrolled() {
-    this.screen.measure();
+  // Loads the values that are lost at the place, and tells the call with them.
+  async nameLost() {
+    await this.losses.name();
+    if (!this.isLeft && this.losses.areNamed) this.telling.show();
+  }
+
+  async drawLevels() {
+    if (this.screen.missingLevels.length === 0) return;
+    await this.screen.loadLevels();
+    if (!this.isLeft) this.redraw();
+  }
+
+  // Loads what is counted in the whole run, and shows it: closings, the table, and the sends that overwrote values.
+  async loadFindings() {
+    byId("losses").setAttribute("aria-busy", "true");
+    try {
+      for await (const _ of this.run.findings()) {
+        if (this.isLeft) return;
+        this.showFindings();
+      }
+    } catch (fault) {
+      this.onFault(fault);
+    }
+    byId("losses").removeAttribute("aria-busy");
+  }
+
+  showFindings() {
+    const { table, screen, run } = this;
+    if (run.totals !== null && table.receivers.length === 0) table.fill();
+    screen.drawStrip();
+    screen.drawn = null;
     this.redraw();
+  }
+
+  // Loads what the strip shows of the whole run. It is needed last.
+  async loadWhole() {
+    try {
+      await this.screen.loadWhole();
+    } catch (fault) {
+      this.onFault(fault);
+    }
+    if (!this.isLeft) this.redraw();
+  }
+
+  // Draws after the rows were scrolled, or have another height, unless that was drawn when they were scrolled from here.
+  scrolled() {
+    this.tip(null, null);
+    if (!this.screen.measure()) return;
+    this.redraw();
+    this.levelling.ask();
   }
 
   // Draws what is loaded.
   redraw() {
+    this.screen.loss = this.losses.current;
     this.screen.drawView();
     this.screen.drawPlace();
   }

@@ -1,33 +1,58 @@
 // The debugger, in a thread beside the page's own: each request is a message, and gets one message as its reply.
 
 import { Debugger } from "./debugger.js";
+import { closingsIn, levelsIn, salvagedFrom, totalsIn, valuesIn } from "./findings.js";
+import { inflated } from "./inflating.js";
 import { openRun } from "./opening.js";
-import { questions } from "./source.js";
+import { isJournal, questions } from "./source.js";
 
+// The debugger, once it is unpacked. Requests wait for it, and are answered in their order.
+let starting = null;
 let engine = null;
 let ask = null;
 let heading = "";
+// The opened run as a journal text, also where a script was opened, and its channels at the start.
+let journal = null;
+let channels = [];
 
 const text = bytes => new TextDecoder().decode(bytes);
 
 const requests = {
-  start(module) {
-    engine = new Debugger(module);
+  start(packed) {
+    starting = inflated(packed, "deflate").then(module => { engine = new Debugger(module); });
+    return starting;
   },
   open(bytes, places) {
     ask = questions(engine, bytes);
-    const opened = openRun(ask, places);
+    const text = isJournal(bytes) ? bytes : null;
+    const opened = openRun(engine, ask, places, text);
     heading = opened.heading;
-    return opened;
+    channels = opened.opening?.channels ?? [];
+    journal = opened.journal;
+    // The page has the text that it sent.
+    return { ...opened, journal: text ? null : journal };
   },
+  totals: () => totalsIn(engine, journal),
+  closings: () => closingsIn(engine, journal, channels.length),
+  values: channel => valuesIn(engine, journal, channel),
+  levels: (wanted, from, each, count) => levelsIn(engine, journal, channels, wanted, from, each, count),
+  // What is left of a journal text that was cut off, or null.
+  salvage: bytes => salvagedFrom(engine, bytes),
   ask: commands => text(ask(commands)).slice(heading.length),
   debug: (journal, commands) => text(engine.debug(journal, commands)),
   session: input => text(engine.session(input)),
 };
 
-self.onmessage = ({ data: { number, request, values } }) => {
+// The columns of an opened run are handed over, since copying them is slow.
+function handedOver(answer) {
+  return Object.values(answer?.columns ?? {}).filter(column => column.buffer).map(({ buffer }) => buffer);
+}
+
+self.onmessage = async ({ data: { number, request, values } }) => {
   try {
-    self.postMessage({ number, answer: requests[request](...values) });
+    await starting;
+    const answer = await requests[request](...values);
+    self.postMessage({ number, answer }, { transfer: handedOver(answer) });
   } catch (error) {
     self.postMessage({ number, fault: error.message });
   }

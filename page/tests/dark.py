@@ -8,7 +8,7 @@ import opening
 STYLE = os.path.join(native.TOP, "page", "src", "style.css")
 
 # Values that a receiver can read, and values that it has lost, in the picture and in the strip; and the line of its life.
-DRAWN = [("picture", "lag"), ("picture", "unread"), ("picture", "alive"), ("strip", "unread"), ("strip", "lag-pale")]
+DRAWN = [("picture", "lag"), ("picture", "unread"), ("picture", "alive"), ("strip", "unread"), ("strip", "lag")]
 
 # How many pixels of a canvas have a colour.
 COUNT = """((name, colour) => {{
@@ -45,12 +45,12 @@ def dark_colours(tab, folder, journals):
     light, dark = colours()
     path = opening.page_of(folder, "dark_colours.journal", native.record(b"broadcast 4\n" + b"0 0 send 0 1\n" * 20))
     opening.load(tab, path, 9)
-    tab.wait(COUNT.format("strip", light["lag-pale"]) + " > 0")
+    tab.wait(COUNT.format("strip", light["unread"]) + " > 0")
     first = drawn_in(tab, light, dark)
     tab.prefer("dark")
     followed = drawn_in(tab, dark, light)
     opening.load(tab, path, 9)
-    tab.wait(COUNT.format("strip", dark["lag-pale"]) + " > 0")
+    tab.wait(COUNT.format("strip", dark["unread"]) + " > 0")
     assert drawn_in(tab, dark, light) == followed, "opened in the dark it is drawn otherwise"
     tab.prefer("light")
     assert drawn_in(tab, light, dark) == first, "it doesn't come back to the light as it was"

@@ -47,6 +47,7 @@ def drop_with_names(tab, folder, journals):
         tab.drop(*files)
         opening.settle(tab, 0)
         tab.key("l")
+        tab.key("l")
         opening.settle(tab, 23)
         assert tab.text("sentence").startswith("sa slow auditor on prices: recv 2 → lagged 2"), tab.text("sentence")
     tab.drop(folder)

@@ -51,17 +51,25 @@ def keys(tab, folder, journals):
         check_place(tab, ask, place)
 
 
-def lag_keys(tab, folder, journals):
-    """L and Shift L go to the places at which a receive returned `lagged`, and report if there is none."""
+# By the example's states: receiver 2 lags from 19 up to 23, from 31 up to 33, and from 36 up to 53.
+LOSS_STOPS = [19, 23, 31, 33, 36, 53]
+
+
+def loss_keys(tab, folder, journals):
+    """L and Shift L go to the places where a loss begins and where it ends, and report if there is none."""
     opening.load(tab, opening.page_of(folder, "lags.journal", journals[63]))
-    ask, place = opening.asker(journals[63]), 0
-    for shift in [False] * 4 + [True] * 3:
-        tab.key("L" if shift else "l", shift)
-        answer = ask(f"goto {place}\n{'rback' if shift else 'rforward'} reply lagged\n").rstrip("\n").split("\n")[-1]
-        tab.wait(f"document.getElementById('found').textContent === {json.dumps(answer)}")
-        place = int(answer.split(" ")[1]) if answer.startswith("hit") else place
+    ask = opening.asker(journals[63])
+    for place in LOSS_STOPS:
+        tab.key("l")
         check_place(tab, ask, place)
-        tab.run("void (document.getElementById('found').textContent = '')")
+        assert tab.text("found") == ("a loss begins" if place in LOSS_STOPS[::2] else "a loss ends"), tab.text("found")
+    tab.key("l")
+    tab.wait("document.getElementById('found').textContent === 'no loss begins or ends after it'")
+    for place in reversed(LOSS_STOPS[:-1]):
+        tab.key("L", shift=True)
+        check_place(tab, ask, place)
+    tab.key("L", shift=True)
+    tab.wait("document.getElementById('found').textContent === 'no loss begins or ends before it'")
 
 
 def stops(tab, folder, journals):
@@ -79,11 +87,12 @@ def stops(tab, folder, journals):
 
 
 PRESS = "document.dispatchEvent(new KeyboardEvent('keydown', {{ key: '{}' }}))"
+SEARCH = "document.querySelector('#stops [value=rforward]').click()"
 
 
 def hurried(tab, *pressed):
-    """Presses keys, each before the page has finished with the last one, and waits until it has finished with all."""
-    tab.run(f"void ({', '.join(PRESS.format(key) for key in pressed)})")
+    """Searches and presses keys, each before the page has finished with the last one, and waits until it has finished with all."""
+    tab.run(f"void ({', '.join(SEARCH if key == 'search' else PRESS.format(key) for key in pressed)})")
     tab.run("ttd.ask('').then(() => ttd.ask('')).then(() => new Promise(done => setTimeout(done, 100)))")
 
 
@@ -92,12 +101,12 @@ def hurried_searches(tab, folder, journals):
     opening.load(tab, opening.page_of(folder, "hurried.journal", journals[63]))
     ask = opening.asker(journals[63])
     second = ask("start\nrforward reply lagged\nrforward reply lagged\n").rstrip("\n").split("\n")[-1]
-    hurried(tab, "l", "l")
+    hurried(tab, "search", "search")
     check_place(tab, ask, int(second.split(" ")[1]))
     assert tab.text("found") == second
     tab.key("ArrowRight")
     assert tab.text("found") == ""
-    hurried(tab, "l", "l", "Home")
+    hurried(tab, "search", "search", "Home")
     check_place(tab, ask, 0)
     assert tab.text("found") == ""
 
@@ -106,11 +115,11 @@ def failed_search(tab, folder, journals):
     """If the debugger fails in a search, the page reports it, and the next search works."""
     opening.load(tab, opening.page_of(folder, "failed.journal", journals[63]))
     tab.run(FAILING)
-    tab.key("l")
+    tab.click("#stops [value=rforward]")
     tab.wait("!document.getElementById('notice').hidden")
     assert tab.text("notice") == "The debugger failed: no memory."
     check_place(tab, opening.asker(journals[63]), 0)
-    tab.key("l")
+    tab.click("#stops [value=rforward]")
     check_place(tab, opening.asker(journals[63]), 23)
 
 
@@ -126,8 +135,8 @@ def buttons(tab, folder, journals):
     """Buttons, chips, the list of calls and the slider."""
     opening.load(tab, opening.page_of(folder, "buttons.journal", journals[63]))
     ask = opening.asker(journals[63])
-    for name, place in (("#forward", 1), ("#forward", 2), ("#back", 1), ("#last", 63), ("#first", 0), ("#lag-after", 23),
-                        ("#lag-after", 33), ("#lag-before", 23), ("#chips [data-condition='closed 0']", 52), ("#calls [data-place='50']", 50)):
+    for name, place in (("#forward", 1), ("#forward", 2), ("#back", 1), ("#last", 63), ("#first", 0), ("#loss-after", 19),
+                        ("#loss-after", 23), ("#loss-before", 19), ("#chips [data-condition='closed 0']", 52), ("#calls [data-place='50']", 50)):
         if name.startswith("#chips"):
             tab.click("#condition")
         tab.click(name)
@@ -242,7 +251,7 @@ def refusals(tab, folder, journals):
         fault = native.debug(text, b"").decode().rstrip("\n")
         refused(tab, folder, text, (fault, int(fault.split(" ")[3])))
     assert native.debug(journal.replace(b"= lagged 2", b"= lagged 3"), b"").decode() == f"journal fault wrong-reply {lag}\n"
-    refused(tab, folder, journal[:-20], ("journal fault truncated", journal[:-20].count(b"\n") + 1))
+    refused(tab, folder, journal[:20], ("journal fault truncated", journal[:20].count(b"\n") + 1))
     for text in (b"broadcast 0\n", b"broadcast 4\n0 0 sing 0\n", b"broadcast 4\n0 0 send 1 <b>\n", b"x" * 300 + b"\n", b"\n"):
         fault = native.session(text).decode().rstrip("\n")
         line = int(fault.split(" ")[2])
@@ -257,8 +266,9 @@ def example(tab, folder, journals):
     tab.click("#example-button")
     opening.settle(tab, 0)
     tab.key("l")
+    tab.key("l")
     opening.settle(tab, 23)
-    assert tab.text("sentence").startswith("sa slow auditor on prices: recv 2 → lagged 2 (2 values were overwritten"), tab.text("sentence")
+    assert tab.text("sentence") == "sa slow auditor on prices: recv 2 → lagged 2: lost 102, 103", tab.text("sentence")
 
 
 def files_that_are_not_there(tab, folder, journals):

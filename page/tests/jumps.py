@@ -2,6 +2,7 @@
 import json
 import os
 
+import found
 import opening
 import real_runs
 from hands import GUTTER, MARGIN, column_x, places_in_view
@@ -41,9 +42,9 @@ def history_of_jumps(tab, folder, journals):
     """Back and forward go through the places from which jumps were made: L, Home, End, clicks on a call, the strip and the picture."""
     path, ask = bus_page(folder)
     opening.load(tab, path)
-    lags = [int(answer.split(" ")[1]) for answer in (ask("start\n" + "rforward reply lagged\n" * (i + 1)).rstrip("\n").split("\n")[-1] for i in range(2))]
+    stops = found.stops_of(found.losses_of(ask, 648))
     steps = [0]
-    for key, place in (("l", lags[0]), ("l", lags[1]), ("End", 648), ("Home", 0)):
+    for key, place in (("l", stops[0]), ("l", stops[1]), ("End", 648), ("Home", 0)):
         tab.key(key)
         opening.settle(tab, place)
         steps.append(place)
@@ -102,7 +103,7 @@ def console_commands(tab, folder, journals):
     path, ask = bus_page(folder)
     opening.load(tab, path, 30)
     tab.run(f"void {CLIPBOARD}")
-    tab.key("l")
+    tab.click("#stops [value=rforward]")
     tab.wait("document.getElementById('found').textContent.startsWith('hit')")
     place = tab.run("document.getElementById('slider').valueAsNumber")
     opening.settle(tab, place)

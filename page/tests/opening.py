@@ -28,8 +28,9 @@ def load(tab, path, place=None):
 
 
 def settle(tab, place=None):
-    """Waits until a run is shown, and the state at its place."""
-    shown = "!document.getElementById('walk').hidden && document.getElementById('state').dataset.place"
+    """Waits until a run is shown with what is counted in it, and the state at its place."""
+    shown = ("!document.getElementById('walk').hidden && !document.getElementById('losses').hasAttribute('aria-busy')"
+             " && document.getElementById('state').dataset.place")
     tab.wait(f"{shown} !== undefined" if place is None else f"{shown} === '{place}'")
 
 

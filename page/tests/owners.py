@@ -2,6 +2,7 @@
 import itertools
 import json
 
+import found
 import native
 import opening
 import real_runs
@@ -111,3 +112,29 @@ def drawn_on_cursor(tab):
         pens.fillText = fillText;
         return texts;
     })()""")
+
+
+def unseen_changes(tab, folder, journals):
+    """U and Shift U go to the nearest place where a receiver of a watch begins to have a value that it hasn't seen."""
+    journal = journals[10_000]
+    ask = opening.asker(journal)
+    opening.load(tab, opening.page_of(folder, "unseen.journal", journal))
+    places = unseen_places(ask, 600)
+    assert len(places) > 8, places
+    for place in places[:6]:
+        tab.key("u")
+        check_place(tab, ask, place)
+    for place in places[4:2:-1]:
+        tab.key("U", shift=True)
+        check_place(tab, ask, place)
+
+
+def unseen_places(ask, last):
+    """The places, by the program's states, at which a receiver of the watch 2 hasn't seen the value and had one place before, or wasn't there."""
+    places, before = [], set()
+    for state in found.states(ask, last):
+        now = {it["handle"] for it in state["channels"][2]["receivers"] if not it["seen"]}
+        if now - before:
+            places.append(state["place"])
+        before = now
+    return places

@@ -11,6 +11,8 @@ import native
 BUS_ACTORS = ["main", "metrics", "audit-log", "search-index", "webhook", "ui", "nightly-export", "publisher"]
 BUS_PACE = {5: 0.9, 1: 0.9, 2: 0.5, 3: 0.3, 4: 0.24, 6: 0.16}
 POOL_CHANNELS, POOL_ACTORS, POOL_CALLS = 20, 40, 5_000
+WIDE_CHANNELS, WIDE_ACTORS, WIDE_CALLS = 64, 64, 2_500
+BUS_MADE, POOL_MADE, WIDE_MADE, LONG_MADE = 648, 5_000, 2_500, 99_998
 LONG_CALLS, LOST = 100_000, 45
 
 
@@ -87,20 +89,31 @@ def bus():
 
 @functools.cache
 def pool():
-    """A pool of 20 channels and 40 actors: each channel has a producer and three workers, and every third channel a slow one."""
-    chance, run = random.Random(20), Script(POOL_ACTORS)
-    half = POOL_ACTORS // 2
-    run.names["actors"] = {str(actor): f"{'producer' if actor < half else 'worker'}-{actor % half:02}" for actor in range(POOL_ACTORS)}
-    for channel in range(POOL_CHANNELS):
+    """A pool of 20 channels and 40 actors."""
+    return pool_of(POOL_CHANNELS, POOL_ACTORS, POOL_CALLS)
+
+
+@functools.cache
+def wide_pool():
+    """A pool of 64 channels and 64 actors."""
+    return pool_of(WIDE_CHANNELS, WIDE_ACTORS, WIDE_CALLS)
+
+
+def pool_of(channels, actors, calls):
+    """A pool in which each channel has a producer and three workers, and every third channel a slow one."""
+    chance, run = random.Random(channels), Script(actors)
+    half = actors // 2
+    run.names["actors"] = {str(actor): f"{'producer' if actor < half else 'worker'}-{actor % half:02}" for actor in range(actors)}
+    for channel in range(channels):
         run.channel(f"broadcast {chance.choice([4, 8, 16, 32])}", f"jobs.{channel:02}")
-    workers = [[(half + (channel + 7 * turn) % half, run.subscribe(channel, channel)) for turn in range(3)] for channel in range(POOL_CHANNELS)]
-    for channel in range(POOL_CHANNELS):
-        run.call(channel, channel, "drop 1")
-    while len(run.calls) < POOL_CALLS:
-        channel = chance.randrange(POOL_CHANNELS)
+    workers = [[(half + (channel + 7 * turn) % half, run.subscribe(channel % half, channel)) for turn in range(3)] for channel in range(channels)]
+    for channel in range(channels):
+        run.call(channel % half, channel, "drop 1")
+    while len(run.calls) < calls:
+        channel = chance.randrange(channels)
         if chance.random() < 0.3:
             job = len(run.calls)
-            run.send(channel, channel, job, f"job {channel:02}-{job:04} {chance.choice(['resize', 'thumbnail', 'index'])}")
+            run.send(channel % half, channel, job, f"job {channel:02}-{job:04} {chance.choice(['resize', 'thumbnail', 'index'])}")
             continue
         turn = chance.randrange(3)
         actor, handle = workers[channel][turn]

@@ -1,6 +1,8 @@
 """The picture of many channels: what stays in sight, which rows are drawn, their order, folds and filter."""
 import json
+import re
 
+import found
 import native
 import opening
 import real_runs
@@ -8,6 +10,9 @@ from hands import GUTTER, places_in_view
 
 SIZES = [(1440, 900), (1024, 768), (390, 844)]
 HITS = 8
+
+# The heights of a band's head and of the lowest row.
+HEAD, LEAST_ROW = 24, 18
 
 # Draws again, and returns each text of a canvas with where it is on it: left, middle, and width.
 DRAWN = """(name => {
@@ -52,38 +57,71 @@ def wide():
     return native.record((head + made + calls).encode())
 
 
-def seen_after_lags(tab, folder, journals):
-    """After each L in the pool, on three sizes, flag, sentence and list are inside the window, and so are strip, controls and axis."""
+def seen_after_losses(tab, folder, journals):
+    """After each L in the pool, on three sizes, the loss, sentence and list are inside the window, and so are strip, controls and axis."""
     path, ask = page_of(folder, "pool", real_runs.pool())
+    losses = found.losses_of(ask, real_runs.POOL_MADE)
     for width, height in SIZES:
         tab.resize(width, height)
         opening.load(tab, path)
-        place = 0
-        for _ in range(HITS):
-            place = int(ask(f"goto {place}\nrforward reply lagged\n").split("hit ")[1].split(" ")[0])
+        for place in found.stops_of(losses)[:HITS]:
             tab.key("l")
             opening.settle(tab, place)
-            look_at_hit(tab, ask, width, height, place)
+            look_at_loss(tab, width, height, [it for it in losses if place in (it.start, it.to)])
     tab.resize(1440, 920)
 
 
-def look_at_hit(tab, ask, width, height, place):
-    lost = ask(f"goto {place}\nstep\n").split("lagged ")[1].split("\n")[0]
+def wide_after_losses(tab, folder, journals):
+    """The same in a pool of 64 channels and 64 actors, where at most the rows that fit into the pane are drawn, at every zoom."""
+    path, ask = page_of(folder, "wide pool", real_runs.wide_pool())
+    losses = found.losses_of(ask, real_runs.WIDE_MADE)
+    for width, height in SIZES:
+        tab.resize(width, height)
+        opening.load(tab, path)
+        few_rows(tab)
+        for place in found.stops_of(losses)[:HITS // 2]:
+            tab.key("l")
+            opening.settle(tab, place)
+            look_at_loss(tab, width, height, [it for it in losses if place in (it.start, it.to)])
+            few_rows(tab)
+        tab.key("0")
+        tab.wait(f"document.getElementById('picture').getAttribute('aria-label').includes('to {real_runs.WIDE_MADE}')")
+        few_rows(tab)
+    tab.resize(1440, 920)
+
+
+def few_rows(tab):
+    """Names of rows are drawn only for as many as fit into the pane, one more at each edge, and the heads of their bands."""
+    pane = tab.run("document.getElementById('pane').clientHeight")
+    texts = drawn(tab)
+    rows = [text for text, x, _, _ in texts if x < GUTTER and " · " in text and "receivers" not in text]
+    heads = [text for text, _, _, _ in texts if re.fullmatch(r"jobs\.\d\d…?", text)]
+    assert heads and len(rows) <= pane / LEAST_ROW + 2 and len(heads) <= pane / HEAD + 2, (pane, len(rows), len(heads))
+
+
+def look_at_loss(tab, width, height, losses):
+    """One of these losses is in sight: its label with the number of lost values in the row that is named after its receiver."""
+    loss = max(losses, key=lambda it: it.lost)
     strip, bar, sentence, axis, pane, current = boxes(tab, "#strip-box", ".bar", "#sentence", "#axis", "#pane", "#calls [aria-current]")
     for left, top, right, bottom in (strip, bar, sentence, axis, pane, current):
-        assert left >= 0 and right <= width and top >= 0 and bottom <= height and bottom > top, (width, place, left, top, right, bottom)
+        assert left >= 0 and right <= width and top >= 0 and bottom <= height and bottom > top, (width, loss, left, top, right, bottom)
     assert strip[3] - strip[1] <= height / 5 + 1, strip
     assert pane[3] - pane[1] > height / 4, pane
     assert tab.run("[document.documentElement.scrollHeight, document.documentElement.scrollWidth]") == [height, width]
     size = [pane[2] - pane[0], pane[3] - pane[1]]
-    flags = [it for it in drawn(tab) if it[0] == f"lost {lost}"]
-    assert any(0 <= x and x + wide <= size[0] and 8 <= y <= size[1] - 8 for _, x, y, wide in flags), (width, place, flags, size)
-    names = [it for it in drawn(tab, "strip")]
+    texts = drawn(tab)
+    names = [(y, text) for text, _, y, _ in texts if text.endswith(f" {loss.receiver}") and 0 < y < size[1]]
+    labels = [(x, y, wide) for text, x, y, wide in texts if text.split(" ")[0] == str(loss.lost) and 0 <= x and x + wide <= size[0]]
+    assert any(abs(y - at) < 40 and 8 <= y <= size[1] - 8 for _, y, _ in labels for at, _ in names), (width, loss, labels, names)
     channel = tab.run("document.querySelector('#state .channel').dataset.channel")
     assert f" on jobs.{int(channel):02}:" in tab.text("sentence"), "the call's channel isn't the first of the panel"
+    seen_in_strip(tab, f"jobs.{loss.channel:02}", strip[3] - strip[1])
+
+
+def seen_in_strip(tab, name, height):
     rows = tab.run("document.getElementById('strip-box').scrollTop")
-    (_, _, y, _), = [it for it in names if it[0] == f"jobs.{int(channel):02}"]
-    assert rows <= y <= rows + strip[3] - strip[1], "the channel's row of the strip is out of sight"
+    (_, _, y, _), = [it for it in drawn(tab, "strip") if it[0] == name]
+    assert rows <= y <= rows + height, "the channel's row of the strip is out of sight"
 
 
 def rows_in_sight(tab, folder, journals):
@@ -120,7 +158,7 @@ def same_order(tab, folder, journals):
 def nothing_moves(tab, folder, journals):
     """Nothing of the page moves when an answer comes, nor where the sentence is long."""
     path, _ = page_of(folder, "bus", real_runs.bus())
-    parts = ["#strip-box", ".bar", "#place", "#lag-after", "#stops", "#said", "#axis", "#pane", "aside"]
+    parts = ["#strip-box", ".bar", "#place", "#loss-after", "#stops", "#said", "#axis", "#pane", "aside"]
     for width, height in SIZES:
         tab.resize(width, height)
         opening.load(tab, path)
@@ -151,20 +189,60 @@ def folds_and_filter(tab, folder, journals):
     high = tab.run("document.getElementById('space').offsetHeight")
     left, top, _, _ = tab.box("#picture-box")
     tab.run("void (document.getElementById('pane').scrollTop = 0)")
-    tab.wait(f"{DRAWN}('picture').some(([text]) => text === 'jobs.00')")
+    first = channels_of(tab)[0]
+    tab.wait(f"{DRAWN}('picture').some(([text]) => text === '{first}')")
     tab.click_at(left + 40, top + 10)
     tab.wait(f"document.getElementById('space').offsetHeight < {high}")
     assert "▸" in texts_of(tab)
     opening.settle(tab, 100)
-    tab.wait("location.hash.includes('&fold=0.actors')")
+    tab.wait(f"location.hash.includes('&fold={int(first[-2:])}.actors')")
     address = tab.run("location.hash")
     tab.key("z")
     tab.wait("document.getElementById('fold-all').textContent === 'unfold all'")
     assert not any(" · receiver " in text for text in texts_of(tab))
     tab.load(f"{path}{address}")
     opening.settle(tab, 100)
+    tab.run("void (document.getElementById('pane').scrollTop = 0)")
+    tab.wait(f"{DRAWN}('picture').some(([text]) => text === '{first}')")
     assert [text for text in texts_of(tab) if text in "▸▾"].count("▸") == 1, texts_of(tab)
     assert places_in_view(tab)
+
+
+def channels_of(tab):
+    """The channels in the order of the strip."""
+    return [text for text, _, _, _ in sorted(drawn(tab, "strip"), key=lambda it: it[2]) if text.startswith("jobs.")]
+
+
+def lossy_first(tab, folder, journals):
+    """Channels that lost most come first in strip, picture and panel, or all by number: by the button, by O, and by the address."""
+    path, ask = page_of(folder, "pool", real_runs.pool())
+    lost = [0] * real_runs.POOL_CHANNELS
+    for loss in found.losses_of(ask, real_runs.POOL_MADE):
+        lost[loss.channel] += loss.lost
+    numbers = list(range(len(lost)))
+    lossy = sorted(numbers, key=lambda channel: (-lost[channel], channel))
+    assert lossy != numbers
+    opening.load(tab, path)
+    in_order(tab, lossy)
+    tab.click("#order")
+    in_order(tab, numbers)
+    tab.wait("location.hash.endsWith('&order=number')")
+    address = tab.run("location.hash")
+    tab.key("o")
+    in_order(tab, lossy)
+    tab.load(f"{path}{address}")
+    opening.settle(tab)
+    in_order(tab, numbers)
+
+
+def in_order(tab, channels):
+    """Strip, picture and panel have the channels in this order, with that of the call first in the panel."""
+    names = [f"jobs.{channel:02}" for channel in channels]
+    assert channels_of(tab) == names, channels_of(tab)
+    heads = [text for text, _, _, _ in sorted(drawn(tab), key=lambda it: it[2]) if text in names]
+    assert heads and heads == names[:len(heads)], heads
+    panel = tab.run("[...document.querySelectorAll('#state .channel')].map(it => Number(it.dataset.channel))")
+    assert panel == channels, panel
 
 
 def narrow_tabs(tab, folder, journals):

@@ -5,17 +5,20 @@ import time
 import traceback
 
 import answers
+import beginning
 import bidi
 import dark
 import given
 import hands
 import jumps
+import losses
 import moves
 import native
 import owners
 import rows
 import runs
 import shown
+import sources
 import speed
 import texts
 import way_in
@@ -36,15 +39,17 @@ def bare(test):
 
 TESTS = [
     shown.pictures, shown.lagging_is_red, dark.dark_colours, shown.hostile_names, shown.refused_markup, shown.wrong_names, shown.spoken,
-    shown.nothing_is_loaded, bidi.written_out, bidi.right_to_left, hands.keys, hands.lag_keys, hands.hurried_searches, hands.failed_search, hands.early_click, hands.stops,
+    shown.nothing_is_loaded, bidi.written_out, bidi.right_to_left, hands.keys, hands.loss_keys, hands.hurried_searches, hands.failed_search, hands.early_click, hands.stops,
     hands.buttons, hands.mouse, moves.wheel, moves.stop_field, hands.drops, given.chosen_again, given.drop_with_names,
     given.note_on_the_core, given.places_of_two_runs, given.failed_opening, way_in.names_in_any_order, way_in.names_of_another_run, way_in.foreign_texts,
-    way_in.several_runs, way_in.kept_for_a_reload, way_in.signs, jumps.history_of_jumps, jumps.address_keeps, jumps.console_commands,
-    rows.seen_after_lags, rows.rows_in_sight, rows.same_order, rows.nothing_moves, rows.folds_and_filter, rows.narrow_tabs,
-    owners.whose_rows, owners.long_owners, owners.told_apart, owners.versions,
+    way_in.several_runs, way_in.kept_for_a_reload, way_in.cut_journals, way_in.signs, jumps.history_of_jumps, jumps.address_keeps, jumps.console_commands,
+    rows.seen_after_losses, rows.wide_after_losses, rows.rows_in_sight, rows.same_order, rows.nothing_moves, rows.folds_and_filter, rows.lossy_first, rows.narrow_tabs,
+    owners.whose_rows, owners.long_owners, owners.told_apart, owners.versions, owners.unseen_changes,
     jumps.picture_as_png, jumps.help_of_keys, jumps.zoom_at_pointer, jumps.touch,
     hands.waiting_script, hands.refusals, hands.example, hands.files_that_are_not_there, hands.addresses, shown.large_runs,
     shown.quick_walking, shown.many_handles, weak.weak_senders, weak.weak_rows, texts.large_numbers, texts.long_texts, speed.figures,
+    *losses.TESTS, *sources.TESTS,
+    beginning.first_calls, beginning.far_places, beginning.late_faults,
     bare(answers.example_sessions), bare(answers.random_commands), bare(answers.spoiled_texts),
 ]
 

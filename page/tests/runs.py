@@ -75,6 +75,16 @@ def script(calls):
     return (PRELUDE + "".join(lines)).encode()
 
 
+def large(calls):
+    """A script with very many calls, which is quickly made: two broadcasts, each with a sender and two receivers, of which one is slow. Each handle
+    has an actor of its own on its channel."""
+    chance = random.Random(calls)
+    turns = chance.choices(["send 0 ", "try-recv 1", "try-recv 2"], [5, 6, 2], k=calls - 2)
+    channels = chance.choices([0, 1], [2, 1], k=calls - 2)
+    steps = (f"{turn[-1].strip() or 0} {channel} {turn}{i if turn[0] == 's' else ''}\n" for i, (channel, turn) in enumerate(zip(channels, turns)))
+    return ("broadcast 8\nbroadcast 64\nactors 4\n0 0 subscribe 0\n0 1 subscribe 0\n" + "".join(steps)).encode()
+
+
 def example_file(name):
     with open(os.path.join(native.TOP, "examples", name), "rb") as file:
         return file.read()

@@ -16,7 +16,7 @@ ALERTED = "void (window.alert = () => { window.alerted = true; })"
 def lagging_picture(tab, folder, path):
     """A receiver that lags, with names for actors and channels."""
     opening.put(folder, "price_feed.names", runs.example_file("price_feed.names"))
-    tab.resize(1280, 540)
+    tab.resize(1280, 720)
     opening.load(tab, opening.page_of(folder, "price_feed.ttd", runs.example()), 22)
     tab.picture(path, "#left")
     tab.resize(1440, 920)
@@ -112,11 +112,11 @@ def spoken(tab, folder, journals):
     """What a screen reader gets: the place with its call on the slider, and the state as texts under headings."""
     opening.load(tab, opening.page_of(folder, "spoken.journal", journals[63]), 22)
     value = tab.run("document.getElementById('slider').getAttribute('aria-valuetext')")
-    assert value == "place 22 of 63: actor 1 on channel 0: recv 1 → value 107", value
+    assert value == "place 22 of 63: actor 1 on channel 0: recv 1 → value 107 · actor 2 · receiver 2 has lost 102, 103", value
     nodes = tab.call("Accessibility.getFullAXTree")["nodes"]
     told = [(it["role"]["value"], it.get("name", {}).get("value", "")) for it in nodes if not it["ignored"]]
     headings = [name for role, name in told if role == "heading"]
-    wanted = {"Yovanelum", "channel 0 broadcast, capacity 4 open", "channel 1 watch open", "Calls around it"}
+    wanted = {"Yovanelum", "actor 2 · receiver 2 lost 2 values told", "channel 0 broadcast, capacity 4 open", "channel 1 watch open", "Calls around it"}
     assert set(headings) == wanted, headings
     texts = [name for role, name in told if role == "StaticText"]
     assert "2 overwritten" in texts and "has 0 of 1" in texts
@@ -165,5 +165,5 @@ def large_runs(tab, folder, journals):
             tab.run(f"void (location.hash = '#place={place}')")
             check_place(tab, ask, place)
             answer = ask(f"goto {place}\nrforward reply lagged\n").rstrip("\n").split("\n")[-1]
-            tab.key("l")
+            tab.click("#stops [value=rforward]")
             check_place(tab, ask, int(answer.split(" ")[1]))

@@ -1,7 +1,9 @@
 """What comes in loses nothing: names before, with and after their run, packed and foreign texts, several runs, a reload, and signs meanwhile."""
 import gzip
 import json
+import subprocess
 
+import native
 import opening
 import real_runs
 from given import SCRIPT, empty_page, told
@@ -100,7 +102,7 @@ def several_runs(tab, folder, journals):
     tab.wait("!document.getElementById('choice').hidden")
     assert tab.run("[...document.querySelectorAll('#choice button')].map(it => it.textContent)") == ["bus.journal", "pool.journal", "third.ttd"]
     told(tab, "notice", "p.zip can't be read: it is packed by zip, and only gzip is unpacked here. lone.names isn't beside a run of that name.")
-    for number, name, channel in ((1, "pool.journal", "jobs.00"), (0, "bus.journal", "event bus"), (2, "third.ttd", "channel 0")):
+    for number, name, channel in ((1, "pool.journal", "jobs."), (0, "bus.journal", "event bus"), (2, "third.ttd", "channel 0")):
         tab.click(f"#choice [data-run='{number}']")
         told(tab, "facts", f"{name} · ")
         opening.settle(tab, 0)
@@ -145,6 +147,35 @@ def kept_for_a_reload(tab, folder, journals):
     opening.settle(tab, 1)
 
 
+def salvaged(path):
+    """What the program leaves of a journal that was cut off, and how many of its bytes that is."""
+    done = subprocess.run([native.PROGRAM, "salvage", path], capture_output=True, check=True)
+    return done.stdout, int(done.stderr.split(b" ")[1])
+
+
+def cut_journals(tab, folder, journals):
+    """A journal that was cut off is opened with the calls of its whole lines, and a line says so. One without its head is refused."""
+    journal = journals[63]
+    ends = [len(journal) - 2, len(journal) - 4, journal.index(b"= lagged 2") + 9, journal.index(b"\n9 ") + 1, journal.index(b"steps\n") + 6]
+    for number, end in enumerate(ends):
+        path = opening.put(folder, f"cut_{number}.journal", journal[:end])
+        left, kept = salvaged(path)
+        calls = left.count(b" = ")
+        empty_page(tab)
+        tab.drop(path)
+        opening.settle(tab, 0)
+        count = "1 call" if calls == 1 else f"{calls} calls"
+        told = f"This journal was cut off. Its whole lines are shown: {kept:,} of {end:,} bytes, with {count}. What came after them isn't known."
+        assert tab.text("cut") == told, (tab.text("cut"), told)
+        tab.key("End")
+        check_place(tab, opening.asker(left), calls)
+    tab.drop(opening.put(folder, "whole.journal", journal))
+    tab.wait("document.getElementById('facts').textContent.startsWith('whole.journal · 63')")
+    assert tab.run("document.getElementById('cut').hidden")
+    tab.drop(opening.put(folder, "headless.journal", journal[:20]))
+    tab.wait("!document.getElementById('refusal').hidden")
+
+
 def signs(tab, folder, journals):
     """There is a sign while a file is read, while a search runs, and while a file is dragged over the window, and it goes away."""
     empty_page(tab)
@@ -156,7 +187,7 @@ def signs(tab, folder, journals):
     opening.settle(tab, 0)
     assert tab.run("document.getElementById('busy').hidden")
     tab.run(HELD)
-    tab.key("l")
+    tab.click("#stops [value=rforward]")
     tab.wait(f"{SEEN}('busy')")
     assert tab.text("busy-text") == "searching on for reply lagged", tab.text("busy-text")
     tab.run("void goOn()")

@@ -3,10 +3,10 @@ import base64
 import hashlib
 import os
 import re
+import subprocess
+import zlib
 
-IMPORT = re.compile(r'^import (\{[^}]*\}) from "\./(\w+)\.js";$', re.M)
-COMMENT = re.compile(r"^ *//.*\n", re.M)
-EXPORT = re.compile(r"^export ((?:async )?(?:function|const|class) (\w+))", re.M)
+BUNDLE = ("--bundle", "--format=iife", "--charset=utf8", "--legal-comments=none", "--log-level=warning", '--banner:js="use strict";')
 
 
 class Refused(Exception):
@@ -18,36 +18,32 @@ def read(*path):
         return file.read()
 
 
-def gather(folder, name, found):
-    """Finds the sources of a module and of all that it imports, each after those that it needs."""
-    source = read(folder, f"{name}.js")
-    for _, used in IMPORT.findall(source):
-        if used not in found:
-            gather(folder, used, found)
-    found[name] = source
-
-
-def enclosed(name, source):
-    """A module as a constant with its exports, from which later modules import them. Lines that are comments are left out."""
-    exports = ", ".join(word for _, word in EXPORT.findall(source))
-    body = COMMENT.sub("", EXPORT.sub(r"\1", IMPORT.sub(r"const \1 = from_\2;", source)))
-    if re.search(r"^(import|export)\b", body, re.M):
-        raise Refused(f"{name}.js has an import or export that isn't of the form that is taken apart here")
-    return f"const from_{name} = (() => {{\n{body}return {{ {exports} }};\n}})();\n"
-
-
 def script(folder, name):
-    """One script of a module and all that it imports."""
-    found = {}
-    gather(folder, name, found)
-    text = '"use strict";\n' + "".join(enclosed(module, source) for module, source in found.items())
-    if "</script" in text.lower():
+    """One script of a module and all that it imports. It is bundled inside its folder, so that no path from outside is in it."""
+    try:
+        made = subprocess.run(["esbuild", f"{name}.js", *BUNDLE], cwd=folder, stdout=subprocess.PIPE, check=True).stdout.decode()
+    except FileNotFoundError:
+        raise Refused("esbuild isn't there, which bundles the page's scripts: apt-get install esbuild") from None
+    except subprocess.CalledProcessError:
+        raise Refused(f"{name}.js and what it imports can't be bundled") from None
+    if "</script" in made.lower():
         raise Refused("a script would end the element that it stands in")
-    return text
+    return made
 
 
 def hash_of(text):
     return base64.b64encode(hashlib.sha256(text.encode()).digest()).decode()
+
+
+def packed(module):
+    """The module as the page has it: packed, since that is a third of its bytes, and as text."""
+    return base64.b64encode(zlib.compress(module, 9)).decode()
+
+
+def module_of(made):
+    """The module in a page, or None."""
+    found = re.search(r'<script type="[\w/-]+" id="module">([^<]*)</script>', made)
+    return zlib.decompress(base64.b64decode(found[1])) if found else None
 
 
 def page(folder, module):
@@ -55,7 +51,7 @@ def page(folder, module):
     style, main = read(source, "style.css"), script(source, "main")
     parts = {
         "style": style, "style hash": hash_of(style), "main": main, "main hash": hash_of(main),
-        "worker": script(source, "worker"), "module": base64.b64encode(module).decode(),
+        "worker": script(source, "worker"), "module": packed(module),
         "example": read(folder, "..", "examples", "price_feed.ttd"),
         "example names": read(folder, "..", "examples", "price_feed.names"),
     }

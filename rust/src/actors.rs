@@ -1,51 +1,159 @@
-//! Who makes a call: the innermost named future, or else the thread.
+//! Who makes a call: the innermost named future, or else the task of a runtime that tells its tasks apart, or else the thread.
 
+use crate::block_on::is_blocked_on_future;
+use crate::channel::CallSite;
 use crate::core::Actor;
+use crate::reentrant::thread_number;
+use crate::replay::{self, UNNAMED_THREAD};
 use std::cell::{Cell, RefCell};
-use std::collections::HashMap;
+use std::collections::{BTreeMap, BTreeSet, HashMap, VecDeque};
 use std::future::Future;
+use std::panic::Location;
 use std::pin::Pin;
-use std::sync::Arc;
+use std::sync::{Arc, OnceLock, Weak};
 use std::task::{Context, Poll};
 use std::thread;
 
-/// The number of a recorder, and the number that it has given to the current actor.
-type CachedActor = (u64, Actor);
+/// How many tasks without a name have a number of their own in a journal. Other numbers are left for threads and named futures.
+const MOST_TASKS: usize = 32;
 
-/// No recorder has the number 0.
-const NOT_CACHED: CachedActor = (0, Actor::FIRST);
+/// The number that a recorder has given to an actor.
+#[derive(Clone, Copy)]
+struct CachedActor {
+    // The recorder's number. None has the number 0.
+    recorder: u64,
+    actor: Actor,
+    // One more than the number of the task, or 0 without one.
+    task: u64,
+}
+
+const NOT_CACHED: CachedActor = CachedActor {
+    recorder: 0,
+    actor: Actor::FIRST,
+    task: 0,
+};
 
 thread_local! {
     // The result of the last lookup.
     static CACHED: Cell<CachedActor> = const { Cell::new(NOT_CACHED) };
     // The name of the future that this thread polls or drops, if it has one.
     static NAME: RefCell<Option<Arc<str>>> = const { RefCell::new(None) };
+    // Whether this thread drops a named future.
+    static IS_DROPPING: Cell<bool> = const { Cell::new(false) };
 }
 
-/// The names of a recorder's actors by number.
+/// Returns the number of the task that the current thread polls.
+type TaskId = fn() -> Option<u64>;
+
+static TASK_ID: OnceLock<TaskId> = OnceLock::new();
+
+/// Sets the function that returns the number of the task which the current thread runs, or `None` if it runs none.
+///
+/// It is for a runtime, or for a package that wraps one. With it, the calls of a task without a name are recorded for that task, as
+/// `task 17`, and not for its thread. No two tasks may have the same number. The function is called once for each recorded call, and must not
+/// use a channel of this crate. It is set for the process, and once: a later call changes nothing.
+///
+/// A journal has numbers for 64 actors, and gives 32 of them to tasks without a name at most. Tasks that come later are recorded under the
+/// name of their thread, as without this function. [`named`] gives a task a name.
+///
+/// # Examples
+///
+/// A runtime that polls three tasks on one thread, and counts them from 1:
+///
+/// ```
+/// use std::cell::Cell;
+/// use yovanelum::{Recorder, block_on, broadcast, set_task_id};
+///
+/// thread_local! {
+///     static TASK: Cell<Option<u64>> = const { Cell::new(None) };
+/// }
+/// set_task_id(|| TASK.get());
+///
+/// let recorder = Recorder::new();
+/// let _entered = recorder.enter();
+/// let prices = broadcast::Sender::new(4);
+/// let _chart = prices.subscribe();
+/// for task in 1..=3 {
+///     TASK.set(Some(task));
+///     block_on(async { prices.send(100 + task).unwrap() });
+/// }
+/// TASK.set(None);
+/// assert!(recorder.names().contains(r#""1": "task 1", "2": "task 2", "3": "task 3"}"#));
+/// ```
+pub fn set_task_id(current: fn() -> Option<u64>) {
+    let _ = TASK_ID.set(current);
+}
+
+fn current_task() -> Option<u64> {
+    TASK_ID.get().and_then(|current| current())
+}
+
+/// The actors of a recorder.
 #[derive(Default)]
 pub(crate) struct Actors {
+    // By their numbers.
     names: Vec<String>,
+    // Of threads and named futures, by their names.
     numbers: HashMap<String, Actor>,
+    // Of tasks without a name, by the numbers that their runtime gives them.
+    tasks: HashMap<u64, Actor>,
+    // Where each task without a name has made its first call.
+    first_calls: BTreeMap<u64, &'static Location<'static>>,
+    // The numbers of threads and tasks without a name.
+    unnamed: BTreeSet<u64>,
+    // In a replay, the numbers of such actors of the journal that nobody has yet.
+    free: VecDeque<usize>,
 }
 
-/// Returns the current actor for the recorder with this number. Unless it is cached, `find` looks it up.
+/// Returns the current actor for the recorder with this number. Unless it is cached, `find` looks it up, given the current task.
 #[inline]
-pub(crate) fn current(recorder: u64, find: impl FnOnce() -> Actor) -> Actor {
-    let (cached_for, actor) = CACHED.get();
-    if cached_for == recorder {
-        return actor;
+pub(crate) fn current(recorder: u64, find: impl FnOnce(Option<u64>) -> Actor) -> Actor {
+    let cached = CACHED.get();
+    if cached.recorder == recorder && TASK_ID.get().is_none() {
+        return cached.actor;
     }
-    let actor = find();
-    CACHED.set((recorder, actor));
+    current_of_task(recorder, find)
+}
+
+/// As [`current`], where the actor isn't cached or a thread may run several tasks.
+#[inline(never)]
+fn current_of_task(recorder: u64, find: impl FnOnce(Option<u64>) -> Actor) -> Actor {
+    let (cached, current) = (CACHED.get(), current_task());
+    let task = current.map_or(0, |task| task.wrapping_add(1));
+    if cached.recorder == recorder && cached.task == task {
+        return cached.actor;
+    }
+    let actor = find(current);
+    CACHED.set(CachedActor {
+        recorder,
+        actor,
+        task,
+    });
     actor
 }
 
-fn current_name() -> String {
+/// Returns the name of the future that this thread polls or drops.
+pub(crate) fn name_of_future() -> Option<String> {
     // At the end of a thread, `NAME` may be destroyed before other values are dropped.
-    if let Some(name) = NAME.try_with(|name| name.borrow().clone()).ok().flatten() {
-        return name.to_string();
-    }
+    let name = NAME.try_with(|name| name.borrow().clone()).ok().flatten();
+    name.map(|name| name.to_string())
+}
+
+/// Returns the name that somebody gave the current caller: that of the future, or of the thread if it runs no task.
+pub(crate) fn name_of_caller() -> Option<String> {
+    let of_thread = || match current_task() {
+        Some(_) => None,
+        None => Some(name_of_thread()).filter(|name| !is_unnamed(name)),
+    };
+    name_of_future().or_else(of_thread)
+}
+
+/// Whether this is the name of a thread that nobody named.
+fn is_unnamed(name: &str) -> bool {
+    name.starts_with(UNNAMED_THREAD)
+}
+
+fn name_of_thread() -> String {
     let thread = thread::current();
     match thread.name() {
         Some(name) => name.to_string(),
@@ -54,31 +162,151 @@ fn current_name() -> String {
 }
 
 impl Actors {
-    /// Returns the number of the current actor. Actors after the 64th share its number, and `true` marks the first of them.
-    pub(crate) fn find(&mut self) -> (Actor, bool) {
-        let name = current_name();
+    /// Returns the number of the current actor, whose call is made here in the source. Actors after the 64th share its number, and `true`
+    /// marks the first of them.
+    pub(crate) fn find(&mut self, task: Option<u64>, called_at: CallSite) -> (Actor, bool) {
+        if let Some(name) = name_of_future() {
+            return self.find_named(name);
+        }
+        let of_task = task.and_then(|task| self.find_task(task, called_at));
+        match of_task {
+            Some(actor) => (actor, false),
+            None => self.find_named(name_of_thread()),
+        }
+    }
+
+    /// Returns the number of a task without a name, unless so many others have one that this one gets none.
+    fn find_task(&mut self, task: u64, called_at: CallSite) -> Option<Actor> {
+        if let Some(actor) = self.tasks.get(&task) {
+            return Some(*actor);
+        }
+        if self.tasks.len() == MOST_TASKS {
+            return None;
+        }
+        let number = self.number_for(&format!("task {task}"), true)?;
+        let actor = Actor::of(number);
+        self.tasks.insert(task, actor);
+        if let Some(location) = called_at {
+            self.first_calls.insert(number as u64, location);
+        }
+        Some(actor)
+    }
+
+    /// Returns a number for a new actor, unless all are given.
+    fn number_for(&mut self, name: &str, is_unnamed: bool) -> Option<usize> {
+        let free = self.free.front().filter(|_| is_unnamed).copied();
+        let number = match free {
+            Some(number) => {
+                self.free.pop_front();
+                self.names[number] = name.to_string();
+                number
+            }
+            None if self.names.len() == Actor::MOST => return None,
+            None => {
+                self.names.push(name.to_string());
+                self.names.len() - 1
+            }
+        };
+        if is_unnamed {
+            self.unnamed.insert(number as u64);
+        }
+        Some(number)
+    }
+
+    fn find_named(&mut self, name: String) -> (Actor, bool) {
         if let Some(actor) = self.numbers.get(&name) {
             return (*actor, false);
         }
-        let number = self.names.len();
-        let actor = Actor::of(number);
-        let is_shared = number >= Actor::MOST;
-        if !is_shared {
-            self.names.push(name.clone());
-        }
-        let is_first = is_shared && self.numbers.len() == Actor::MOST;
+        let number = self.number_for(&name, is_unnamed(&name));
+        let actor = Actor::of(number.unwrap_or(Actor::MOST));
+        let is_first = number.is_none() && self.others() == 0;
         self.numbers.insert(name, actor);
         (actor, is_first)
+    }
+
+    /// Numbers the actors as a journal does, which is replayed. `None` stands for one that nobody named; the first ones of this run get these
+    /// numbers.
+    pub(crate) fn preload(&mut self, names: Vec<Option<String>>) {
+        for (number, name) in names.into_iter().enumerate() {
+            match &name {
+                Some(name) => drop(self.numbers.insert(name.clone(), Actor::of(number))),
+                None => self.free.push_back(number),
+            }
+            self.names
+                .push(name.unwrap_or_else(|| "nobody".to_string()));
+        }
+    }
+
+    /// Returns how many actors share the last number with the one that it was given to.
+    fn others(&self) -> usize {
+        self.numbers.len() + self.tasks.len() + self.free.len() - self.names.len()
     }
 
     /// Returns the names by number. If others share the last number, its name says how many.
     pub(crate) fn names(&self) -> Vec<String> {
         let mut names = self.names.clone();
-        let others = self.numbers.len() - names.len();
+        let others = self.others();
         if let Some(last) = names.last_mut().filter(|_| others > 0) {
             *last = format!("{last} and {others} others");
         }
         names
+    }
+
+    /// Returns where each task without a name has made its first call, by the task's number as an actor.
+    pub(crate) fn first_calls(&self) -> &BTreeMap<u64, &'static Location<'static>> {
+        &self.first_calls
+    }
+
+    /// Returns the numbers of threads and tasks without a name.
+    pub(crate) fn unnamed(&self) -> &BTreeSet<u64> {
+        &self.unnamed
+    }
+}
+
+/// Who calls, as far as callers that are alive can be told apart: the future, the task or the thread.
+#[derive(Clone)]
+pub(crate) struct Identity {
+    // The name of the future. Each future has its own copy.
+    future: Option<Weak<str>>,
+    task: Option<u64>,
+    thread: usize,
+}
+
+impl Identity {
+    /// Returns who calls now.
+    pub(crate) fn current() -> Identity {
+        let name = NAME.try_with(|name| name.borrow().as_ref().map(Arc::downgrade));
+        Identity {
+            future: name.ok().flatten(),
+            task: current_task(),
+            thread: thread_number(),
+        }
+    }
+
+    /// Returns the number of the thread.
+    pub(crate) fn thread(&self) -> usize {
+        self.thread
+    }
+
+    /// Whether this may be any task that the current thread polls. It is none where the thread itself is blocked on a future of this crate.
+    pub(crate) fn may_be_any_task(&self) -> bool {
+        self.future.is_none() && self.task.is_none() && !is_blocked_on_future()
+    }
+
+    /// Whether both are the same future, or the same task or thread without a name.
+    pub(crate) fn is_same(&self, other: &Identity) -> bool {
+        match (&self.future, &other.future) {
+            (Some(future), Some(other)) => future.ptr_eq(other),
+            (None, None) if self.task.is_some() || other.task.is_some() => self.task == other.task,
+            (None, None) => self.thread == other.thread,
+            _ => false,
+        }
+    }
+
+    /// Whether this caller may call again. Of tasks and threads that isn't known.
+    pub(crate) fn is_alive(&self) -> bool {
+        let future = self.future.as_ref();
+        future.is_none_or(|future| future.strong_count() > 0)
     }
 }
 
@@ -143,6 +371,15 @@ impl<F> Named<F> {
         // At the end of a thread, `NAME` may be destroyed before the future is dropped.
         let _ = NAME.try_with(|name| std::mem::swap(&mut *name.borrow_mut(), &mut self.name));
     }
+
+    /// Whether a replay holds this poll back, since it isn't this future's turn.
+    #[inline]
+    fn is_held(&self, context: &Context<'_>) -> bool {
+        // None before the first call, when the recorder isn't known yet.
+        let recorder = Some(self.cached.recorder).filter(|recorder| *recorder != 0);
+        let name = self.name.as_ref();
+        name.is_some_and(|name| replay::holds(name, recorder, context))
+    }
 }
 
 /// While this is alive, the calls of this thread are made under the future's name. It is dropped also if the future panics.
@@ -165,6 +402,9 @@ impl<F: Future> Future for Named<F> {
     type Output = F::Output;
 
     fn poll(mut self: Pin<&mut Self>, context: &mut Context<'_>) -> Poll<F::Output> {
+        if self.is_held(context) {
+            return Poll::Pending;
+        }
         let guard = NameGuard::new(&mut self);
         let future = guard.0.future.as_mut().expect("a future that is alive");
         future.as_mut().poll(context)
@@ -175,8 +415,15 @@ impl<F> Drop for Named<F> {
     /// Drops the future under its name, so that the drop's calls are recorded for its actor, also if it is cancelled.
     fn drop(&mut self) {
         let guard = NameGuard::new(self);
+        let was_dropping = IS_DROPPING.replace(true);
         guard.0.future = None;
+        IS_DROPPING.set(was_dropping);
     }
+}
+
+/// Whether this thread drops a named future, which makes no further call then.
+pub(crate) fn is_dropping_future() -> bool {
+    IS_DROPPING.get()
 }
 
 impl<F> std::fmt::Debug for Named<F> {

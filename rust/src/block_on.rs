@@ -1,5 +1,6 @@
 //! A thread that waits for a future.
 
+use std::cell::Cell;
 use std::future::Future;
 use std::pin::pin;
 use std::sync::Arc;
@@ -18,6 +19,32 @@ impl Wake for Unpark {
     fn wake(self: Arc<Self>) {
         self.is_woken.store(true, Ordering::Release);
         self.thread.unpark();
+    }
+}
+
+thread_local! {
+    // How many futures this thread is blocked on, one within the poll of another.
+    static BLOCKED_ON: Cell<usize> = const { Cell::new(0) };
+}
+
+/// Whether the current thread polls a future that it is blocked on.
+pub(crate) fn is_blocked_on_future() -> bool {
+    BLOCKED_ON.get() > 0
+}
+
+/// While this is alive, its thread is blocked on a future. It is dropped also if the future panics.
+struct Blocked;
+
+impl Blocked {
+    fn new() -> Blocked {
+        BLOCKED_ON.set(BLOCKED_ON.get() + 1);
+        Blocked
+    }
+}
+
+impl Drop for Blocked {
+    fn drop(&mut self) {
+        BLOCKED_ON.set(BLOCKED_ON.get() - 1);
     }
 }
 
@@ -43,6 +70,7 @@ impl Wake for Unpark {
 /// assert_eq!(service.join().unwrap(), (Ok("started"), Ok("stopped")));
 /// ```
 pub fn block_on<F: Future>(future: F) -> F::Output {
+    let _blocked = Blocked::new();
     let mut future = pin!(future);
     let unpark = Arc::new(Unpark {
         thread: thread::current(),

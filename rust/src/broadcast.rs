@@ -66,7 +66,7 @@ pub use receiver::Receiver;
 pub use sender::Sender;
 pub use weak::WeakSender;
 
-use crate::channel::{Channel, ChannelState, CoreChannel, RecordedChannel};
+use crate::channel::{Channel, ChannelState, CoreChannel, RecordedChannel, call_site};
 use crate::core::OpenFault;
 use crate::guarded_by::GuardedBy;
 use crate::handle::ChannelHandle;
@@ -118,7 +118,7 @@ fn open<T>(capacity: usize) -> (Sender<T>, Receiver<T>) {
         Err(OpenFault::BadCapacity) => unreachable!("the capacity is 1 to 65536"),
         Err(OpenFault::NoMemory) => panic!("yovanelum: no memory for a channel"),
     };
-    let recorded = RecordedChannel::add(core, 0);
+    let recorded = RecordedChannel::add(core, 0, call_site());
     let values = GuardedBy::new(&*lock(&recorded.state), Values::new(capacity));
     let (sender, receiver) = ChannelHandle::first_two(Channel::new(recorded, values));
     (Sender { handle: sender }, Receiver { handle: receiver })

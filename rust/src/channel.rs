@@ -1,39 +1,59 @@
 //! What both kinds of channel are made of: the core's channel, the recorder of its calls, and the values, which the core doesn't know.
 
+mod at_gate;
 mod core_channel;
+mod locations;
 mod locked;
 mod machine;
 mod state;
 
 pub(crate) use core_channel::{Call, CoreChannel};
+pub(crate) use locations::{CallSite, CallSites, call_site};
 pub(crate) use locked::LockedChannel;
 pub(crate) use state::ChannelState;
 
 use crate::lock::lock;
 use crate::recorder::{RecordedBy, Recorder, TextOf};
+use crate::replay::ReplayedChannel;
 use std::sync::{Arc, Mutex, OnceLock};
 
 /// A channel with its recorder, if it has one. All calls are made through it.
 pub struct RecordedChannel {
     pub(crate) recorder: RecordedBy,
     pub(crate) state: Arc<Mutex<ChannelState>>,
+    // In a replay, where its calls wait for their turns.
+    replayed: Option<ReplayedChannel>,
 }
 
 impl RecordedChannel {
     /// Adds a channel that was opened with this many values to the current recorder. If there is none, or its run takes no more channels, the
-    /// channel isn't recorded.
-    pub(crate) fn add(core: CoreChannel, value_count: u64) -> RecordedChannel {
-        let state = Arc::new(Mutex::new(ChannelState::new(core, value_count)));
+    /// channel isn't recorded. Its first two handles are made here in the source.
+    pub(crate) fn add(core: CoreChannel, value_count: u64, made_at: CallSite) -> RecordedChannel {
         let recorder = Recorder::current().map(|current| current.0);
-        if !recorder
+        let mut state = ChannelState::new(core, value_count);
+        if let Some(recorder) = &recorder {
+            state.made_by = Some(recorder.maker());
+            state.keep_making(made_at);
+            state.keep_making(made_at);
+        }
+        let replayed = recorder.as_ref().and_then(|recorder| {
+            let number = recorder
+                .gate
+                .as_ref()?
+                .channel_by(state.made_by.as_ref()?)?;
+            Some(ReplayedChannel::new(recorder.gate.clone()?, number))
+        });
+        let state = Arc::new(Mutex::new(state));
+        let is_added = recorder
             .as_ref()
-            .is_some_and(|recorder| recorder.add(&state))
-        {
+            .is_some_and(|recorder| recorder.add(&state));
+        if !is_added {
             lock(&state).end_recording();
         }
         RecordedChannel {
             recorder: RecordedBy(recorder),
             state,
+            replayed: replayed.filter(|_| is_added),
         }
     }
 }
@@ -79,6 +99,6 @@ mod tests {
         let (tx, _rx) = broadcast::channel(2);
         recorder.show(&tx, u32::to_string);
         tx.send(5).unwrap();
-        assert!(lock(&tx.recorded().state).texts.is_empty());
+        assert!(lock(&tx.recorded().channel.state).texts.is_empty());
     }
 }

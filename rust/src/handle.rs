@@ -1,10 +1,15 @@
 //! What a sender, a weak sender and a receiver are, of either kind of channel.
 
-use crate::channel::{Call, Channel, CoreChannel, LockedChannel, RecordedChannel};
+use crate::channel::{
+    Call, CallSite, Channel, CoreChannel, LockedChannel, RecordedChannel, call_site,
+};
 use crate::lock::lock;
+use crate::recorder::RecordedHandle;
+use crate::replay::{Permit, Word};
 use crate::reply::Reply;
-use crate::wait::{WaitFor, WaitingCall};
+use crate::wait::{ComingCall, Method, Pending, WaitFor, WaitingCall};
 use std::future::poll_fn;
+use std::mem;
 use std::panic::{RefUnwindSafe, UnwindSafe};
 use std::sync::Arc;
 use std::task::{Context, Poll};
@@ -52,8 +57,9 @@ impl<T, S> ChannelHandle<T, S> {
     }
 
     /// Creates a handle of the same channel, by this call.
-    pub(crate) fn create(&self, kind: Kind, call: Call) -> Self {
-        self.sibling(kind, self.lock().create(call).new_handle())
+    #[track_caller]
+    pub(crate) fn create(&self, kind: Kind, word: Word, call: Call) -> Self {
+        self.sibling(kind, self.lock(word).create(call).new_handle())
     }
 
     pub(crate) fn same_channel(&self, other: &Self) -> bool {
@@ -64,38 +70,75 @@ impl<T, S> ChannelHandle<T, S> {
         &self.channel.recorded
     }
 
-    /// Locks the channel for calls of this handle.
+    /// Returns what a recorder knows of this handle.
+    pub(crate) fn of_recorder(&self) -> RecordedHandle<'_> {
+        RecordedHandle {
+            channel: self.recorded(),
+            number: self.number,
+            kind: self.kind,
+        }
+    }
+
+    /// Locks the channel for a call of this handle, which is made where the caller was called, once its turn in a replay has come.
+    #[track_caller]
     #[inline]
-    pub(crate) fn lock(&self) -> LockedChannel<'_> {
-        self.recorded().lock(self.number)
+    pub(crate) fn lock(&self, word: Word) -> LockedChannel<'_> {
+        self.lock_at(word, call_site())
+    }
+
+    /// Locks the channel for a call of this handle, which is made here in the source, once its turn in a replay has come.
+    #[inline]
+    pub(crate) fn lock_at(&self, word: Word, called_at: CallSite) -> LockedChannel<'_> {
+        self.recorded().lock(self.number, word, called_at)
+    }
+
+    /// Waits for the turn of a call of this handle in a replay. It is called before a lock is acquired.
+    #[inline]
+    pub(crate) fn pass(&self, word: Word, called_at: CallSite) -> Permit<'_> {
+        self.recorded().pass(self.number, word, called_at)
+    }
+
+    /// Locks the channel for a call that has its turn by this permit.
+    #[inline]
+    pub(crate) fn lock_with<'a>(
+        &'a self,
+        permit: Permit<'a>,
+        called_at: CallSite,
+    ) -> LockedChannel<'a> {
+        self.recorded().lock_with(permit, self.number, called_at)
     }
 
     /// Makes a call.
+    #[track_caller]
     #[inline]
-    pub(crate) fn call(&self, call: Call) -> Reply {
-        self.lock().call(call)
+    pub(crate) fn call(&self, word: Word, call: Call) -> Reply {
+        self.lock(word).call(call)
     }
 
     /// Makes a call that only asks. If questions leave no entry, `read` replies in its place.
+    #[track_caller]
     #[inline]
     pub(crate) fn ask(
         &self,
+        word: Word,
         call: Call,
         read: impl FnOnce(&mut CoreChannel, u32) -> Reply,
     ) -> Reply {
         if self.recorded().recorder.is_quiet() {
             return read(&mut lock(&self.recorded().state).core, self.number);
         }
-        self.call(call)
+        self.call(word, call)
     }
 
     /// Makes a call that asks for a count. If questions leave no entry, `read` counts in its place.
+    #[track_caller]
     pub(crate) fn ask_count(
         &self,
+        word: Word,
         call: Call,
         read: impl FnOnce(&mut CoreChannel, u32) -> u64,
     ) -> usize {
-        let reply = self.ask(call, |core, number| Reply::Count(read(core, number)));
+        let reply = self.ask(word, call, |core, number| Reply::Count(read(core, number)));
         reply.count()
     }
 
@@ -104,19 +147,28 @@ impl<T, S> ChannelHandle<T, S> {
         count(&mut lock(&self.recorded().state).core) as usize
     }
 
-    /// Makes the call that drops this handle, and wakes those who wait for it.
+    /// Makes the call that drops this handle, and wakes those who wait for it. Drops are called by the compiler, so it has no place in the
+    /// source.
     pub(crate) fn drop_by(&self, call: Call) {
-        let wakers = self.lock().drop_handle(self.kind, call);
+        let wakers = self.lock_at(Word::Drop, None).drop_handle(self.kind, call);
         wakers.wake();
     }
 
-    /// A call that waits, with its place in the queue.
-    fn waiting(&self, wait_for: WaitFor, place: Option<u64>) -> WaitingCall<'_> {
+    /// A call that waits, with what it has kept since it was polled before.
+    fn waiting(
+        &self,
+        wait_for: WaitFor,
+        word: Word,
+        method: Method,
+        pending: Pending,
+    ) -> WaitingCall<'_> {
         WaitingCall {
             channel: self.recorded(),
             handle: self.number,
             wait_for,
-            place,
+            word,
+            method,
+            pending,
         }
     }
 
@@ -124,23 +176,39 @@ impl<T, S> ChannelHandle<T, S> {
     pub(crate) async fn wait<R>(
         &self,
         wait_for: WaitFor,
+        word: Word,
+        method: Method,
         attempt: impl Fn(&mut LockedChannel<'_>) -> Poll<R>,
     ) -> R {
-        let mut waiting = self.waiting(wait_for, None);
+        let mut waiting = self.waiting(wait_for, word, method, Pending::default());
         poll_fn(|context| waiting.poll(context, &attempt)).await
     }
 
-    /// Attempts a call that waits. Between attempts the caller holds its place in the queue, and removes it if there is no further one.
+    /// Waits for the turn of a call of this handle in a replay, where it may be pending until then.
+    pub(crate) async fn turn(&self, word: Word, called_at: CallSite) -> Permit<'_> {
+        let mut coming = ComingCall {
+            channel: self.recorded(),
+            handle: self.number,
+            word,
+            called_at,
+            ticket: None,
+        };
+        poll_fn(|context| coming.poll(context)).await
+    }
+
+    /// Attempts a call that waits. Between attempts the caller holds what it keeps, and ends the wait if there is no further attempt.
     pub(crate) fn poll_wait<R>(
         &self,
         wait_for: WaitFor,
-        place: &mut Option<u64>,
+        word: Word,
+        method: Method,
+        pending: &mut Pending,
         context: &Context<'_>,
         attempt: impl Fn(&mut LockedChannel<'_>) -> Poll<R>,
     ) -> Poll<R> {
-        let mut waiting = self.waiting(wait_for, place.take());
+        let mut waiting = self.waiting(wait_for, word, method, mem::take(pending));
         let polled = waiting.poll(context, attempt);
-        *place = waiting.place.take();
+        *pending = mem::take(&mut waiting.pending);
         polled
     }
 }

@@ -58,7 +58,8 @@
 //!
 //! let recorder = Recorder::for_test("slow_audit");
 //! let (orders, mut audit) = broadcast::channel(2);
-//! recorder.name(&orders, "orders").show(&orders, |id| format!("order {id}"));
+//! recorder.name(&orders, "orders").name(&audit, "audit");
+//! recorder.show(&orders, |id| format!("order {id}"));
 //! let mut screen = orders.subscribe();
 //! for id in [71, 72, 73] {
 //!     orders.send(id).unwrap();
@@ -67,21 +68,32 @@
 //! assert_eq!(audit.try_recv(), Ok(71));
 //! ```
 //!
-//! It prints where the journal is:
+//! It prints what happened:
 //!
 //! ```text
 //! assertion `left == right` failed
 //!   left: Err(Lagged(1))
 //!  right: Ok(71)
-//! yovanelum: the calls of slow_audit are in /shop/target/yovanelum/slow_audit.journal
-//! yovanelum: walk them by `ttd debug /shop/target/yovanelum/slow_audit.journal`, or …
+//! yovanelum: `audit` lost 1 of 3 values of `orders` (capacity 2)
+//!   step 6   orders.send("order 73")   slow_audit  tests/shop.rs:14   overwrote "order 71", which audit had not read
+//!   step 8   told: lagged 1            slow_audit  tests/shop.rs:17   its last receive: none before
+//!   lost: "order 71"
+//! look: file:///shop/target/yovanelum/slow_audit.html#place=6
+//! replay: YOVANELUM_REPLAY=/shop/target/yovanelum/slow_audit.journal cargo test slow_audit
 //! ```
+//!
+//! It was call 6, the send of the third order. The channel then retained the two newer orders, and the audit had not received the first one.
+//! Call 8 told it. If no value was lost, the report says which channels closed and which changes of a watch channel were never seen. Calls
+//! that still wait are in its last lines.
+//!
+//! The address is that of a page with this run inside, which is opened at that call. It draws the run in a browser. The key `L` goes to the
+//! next receive that returned `Lagged`.
 //!
 //! # Finding the step
 //!
-//! `cargo install --path ../yovanelum/rust` installs the command `ttd`. It reads a journal, and commands from its standard input. Which
-//! call made the audit lag? The audit is receiver 1 of channel 0, since all numbers count from 0 in the order of creation, and `channel`
-//! creates sender 0 and receiver 1. `rback` searches backwards from the end:
+//! `cargo install --path ../yovanelum/rust` installs two commands. `yovanelum why JOURNAL` prints the report again, and with `--json` the
+//! losses for a program. `ttd` reads a journal, and commands from its standard input. Numbers count from 0 in the order of creation, and
+//! `channel` creates sender 0 and receiver 1. So the audit is receiver 1 of channel 0. `rback` searches backwards from the end:
 //!
 //! ```text
 //! $ printf 'rback lagging 0 1\nstep\nstate\n' | ttd debug target/yovanelum/slow_audit.journal
@@ -95,11 +107,8 @@
 //! receiver 2 position 2 unread 1 lag 0
 //! ```
 //!
-//! It was call 6 of 11, the send of value 2, which is the third value. The channel then retained the values 1 and 2, and receiver 1 had not
-//! received value 0. `rforward` searches forwards, `back`, `forward` and `goto 4` walk from call to call, and `list` prints all calls.
-//!
-//! The page `yovanelum.html` draws the same run in a browser. Drop the journal on it, together with the file `.names` beside the journal.
-//! It then shows `orders` for the channel and `order 73` for value 2. The key `L` goes to the next receive that returned `Lagged`.
+//! The channel then retained the values 1 and 2, and receiver 1 had not received value 0. `rforward` searches forwards, `back`, `forward`
+//! and `goto 4` walk from call to call, and `list` prints all calls.
 //!
 //! # Recording
 //!
@@ -109,7 +118,8 @@
 //! - [`Recorder::scope`] wraps a future, whose channels then belong to the recorder wherever it is polled. [`Recorder::install`] records
 //!   those of all threads of the process, and [`Recorder::off`] none.
 //! - [`named`] gives a future a name of its own in the journal. Without it, calls have the name of their thread.
-//! - [`Recorder::name`] and [`Recorder::show`] give names to channels and texts to values.
+//! - [`Recorder::name`] and [`Recorder::show`] give names to channels and receivers, and texts to values.
+//! - [`Recorder::waiting`] lists the calls that wait now, and [`ForTest::watchdog`] reports them where a test hangs.
 //! - [`Recorder::save`] writes the journal at any time, also if nothing fails.
 //!
 //! # Differences from tokio
@@ -118,7 +128,7 @@
 //! - The futures need no runtime: [`block_on`] runs them. They do not count towards tokio's cooperative budget.
 //! - `blocking_recv` does not panic within a runtime, it blocks there.
 //! - A closure of `send_modify`, `send_if_modified` or `wait_for` that waits for its own channel panics, where tokio has a deadlock.
-//! - Calls are slower, since they are recorded, and an entry of the journal takes about 90 bytes of memory. [`Recorder`] lists the limits
+//! - Calls are slower, since they are recorded, and an entry of the journal takes about 100 bytes of memory. [`Recorder`] lists the limits
 //!   of what is recorded. Calls go on past them.
 //! - tokio's other channels are not included. Streams of these two are in the package `yovanelum-stream`, beside the source of this one.
 //!
@@ -149,7 +159,9 @@ mod atomic;
 mod block_on;
 pub mod broadcast;
 mod channel;
+mod command;
 mod core;
+mod findings;
 mod guarded_by;
 mod handle;
 mod lock;
@@ -159,20 +171,26 @@ mod plain;
 mod polled;
 #[cfg(proved_core)]
 mod proved;
+mod queue;
 mod recorder;
 mod reentrant;
+mod replay;
 mod reply;
+mod report;
 mod wait;
 mod wakers;
 pub mod watch;
 
-pub use actors::{Named, named};
+pub use actors::{Named, named, set_task_id};
 pub use block_on::block_on;
+#[doc(hidden)]
+pub use command::command;
 #[doc(hidden)]
 pub use polled::Polled;
 pub use recorder::{
-    Entered, ForTest, Handle, Installed, Recorder, SaveOnPanic, Scoped, follow_this_thread,
+    Entered, ForTest, Handle, Installed, Recorder, SaveOnPanic, Scoped, Waiting, follow_this_thread,
 };
+pub use replay::Replayed;
 
 // Runs the programs of the README.
 #[cfg(doctest)]

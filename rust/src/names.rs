@@ -1,11 +1,167 @@
-//! The names beside a journal, as JSON: those of actors and channels, and the texts of values. If the plain core answered, a note says so.
+//! The names beside a journal, as JSON: what its numbers mean, where its calls were made, and which calls still wait. If the plain core
+//! answered, a note says so. `docs/use/FORMATS.md` in the repository describes the format.
 
-use std::fmt::Write;
+mod json;
+mod matching;
+mod reading;
+
+pub(crate) use matching::{Maker, Matching};
+
+use std::collections::BTreeMap;
+use std::fmt::{Display, Write};
+use std::panic::Location;
+
+/// The version of the format that is written. A document of version 1 has no such key.
+const VERSION: u64 = 2;
+
+/// A place in a source: the file as the compiler was given it, with the line and the column, which count from 1.
+#[derive(Clone, Debug, PartialEq, Eq)]
+pub(crate) struct SourceLocation {
+    pub(crate) file: String,
+    pub(crate) line: u32,
+    pub(crate) column: u32,
+}
+
+impl From<&Location<'_>> for SourceLocation {
+    fn from(location: &Location<'_>) -> SourceLocation {
+        SourceLocation {
+            file: location.file().to_string(),
+            line: location.line(),
+            column: location.column(),
+        }
+    }
+}
+
+/// A call that had begun to wait and had not ended. Actor, channel and handle are those of the journal.
+#[derive(Clone, Debug, PartialEq, Eq)]
+pub(crate) struct WaitingCall {
+    pub(crate) actor: u64,
+    pub(crate) channel: u64,
+    pub(crate) handle: u64,
+    /// The name of the method, such as `recv`.
+    pub(crate) call: String,
+    /// The entries with stamps up to this were recorded before it began to wait. Of a saved run, it is the last such stamp, or 0.
+    pub(crate) since: u64,
+    /// An index into the locations.
+    pub(crate) location: Option<usize>,
+}
+
+/// What is known of a run beside its journal. Keys are the journal's numbers, and where a location is meant, values are indexes into
+/// `locations`.
+#[derive(Clone, Debug, Default, PartialEq, Eq)]
+pub(crate) struct Names {
+    /// A note on the core, unless the proved one answered.
+    pub(crate) core: Option<String>,
+    pub(crate) actors: BTreeMap<u64, String>,
+    pub(crate) channels: BTreeMap<u64, String>,
+    /// The texts of values, by channel.
+    pub(crate) values: BTreeMap<u64, BTreeMap<u64, String>>,
+    /// The names of senders and receivers, by channel.
+    pub(crate) handles: BTreeMap<u64, BTreeMap<u64, String>>,
+    pub(crate) locations: Vec<SourceLocation>,
+    /// Where each sender and receiver was made, by channel.
+    pub(crate) made: BTreeMap<u64, BTreeMap<u64, usize>>,
+    /// Where each call of a channel was made, in the order of its entries.
+    pub(crate) calls: BTreeMap<u64, Vec<Option<usize>>>,
+    /// Where each actor that is a task without a name made its first call.
+    pub(crate) tasks: BTreeMap<u64, usize>,
+    pub(crate) waiting: Vec<WaitingCall>,
+    pub(crate) matching: Matching,
+}
+
+impl Names {
+    /// Makes these the names of this journal text: calls that were recorded after it are left out, and each wait is since a stamp that the
+    /// text has, or 0.
+    pub(crate) fn fit_to(&mut self, journal: &str) {
+        let mut stamps: Vec<u64> = vec![];
+        let mut entries: BTreeMap<u64, usize> = BTreeMap::new();
+        // The words of an entry are its stamp, its actor and its channel, and then the call.
+        for line in journal.lines().skip_while(|line| *line != "steps") {
+            let mut words = line.split(' ').map(str::parse);
+            if let (Some(Ok(stamp)), Some(Ok(channel))) = (words.next(), words.nth(1)) {
+                stamps.push(stamp);
+                *entries.entry(channel).or_default() += 1;
+            }
+        }
+        for (channel, calls) in &mut self.calls {
+            calls.truncate(entries.get(channel).copied().unwrap_or(0));
+        }
+        self.calls.retain(|_, calls| !calls.is_empty());
+        for wait in &mut self.waiting {
+            let before = stamps.partition_point(|stamp| *stamp <= wait.since);
+            wait.since = stamps[..before].last().copied().unwrap_or(0);
+        }
+    }
+
+    /// Returns the document. What is empty is left out, unless version 1 had it.
+    pub(crate) fn to_json(&self) -> String {
+        let mut out = format!("{{\n  \"version\": {VERSION}");
+        if let Some(note) = &self.core {
+            push_member(&mut out, "core", |out| push_string(out, note));
+        }
+        push_member(&mut out, "actors", |out| push_texts(out, &self.actors));
+        push_member(&mut out, "channels", |out| push_texts(out, &self.channels));
+        push_member(&mut out, "values", |out| {
+            push_object(out, &self.values, push_texts)
+        });
+        self.push_handles(&mut out);
+        self.push_calls(&mut out);
+        self.matching.push(&mut out);
+        out.push_str("\n}\n");
+        out
+    }
+
+    fn push_handles(&self, out: &mut String) {
+        if !self.handles.is_empty() {
+            push_member(out, "handles", |out| {
+                push_object(out, &self.handles, push_texts)
+            });
+        }
+        if !self.locations.is_empty() {
+            push_member(out, "locations", |out| {
+                push_list(out, &self.locations, push_location)
+            });
+        }
+        if !self.made.is_empty() {
+            push_member(out, "made", |out| {
+                push_object(out, &self.made, |out, made| {
+                    push_object(out, made, push_number)
+                });
+            });
+        }
+    }
+
+    fn push_calls(&self, out: &mut String) {
+        if !self.calls.is_empty() {
+            push_member(out, "calls", |out| {
+                push_object(out, &self.calls, |out, calls| {
+                    push_list(out, calls, push_optional)
+                });
+            });
+        }
+        if !self.tasks.is_empty() {
+            push_member(out, "tasks", |out| {
+                push_object(out, &self.tasks, push_number)
+            });
+        }
+        if !self.waiting.is_empty() {
+            push_member(out, "waiting", |out| {
+                push_list(out, &self.waiting, push_waiting)
+            });
+        }
+    }
+}
+
+/// Appends a member of the document, on a line of its own.
+fn push_member(out: &mut String, key: &str, push: impl FnOnce(&mut String)) {
+    let _ = write!(out, ",\n  \"{key}\": ");
+    push(out);
+}
 
 /// Appends a text as a JSON string.
-fn push_string(out: &mut String, text: &str) {
+fn push_string(out: &mut String, text: &impl AsRef<str>) {
     out.push('"');
-    for c in text.chars() {
+    for c in text.as_ref().chars() {
         match c {
             '"' => out.push_str("\\\""),
             '\\' => out.push_str("\\\\"),
@@ -22,64 +178,168 @@ fn push_string(out: &mut String, text: &str) {
     out.push('"');
 }
 
-/// Returns a JSON object whose keys are numbers.
-pub(crate) fn object<V>(
-    items: impl IntoIterator<Item = (u64, V)>,
-    mut push: impl FnMut(&mut String, V),
-) -> String {
-    let mut out = String::from("{");
-    for (number, item) in items {
-        let comma = if out.len() > 1 { ", " } else { "" };
-        let _ = write!(out, "{comma}\"{number}\": ");
-        push(&mut out, item);
-    }
-    out.push('}');
-    out
+fn push_number(out: &mut String, number: &impl Display) {
+    let _ = write!(out, "{number}");
 }
 
-/// Returns a JSON object of texts by number.
-pub(crate) fn texts<S: AsRef<str>>(items: impl IntoIterator<Item = (u64, S)>) -> String {
-    object(items, |out, text| push_string(out, text.as_ref()))
+fn push_optional(out: &mut String, number: &Option<usize>) {
+    match number {
+        Some(number) => push_number(out, number),
+        None => out.push_str("null"),
+    }
 }
 
-/// Returns the whole document, made of its three objects, and of the note on the core if there is one.
-pub(crate) fn document(core: Option<&str>, actors: &str, channels: &str, values: &str) -> String {
-    let mut out = String::from("{\n");
-    if let Some(note) = core {
-        out.push_str("  \"core\": ");
-        push_string(&mut out, note);
-        out.push_str(",\n");
-    }
+fn push_location(out: &mut String, location: &SourceLocation) {
+    out.push('[');
+    push_string(out, &location.file);
+    let _ = write!(out, ", {}, {}]", location.line, location.column);
+}
+
+fn push_waiting(out: &mut String, wait: &WaitingCall) {
+    let (actor, channel, handle) = (wait.actor, wait.channel, wait.handle);
     let _ = write!(
         out,
-        "  \"actors\": {actors},\n  \"channels\": {channels},\n  \"values\": {values}\n}}\n"
+        "{{\"actor\": {actor}, \"channel\": {channel}, \"handle\": {handle}, \"call\": "
     );
-    out
+    push_string(out, &wait.call);
+    let _ = write!(out, ", \"since\": {}, \"location\": ", wait.since);
+    push_optional(out, &wait.location);
+    out.push('}');
+}
+
+type Texts = BTreeMap<u64, String>;
+
+fn push_texts(out: &mut String, texts: &Texts) {
+    push_object(out, texts, push_string);
+}
+
+/// Appends a JSON object whose keys are numbers.
+fn push_object<V>(out: &mut String, items: &BTreeMap<u64, V>, push: impl Fn(&mut String, &V)) {
+    out.push('{');
+    for (index, (number, item)) in items.iter().enumerate() {
+        let comma = if index > 0 { ", " } else { "" };
+        let _ = write!(out, "{comma}\"{number}\": ");
+        push(out, item);
+    }
+    out.push('}');
+}
+
+/// Appends a JSON array.
+fn push_list<V>(out: &mut String, items: &[V], push: impl Fn(&mut String, &V)) {
+    out.push('[');
+    for (index, item) in items.iter().enumerate() {
+        out.push_str(if index > 0 { ", " } else { "" });
+        push(out, item);
+    }
+    out.push(']');
 }
 
 #[cfg(test)]
 mod tests {
     use super::*;
 
+    fn at(file: &str, line: u32, column: u32) -> SourceLocation {
+        SourceLocation {
+            file: file.into(),
+            line,
+            column,
+        }
+    }
+
     #[test]
     fn strings_are_escaped() {
-        let text = texts([(7, "a \"b\" \\ \n\u{1}\u{2028}é")]);
-        assert_eq!(text, r#"{"7": "a \"b\" \\ \n\u0001\u2028é"}"#);
+        let names = Names {
+            actors: [(7, "a \"b\" \\ \n\u{1}\u{2028}é".into())].into(),
+            ..Names::default()
+        };
+        let json = names.to_json();
+        let wanted = r#"{"7": "a \"b\" \\ \n\u0001\u2028é"}"#;
+        assert!(json.contains(wanted), "{json}");
     }
 
     #[test]
-    fn nothing_is_an_empty_object() {
+    fn what_is_empty_and_new_is_left_out() {
         assert_eq!(
-            document(None, &texts::<&str>([]), "{}", "{}"),
-            "{\n  \"actors\": {},\n  \"channels\": {},\n  \"values\": {}\n}\n"
+            Names::default().to_json(),
+            "{\n  \"version\": 2,\n  \"actors\": {},\n  \"channels\": {},\n  \"values\": {}\n}\n"
         );
     }
 
     #[test]
-    fn the_note_on_the_core_comes_first() {
-        assert_eq!(
-            document(Some("\"plain\""), "{}", "{}", "{}"),
-            "{\n  \"core\": \"\\\"plain\\\"\",\n  \"actors\": {},\n  \"channels\": {},\n  \"values\": {}\n}\n"
-        );
+    fn names_fit_their_journal() {
+        let waiting = [0, 2, 6, 9].map(|since| WaitingCall {
+            actor: 0,
+            channel: 0,
+            handle: 1,
+            call: "recv".into(),
+            since,
+            location: None,
+        });
+        let mut names = Names {
+            calls: [
+                (0, vec![Some(0), None, Some(1)]),
+                (1, vec![Some(1)]),
+                (2, vec![None]),
+            ]
+            .into(),
+            waiting: waiting.into(),
+            ..Names::default()
+        };
+        let journal = "ttd-journal 2\nbroadcast 2\nwatch 0\nwatch 0\nsteps\n\
+            2 0 0 send 0 0 = sent 1\n5 1 0 try-recv 1 = value 0\n7 0 2 borrow 0 = value 0\nend\n";
+        names.fit_to(journal);
+        let calls = [(0, vec![Some(0), None]), (2, vec![None])];
+        assert_eq!(names.calls, calls.into());
+        let since: Vec<u64> = names.waiting.iter().map(|wait| wait.since).collect();
+        assert_eq!(since, [0, 2, 5, 7]);
+    }
+
+    #[test]
+    fn each_key_is_on_a_line_of_its_own() {
+        let names = Names {
+            core: Some("\"plain\"".into()),
+            actors: [(0, "ticker".into()), (3, "task 17".into())].into(),
+            channels: [(0, "prices".into())].into(),
+            values: [(0, [(0, "101 EUR".into()), (1, "102 EUR".into())].into())].into(),
+            handles: [(0, [(1, "auditor".into())].into())].into(),
+            locations: vec![at("tests/bus.rs", 15, 9), at("src/\"a\".rs", 30, 1)],
+            made: [(0, [(0, 0), (1, 0), (2, 1)].into()), (1, [(0, 1)].into())].into(),
+            calls: [(0, vec![Some(1), None, Some(0)])].into(),
+            tasks: [(3, 1)].into(),
+            waiting: vec![
+                WaitingCall {
+                    actor: 3,
+                    channel: 0,
+                    handle: 1,
+                    call: "recv".into(),
+                    since: 12,
+                    location: Some(1),
+                },
+                WaitingCall {
+                    actor: 0,
+                    channel: 1,
+                    handle: 0,
+                    call: "closed".into(),
+                    since: 0,
+                    location: None,
+                },
+            ],
+            matching: Matching::default(),
+        };
+        let wanted = r#"{
+  "version": 2,
+  "core": "\"plain\"",
+  "actors": {"0": "ticker", "3": "task 17"},
+  "channels": {"0": "prices"},
+  "values": {"0": {"0": "101 EUR", "1": "102 EUR"}},
+  "handles": {"0": {"1": "auditor"}},
+  "locations": [["tests/bus.rs", 15, 9], ["src/\"a\".rs", 30, 1]],
+  "made": {"0": {"0": 0, "1": 0, "2": 1}, "1": {"0": 1}},
+  "calls": {"0": [1, null, 0]},
+  "tasks": {"3": 1},
+  "waiting": [{"actor": 3, "channel": 0, "handle": 1, "call": "recv", "since": 12, "location": 1}, {"actor": 0, "channel": 1, "handle": 0, "call": "closed", "since": 0, "location": null}]
+}
+"#;
+        assert_eq!(names.to_json(), wanted);
     }
 }

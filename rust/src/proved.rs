@@ -7,12 +7,19 @@
 //! number of an actor is an [`Actor`], which is below 64.
 #![allow(unsafe_code)]
 
+mod findings;
 mod heap;
+mod refusal;
+mod run;
 #[cfg(test)]
 mod tests;
 
+pub(crate) use findings::findings_of;
+pub(crate) use run::calls_of;
+
 use crate::core::{Caller, CutFault, OpenFault};
 use crate::reply::Reply;
+use refusal::Refusal;
 use std::ptr;
 
 /// `Held` of the core: the address of a channel with its journal, or null.
@@ -80,7 +87,7 @@ impl Answer {
             4 => Reply::Empty,
             5 => Reply::Closed,
             6 => Reply::Waits,
-            7 => Reply::New(n as u32),
+            7 => Reply::New(n),
             8 => Reply::Dropped,
             9 => Reply::Count(n),
             10 => Reply::Unknown,
@@ -89,8 +96,8 @@ impl Answer {
             13 => Reply::TooManyHandles,
             14 => Reply::Stored,
             15 => Reply::Old(n),
-            16 => Reply::Told(n != 0),
-            17 => Reply::Flag(n != 0),
+            16 => Reply::Told(n),
+            17 => Reply::Flag(n),
             18 => Reply::Done,
             19 => Reply::NoChannel,
             20 => Reply::JournalFull,

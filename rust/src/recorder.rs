@@ -1,37 +1,33 @@
 //! Recorders. The channels of a recorder make one run, with one journal.
 
 mod current;
+mod ending;
 mod for_test;
 mod handle;
+mod named;
+mod replaying;
+mod run;
 mod scope;
 mod shared;
 mod texts;
+mod waiting;
+mod watchdog;
 
 pub use current::{Entered, Installed, follow_this_thread};
 pub use for_test::{ForTest, SaveOnPanic};
-pub use handle::Handle;
+pub use handle::{Handle, RecordedHandle};
 pub use scope::Scoped;
 pub(crate) use shared::{RecordedBy, Shared};
 pub use texts::TextOf;
+pub use waiting::Waiting;
 
-use crate::channel::{ChannelState, RecordedChannel};
-use crate::core::{self, Cut, CutFault};
 use crate::lock::lock;
-use crate::names;
+use std::fmt;
 use std::io;
 use std::path::Path;
+use std::sync::Arc;
 use std::sync::atomic::Ordering;
-use std::sync::{Arc, Mutex};
-use std::{fmt, fs};
 use texts::Texts;
-
-/// Why a recorder without channels has no journal.
-const NO_CHANNEL: &str = "no channel belongs to this recorder. It records those that are created on a thread that has entered it \
-    (`Recorder::for_test`, `enter`), on the threads of a runtime (`on_thread_start`), in a future (`scope`), or anywhere while it is \
-    installed (`install`)";
-
-/// Why a recorder that is off has no journal.
-const IS_OFF: &str = "this recorder is off, so it records nothing. `Recorder::new` and `Recorder::for_test` create one that records";
 
 /// Records the calls on the channels that belong to it, as one run.
 ///
@@ -60,6 +56,9 @@ const IS_OFF: &str = "this recorder is off, so it records nothing. `Recorder::ne
 ///   channels are still recorded.
 /// - When a channel has 1,048,576 entries, recording ends for all channels of the recorder.
 /// - A thread or named future after the 64th is recorded under the number of the 64th.
+///
+/// Of tasks without a name ([`set_task_id`](crate::set_task_id)), 32 have a number of their own. Those that come later are recorded under the
+/// name of their thread, and no line reports it.
 ///
 /// # Examples
 ///
@@ -92,18 +91,6 @@ impl fmt::Debug for Recorder {
             .field("channels", &lock(&self.0.channels).len())
             .finish_non_exhaustive()
     }
-}
-
-/// The channels of a run, by their numbers.
-type Channels = Vec<Arc<Mutex<ChannelState>>>;
-
-/// Returns the text of what these channels have recorded up to this stamp.
-fn cut(channels: &Channels, last: u64) -> Result<Vec<u8>, CutFault> {
-    let mut cut = Cut::new()?;
-    for channel in channels {
-        cut.add(lock(channel).core.recorded(), last)?;
-    }
-    cut.text()
 }
 
 impl Recorder {
@@ -180,7 +167,13 @@ impl Recorder {
     /// assert_eq!(Recorder::of(&prices).unwrap().len(), 1);
     /// ```
     pub fn of<H: Handle>(handle: &H) -> Option<Recorder> {
-        handle.recorded().recorder.0.clone().map(Recorder::with)
+        handle
+            .recorded()
+            .channel
+            .recorder
+            .0
+            .clone()
+            .map(Recorder::with)
     }
 
     /// Ends the recording of questions, so that a loop that polls does not fill the journal. Returns the recorder, for the next call.
@@ -207,91 +200,6 @@ impl Recorder {
     pub fn quiet_questions(&self) -> &Recorder {
         self.0.is_quiet.store(true, Ordering::Relaxed);
         self
-    }
-
-    /// Names the channel of this sender or receiver, in place of an earlier name. Returns the recorder, for the next call.
-    ///
-    /// The page shows the name in place of the channel's number.
-    ///
-    /// # Panics
-    ///
-    /// Panics if the channel belongs to another recorder, or to none. A recorder that is off takes those that belong to none.
-    ///
-    /// # Examples
-    ///
-    /// ```
-    /// use yovanelum::{Recorder, broadcast, watch};
-    ///
-    /// let recorder = Recorder::new();
-    /// let _entered = recorder.enter();
-    /// let (prices, _chart) = broadcast::channel::<u32>(2);
-    /// let (state, _rx) = watch::channel("open");
-    /// recorder.name(&prices, "prices").name(&state, "state of the exchange");
-    /// assert!(recorder.names().contains(r#"{"0": "prices", "1": "state of the exchange"}"#));
-    /// ```
-    #[track_caller]
-    pub fn name<H: Handle>(&self, handle: &H, name: &str) -> &Recorder {
-        self.expect_own(handle.recorded());
-        lock(&handle.recorded().state).name = Some(name.to_string());
-        self
-    }
-
-    /// Records a text of each value that is sent on the channel from now on. Returns the recorder, for the next call.
-    ///
-    /// In the journal values are numbers: 0, 1, 2, … in the order in which they were sent on the channel, and on a watch channel 0 is the
-    /// value that it was created with. The texts show what the values were, also after they have been dropped. The first value of a watch
-    /// channel has its text too, if no other was sent before this call. If a channel has a function already, the new one is not used.
-    ///
-    /// The recorder holds the function until the channel is dropped, or the recorder with its clones and guards. So a sender that the
-    /// function holds keeps the channel open until then, as each sender that is alive does. A [`WeakSender`](crate::broadcast::WeakSender)
-    /// does not.
-    ///
-    /// The function runs before the channel is locked, and a panic in it is one of the call that sends. Only for a value that is in a watch
-    /// channel already (the first one, or one that a closure has changed) it runs while that value is locked. There it must neither look at
-    /// the value of that channel nor send on it.
-    ///
-    /// # Panics
-    ///
-    /// As [`name`](Recorder::name). Panics if the function panics for the first value of a watch channel, or waits for the lock of that value
-    /// by a send. The channel then has no function.
-    ///
-    /// # Examples
-    ///
-    /// ```
-    /// use yovanelum::{Recorder, broadcast};
-    ///
-    /// let recorder = Recorder::new();
-    /// let _entered = recorder.enter();
-    /// let (prices, _chart) = broadcast::channel(2);
-    /// recorder.show(&prices, |(share, price)| format!("{share} {price} EUR"));
-    /// prices.send(("ACME", 101)).unwrap();
-    /// prices.send(("ACME", 102)).unwrap();
-    /// assert!(recorder.names().contains(r#"{"0": "ACME 101 EUR", "1": "ACME 102 EUR"}"#));
-    /// ```
-    #[track_caller]
-    pub fn show<H: Handle>(
-        &self,
-        handle: &H,
-        text: impl Fn(&H::Value) -> String + Send + Sync + 'static,
-    ) -> &Recorder {
-        self.expect_own(handle.recorded());
-        handle.set_text_of(self.1.hold(text));
-        self
-    }
-
-    /// Panics if the channel belongs to another recorder, or to none. Its names aren't beside the journal of this one.
-    #[track_caller]
-    fn expect_own(&self, channel: &RecordedChannel) {
-        let belongs_to = match &channel.recorder.0 {
-            Some(recorder) if Arc::ptr_eq(recorder, &self.0) => return,
-            Some(_) => "another recorder",
-            None if self.0.is_off => return,
-            None => "no recorder",
-        };
-        panic!(
-            "yovanelum: the channel belongs to {belongs_to}, so its calls aren't in the journal of this one: \
-             enter this recorder before the channel is created"
-        );
     }
 
     /// Returns the text of the journal so far: all calls up to one moment, and none after it.
@@ -322,32 +230,19 @@ impl Recorder {
     /// assert_eq!(entries[2..], ["3 0 0 send 0 2 = sent 1", "4 0 0 try-recv 1 = lagged 1"]);
     /// ```
     pub fn journal(&self) -> io::Result<String> {
-        self.journal_of(&self.channels())
-    }
-
-    /// Returns the channels of the run, in the order of their numbers.
-    fn channels(&self) -> Channels {
-        lock(&self.0.channels).clone()
-    }
-
-    /// Returns the text of the journal of these channels.
-    fn journal_of(&self, channels: &Channels) -> io::Result<String> {
-        // Each call takes its number under its channel's lock. So once `cut` has locked a channel, its calls before the cut are recorded.
-        let text = cut(channels, self.0.last()).map_err(|fault| {
-            io::Error::other(match fault {
-                CutFault::NoChannels if self.0.is_off => IS_OFF.to_string(),
-                CutFault::NoChannels => NO_CHANNEL.to_string(),
-                fault => fault.to_string(),
-            })
-        })?;
-        String::from_utf8(text).map_err(io::Error::other)
+        self.0.run().journal()
     }
 
     /// Returns the names that belong to the journal, as JSON.
     ///
-    /// `actors` has the names of threads and of [`named`](crate::named) futures, and `channels` those of channels, both by number. `values`
-    /// has the texts of each channel's values. What has no name is left out. If the [plain core](crate#platforms) answered the calls, `core`
-    /// says so.
+    /// `actors` has the names of threads, tasks and [`named`](crate::named) futures, `channels` those of channels, both by number, and
+    /// `handles` those of senders and receivers by channel. `values` has the texts of each channel's values. What has no name is left out.
+    /// If the [plain core](crate#platforms) answered the calls, `core` says so.
+    ///
+    /// `locations` lists places in the source, as file, line and column. The other keys have indexes into it: `made` where each sender and
+    /// receiver was made, `calls` where each call of a channel was made, in the order of its entries, `tasks` where each task without a name
+    /// has made its first call, and `waiting` where the calls that wait were made. The drop of a sender or a receiver is called by the
+    /// compiler, so its location is `null`.
     ///
     /// # Examples
     ///
@@ -356,38 +251,21 @@ impl Recorder {
     ///
     /// let recorder = Recorder::new();
     /// let _entered = recorder.enter();
-    /// let (prices, _chart) = broadcast::channel(2);
+    /// let (prices, chart) = broadcast::channel(2);
     /// recorder.name(&prices, "prices").show(&prices, |price| format!("{price} EUR"));
+    /// recorder.name(&chart, "chart");
     /// block_on(named("exchange", async { prices.send(101) })).unwrap();
     ///
     /// let wanted = r#"
     ///   "actors": {"0": "exchange"},
     ///   "channels": {"0": "prices"},
-    ///   "values": {"0": {"0": "101 EUR"}}
-    /// }
-    /// "#;
-    /// assert!(recorder.names().ends_with(wanted));
+    ///   "values": {"0": {"0": "101 EUR"}},
+    ///   "handles": {"0": {"1": "chart"}},
+    ///   "locations": [["#;
+    /// assert!(recorder.names().contains(wanted));
     /// ```
     pub fn names(&self) -> String {
-        self.names_of(&self.channels())
-    }
-
-    /// Returns the names that belong to the journal of these channels.
-    fn names_of(&self, channels: &Channels) -> String {
-        let actors = lock(&self.0.actors).names();
-        let channel_names = (0..)
-            .zip(channels)
-            .filter_map(|(number, channel)| Some((number, lock(channel).name.clone()?)));
-        let values = (0..)
-            .zip(channels)
-            .map(|(number, channel)| (number, lock(channel).texts.clone()))
-            .filter(|(_, texts)| !texts.is_empty());
-        names::document(
-            core::NOTE,
-            &names::texts((0..).zip(actors)),
-            &names::texts(channel_names),
-            &names::object(values, |out, texts| out.push_str(&names::texts(texts))),
-        )
+        self.0.run().names().to_json()
     }
 
     /// Writes the journal to a file, and the names to a file beside it: those of `RUN.journal` to `RUN.names`.
@@ -419,10 +297,7 @@ impl Recorder {
     /// # Ok::<(), std::io::Error>(())
     /// ```
     pub fn save(&self, path: impl AsRef<Path>) -> io::Result<()> {
-        // Both files are of the same channels, also if others join the run in between.
-        let (path, channels) = (path.as_ref(), self.channels());
-        fs::write(path, self.journal_of(&channels)?)?;
-        fs::write(path.with_extension("names"), self.names_of(&channels))
+        self.0.run().save(path.as_ref())
     }
 
     /// Returns the number of calls that are recorded, on the channels of the run.
@@ -442,9 +317,7 @@ impl Recorder {
     /// assert_eq!(recorder.len(), 3);
     /// ```
     pub fn len(&self) -> u64 {
-        let channels = self.channels();
-        let entries = channels.iter().map(|channel| lock(channel).core.entries());
-        entries.sum()
+        self.0.run().len()
     }
 
     /// Returns `true` if no call is recorded.

@@ -4,7 +4,8 @@ use crate::broadcast::error::{RecvError, TryRecvError};
 use crate::watch;
 use std::task::Poll;
 
-/// What a call returns.
+/// What a call returns. All that carry a number carry one of 64 bits, so that a reply is passed in registers: its kind in one, and its number in
+/// another.
 #[derive(Clone, Copy, Debug, PartialEq, Eq)]
 pub(crate) enum Reply {
     Sent(u64),
@@ -14,7 +15,8 @@ pub(crate) enum Reply {
     Empty,
     Closed,
     Waits,
-    New(u32),
+    /// The number of a handle.
+    New(u64),
     Dropped,
     Count(u64),
     Unknown,
@@ -23,14 +25,37 @@ pub(crate) enum Reply {
     TooManyHandles,
     Stored,
     Old(u64),
-    Told(bool),
-    Flag(bool),
+    /// 1 for `true`, and 0 for `false`, as in [`Flag`](Reply::Flag).
+    Told(u64),
+    Flag(u64),
     Done,
     NoChannel,
     JournalFull,
     #[cfg_attr(not(proved_core), allow(dead_code))]
     NoMemory,
     NoSender,
+}
+
+impl Reply {
+    pub(crate) fn flag(flag: bool) -> Reply {
+        Reply::Flag(flag.into())
+    }
+
+    /// Whether a call that is recorded has left an entry, of which this is the reply.
+    #[inline]
+    pub(crate) fn leaves_entry(self) -> bool {
+        !matches!(
+            self,
+            Reply::Waits
+                | Reply::NoMemory
+                | Reply::JournalFull
+                | Reply::TooManyHandles
+                | Reply::Unknown
+                | Reply::Gone
+                | Reply::WrongKind
+                | Reply::NoChannel
+        )
+    }
 }
 
 /// Each of these methods is for the calls that have no other replies. That is proved of the core.
@@ -53,7 +78,7 @@ impl Reply {
     /// Returns the number of the handle that the call has created.
     pub(crate) fn new_handle(self) -> u32 {
         match self {
-            Reply::New(handle) => handle,
+            Reply::New(handle) => handle as u32,
             reply => reply.unexpected(),
         }
     }
@@ -61,7 +86,7 @@ impl Reply {
     /// Returns the number of the sender that the upgrade of a weak sender has created, or `None` if no sender is alive.
     pub(crate) fn upgraded(self) -> Option<u32> {
         match self {
-            Reply::New(handle) => Some(handle),
+            Reply::New(handle) => Some(handle as u32),
             Reply::NoSender => None,
             reply => reply.unexpected(),
         }
@@ -111,7 +136,7 @@ impl Reply {
     /// Returns whether the receiver of a watch has yet to see its value.
     pub(crate) fn has_changed(self) -> Result<bool, watch::error::RecvError> {
         match self {
-            Reply::Flag(has_changed) => Ok(has_changed),
+            Reply::Flag(has_changed) => Ok(has_changed != 0),
             Reply::Closed => Err(watch::error::RecvError(())),
             reply => reply.unexpected(),
         }

@@ -1,7 +1,10 @@
 //! Calls that wait.
 
-use crate::channel::{LockedChannel, RecordedChannel};
+use crate::channel::{CallSite, LockedChannel, RecordedChannel, call_site};
+use crate::core::Actor;
 use crate::lock::lock;
+use crate::queue::Place;
+use crate::replay::{Permit, Ticket, Word};
 use std::task::{Context, Poll, Waker};
 
 /// What a future waits for.
@@ -13,16 +16,76 @@ pub(crate) enum WaitFor {
     NoReceiver,
 }
 
-/// A call that waits. If it is dropped before it completes, it has changed nothing, isn't recorded, and is no longer woken.
+/// A method that waits, as the code under test has called it.
+#[derive(Clone, Copy)]
+pub(crate) struct Method {
+    pub(crate) name: &'static str,
+    pub(crate) called_at: CallSite,
+}
+
+impl Method {
+    /// A method that is called where the caller was called.
+    #[track_caller]
+    #[inline]
+    pub(crate) fn called(name: &'static str) -> Method {
+        Method {
+            name,
+            called_at: call_site(),
+        }
+    }
+}
+
+/// A call that has begun to wait, as its channel lists it.
+#[derive(Clone, Copy)]
+pub(crate) struct Wait {
+    pub(crate) actor: Actor,
+    pub(crate) handle: u32,
+    pub(crate) wait_for: WaitFor,
+    pub(crate) method: Method,
+    /// The recorder's clock when the call began to wait.
+    pub(crate) since: u64,
+}
+
+/// What a call that waits keeps between its polls.
+#[derive(Default)]
+pub(crate) struct Pending {
+    /// Its place in the queue of wakers.
+    pub(crate) queued: Option<Place>,
+    /// Its place among the calls that wait. One that isn't recorded has none.
+    pub(crate) listed: Option<Place>,
+    /// Its place before the gate of a replay.
+    pub(crate) before_gate: Option<Ticket>,
+}
+
+impl Pending {
+    #[inline]
+    pub(crate) fn is_waiting(&self) -> bool {
+        self.queued.is_some() || self.listed.is_some() || self.before_gate.is_some()
+    }
+}
+
+impl Pending {
+    /// Ends the wait of a call on this channel, if it waits.
+    pub(crate) fn end(&mut self, channel: &RecordedChannel, wait_for: WaitFor) {
+        channel.leave_gate(&mut self.before_gate);
+        if self.is_waiting() {
+            let removed = lock(&channel.state).end_wait(wait_for, self);
+            drop(removed);
+        }
+    }
+}
+
+/// A call that waits. If it is dropped before it completes, it has changed nothing, isn't recorded, and is no longer woken or listed.
 pub(crate) struct WaitingCall<'a> {
     pub(crate) channel: &'a RecordedChannel,
     pub(crate) handle: u32,
     pub(crate) wait_for: WaitFor,
-    /// The place of this future in the queue, while it is there.
-    pub(crate) place: Option<u64>,
+    pub(crate) word: Word,
+    pub(crate) method: Method,
+    pub(crate) pending: Pending,
 }
 
-impl WaitingCall<'_> {
+impl<'a> WaitingCall<'a> {
     /// Attempts the call. If it has to wait, the future is put into the queue under the same lock, so no call in between is missed. Wakers
     /// are cloned and dropped while no lock is held, since that may run user code.
     pub(crate) fn poll<R>(
@@ -30,22 +93,30 @@ impl WaitingCall<'_> {
         context: &Context<'_>,
         attempt: impl Fn(&mut LockedChannel<'_>) -> Poll<R>,
     ) -> Poll<R> {
+        let Poll::Ready(mut permit) = self.poll_pass(context) else {
+            return Poll::Pending;
+        };
         let mut cloned: Option<Waker> = None;
         loop {
-            let mut channel = self.channel.lock(self.handle);
+            let permit = permit.take();
+            let called_at = self.method.called_at;
+            let mut channel = self.channel.lock_with(permit, self.handle, called_at);
+            // An attempt that has to wait takes a number of the clock, and leaves no entry.
+            let since = channel.clock();
             if let Poll::Ready(result) = attempt(&mut channel) {
-                let queue = channel.state.queue(self.wait_for);
-                let removed = queue.remove(&mut self.place);
+                let removed = channel.state.end_wait(self.wait_for, &mut self.pending);
                 drop(channel);
                 drop(removed);
                 return Poll::Ready(result);
             }
+            channel.would_wait();
+            channel.list_wait(self.wait_for, self.method, since, &mut self.pending);
             let queue = channel.state.queue(self.wait_for);
-            if queue.wakes(self.place, context.waker()) {
+            if queue.wakes(self.pending.queued, context.waker()) {
                 return Poll::Pending;
             }
             if let Some(waker) = cloned.take() {
-                let replaced = queue.add(&mut self.place, waker);
+                let replaced = queue.add(&mut self.pending.queued, waker);
                 drop(channel);
                 drop(replaced);
                 return Poll::Pending;
@@ -54,15 +125,48 @@ impl WaitingCall<'_> {
             cloned = Some(context.waker().clone());
         }
     }
+
+    /// Waits for the turn of the call in a replay. It is listed among those that wait.
+    #[inline]
+    fn poll_pass(&mut self, context: &Context<'_>) -> Poll<Permit<'a>> {
+        let channel = self.channel;
+        let (handle, word, called_at) = (self.handle, self.word, self.method.called_at);
+        let ticket = &mut self.pending.before_gate;
+        let passed = channel.poll_pass(handle, word, called_at, ticket, context);
+        if passed.is_pending() && self.pending.listed.is_none() {
+            let mut channel = channel.lock_unordered(handle, called_at);
+            let since = channel.clock();
+            channel.list_wait(self.wait_for, self.method, since, &mut self.pending);
+        }
+        passed
+    }
 }
 
 impl Drop for WaitingCall<'_> {
     fn drop(&mut self) {
-        if self.place.is_some() {
-            let removed = lock(&self.channel.state)
-                .queue(self.wait_for)
-                .remove(&mut self.place);
-            drop(removed);
-        }
+        self.pending.end(self.channel, self.wait_for);
+    }
+}
+
+/// A call that waits before the gate of a replay. If it is dropped before its turn comes, it leaves the gate.
+pub(crate) struct ComingCall<'a> {
+    pub(crate) channel: &'a RecordedChannel,
+    pub(crate) handle: u32,
+    pub(crate) word: Word,
+    pub(crate) called_at: CallSite,
+    pub(crate) ticket: Option<Ticket>,
+}
+
+impl<'a> ComingCall<'a> {
+    pub(crate) fn poll(&mut self, context: &Context<'_>) -> Poll<Permit<'a>> {
+        let ticket = &mut self.ticket;
+        self.channel
+            .poll_pass(self.handle, self.word, self.called_at, ticket, context)
+    }
+}
+
+impl Drop for ComingCall<'_> {
+    fn drop(&mut self) {
+        self.channel.leave_gate(&mut self.ticket);
     }
 }

@@ -55,12 +55,13 @@ pub use borrowed::Ref;
 pub use receiver::Receiver;
 pub use sender::Sender;
 
-use crate::channel::{Channel, CoreChannel, LockedChannel, RecordedChannel};
+use crate::channel::{CallSite, Channel, CoreChannel, LockedChannel, RecordedChannel, call_site};
 use crate::handle::{ChannelHandle, Kind};
 use crate::lock::lock;
 use crate::recorder::TextOf;
-use crate::wait::WaitFor;
-use std::task::{Context, Poll};
+use crate::replay::{Permit, Word};
+use crate::wait::{Method, WaitFor};
+use std::task::Poll;
 use value::ValueLock;
 
 /// What each sender and receiver is.
@@ -82,12 +83,13 @@ type WatchHandle<T> = ChannelHandle<T, ValueLock<T>>;
 /// assert!(rx.has_changed().unwrap());
 /// assert_eq!(*rx.borrow_and_update(), "log = debug");
 /// ```
+#[track_caller]
 pub fn channel<T>(init: T) -> (Sender<T>, Receiver<T>) {
     // The core knows each value by a number. The first one has 0.
     let Ok(core) = CoreChannel::watch() else {
         panic!("yovanelum: no memory for a channel");
     };
-    let recorded = RecordedChannel::add(core, 1);
+    let recorded = RecordedChannel::add(core, 1, call_site());
     let channel = Channel::new(recorded, ValueLock::new(init));
     let (sender, receiver) = ChannelHandle::first_two(channel);
     (Sender { handle: sender }, Receiver { handle: receiver })
@@ -99,25 +101,27 @@ fn attempt_changed(channel: &mut LockedChannel<'_>) -> Poll<Result<(), error::Re
 
 impl<T> WatchHandle<T> {
     /// Returns a reference to the value, without marking the value as seen.
+    #[track_caller]
     fn borrow(&self) -> Ref<'_, T> {
-        self.borrow_by(|channel| {
-            if !channel.recorder.is_quiet() {
+        let (word, called_at) = (Word::Borrow, call_site());
+        match self.recorded().recorder.is_quiet() {
+            true => self.borrow_by(Permit::free(), called_at, |_| ()),
+            false => self.borrow_by(self.pass(word, called_at), called_at, |channel| {
                 channel.call(CoreChannel::watch_borrow);
-            }
-        })
+            }),
+        }
     }
 
-    /// Returns a reference to the value, and marks the value as seen.
-    fn borrow_and_update(&self) -> Ref<'_, T> {
-        self.borrow_by(|channel| {
-            channel.call(CoreChannel::watch_update);
-        })
-    }
-
-    /// Locks the value before the channel. So the value that is returned is the one that the call reads.
-    fn borrow_by(&self, call: impl FnOnce(&mut LockedChannel<'_>)) -> Ref<'_, T> {
+    /// Returns a reference to the value. The call that looks at it has its turn by this permit, and is made here in the source. The value is
+    /// locked before the channel, so the value that is returned is the one that the call reads.
+    fn borrow_by<'a>(
+        &'a self,
+        permit: Permit<'a>,
+        called_at: CallSite,
+        call: impl FnOnce(&mut LockedChannel<'_>),
+    ) -> Ref<'a, T> {
         let inner = self.channel.values.read();
-        let mut channel = self.lock();
+        let mut channel = self.lock_with(permit, called_at);
         let has_changed = self.has_changed(&mut channel);
         call(&mut channel);
         drop(channel);
@@ -129,18 +133,10 @@ impl<T> WatchHandle<T> {
         self.kind == Kind::Receiver && !channel.core().seen(self.number)
     }
 
-    /// Waits until there is a value that this receiver has not seen, and marks it as seen.
-    async fn changed(&self) -> Result<(), error::RecvError> {
-        self.wait(WaitFor::Value, attempt_changed).await
-    }
-
-    /// [`changed`](WatchHandle::changed) without a future. Between polls the caller holds its place in the queue.
-    fn poll_changed(
-        &self,
-        context: &Context<'_>,
-        place: &mut Option<u64>,
-    ) -> Poll<Result<(), error::RecvError>> {
-        self.poll_wait(WaitFor::Value, place, context, attempt_changed)
+    /// Waits for this method until there is a value that this receiver has not seen, and marks it as seen.
+    async fn changed(&self, method: Method) -> Result<(), error::RecvError> {
+        self.wait(WaitFor::Value, Word::Changed, method, attempt_changed)
+            .await
     }
 
     fn set_text_of(&self, text_of: TextOf<T>) {

@@ -2,9 +2,9 @@
 
 mod support;
 
-use std::fs;
+use std::{fs, panic, thread};
 use support::debugged;
-use support::parts::{Folder, between, is_part, lines_of_failure, play};
+use support::parts::{Folder, between, is_part, line_after, lines_of_failure, play, relocated};
 
 const NAME: &str = "slow_audit";
 
@@ -15,7 +15,8 @@ fn program() {
 
     let recorder = Recorder::for_test("slow_audit");
     let (orders, mut audit) = broadcast::channel(2);
-    recorder.name(&orders, "orders").show(&orders, |id| format!("order {id}"));
+    recorder.name(&orders, "orders").name(&audit, "audit");
+    recorder.show(&orders, |id| format!("order {id}"));
     let mut screen = orders.subscribe();
     for id in [71, 72, 73] {
         orders.send(id).unwrap();
@@ -24,6 +25,8 @@ fn program() {
     assert_eq!(audit.try_recv(), Ok(71));
     // Its end.
 }
+
+const START: &str = "    // The program of the front page.\n";
 
 /// The text of the front page.
 fn front_page() -> String {
@@ -36,11 +39,7 @@ fn front_page() -> String {
 
 #[test]
 fn the_program_is_that_of_the_front_page() {
-    let lines = between(
-        include_str!("front_page.rs"),
-        "    // The program of the front page.\n",
-        "    // Its end.\n",
-    );
+    let lines = between(include_str!("front_page.rs"), START, "    // Its end.\n");
     let lines = lines
         .lines()
         .map(|line| line.strip_prefix("    ").unwrap_or(line));
@@ -51,7 +50,12 @@ fn the_program_is_that_of_the_front_page() {
 #[test]
 fn the_program_prints_what_the_front_page_has_of_it() {
     if is_part() {
-        return program();
+        // There the test has this name, and so has its thread.
+        let test = thread::Builder::new().name(NAME.into()).spawn(program);
+        return test
+            .unwrap()
+            .join()
+            .unwrap_or_else(|panicked| panic::resume_unwind(panicked));
     }
     let folder = Folder::new("front-page");
     let page = front_page();
@@ -62,11 +66,11 @@ fn the_program_prints_what_the_front_page_has_of_it() {
     );
     assert!(!succeeds, "{said}");
     let built = folder.0.join("built").display().to_string();
-    // The page leaves out the end of the last line.
-    let wanted = between(&page, "```text\nassertion", "…\n```").replace("/shop/target", &built);
-    let found = lines_of_failure(&said);
-    assert!(found.starts_with(&format!("assertion{wanted}")), "{found}");
-    assert_eq!(found.lines().count(), 5, "{found}");
+    let wanted = between(&page, "```text\nassertion", "```").replace("/shop/target", &built);
+    // There the program begins at line 6.
+    let here = line_after(include_str!("front_page.rs"), START.trim_end());
+    let wanted = relocated(&wanted, ("tests/shop.rs", 6), ("tests/front_page.rs", here));
+    assert_eq!(lines_of_failure(&said), format!("assertion{wanted}"));
 
     let walk = between(&page, "```text\n$ printf '", "```");
     let (commands, written) = walk.split_once('\n').unwrap();

@@ -92,10 +92,12 @@ fn what_a_cancelled_future_drops_is_dropped_by_its_actor() {
 fn names_stand_beside_the_journal() {
     let recorder = Recorder::new();
     let _entered = recorder.enter();
+    let line = line!();
     let (tx, mut rx) = broadcast::channel::<u32>(2);
     let (level, _seen) = watch::channel(1.5);
     recorder
         .name(&tx, "prices")
+        .name(&rx, "chart")
         .show(&tx, |price| format!("{price} EUR"));
     recorder
         .name(&level, "level")
@@ -117,11 +119,20 @@ fn names_stand_beside_the_journal() {
             "  \"core\": \"answered by the plain core; the page's proved reader checks each recorded reply when it opens the run\",\n"
         }
     };
+    // Each call is some lines below, and drops have no line.
+    let file = format!("{:?}", file!());
+    let [line_1, line_2, line_11, line_12, line_15] = [1, 2, 11, 12, 15].map(|below| line + below);
     let wanted = format!(
         r#"{{
+  "version": 2,
 {note}  "actors": {{"0": "ticker", "1": "{thread}"}},
   "channels": {{"0": "prices", "1": "level"}},
-  "values": {{"0": {{"0": "7 EUR"}}, "1": {{"0": "1.50", "1": "3.00"}}}}
+  "values": {{"0": {{"0": "7 EUR"}}, "1": {{"0": "1.50", "1": "3.00"}}}},
+  "handles": {{"0": {{"1": "chart"}}}},
+  "locations": [[{file}, {line_1}, 24], [{file}, {line_11}, 12], [{file}, {line_15}, 8], [{file}, {line_2}, 26], [{file}, {line_12}, 15]],
+  "made": {{"0": {{"0": 0, "1": 0}}, "1": {{"0": 3, "1": 3}}}},
+  "calls": {{"0": [1, null, 2], "1": [4, null]}},
+  "made_by": {{"0": ["{thread}", 0], "1": ["{thread}", 1]}}
 }}
 "#
     );

@@ -11,7 +11,7 @@ use support::{accepted, poll_once};
 use yovanelum::broadcast::error::{RecvError, TryRecvError};
 use yovanelum::{Recorder, broadcast, watch};
 
-/// How many handles a journal names.
+/// How many handles a journal names, and how many values a broadcast retains.
 const MOST: usize = 65_536;
 
 #[test]
@@ -33,6 +33,25 @@ fn while_64_channels_are_alive_the_65th_is_recorded_by_none_and_works() {
     assert_eq!((entries, recorder.len()), (64 * 4, 64 * 4));
     let names = recorder.names();
     assert!(names.contains(r#""63": "channel 63"}"#), "{names}");
+}
+
+#[test]
+fn a_broadcast_of_the_greatest_capacity_retains_as_many_values() {
+    let recorder = Recorder::new();
+    let _entered = recorder.enter();
+    let (tx, mut rx) = broadcast::channel(MOST);
+    for value in 0..MOST + 2 {
+        assert_eq!(tx.send(value).unwrap(), 1);
+    }
+    assert_eq!((tx.len(), rx.len()), (MOST, MOST + 2));
+    assert_eq!(rx.try_recv(), Err(TryRecvError::Lagged(2)));
+    for value in 2..MOST + 2 {
+        assert_eq!(rx.try_recv(), Ok(value));
+    }
+    assert_eq!(rx.try_recv(), Err(TryRecvError::Empty));
+    // The sends, both lengths, the lag, the values and the empty channel.
+    let calls = (MOST + 2) + 2 + 1 + MOST + 1;
+    assert_eq!(accepted(&recorder, "greatest"), calls as u64);
 }
 
 #[test]
@@ -72,7 +91,7 @@ fn a_channel_stays_in_the_run_while_a_handle_is_alive() {
     let of_weak = broadcast::Sender::<u8>::new(2).downgrade();
     recorder
         .name(&of_sender, "of a sender")
-        .name(&of_receiver, "of a receiver")
+        .name_channel(&of_receiver, "of a receiver")
         .name(&of_weak, "of a weak sender");
     for _ in 0..200 {
         drop(watch::channel(0));

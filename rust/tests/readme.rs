@@ -5,7 +5,7 @@ mod support;
 use std::fs;
 use std::path::Path;
 use support::debugged;
-use support::parts::{Folder, between, is_part, lines_of_failure, play};
+use support::parts::{Folder, between, is_part, line_after, lines_of_failure, play, relocated};
 
 const README: &str = include_str!("../README.md");
 const NAME: &str = "no_price_is_missing";
@@ -44,13 +44,11 @@ fn program() {
     // Its end.
 }
 
+const START: &str = "    // The program of README.\n";
+
 /// Returns the lines of the program above.
 fn source() -> String {
-    let lines = between(
-        include_str!("readme.rs"),
-        "    // The program of README.\n",
-        "    // Its end.\n",
-    );
+    let lines = between(include_str!("readme.rs"), START, "    // Its end.\n");
     let lines = lines
         .lines()
         .map(|line| line.strip_prefix("    ").unwrap_or(line));
@@ -61,9 +59,10 @@ fn source() -> String {
 fn said_in_readme(folder: &Path) -> String {
     let told = between(README, "```text\nassertion", "```");
     let built = folder.join("built").display().to_string();
-    format!("assertion{told}")
-        .replace("/bus/target", &built)
-        .replace("/yovanelum/rust", env!("CARGO_MANIFEST_DIR"))
+    let told = format!("assertion{told}").replace("/bus/target", &built);
+    // There the program begins at line 6.
+    let here = line_after(include_str!("readme.rs"), START.trim_end());
+    relocated(&told, ("tests/bus.rs", 6), ("tests/readme.rs", here))
 }
 
 /// Runs the program, and returns the lines of its failure on standard error.

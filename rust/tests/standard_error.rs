@@ -4,33 +4,30 @@ mod support;
 
 use std::fs;
 use std::path::Path;
-use support::parts::{self, Folder, is_part};
+use support::parts::{self, Folder, is_part, our_lines};
 use yovanelum::{Recorder, broadcast};
 
 /// Returns whether the part of this test succeeds, and the lines of this crate that it writes to standard error.
 fn played(test: &str, folder: &Path, keep: Option<&str>) -> (bool, Vec<String>) {
     let (succeeds, said) = parts::play(test, folder, keep);
-    let ours = said.lines().filter(|line| line.contains("yovanelum: "));
-    (succeeds, ours.map(String::from).collect())
+    (succeeds, our_lines(&said))
 }
 
-/// Returns the two lines about a journal. Asserts that the journal, its names and the page exist.
+/// Returns the lines about a run of one send. Asserts that the journal, its names and the page with both exist.
 fn kept(name: &str, folder: &Path) -> Vec<String> {
     let path = folder.join(format!("built/yovanelum/{name}.journal"));
     let journal = fs::read_to_string(&path).unwrap();
     assert!(journal.contains(" send 0 0 = sent 1\n"), "{journal}");
     assert!(path.with_extension("names").exists());
-    assert!(
-        Path::new(env!("CARGO_MANIFEST_DIR"))
-            .join("built/yovanelum.html")
-            .exists()
-    );
-    let path = path.display();
+    let page = path.with_extension("html");
+    assert!(page.exists());
+    // The entries are the send and two drops, the receiver's first.
     vec![
-        format!("yovanelum: the calls of {name} are in {path}"),
+        "yovanelum: no value was lost in 3 calls on 1 channel".to_string(),
+        format!("look: file://{}#place=3", page.display()),
         format!(
-            "yovanelum: walk them by `ttd debug {path}`, or drop that file on {}/built/yovanelum.html",
-            env!("CARGO_MANIFEST_DIR")
+            "replay: YOVANELUM_REPLAY={} cargo test {name}",
+            path.display()
         ),
     ]
 }
@@ -45,12 +42,12 @@ fn send_for_test(name: &str) {
 }
 
 #[test]
-fn a_test_that_fails_says_where_its_journal_is_and_how_to_walk_it() {
+fn a_test_that_fails_says_what_happened_and_where_to_look() {
     if is_part() {
         return send_for_test("fails");
     }
     let folder = Folder::new("fails");
-    let test = "a_test_that_fails_says_where_its_journal_is_and_how_to_walk_it";
+    let test = "a_test_that_fails_says_what_happened_and_where_to_look";
     let (succeeds, said) = played(test, &folder.0, None);
     assert_eq!((succeeds, said), (false, kept("fails", &folder.0)));
 }

@@ -128,7 +128,7 @@ fn a_channel_of_another_recorder_gets_no_name_and_no_texts() {
     level.send(5).unwrap();
     let names = recorder.names();
     assert!(
-        names.contains("\"channels\": {},\n  \"values\": {}\n"),
+        names.contains("\"channels\": {},\n  \"values\": {},\n  \"locations\""),
         "{names}"
     );
     // One of a channel that belongs to none would be lost too, unless the recorder is off.

@@ -330,6 +330,80 @@ static void merge_cut(struct HeldCut *cut) {
   printf("cut_merge = %" PRIu32 "\n", code);
 }
 
+/* Prints how many rows of a kind were found, and each of them, with one index more, which has none. */
+static void print_losses(struct HeldFindings *findings) {
+  uint64_t count = yovanelum_findings_losses(findings);
+  printf("findings_losses = %" PRIu64 "\n", count);
+  for (uint64_t i = 0; i <= count; i++) {
+    struct LossFound loss = yovanelum_findings_loss(findings, i);
+    printf("findings_loss %" PRIu64 " = %" PRIu32 " %" PRIu32 " %" PRIu32 " %" PRIu32 " %" PRIu64 " %" PRIu64 " %" PRIu64 "\n", i,
+           loss.is_some, loss.channel, loss.receiver, loss.end, loss.from, loss.lost, loss.to);
+  }
+}
+
+static void print_readers(struct HeldFindings *findings) {
+  uint64_t count = yovanelum_findings_readers(findings);
+  printf("findings_readers = %" PRIu64 "\n", count);
+  for (uint64_t i = 0; i <= count; i++) {
+    struct ReaderFound reader = yovanelum_findings_reader(findings, i);
+    printf("findings_reader %" PRIu64 " = %" PRIu32 " %" PRIu32 " %" PRIu32 " %" PRIu32 " %" PRIu64 " %" PRIu64, i, reader.is_some,
+           reader.channel, reader.receiver, reader.kind, reader.received, reader.told);
+    printf(" %" PRIu64 " %" PRIu64 " %" PRIu64 " %" PRIu64 " %" PRIu64 "\n", reader.lost, reader.worst, reader.worst_place, reader.unread,
+           reader.unseen);
+  }
+}
+
+static void print_closings(struct HeldFindings *findings) {
+  uint64_t count = yovanelum_findings_closings(findings);
+  printf("findings_closings = %" PRIu64 "\n", count);
+  for (uint64_t i = 0; i <= count; i++) {
+    struct ClosingFound closing = yovanelum_findings_closing(findings, i);
+    printf("findings_closing %" PRIu64 " = %" PRIu32 " %" PRIu32 " %" PRIu64 "\n", i, closing.is_some, closing.channel, closing.place);
+  }
+  count = yovanelum_findings_late_readers(findings);
+  printf("findings_late_readers = %" PRIu64 "\n", count);
+  for (uint64_t i = 0; i <= count; i++) {
+    struct LateReaderFound late = yovanelum_findings_late_reader(findings, i);
+    printf("findings_late_reader %" PRIu64 " = %" PRIu32 " %" PRIu32 " %" PRIu32 " %" PRIu64 " %" PRIu64 "\n", i, late.is_some,
+           late.channel, late.receiver, late.told_at, late.read_on);
+  }
+}
+
+/* Reads a journal text, or the first bytes of one, with so much memory, and prints what is found in its run. */
+static void find_in(const uint8_t *text, uint64_t len, uint64_t memory) {
+  struct HeldFindings findings = {NULL};
+  granted = memory;
+  struct Refusal refusal = yovanelum_findings_open(&findings, text, len);
+  granted = PLENTY;
+  printf("findings_open %" PRIu64 " = %" PRIu32 " %" PRIu64 "\n", len, refusal.kind, refusal.line);
+  if (refusal.kind != 0) return;
+  printf("findings_entries = %" PRIu64 "\n", yovanelum_findings_entries(&findings));
+  print_losses(&findings);
+  print_readers(&findings);
+  print_closings(&findings);
+  yovanelum_findings_free(&findings);
+  printf("findings_free\n");
+}
+
+/* Reads a journal text, or the first bytes of one, with so much memory, and prints each call of its run, with one more, which has none. */
+static void read_run(const uint8_t *text, uint64_t len, uint64_t memory) {
+  struct HeldRun run = {NULL};
+  granted = memory;
+  struct Refusal refusal = yovanelum_run_open(&run, text, len);
+  granted = PLENTY;
+  printf("run_open %" PRIu64 " = %" PRIu32 " %" PRIu64 "\n", len, refusal.kind, refusal.line);
+  if (refusal.kind != 0) return;
+  struct CallFound call;
+  do {
+    call = yovanelum_run_next_call(&run);
+    printf("run_next_call = %" PRIu32 " %" PRIu32 " %" PRIu32 " %" PRIu32 " %" PRIu32 " %" PRIu32 " %" PRIu32, call.is_some, call.actor,
+           call.channel, call.call, call.handle, call.told, call.kind);
+    printf(" %" PRIu64 " %" PRIu64 " %" PRIu64 "\n", call.stamp, call.value, call.number);
+  } while (call.is_some != 0);
+  yovanelum_run_free(&run);
+  printf("run_free\n");
+}
+
 /* Prints the text. Also prints whether a room that is a byte too long was filled, and whether it is unchanged. */
 static void print_text(struct HeldCut *cut) {
   uint64_t len = yovanelum_cut_text_len(cut);
@@ -343,6 +417,12 @@ static void print_text(struct HeldCut *cut) {
   printf("cut_text = %d\njournal %" PRIu64 "\n", is_copied, len);
   fwrite(room, 1, len, stdout);
   printf("journal over\n");
+  find_in(room, len, PLENTY);
+  if (one_in(4)) find_in(room, len > 0 ? len - 1 : 0, PLENTY);
+  if (one_in(4)) find_in(room, len, 3);
+  read_run(room, len, PLENTY);
+  if (one_in(4)) read_run(room, len > 0 ? len - 1 : 0, PLENTY);
+  if (one_in(4)) read_run(room, len, 3);
   free(room);
 }
 

@@ -1,4 +1,4 @@
-//! The index of the condition on entries that was searched for last.
+//! The indexes of the conditions on entries that were searched for.
 
 ghost use Rattle.std.specs.Prelude.{◌≡◌, ℕ, IfSome, IsTrue};
 ghost use Rattle.rw_navigator.specs.Conditions.{asks_step, holds_of_step};
@@ -8,23 +8,29 @@ use rw_navigator::{Cond, Debugger, HitIndex};
 use rw_world::World;
 use std::alloc::Global;
 
+/// The most indexes that a walk keeps.
+///
+/// The memory of indexes is bounded without it. An entry meets three conditions at most, by its actor, its channel and its kind of
+/// reply, and no condition is indexed twice. So all indexes of a walk together have at most three places an entry.
+pub const MOST_INDEXES: usize = 256;
+
 /// A condition on entries, and the places where it is met.
 #[derive(Drop)]
-pub struct LastIndex {
+pub struct KeptIndex {
     pub cond: Cond,
     pub index: HitIndex<World<u64>, Cond>,
     ghost of_cond: { index.probe ≡ cond },
 }
 
-impl LastIndex {
+impl KeptIndex {
     /// Builds the index of a condition on entries, or returns `None` if memory runs out.
-    pub fn build(alloc: Global, debugger: &Debugger<u64>, cond: Cond) -> Option<LastIndex>
+    pub fn build(alloc: Global, debugger: &Debugger<u64>, cond: Cond) -> Option<KeptIndex>
         requires { IsTrue (asks_step cond) }
-        ensures cond { IfSome result (λ last. last.cond ≡ cond) }
-        ensures run { IfSome result (λ last. last.index.entries ≡ debugger.now.run.entries) }
+        ensures cond { IfSome result (λ kept. kept.cond ≡ cond) }
+        ensures run { IfSome result (λ kept. kept.index.entries ≡ debugger.now.run.entries) }
     {
         let index = debugger.hit_index(alloc, &cond).ok()?;
-        Some(LastIndex { cond, index })
+        Some(KeptIndex { cond, index })
     }
 }
 

@@ -39,7 +39,7 @@ fn take_line(script: &mut ScriptReader, line: &[u8]) -> Result<Option<ScriptFaul
         (λ f. after_line script.old line.now ≡ Err f)) }
     ensures err { IfErr result (λ e. e ≡ StreamFault.NoMemory) }
 {
-    match script.take(line) {
+    match script.read_line(line) {
         Ok(()) => Ok(None),
         Err(fault) => match fault.kind {
             ScriptFaultKind::NoMemory => Err(StreamFault::NoMemory),

@@ -12,7 +12,7 @@ ghost use Rattle.rw_script.specs.Running.{run_of};
 use crate::blocks::push_world;
 use crate::command::Command;
 use crate::entries::push_entry;
-use crate::index::{LastIndex, asks_the_same};
+use crate::index::{KeptIndex, MOST_INDEXES, asks_the_same};
 use crate::json::push_json;
 use crate::text::{push_hit, push_place, push_refusal};
 use rw_journal::Run;
@@ -28,19 +28,19 @@ use std::marker::Model;
 pub struct Walk {
     alloc: Global,
     debugger: Debugger<u64>,
-    // Of the condition on entries that was searched for last, if there was memory for it.
-    index: Option<LastIndex>,
+    // Of the conditions on entries that were searched for, as far as there was memory for them. No two are of one condition.
+    indexes: Vec<KeptIndex>,
 }
 
 impl Model for Walk {
-    ghost use Rattle.std.specs.Prelude.{◌≡◌, IfSome};
+    ghost use Rattle.std.specs.Prelude.{◌≡◌, All};
     ghost use Rattle.rw_console.specs.Walk.{Walk as Seen};
 
     ghost Value = { Seen };
 
     ghost view = { λ a. record { run = a.debugger.run; place = a.debugger.place } };
 
-    ghost invariant = { λ a. IfSome a.index (λ last. last.index.entries ≡ a.debugger.run.entries) };
+    ghost invariant = { λ a. All (λ kept. kept.index.entries ≡ a.debugger.run.entries) a.indexes.items };
 }
 
 impl Walk {
@@ -54,7 +54,7 @@ impl Walk {
         Ok(Walk {
             alloc,
             debugger,
-            index: None,
+            indexes: Vec::new(alloc),
         })
     }
 
@@ -73,7 +73,7 @@ impl Walk {
         let walk = Walk {
             alloc,
             debugger,
-            index: None,
+            indexes: Vec::new(alloc),
         };
         Ok((walk, waits))
     }
@@ -130,28 +130,36 @@ impl Walk {
         )
     }
 
-    /// Returns the index, if it is that of the condition.
+    /// Returns the index of a condition, if it is kept.
     fn index_of(&self, cond: Cond) -> Option<&HitIndex<World<u64>, Cond>>
         ensures run { IfSome result (λ index. index.now.entries ≡ self.now.run.entries) }
         ensures step { IsSome result → IsTrue (asks_step cond) }
         ensures same { IfSome result (λ index. (e : WorldEntry ℕ) → holds_of_step index.now.probe e ≡ holds_of_step cond e) }
     {
-        match &self.index {
-            Some(last) if asks_the_same(cond, last.cond) => Some(&last.index),
-            _ => None,
+        for i in 0..self.indexes.len() {
+            if asks_the_same(cond, self.indexes[i].cond) {
+                return Some(&self.indexes[i].index);
+            }
         }
+        None
     }
 
-    /// Indexes a condition on entries, unless it is indexed already.
+    /// Indexes a condition on entries, unless it is indexed already or memory runs out.
     fn keep_index(&mut self, cond: Cond)
         ensures { self.new ≡ self.old }
     {
         if self.index_of(cond).is_some() || !<Cond as Probe<World<u64>>>::on_step(&cond) {
             return;
         }
-        // The last index is freed before memory for the new one is allocated.
-        self.index = None;
-        self.index = LastIndex::build(self.alloc, &self.debugger, cond);
+        if self.indexes.len() >= MOST_INDEXES {
+            self.indexes.clear();
+        }
+        if self.indexes.reserve(1).is_err() {
+            return;
+        }
+        if let Some(kept) = KeptIndex::build(self.alloc, &self.debugger, cond) {
+            self.indexes.push_reserved(kept);
+        }
     }
 
     /// Goes to a hit by one move. Without a hit, the place stays the same.

@@ -1,5 +1,5 @@
 -- The kind of a channel never changes. It determines which calls stray, and the kind of a reply.
-use Rattle.std.proofs.Common.{◌≡◌, ℕ, false, List, [], ◌∷◌, Result, Ok, Err, IfOk, OnErr, refl, sym, ◌∙◌, ap, subst, arith}
+use Rattle.std.proofs.Common.{◌≡◌, ℕ, false, List, [], ◌∷◌, Some, Result, Ok, Err, IfOk, OnErr, refl, sym, ◌∙◌, ap, subst}
 use Rattle.rw_law.specs.Journal.{after_all}
 use Rattle.rw_world.specs.declared.opening.Spec.{Spec}
 use Rattle.rw_world.specs.declared.opening.Spec.TheVariants.{Broadcast, Watch}
@@ -14,9 +14,9 @@ use Rattle.rw_world.specs.declared.channels.ChanPatch.{ChanPatch}
 use Rattle.rw_world.specs.Machines.{ChanShown, of_broadcast, of_watch, of_chan}
 use Rattle.rw_world.specs.Openings.{opened_channel, spec_kind}
 use Rattle.rw_world.specs.Specified.{ChanEntry}
-use Rattle.rw_journal.specs.Book.{Book, IsUnchanged, reply_to, state_of}
+use Rattle.rw_journal.specs.Book.{Book, IsBook, IsUnchanged, opening_of, reply_to, state_of}
 use Rattle.rw_desk.specs.declared.faults.DeskFault.{DeskFault}
-use Rattle.rw_desk.specs.Locked.{IsOpenedFrom}
+use Rattle.rw_desk.specs.GuardedBook.{IsOpenedFrom}
 use Rattle.rw_desk.specs.Passes.{HasReceipt, IsOfKind, IsRecorded, Pass}
 
 -- what callers see of a channel's book
@@ -48,18 +48,23 @@ module _ {V : Type 0} where
   kind_of_reply (watch_shown x) (call.W c) stays = tt
 
   -- a recorded call adds its receipt
-  pub has_receipt : (old new : Pass V) (before now : Books V) (channel : ℕ) (c : ChanCall V) (r : ChanReply V) → IsRecorded of_chan old new before now channel c r → HasReceipt old new channel c r
-  has_receipt old new before now channel c r recorded =
+  pub has_receipt : (spec : Spec V) (old new : Pass V) (before now : Books V) (channel : ℕ) (c : ChanCall V) (r : ChanReply V) → IsOpenedFrom spec before → IsBook of_chan (opening_of of_chan before) before.entries
+      → IsRecorded of_chan old new before now channel c r → HasReceipt (Some spec) old new channel c r
+  has_receipt spec old new before now channel c r opened book recorded =
       let taken = recorded.taken in
-      let x : ChanShown V = after_all of_chan ((of_chan {V = V}).shown before.opening) before.entries in
-      let stays : (of_chan {V = V}).is_straying ((of_chan {V = V}).reply_of x c) ≡ false = subst (λ s. (of_chan {V = V}).is_straying s ≡ false) taken.reply_is taken.no_stray in
+      let x : ChanShown V = after_all of_chan (opened_channel spec) before.entries in
+      let reply_is : r ≡ (of_chan {V = V}).reply_of x c = taken.reply_is ∙ ap (λ s. (of_chan {V = V}).reply_of (after_all of_chan s before.entries) c) opened in
+      let stays : (of_chan {V = V}).is_straying ((of_chan {V = V}).reply_of x c) ≡ false = subst (λ s. (of_chan {V = V}).is_straying s ≡ false) reply_is taken.no_stray in
       record {
+        opened = spec;
+        spec_is = refl;
+        journal = before.entries;
+        book = subst (λ s. IsBook of_chan s before.entries) opened book;
         stamp = recorded.stamp;
-        above = omega (arith, taken.stamp_is);
-        state = x;
-        replied = sym taken.reply_is;
+        stamp_is = taken.stamp_is;
+        replied = sym reply_is;
         no_wait = taken.no_wait;
-        kind = subst (IsOfKind c) (sym taken.reply_is) (kind_of_reply x c stays);
+        kind = subst (IsOfKind c) (sym reply_is) (kind_of_reply x c stays);
         pass = recorded.pass;
       }
 
@@ -69,9 +74,10 @@ module _ {V : Type 0} where
   opened_still spec old new before now channel c (Ok r) opened recorded unchanged = ap (of_chan {V = V}).shown recorded.taken.opening ∙ opened
   opened_still spec old new before now channel c (Err fault) opened recorded unchanged = ap (of_chan {V = V}).shown unchanged.opening ∙ opened
 
-  pub receipt_given : (old new : Pass V) (before now : Books V) (channel : ℕ) (c : ChanCall V) (answer : Result (ChanReply V) DeskFault) → IfOk answer (λ r. IsRecorded of_chan old new before now channel c r) → IfOk answer (λ r. HasReceipt old new channel c r)
-  receipt_given old new before now channel c (Ok r) recorded = has_receipt old new before now channel c r recorded
-  receipt_given old new before now channel c (Err fault) recorded = tt
+  pub receipt_given : (spec : Spec V) (old new : Pass V) (before now : Books V) (channel : ℕ) (c : ChanCall V) (answer : Result (ChanReply V) DeskFault) → IsOpenedFrom spec before → IsBook of_chan (opening_of of_chan before) before.entries
+      → IfOk answer (λ r. IsRecorded of_chan old new before now channel c r) → IfOk answer (λ r. HasReceipt (Some spec) old new channel c r)
+  receipt_given spec old new before now channel c (Ok r) opened book recorded = has_receipt spec old new before now channel c r opened book recorded
+  receipt_given spec old new before now channel c (Err fault) opened book recorded = tt
 
   -- a call that isn't stray by the spec isn't stray at the book
   pub never_strays : (spec own : Spec V) (book : Books V) (c : ChanCall V) → IsOpenedFrom own book → own ≡ spec → strays_at (spec_kind spec) c ≡ false → (of_chan {V = V}).is_straying (reply_to of_chan book c) ≡ false

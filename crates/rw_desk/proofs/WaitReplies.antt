@@ -2,6 +2,7 @@
 use Rattle.std.proofs.Common.{◌≡◌, ◌⊎◌, ℕ, zero, suc, Bool, true, false, Option, List, [], ◌∷◌, Result, Ok, Err, OnErr, Some, None, refl, sym, ◌∙◌, ap, subst, inl, inr}
 use Rattle.std.specs.Prelude.{map, ◌↔◌, IsErrAnd, IsErrOf, IsTrue, MatchOption}
 use Rattle.std.proofs.lemmas.Bool.{true≢false}
+use Rattle.rw_law.specs.Journal.{after_all}
 use Rattle.rw_handles.specs.declared.kinds.Found.{Found}
 use Rattle.rw_handles.specs.declared.kinds.Found.TheVariants.{Fault, Handle}
 use Rattle.rw_handles.specs.Slots.{lookup}
@@ -16,7 +17,7 @@ use Rattle.rw_world.specs.declared.channels.ChanReply.TheVariants as reply
 use Rattle.rw_world.specs.Channel.{strays_at}
 use Rattle.rw_world.specs.Kinds.{broadcast_shown, watch, watch_shown}
 use Rattle.rw_world.specs.Machines.{ChanShown, of_chan, of_watch}
-use Rattle.rw_world.specs.Openings.{spec_kind}
+use Rattle.rw_world.specs.Openings.{opened_channel, spec_kind}
 use Rattle.rw_world.specs.declared.opening.Spec.{Spec}
 use Rattle.rw_world.specs.declared.opening.Spec.TheVariants as spec
 use Rattle.rw_world.specs.Shapes.{stray_of}
@@ -51,15 +52,15 @@ module _ {V : Type 0} where
           closes true shut = inr (inl (rw (is, shut) refl))
           closes false shut = let waits : (of_watch {V = V}).is_waiting ((wait_effect y h mark).1) ≡ true = rw (is, shut) refl in absurd (cc)
 
-  pub of_look : (old new : Pass V) (channel h : ℕ) (r : WReply V) → HasLooked channel h old new r → IsRead r
-  of_look old new channel h r receipt = go receipt.state receipt.replied
+  pub of_look : (spec : Option (Spec V)) (old new : Pass V) (channel h : ℕ) (r : WReply V) → HasLooked spec channel h old new r → IsRead r
+  of_look spec old new channel h r receipt = go (after_all of_chan (opened_channel receipt.opened) receipt.journal) receipt.replied
     where
       go : (s : ChanShown V) → (of_chan {V = V}).reply_of s (call.W (Update h)) ≡ reply.W r → IsRead r
       go (broadcast_shown x) is = absurd (cc)
       go (watch_shown y) is = let same : (effect_found y (Update h) (lookup (wanted_kind {V = V} (Update h)) y.slots h)).1 ≡ r = cc in subst IsRead same (read y h (lookup (wanted_kind {V = V} (Update h)) y.slots h))
 
-  pub of_change : (old new : Pass V) (channel h : ℕ) (r : WReply V) → HasChanged channel h old new r → IsChange r
-  of_change old new channel h r receipt = go receipt.state receipt.replied
+  pub of_change : (spec : Option (Spec V)) (old new : Pass V) (channel h : ℕ) (r : WReply V) → HasChanged spec channel h old new r → IsChange r
+  of_change spec old new channel h r receipt = go (after_all of_chan (opened_channel receipt.opened) receipt.journal) receipt.replied
     where
       go : (s : ChanShown V) → (of_chan {V = V}).reply_of s (call.W (Changed h)) ≡ reply.W r → IsChange r
       go (broadcast_shown x) is = absurd (cc)

@@ -62,6 +62,6 @@ has_no_watch specs channel = no_watch_at (slice_get specs channel)
 -- What a desk returns for a call: the pass has its receipt, with the reply that the result has; or the pass is unchanged. The fault is
 -- `NoChannel` exactly if the call strays by the specs.
 pub record IsAnswered {V X : Type 0} (specs : List (Spec V)) (old new : Pass V) (channel : ℕ) (call : ChanCall V) (reply_of : X → ChanReply V) (answer : Result X DeskFault) : Type 0 where
-  pub receipt : IfOk answer (λ x. HasReceipt old new channel call (reply_of x))
+  pub receipt : IfOk answer (λ x. HasReceipt (slice_get specs channel) old new channel call (reply_of x))
   pub refused : OnErr answer (new ≡ old)
   pub no_channel : IsErrOf answer NoChannel ↔ IsTrue (stray_of strays_at (map spec_kind specs) (row_call channel call))

@@ -2,7 +2,7 @@ pub mod Answers
 pub mod CallWords
 pub mod Closing
 pub mod Desks
-pub mod Locked
+pub mod GuardedBook
 pub mod Modifying
 pub mod Passes
 pub mod Settling

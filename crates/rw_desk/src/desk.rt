@@ -9,11 +9,11 @@ ghost use Rattle.rw_world.specs.Shapes.{stray_of};
 ghost use Rattle.rw_desk.specs.Desks.{HasOpened, IsAnswered, ends_at, refusal_to_open, row_call};
 ghost use Rattle.rw_desk.specs.Passes.{fresh_pass};
 
+use crate::channel_lock::ChannelLock;
 use crate::faults::{DeskFault, DeskOpenFault};
+use crate::guarded_book::GuardedBook;
 use crate::handles::{BRx, BTx, Ends, WRx, WTx};
-use crate::locked::Locked;
 use crate::pass::Pass;
-use crate::place::Place;
 use rw_law::{MOST_ACTORS, NoMemory, Payload};
 use rw_world::{ChanCall, ChanReply, OpenFault, Spec, refusal_of};
 use std::alloc::Global;
@@ -25,7 +25,7 @@ use std::sync::Wait;
 pub struct Desk<V: Payload> {
     pub(crate) specs: Vec<Spec<V>>,
     pub(crate) actors: u32,
-    pub(crate) places: Vec<Place<V>>,
+    pub(crate) locks: Vec<ChannelLock<V>>,
 }
 
 impl<V: Payload> Model for Desk<V> {
@@ -36,7 +36,7 @@ impl<V: Payload> Model for Desk<V> {
 
     ghost view = { λ d. record { specs = d.specs.items; actors = d.actors } };
 
-    ghost invariant = { λ d. IsDesk d.specs.items d.actors (length d.places.items) };
+    ghost invariant = { λ d. IsDesk d.specs.items d.actors (length d.locks.items) };
 }
 
 impl<V: Payload> Desk<V> {
@@ -73,14 +73,14 @@ impl<V: Payload> Desk<V> {
     {
         let passes = fresh_passes(alloc, actors)?;
         let ends = first_ends(alloc, specs)?;
-        let places = open_places(alloc, specs)?;
+        let locks = open_locks(alloc, specs)?;
         let Ok(specs) = Vec::from_slice(alloc, specs) else {
             return Err(NoMemory);
         };
         let desk = Desk {
             specs,
             actors,
-            places,
+            locks,
         };
         Ok((desk, passes, ends))
     }
@@ -95,8 +95,8 @@ impl<V: Payload> Desk<V> {
     ) -> Result<ChanReply<V>, DeskFault>
         ensures { IsAnswered self.now.specs pass.old pass.new channel call (λ reply. reply) result }
     {
-        match self.place(channel, &call) {
-            Some((spec, place)) => place.call(rt, spec, pass, channel, call),
+        match self.lock_of(channel, &call) {
+            Some((spec, lock)) => lock.call(rt, spec, pass, channel, call),
             None => Err(DeskFault::NoChannel),
         }
     }
@@ -112,15 +112,32 @@ impl<V: Payload> Desk<V> {
         ensures answered { IsAnswered self.now.specs pass.old pass.new channel call (λ reply. reply) result }
         ensures waited { ¬ IsErrOf result DeskFault.Waits }
     {
-        match self.place(channel, &call) {
-            Some((spec, place)) => place.wait_call(rt, spec, pass, channel, call),
+        match self.lock_of(channel, &call) {
+            Some((spec, lock)) => lock.wait_call(rt, spec, pass, channel, call),
             None => Err(DeskFault::NoChannel),
         }
     }
 
+    /// Whether a thread waits on a channel, or `None` if there is no such channel. It acquires the lock of the channel, and no
+    /// other.
+    ///
+    /// A thread that waits has released the lock, and sleeps until another thread's call may have changed the channel. So a test
+    /// can see that a thread waits before it makes the call that ends the wait. No clause says whether a thread does.
+    pub fn is_awaited<R: Wait>(&self, rt: &R, channel: u32) -> Option<bool>
+        ensures { IsNone result ↔ length self.now.specs ≤ channel }
+    {
+        let lock = self.locks.get(channel as usize)?;
+        Some(lock.is_awaited(rt))
+    }
+
     /// Returns the spec and the lock of a call's channel, or `None` if the call strays.
-    pub(crate) fn place(&self, channel: u32, call: &ChanCall<V>) -> Option<(&Spec<V>, &Place<V>)>
+    pub(crate) fn lock_of(
+        &self,
+        channel: u32,
+        call: &ChanCall<V>,
+    ) -> Option<(&Spec<V>, &ChannelLock<V>)>
         ensures none { IsNone result ↔ IsTrue (stray_of strays_at (map spec_kind self.now.specs) (row_call channel call.now)) }
+        ensures there { IfSome result (λ r. slice_get self.now.specs channel ≡ Some r.0.now) }
         ensures some { IfSome result (λ r. strays_at (spec_kind r.0.now) call.now ≡ false) }
     {
         let at = channel as usize;
@@ -128,7 +145,7 @@ impl<V: Payload> Desk<V> {
         if strays(spec, call) {
             return None;
         }
-        Some((spec, &self.places[at]))
+        Some((spec, &self.locks[at]))
     }
 }
 
@@ -198,13 +215,13 @@ fn ends_of<V: Copy>(channel: u32, spec: &Spec<V>) -> Ends
 }
 
 /// Opens the channels.
-fn open_places<V: Payload>(alloc: Global, specs: &[Spec<V>]) -> Result<Vec<Place<V>>, NoMemory>
+fn open_locks<V: Payload>(alloc: Global, specs: &[Spec<V>]) -> Result<Vec<ChannelLock<V>>, NoMemory>
     requires { All (λ spec. has_bad_capacity spec ≡ false) specs.now }
-    ensures { IfOk result (λ places. length places.items ≡ length specs.now) }
+    ensures { IfOk result (λ locks. length locks.items ≡ length specs.now) }
 {
-    let mut places = Vec::new(alloc);
+    let mut locks = Vec::new(alloc);
     for spec in specs {
-        places.push(Place::new(Locked::open(alloc, spec)?))?;
+        locks.push(ChannelLock::new(GuardedBook::open(alloc, spec)?))?;
     }
-    Ok(places)
+    Ok(locks)
 }

@@ -38,7 +38,7 @@ pub enum CloseFault {
     #[error("not exactly one pass of actor {0}")]
     Stranger(u32),
     /// An entry of this actor is out of order, at this place of its channel. Or else this is the least actor whose receipts
-    /// aren't its entries, and the least place at which they differ.
+    /// aren't its entries, and the number of the first receipt at which they differ.
     #[error("actor {0} strayed at {1}")]
     Strayed(u32, u64),
     /// An allocation failed.

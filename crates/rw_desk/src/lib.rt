@@ -6,16 +6,16 @@
 #![tactic(auto)]
 
 mod broadcast_calls;
+mod channel_lock;
 mod closing;
 mod desk;
 mod faults;
+mod guarded_book;
 mod handles;
 mod kept;
-mod locked;
 mod made;
 mod modification;
 mod pass;
-mod place;
 mod same_calls;
 mod settling;
 mod strangers;

@@ -13,11 +13,12 @@ use rw_journal::Run;
 use rw_law::{Entry, MOST_ACTORS, Payload};
 use rw_world::World;
 
-/// The least actor that was found to stray, and the first place at which it does. The actor is `MOST_ACTORS` if none was found.
+/// The least actor that was found to stray, and the number of the receipt at which it first does. The actor is `MOST_ACTORS` if
+/// none was found.
 #[derive(Clone, Copy)]
 struct FirstStray {
     actor: u32,
-    place: usize,
+    number: usize,
 }
 
 /// Returns the receipts of an actor's first pass, or none if it has no pass.
@@ -32,18 +33,18 @@ fn receipts_of<V: Copy>(passes: &[Pass<V>], actor: u32) -> &[Kept<V>]
     &[]
 }
 
-/// Advances the place of the entry's actor if its next receipt is the entry's. Returns whether it is.
-fn follow<V: Payload>(passes: &[Pass<V>], places: &mut [usize], entry: &Entry<World<V>>) -> bool
-    requires { entry.now.actor < length places.old }
-    ensures same { IsTrue result ↔ (slice_get (receipts_of entry.now.actor passes.now) (get_or places.old entry.now.actor 0) ≡ Some (receipt_of entry.now)) }
-    ensures places { MatchBool result (places.new ≡ set places.old entry.now.actor (get_or places.old entry.now.actor 0 + 1)) (places.new ≡ places.old) }
+/// Advances the number of the next receipt of the entry's actor, if that receipt is the entry's. Returns whether it is.
+fn follow<V: Payload>(passes: &[Pass<V>], numbers: &mut [usize], entry: &Entry<World<V>>) -> bool
+    requires { entry.now.actor < length numbers.old }
+    ensures same { IsTrue result ↔ (slice_get (receipts_of entry.now.actor passes.now) (get_or numbers.old entry.now.actor 0) ≡ Some (receipt_of entry.now)) }
+    ensures numbers { MatchBool result (numbers.new ≡ set numbers.old entry.now.actor (get_or numbers.old entry.now.actor 0 + 1)) (numbers.new ≡ numbers.old) }
 {
     let actor = entry.actor as usize;
-    let place = places[actor];
-    if !is_next(receipts_of(passes, entry.actor), place, entry) {
+    let number = numbers[actor];
+    if !is_next(receipts_of(passes, entry.actor), number, entry) {
         return false;
     }
-    places[actor] = place + 1;
+    numbers[actor] = number + 1;
     true
 }
 
@@ -51,45 +52,45 @@ fn follow<V: Payload>(passes: &[Pass<V>], places: &mut [usize], entry: &Entry<Wo
 fn follow_all<V: Payload>(
     passes: &[Pass<V>],
     entries: &[Entry<World<V>>],
-    places: &mut [usize],
+    numbers: &mut [usize],
 ) -> FirstStray
-    requires places { places.old ≡ replicate MOST_ACTORS 0 }
-    ensures places { length places.new ≡ MOST_ACTORS }
+    requires numbers { numbers.old ≡ replicate MOST_ACTORS 0 }
+    ensures numbers { length numbers.new ≡ MOST_ACTORS }
     ensures few { result.actor ≤ MOST_ACTORS }
-    ensures at { AreAt passes.now entries.now places.new result.actor }
+    ensures at { AreAt passes.now entries.now numbers.new result.actor }
     ensures strays { StraysAt passes.now entries.now result }
 {
     let mut nearest = FirstStray {
         actor: MOST_ACTORS,
-        place: 0,
+        number: 0,
     };
     for entry in entries {
-        if entry.actor < nearest.actor && !follow(passes, places, entry) {
+        if entry.actor < nearest.actor && !follow(passes, numbers, entry) {
             nearest = FirstStray {
                 actor: entry.actor,
-                place: places[entry.actor as usize],
+                number: numbers[entry.actor as usize],
             };
         }
     }
     nearest
 }
 
-/// Returns the least actor below a bound that has receipts left from its place on.
-fn first_left<V: Copy>(passes: &[Pass<V>], places: &[usize], bound: u32) -> Option<u32>
-    requires { bound ≤ length places.now }
-    ensures none { IfNone result ((a : ℕ) → a < bound → length (receipts_of a passes.now) ≤ get_or places.now a 0) }
-    ensures some { IfSome result (λ a. (a < bound) × (get_or places.now a 0 < length (receipts_of a passes.now))) }
-    ensures least { IfSome result (λ a. (b : ℕ) → b < a → length (receipts_of b passes.now) ≤ get_or places.now b 0) }
+/// Returns the least actor below a bound that has a receipt of its number, and so receipts left.
+fn first_left<V: Copy>(passes: &[Pass<V>], numbers: &[usize], bound: u32) -> Option<u32>
+    requires { bound ≤ length numbers.now }
+    ensures none { IfNone result ((a : ℕ) → a < bound → length (receipts_of a passes.now) ≤ get_or numbers.now a 0) }
+    ensures some { IfSome result (λ a. (a < bound) × (get_or numbers.now a 0 < length (receipts_of a passes.now))) }
+    ensures least { IfSome result (λ a. (b : ℕ) → b < a → length (receipts_of b passes.now) ≤ get_or numbers.now b 0) }
 {
     for actor in 0..bound {
-        if places[actor as usize] < receipts_of(passes, actor).len() {
+        if numbers[actor as usize] < receipts_of(passes, actor).len() {
             return Some(actor);
         }
     }
     None
 }
 
-/// Returns the least actor whose receipts aren't its entries, and the first place at which they differ.
+/// Returns the least actor whose receipts aren't its entries, and the number of the first at which they differ.
 pub(crate) fn strayed<V: Payload>(
     entries: &[Entry<World<V>>],
     passes: &[Pass<V>],
@@ -97,13 +98,13 @@ pub(crate) fn strayed<V: Payload>(
     ensures none { IfNone result (AreAllTheirs passes.now entries.now) }
     ensures some { IfSome result (λ r. IsStray passes.now entries.now r.0 r.1) }
 {
-    let mut places = [0usize; MOST_ACTORS as usize];
-    let nearest = follow_all(passes, entries, &mut places);
-    if let Some(actor) = first_left(passes, &places, nearest.actor) {
-        return Some((actor, places[actor as usize] as u64));
+    let mut numbers = [0usize; MOST_ACTORS as usize];
+    let nearest = follow_all(passes, entries, &mut numbers);
+    if let Some(actor) = first_left(passes, &numbers, nearest.actor) {
+        return Some((actor, numbers[actor as usize] as u64));
     }
     if nearest.actor < MOST_ACTORS {
-        return Some((nearest.actor, nearest.place as u64));
+        return Some((nearest.actor, nearest.number as u64));
     }
     None
 }

@@ -1,6 +1,6 @@
 //! The calls of watch channels that take a closure.
 
-ghost use Rattle.std.specs.Prelude.{◌≡◌, ◌↔◌, true, IfOk, IsErrOf, IsTrue, MatchOption, OnErr};
+ghost use Rattle.std.specs.Prelude.{◌≡◌, ◌↔◌, true, IfOk, IsErrOf, IsTrue, MatchOption, OnErr, slice_get};
 ghost use Rattle.std.specs.Fn.{FnOnceReturnsAtMut, FnReturnsAt};
 ghost use Rattle.rw_desk.specs.Desks.{has_no_watch};
 ghost use Rattle.rw_desk.specs.Modifying.{HasModified};
@@ -27,7 +27,7 @@ impl<V: Payload> Desk<V> {
         f: F,
     ) -> Result<WReply<V>, DeskFault>
         requires { F.IsAlwaysCallable f }
-        ensures modified { IfOk result (HasModified (λ v told w. FnOnceReturnsAtMut F.FnOnce f v told w) (λ v. Unit {0}) pass.old pass.new sender.now.channel sender.now.number) }
+        ensures modified { IfOk result (HasModified (λ v told w. FnOnceReturnsAtMut F.FnOnce f v told w) (λ v. Unit {0}) (slice_get self.now.specs sender.now.channel) pass.old pass.new sender.now.channel sender.now.number) }
         ensures refused { OnErr result (pass.new ≡ pass.old) }
         ensures no_channel { IsErrOf result DeskFault.NoChannel ↔ IsTrue (has_no_watch self.now.specs sender.now.channel) }
     {
@@ -43,7 +43,7 @@ impl<V: Payload> Desk<V> {
         f: F,
     ) -> Result<WReply<V>, DeskFault>
         requires { F.IsAlwaysCallable f }
-        ensures modified { IfOk result (HasModified (λ v told w. (told ≡ true) × FnOnceReturnsAtMut F.FnOnce f v tt w) (λ v. Unit {0}) pass.old pass.new sender.now.channel sender.now.number) }
+        ensures modified { IfOk result (HasModified (λ v told w. (told ≡ true) × FnOnceReturnsAtMut F.FnOnce f v tt w) (λ v. Unit {0}) (slice_get self.now.specs sender.now.channel) pass.old pass.new sender.now.channel sender.now.number) }
         ensures refused { OnErr result (pass.new ≡ pass.old) }
         ensures no_channel { IsErrOf result DeskFault.NoChannel ↔ IsTrue (has_no_watch self.now.specs sender.now.channel) }
     {
@@ -60,7 +60,7 @@ impl<V: Payload> Desk<V> {
         f: F,
     ) -> Result<WReply<V>, DeskFault>
         requires { F.IsAlwaysCallable f }
-        ensures waited { HasWaited (λ v told. FnReturnsAt F.Fn f v told) receiver.now.channel receiver.now.number pass.old pass.new result }
+        ensures waited { HasWaited (λ v told. FnReturnsAt F.Fn f v told) (slice_get self.now.specs receiver.now.channel) receiver.now.channel receiver.now.number pass.old pass.new result }
         ensures no_channel { IsErrOf result DeskFault.NoChannel ↔ IsTrue (has_no_watch self.now.specs receiver.now.channel) }
         ensures no_wait { ¬ IsErrOf result DeskFault.Waits }
     {
@@ -81,8 +81,8 @@ impl<V: Payload> Desk<V> {
         f: &F,
     ) -> Result<Option<WReply<V>>, DeskFault>
         requires { F.IsAlwaysCallable f.now }
-        ensures tried { IfOk result (λ ended. MatchOption ended (HasTried (λ v told. FnReturnsAt F.Fn f.now v told) receiver.now.channel receiver.now.number pass.old pass.new WReply.Done) (HasEnded (λ v told. FnReturnsAt F.Fn f.now v told) receiver.now.channel receiver.now.number pass.old pass.new)) }
-        ensures broken { OnErr result (HasBroken (λ v told. FnReturnsAt F.Fn f.now v told) receiver.now.channel receiver.now.number pass.old pass.new) }
+        ensures tried { IfOk result (λ ended. MatchOption ended (HasTried (λ v told. FnReturnsAt F.Fn f.now v told) (slice_get self.now.specs receiver.now.channel) receiver.now.channel receiver.now.number pass.old pass.new WReply.Done) (HasEnded (λ v told. FnReturnsAt F.Fn f.now v told) (slice_get self.now.specs receiver.now.channel) receiver.now.channel receiver.now.number pass.old pass.new)) }
+        ensures broken { OnErr result (HasBroken (λ v told. FnReturnsAt F.Fn f.now v told) (slice_get self.now.specs receiver.now.channel) receiver.now.channel receiver.now.number pass.old pass.new) }
         ensures no_channel { IsErrOf result DeskFault.NoChannel ↔ IsTrue (has_no_watch self.now.specs receiver.now.channel) }
         ensures no_wait { ¬ IsErrOf result DeskFault.Waits }
     {
@@ -110,16 +110,16 @@ impl<V: Payload> Desk<V> {
         f: F,
     ) -> Result<WReply<V>, DeskFault>
         requires { F.IsAlwaysCallable f }
-        ensures modified { IfOk result (HasModified (λ v told w. (t : T) × FnOnceReturnsAtMut F.FnOnce f v t w × (told ≡ T.tells t)) (λ v. Unit {0}) pass.old pass.new sender.now.channel sender.now.number) }
+        ensures modified { IfOk result (HasModified (λ v told w. (t : T) × FnOnceReturnsAtMut F.FnOnce f v t w × (told ≡ T.tells t)) (λ v. Unit {0}) (slice_get self.now.specs sender.now.channel) pass.old pass.new sender.now.channel sender.now.number) }
         ensures refused { OnErr result (pass.new ≡ pass.old) }
         ensures no_channel { IsErrOf result DeskFault.NoChannel ↔ IsTrue (has_no_watch self.now.specs sender.now.channel) }
     {
         let (channel, number) = (sender.channel, sender.number);
         let probe = ChanCall::W(WCall::Borrow(number));
-        let Some((spec, place)) = self.place(channel, &probe) else {
+        let Some((spec, lock)) = self.lock_of(channel, &probe) else {
             return Err(DeskFault::NoChannel);
         };
-        match place.modify(rt, spec, pass, channel, number, f)? {
+        match lock.modify(rt, spec, pass, channel, number, f)? {
             ChanReply::W(reply) => Ok(reply),
             _ => unreachable!(),
         }

@@ -1,7 +1,11 @@
 pub mod Answers
 pub mod Calls
 pub mod Cuts
+pub mod Findings
 pub mod Held
 pub mod HeldCut
+pub mod HeldFindings
+pub mod HeldRun
 pub mod Questions
 pub mod Recordings
+pub mod RunCalls

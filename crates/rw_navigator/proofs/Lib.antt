@@ -4,10 +4,3 @@ pub mod MoveLists
 pub mod MovesMade
 pub mod Searches
 pub mod Visits
-pub mod LossCode
-pub mod LossEndings
-pub mod LossEntries
-pub mod LossPasses
-pub mod LossRuns
-pub mod LossSteps
-pub mod LossStretches

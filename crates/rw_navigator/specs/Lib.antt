@@ -7,5 +7,3 @@ pub mod Conditions
 pub mod Places
 pub mod Hits
 pub mod Debugger
-pub mod Losses
-pub mod LossTracks

@@ -7,7 +7,7 @@
 //! Start reading at `places.rt`, the Navigator and its single steps, and continue with `walks.rt`. The searches, which stop
 //! where a condition is met, are in `search_back.rt` and `search_forward.rt`. `hit_index.rt` lists the hits of a condition on
 //! entries, for many searches. `worlds.rt` builds on this: a `Debugger` walks over the run of a world, and its contract states
-//! the documented state at each place. `losses_of` lists the losses of a run: `specs/Losses.antt` says what a loss is.
+//! the documented state at each place.
 #![tactic(auto)]
 
 mod conditions;
@@ -25,4 +25,4 @@ pub use counting::Counted;
 pub use hit_index::HitIndex;
 pub use moves::{Move, OutOfRange};
 pub use places::{MOST_PLACES, Navigator};
-pub use worlds::{Cond, Debugger, Loss, LossEnd, losses_of};
+pub use worlds::{Cond, Debugger, closed_at, lag_at, seen_at};

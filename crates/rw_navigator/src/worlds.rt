@@ -1,9 +1,7 @@
-//! Conditions on the runs of worlds, the debugger that walks over such a run, and its losses.
+//! Conditions on the runs of worlds, and the debugger that walks over such a run.
 
 mod condition;
 mod debugger;
-mod losses;
 
-pub use condition::Cond;
+pub use condition::{Cond, closed_at, lag_at, seen_at};
 pub use debugger::Debugger;
-pub use losses::{Loss, LossEnd, losses_of};

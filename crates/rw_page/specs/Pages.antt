@@ -8,10 +8,14 @@ use Rattle.rw_text.specs.declared.faults.TextFault.{TextFault}
 use Rattle.rw_text.specs.Faults.{fault_text}
 use Rattle.rw_text.specs.Reading.{reading_of}
 
+-- the line of a journal text's first fault
+abbrev pub fault_line : TextFault → List ℕ
+fault_line fault = codes "journal fault " ++ fault_text fault ++ codes "\n"
+
 -- what the commands write over a run, or a journal text's first fault
 abbrev pub page_report : Result (Run ℕ) TextFault → List ℕ → List ℕ
 page_report (Ok run) commands = commands_report run (last_place run) commands
-page_report (Err fault) commands = codes "journal fault " ++ fault_text fault ++ codes "\n"
+page_report (Err fault) commands = fault_line fault
 
 -- what the commands write over the run whose journal text the first bytes are
 abbrev pub page_of : List ℕ → List ℕ → List ℕ

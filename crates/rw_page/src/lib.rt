@@ -1,16 +1,42 @@
-//! The functions that a page calls: the debugger over bytes in memory.
+//! The functions that a page calls: the debugger over bytes in memory, and what it finds in a run.
 //!
-//! The main contract: an export writes to its buffer what the program would write for the same bytes. No state remains from one
-//! call to the next. Start reading at `specs/Pages.antt`. The tests of the page (`page/test`) run both exports in a browser.
+//! The main contract: `ttd_debug`, `ttd_session` and `ttd_salvage` write to their buffers what the program would write for the
+//! same bytes. `ttd_losses`, `ttd_totals`, `ttd_closings`, `ttd_levels`, `ttd_lives` and `ttd_values` write a line for each loss, for
+//! each receiver's totals, for each closing, for each receiver's peaks, for each handle and for each value of a channel. No state
+//! remains from one call to the next. Start reading at `specs/Pages.antt`. The tests of the page (`page/test`) run the exports in a
+//! browser.
 #![tactic(auto)]
 
+mod closing_lines;
+mod life_lines;
+mod lines;
+mod loss_lines;
 mod pages;
+mod peak_lines;
+mod salvages;
+mod total_lines;
+mod value_lines;
 
 ghost use Rattle.std.specs.Prelude.{◌≡◌, ◌≤◌};
 ghost use Rattle.rw_console.specs.SessionReport.{report};
+ghost use Rattle.rw_page.specs.ClosingLines.{HoldsClosings, LacksClosings};
+ghost use Rattle.rw_page.specs.LifeLines.{HoldsLives, LacksLives};
+ghost use Rattle.rw_page.specs.LossLines.{HoldsLosses, LacksLosses};
 ghost use Rattle.rw_page.specs.Pages.{Holds, Lacks, page_of};
+ghost use Rattle.rw_page.specs.PeakLines.{HoldsPeaks, LacksPeaks, stretches_of};
+ghost use Rattle.rw_page.specs.Salvages.{salvage_page};
+ghost use Rattle.rw_page.specs.TotalLines.{HoldsTotals, LacksTotals};
+ghost use Rattle.rw_page.specs.ValueLines.{HoldsValues, LacksValues};
 
+use crate::closing_lines::closings_page;
+use crate::life_lines::lives_page;
+use crate::loss_lines::losses_page;
 use crate::pages::{NO_ANSWER, debug_page, hand_over, session_page};
+use crate::peak_lines::peaks_page;
+use crate::salvages::salvage_page;
+use crate::total_lines::totals_page;
+use crate::value_lines::values_page;
+use rw_findings::Stretches;
 use std::alloc::Global;
 
 /// Reads a journal text and then commands, and writes their output to the start of `out`.
@@ -44,6 +70,133 @@ pub extern "C" fn ttd_session(alloc: Global, input: &[u8], out: &mut [u8], count
     ensures room { result ≡ 1 → Lacks out.new count.new (report input.now) }
 {
     match session_page(alloc, input) {
+        Ok(text) => hand_over(&text, out, count),
+        Err(_) => NO_ANSWER,
+    }
+}
+
+/// Reads a journal text that may have been cut off, and writes to the start of `out` how many bytes its whole lines have, and
+/// the journal text of their run. Its return values are those of `ttd_debug`.
+#[unsafe(no_mangle)]
+pub extern "C" fn ttd_salvage(alloc: Global, journal: &[u8], out: &mut [u8], count: &mut u64) -> u8
+    ensures known { result ≤ 2 }
+    ensures answer { result ≡ 0 → Holds out.new count.new (salvage_page journal.now) }
+    ensures room { result ≡ 1 → Lacks out.new count.new (salvage_page journal.now) }
+{
+    match salvage_page(alloc, journal) {
+        Ok(text) => hand_over(&text, out, count),
+        Err(_) => NO_ANSWER,
+    }
+}
+
+/// Reads a journal text, and writes a line for each loss of its run to the start of `out`. Its return values are those of
+/// `ttd_debug`.
+#[unsafe(no_mangle)]
+pub extern "C" fn ttd_losses(alloc: Global, journal: &[u8], out: &mut [u8], count: &mut u64) -> u8
+    ensures known { result ≤ 2 }
+    ensures answer { result ≡ 0 → HoldsLosses out.new count.new journal.now }
+    ensures room { result ≡ 1 → LacksLosses out.new count.new journal.now }
+{
+    match losses_page(alloc, journal) {
+        Ok(text) => hand_over(&text, out, count),
+        Err(_) => NO_ANSWER,
+    }
+}
+
+/// Reads a journal text, and writes a line for each receiver of its run with its totals to the start of `out`. Its
+/// return values are those of `ttd_debug`.
+#[unsafe(no_mangle)]
+pub extern "C" fn ttd_totals(alloc: Global, journal: &[u8], out: &mut [u8], count: &mut u64) -> u8
+    ensures known { result ≤ 2 }
+    ensures answer { result ≡ 0 → HoldsTotals out.new count.new journal.now }
+    ensures room { result ≡ 1 → LacksTotals out.new count.new journal.now }
+{
+    match totals_page(alloc, journal) {
+        Ok(text) => hand_over(&text, out, count),
+        Err(_) => NO_ANSWER,
+    }
+}
+
+/// Reads a journal text, and writes a line for each closing of its run, and for each receiver that was there then, to the start of `out`. Its
+/// return values are those of `ttd_debug`.
+#[unsafe(no_mangle)]
+pub extern "C" fn ttd_closings(alloc: Global, journal: &[u8], out: &mut [u8], count: &mut u64) -> u8
+    ensures known { result ≤ 2 }
+    ensures answer { result ≡ 0 → HoldsClosings out.new count.new journal.now }
+    ensures room { result ≡ 1 → LacksClosings out.new count.new journal.now }
+{
+    match closings_page(alloc, journal) {
+        Ok(text) => hand_over(&text, out, count),
+        Err(_) => NO_ANSWER,
+    }
+}
+
+/// The greatest number of stretches that `ttd_levels` accepts.
+const MOST_STRETCHES: u64 = 65_536;
+
+/// Reads a journal text, and writes the peaks of the receivers of some channels to the start of `out`: how much each lagged, how
+/// much it had to receive, or whether it had not seen a watch's value, at most in each stretch of places.
+///
+/// `channels` has a channel's number in each byte. There are `stretches` stretches of `each` places, from place `from` on. Its
+/// return values are those of `ttd_debug`. More than 65,536 stretches are above the limit.
+#[unsafe(no_mangle)]
+pub extern "C" fn ttd_levels(
+    alloc: Global,
+    journal: &[u8],
+    channels: &[u8],
+    from: u64,
+    each: u64,
+    stretches: u64,
+    out: &mut [u8],
+    count: &mut u64,
+) -> u8
+    ensures known { result ≤ 2 }
+    ensures answer { result ≡ 0 → HoldsPeaks out.new count.new journal.now (stretches_of from each stretches) channels.now }
+    ensures room { result ≡ 1 → LacksPeaks out.new count.new journal.now (stretches_of from each stretches) channels.now }
+{
+    if MOST_STRETCHES < stretches {
+        return NO_ANSWER;
+    }
+    let cut = Stretches {
+        from,
+        each,
+        count: stretches,
+    };
+    match peaks_page(alloc, journal, cut, channels) {
+        Ok(text) => hand_over(&text, out, count),
+        Err(_) => NO_ANSWER,
+    }
+}
+
+/// Reads a journal text, and writes a line for each handle of its run to the start of `out`: when and by whom it was made, when it
+/// was dropped, and who called with it. Its return values are those of `ttd_debug`.
+#[unsafe(no_mangle)]
+pub extern "C" fn ttd_lives(alloc: Global, journal: &[u8], out: &mut [u8], count: &mut u64) -> u8
+    ensures known { result ≤ 2 }
+    ensures answer { result ≡ 0 → HoldsLives out.new count.new journal.now }
+    ensures room { result ≡ 1 → LacksLives out.new count.new journal.now }
+{
+    match lives_page(alloc, journal) {
+        Ok(text) => hand_over(&text, out, count),
+        Err(_) => NO_ANSWER,
+    }
+}
+
+/// Reads a journal text, and writes a line for each value of a channel of its run to the start of `out`: since when the value is
+/// there, and where it was overwritten. Its return values are those of `ttd_debug`.
+#[unsafe(no_mangle)]
+pub extern "C" fn ttd_values(
+    alloc: Global,
+    journal: &[u8],
+    channel: u32,
+    out: &mut [u8],
+    count: &mut u64,
+) -> u8
+    ensures known { result ≤ 2 }
+    ensures answer { result ≡ 0 → HoldsValues out.new count.new journal.now channel }
+    ensures room { result ≡ 1 → LacksValues out.new count.new journal.now channel }
+{
+    match values_page(alloc, journal, channel) {
         Ok(text) => hand_over(&text, out, count),
         Err(_) => NO_ANSWER,
     }

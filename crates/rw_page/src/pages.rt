@@ -2,11 +2,22 @@
 
 ghost use Rattle.std.specs.Prelude.{◌≡◌, ◌≤◌, IfOk};
 ghost use Rattle.rw_console.specs.SessionReport.{report};
-ghost use Rattle.rw_page.specs.Pages.{Holds, Lacks, page_of};
+ghost use Rattle.rw_page.specs.Pages.{Holds, Lacks, fault_line, page_of};
 
 use rw_console::{SessionFault, debug, session};
+use rw_law::NoMemory;
 use rw_text::TextFault;
 use std::alloc::Global;
+
+/// Returns the line of a journal text's first fault.
+pub fn fault_page(alloc: Global, fault: TextFault) -> Result<Vec<u8>, NoMemory>
+    ensures { IfOk result (λ line. line.items ≡ fault_line fault) }
+{
+    match format!(in alloc; "journal fault {fault}\n") {
+        Ok(line) => Ok(line.into_bytes()),
+        Err(_) => Err(NoMemory),
+    }
+}
 
 /// Returns what the commands write over the run of a journal text, or that text's first fault.
 pub fn debug_page(alloc: Global, journal: &[u8], commands: &[u8]) -> Result<Vec<u8>, SessionFault>
@@ -16,10 +27,10 @@ pub fn debug_page(alloc: Global, journal: &[u8], commands: &[u8]) -> Result<Vec<
         Ok(run) => run,
         Err(TextFault::NoMemory) => return Err(SessionFault::NoMemory),
         Err(fault) => {
-            let Ok(line) = format!(in alloc; "journal fault {fault}\n") else {
-                return Err(SessionFault::NoMemory);
+            return match fault_page(alloc, fault) {
+                Ok(line) => Ok(line),
+                Err(NoMemory) => Err(SessionFault::NoMemory),
             };
-            return Ok(line.into_bytes());
         }
     };
     let mut text = Vec::new(alloc);

@@ -19,22 +19,26 @@ status_of (Err TooMuch) = 4
 status_of (Err NoMemory) = 5
 
 -- the line on standard error; a session that reached its end has none there, whatever its script
-abbrev pub said_of : Result Outcome StreamFault → List ℕ
-said_of (Ok outcome) = []
-said_of (Err Read) = codes "read fault\n"
-said_of (Err Write) = codes "write fault\n"
-said_of (Err TooMuch) = codes "read fault\n"
-said_of (Err NoMemory) = codes "no memory\n"
+abbrev pub error_line_of : Result Outcome StreamFault → List ℕ
+error_line_of (Ok outcome) = []
+error_line_of (Err Read) = codes "read fault\n"
+error_line_of (Err Write) = codes "write fault\n"
+error_line_of (Err TooMuch) = codes "read fault\n"
+error_line_of (Err NoMemory) = codes "no memory\n"
 
 -- the line if the threads of a script return no run; the status is then 5
-abbrev pub said_of_threads : RunFault → List ℕ
-said_of_threads run.NoMemory = codes "no memory\n"
-said_of_threads run.NoThread = codes "no thread\n"
-said_of_threads run.Strayed = codes "strayed\n"
+abbrev pub error_line_of_threads : RunFault → List ℕ
+error_line_of_threads run.NoMemory = codes "no memory\n"
+error_line_of_threads run.NoThread = codes "no thread\n"
+error_line_of_threads run.Strayed = codes "strayed\n"
+
+-- the line if a word of the command line isn't UTF-8; the status is then 2
+abbrev pub error_line_of_unread : List ℕ
+error_line_of_unread = codes "error: invalid UTF-8 was detected in one or more arguments\n"
 
 -- this line and this status report an end
 abbrev pub Tells : List ℕ → ℕ → Result Outcome StreamFault → Type 0
-Tells line status ended = (line ≡ said_of ended) × (status ≡ status_of ended)
+Tells line status ended = (line ≡ error_line_of ended) × (status ≡ status_of ended)
 
 -- a line was written whole, or only its first bytes
 abbrev pub Says : Option (List ℕ) → Option (List ℕ) → List ℕ → Type 0

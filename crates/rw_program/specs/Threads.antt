@@ -11,7 +11,7 @@ use Rattle.rw_script.specs.Threads.{IsRunOf}
 use Rattle.rw_text.specs.Texts.{text}
 use Rattle.rw_program.specs.Endings.{refused_script}
 use Rattle.rw_program.specs.Files.{Closes, OverFile, TellsOnly}
-use Rattle.rw_program.specs.Statuses.{said_of_threads}
+use Rattle.rw_program.specs.Statuses.{error_line_of_threads}
 use Rattle.rw_program.specs.Verbs.{Records}
 
 -- the journal of a run is written in which each actor's calls are those of its lines, or it is reported why the threads
@@ -19,7 +19,7 @@ use Rattle.rw_program.specs.Verbs.{Records}
 abbrev pub Plays : Option (List ℕ) → Option (List ℕ) → List ℕ → ℕ → Result Script ScriptFault → Type 0
 Plays out out' line status (Ok script) =
     ((run : Run ℕ) × IsRunOf script run × Closes out out' line status (record { written = text numbers run; told = []; status = 0 }))
-    ⊎ ((fault : RunFault) × Keeps out out' × (line ≡ said_of_threads fault) × (status ≡ 5))
+    ⊎ ((fault : RunFault) × Keeps out out' × (line ≡ error_line_of_threads fault) × (status ≡ 5))
 Plays out out' line status (Err fault) = Closes out out' line status (refused_script fault)
 
 -- `record` with threads plays the file's script with a thread for each actor

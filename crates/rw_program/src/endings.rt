@@ -2,9 +2,11 @@
 
 ghost use Rattle.std.specs.Prelude.{◌≡◌, ◌≤◌, ◌<◌, [], take, length, string_bytes, OnOk, IfErr};
 ghost use Rattle.std.specs.Io.KnownBytes.{Appends};
-ghost use Rattle.rw_program.specs.Statuses.{Says, said_of, said_of_threads, status_of};
+ghost use Rattle.rw_program.specs.Statuses.{Says, error_line_of, error_line_of_threads, error_line_of_unread, status_of};
 
-use crate::statuses::{NO_RUN, said, said_of_threads, status};
+use crate::statuses::{
+    NO_RUN, REFUSED_WORDS, error_line, error_line_of_threads, error_line_of_unread, status,
+};
 use rw_console::{Outcome, SessionFault};
 use rw_lines::{ShortWrite, put};
 use rw_script::RunFault;
@@ -44,23 +46,34 @@ impl Ended {
 
     /// Returns the end of a session or of commands over a run, given their result.
     pub fn of(ended: Result<Outcome, SessionFault>) -> Ended
-        ensures line { line_of result ≡ said_of ended }
+        ensures line { line_of result ≡ error_line_of ended }
         ensures status { result.status ≡ status_of ended }
     {
         Ended {
-            line: Line::Fixed(said(ended)),
+            line: Line::Fixed(error_line(ended)),
             status: status(ended),
         }
     }
 
     /// Returns the end of a script whose threads returned no run.
     pub fn of_threads(fault: RunFault) -> Ended
-        ensures line { line_of result ≡ said_of_threads fault }
+        ensures line { line_of result ≡ error_line_of_threads fault }
         ensures status { result.status ≡ 5 }
     {
         Ended {
-            line: Line::Fixed(said_of_threads(fault)),
+            line: Line::Fixed(error_line_of_threads(fault)),
             status: NO_RUN,
+        }
+    }
+
+    /// Returns the end if a word of the command line isn't UTF-8. Its line has the words of `clap` for that.
+    pub fn of_unread_words() -> Ended
+        ensures line { line_of result ≡ error_line_of_unread }
+        ensures status { result.status ≡ 2 }
+    {
+        Ended {
+            line: Line::Fixed(error_line_of_unread()),
+            status: REFUSED_WORDS,
         }
     }
 

@@ -21,6 +21,6 @@ mod words;
 pub use endings::Ended;
 pub use files::{check_file, debug_file, over_file, record_file, salvage_file};
 pub use inputs::read_whole;
-pub use program::{over_opened, run, session_end, session_on, threads_over_opened};
-pub use statuses::{said, status};
+pub use program::{over_opened, run, run_session, session_on, threads_over_opened};
+pub use statuses::{error_line, status};
 pub use words::{Asked, Verb, read_words, refuse_words};

@@ -1,6 +1,6 @@
 //! The program over its words, files and streams.
 
-ghost use Rattle.std.specs.Prelude.{◌≡◌, ◌≢◌, ◌≤◌, ◌⊎◌, ℕ, List, Option, [], IfOk, IfErr};
+ghost use Rattle.std.specs.Prelude.{◌≡◌, ◌≢◌, ◌≤◌, ◌⊎◌, ℕ, List, Option, IfOk, IfErr};
 ghost use Rattle.std.specs.Io.KnownBytes.{Keeps};
 ghost use Rattle.std.specs.IoError.{error_kind};
 ghost use Rattle.rw_console.specs.ScriptReading.{HasMark};
@@ -8,14 +8,13 @@ ghost use Rattle.rw_console.specs.SessionReport.{outcome, report};
 ghost use Rattle.rw_program.specs.Files.{TellsOnly};
 ghost use Rattle.rw_program.specs.Lines.{line_of};
 ghost use Rattle.rw_program.specs.Runs.{Runs};
-ghost use Rattle.rw_program.specs.Statuses.{Says, Tells};
+ghost use Rattle.rw_program.specs.Statuses.{Says, Tells, error_line_of_unread};
 ghost use Rattle.rw_program.specs.Threads.{RecordsThreads};
 ghost use Rattle.rw_program.specs.Verbs.{DoneBy};
 ghost use Rattle.rw_program.specs.Words.{EndsAs, IsEnd};
 
 use crate::endings::Ended;
 use crate::files::over_file;
-use crate::statuses::REFUSED_WORDS;
 use crate::threads::record_threads;
 use crate::words::{Asked, Verb, read_words, refuse_words};
 use rw_console::{SessionFault, session};
@@ -30,7 +29,7 @@ use std::thread::Threads;
 const OUTPUT_BUFFER: usize = 65_536;
 
 /// Runs a session on these streams.
-pub fn session_end<R: Read, W: Write>(alloc: Global, input: &mut R, out: &mut W) -> Ended
+pub fn run_session<R: Read, W: Write>(alloc: Global, input: &mut R, out: &mut W) -> Ended
     ensures { Runs report outcome HasMark (R.remaining input.old) (R.remaining input.new) (W.contents out.old) (W.contents out.new)
         (line_of result) result.status }
 {
@@ -48,7 +47,7 @@ pub fn session_on<R: Read, W: Write, E: Write>(
     ensures runs { (line : List ℕ) × Says (E.contents err.old) (E.contents err.new) line
         × Runs report outcome HasMark (R.remaining input.old) (R.remaining input.new) (W.contents out.old) (W.contents out.new) line result }
 {
-    let ended = session_end(alloc, input, out);
+    let ended = run_session(alloc, input, out);
     ended.finish(err)
 }
 
@@ -89,6 +88,16 @@ pub fn threads_over_opened<F: Read + Drop, W: Write, R: Threads + Wait + Sync>(
     }
 }
 
+/// Opens the file of a verb. If the verb reads standard input and that is closed, no file is opened: the system would open it in
+/// the place of standard input, and its bytes would be read as commands.
+fn open_for<R: Files + Input>(rt: &R, verb: Verb, path: &str) -> io::Result<R::File> {
+    if verb == Verb::Debug {
+        // A read of no bytes waits for nothing. It fails if the stream is closed.
+        rt.reader().read(&mut [])?;
+    }
+    fs::open(rt, path)
+}
+
 /// Runs the command of the command line.
 fn answer<R: Files + Input + Print + AllocGlobal + Threads + Wait + Sync>(
     rt: &R,
@@ -105,28 +114,29 @@ fn answer<R: Files + Input + Print + AllocGlobal + Threads + Wait + Sync>(
         return Ended::of(Err(SessionFault::NoMemory));
     };
     match asked {
-        Asked::Session => session_end(alloc, &mut input, &mut out),
+        Asked::Session => run_session(alloc, &mut input, &mut out),
         Asked::Over(verb, path) => {
-            over_opened(alloc, verb, fs::open(rt, path), &mut input, &mut out)
+            let file = open_for(rt, verb, path);
+            over_opened(alloc, verb, file, &mut input, &mut out)
         }
         Asked::Threads(path) => threads_over_opened(rt, alloc, fs::open(rt, path), &mut out),
     }
 }
 
-/// Returns the end if the words can't be read: they are refused without a line, or memory ran out.
+/// Returns the end if the words can't be read: one isn't UTF-8, which its line says, or memory ran out.
 fn unread_words(error: &io::Error) -> Ended
     ensures memory { error_kind error.now ≡ ErrorKind.OutOfMemory → Tells (line_of result) result.status (Err SessionFault.NoMemory) }
-    ensures words { error_kind error.now ≢ ErrorKind.OutOfMemory → (line_of result ≡ []) × (result.status ≡ 2) }
+    ensures words { error_kind error.now ≢ ErrorKind.OutOfMemory → (line_of result ≡ error_line_of_unread) × (result.status ≡ 2) }
 {
     match error.kind() {
         ErrorKind::OutOfMemory => Ended::of(Err(SessionFault::NoMemory)),
-        _ => Ended::silent(REFUSED_WORDS),
+        _ => Ended::of_unread_words(),
     }
 }
 
 /// Returns the words of the command line.
 fn words_of<R: Env + AllocGlobal>(rt: &R) -> Result<Vec<String>, Ended>
-    ensures { IfErr result (λ ended. ((line_of ended ≡ []) × (ended.status ≡ 2))
+    ensures { IfErr result (λ ended. ((line_of ended ≡ error_line_of_unread) × (ended.status ≡ 2))
         ⊎ Tells (line_of ended) ended.status (Err SessionFault.NoMemory)) }
 {
     match std::env::args(rt) {

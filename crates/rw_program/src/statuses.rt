@@ -1,7 +1,7 @@
 //! How a session's end is reported: by an exit status, and a line on standard error.
 
 ghost use Rattle.std.specs.Prelude.{◌≡◌, ◌≤◌};
-ghost use Rattle.rw_program.specs.Statuses.{said_of, said_of_threads, status_of};
+ghost use Rattle.rw_program.specs.Statuses.{error_line_of, error_line_of_threads, error_line_of_unread, status_of};
 
 use rw_console::{Outcome, SessionFault};
 use rw_script::RunFault;
@@ -15,6 +15,9 @@ pub const REFUSED_WORDS: u8 = 2;
 /// A call of the script would wait.
 pub const WOULD_WAIT: u8 = 3;
 
+/// An input couldn't be read or was too long, or the output couldn't be written.
+pub const STREAM_FAULT: u8 = 4;
+
 /// Memory ran out, a thread couldn't be started, or the threads strayed.
 pub const NO_RUN: u8 = 5;
 
@@ -27,14 +30,14 @@ pub fn status(ended: Result<Outcome, SessionFault>) -> u8
         Ok(Outcome::Done) => 0,
         Ok(Outcome::Refused(_)) => REFUSED_INPUT,
         Ok(Outcome::Waited(_)) => WOULD_WAIT,
-        Err(SessionFault::Read | SessionFault::Write | SessionFault::TooMuch) => 4,
+        Err(SessionFault::Read | SessionFault::Write | SessionFault::TooMuch) => STREAM_FAULT,
         Err(SessionFault::NoMemory) => NO_RUN,
     }
 }
 
 /// Returns the line for standard error. A session that reached its end has none there, whatever its script.
-pub fn said(ended: Result<Outcome, SessionFault>) -> &'static str
-    ensures { result.now ≡ said_of ended }
+pub fn error_line(ended: Result<Outcome, SessionFault>) -> &'static str
+    ensures { result.now ≡ error_line_of ended }
 {
     match ended {
         Ok(_) => "",
@@ -45,12 +48,19 @@ pub fn said(ended: Result<Outcome, SessionFault>) -> &'static str
 }
 
 /// Returns the line for standard error if the threads of a script return no run.
-pub fn said_of_threads(fault: RunFault) -> &'static str
-    ensures { result.now ≡ said_of_threads fault }
+pub fn error_line_of_threads(fault: RunFault) -> &'static str
+    ensures { result.now ≡ error_line_of_threads fault }
 {
     match fault {
         RunFault::NoMemory => "no memory\n",
         RunFault::NoThread => "no thread\n",
         RunFault::Strayed => "strayed\n",
     }
+}
+
+/// Returns the line for standard error if a word of the command line isn't UTF-8.
+pub fn error_line_of_unread() -> &'static str
+    ensures { result.now ≡ error_line_of_unread }
+{
+    "error: invalid UTF-8 was detected in one or more arguments\n"
 }

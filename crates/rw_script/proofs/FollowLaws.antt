@@ -19,7 +19,7 @@ use Rattle.rw_world.specs.declared.opening.Spec.{Spec}
 use Rattle.rw_world.specs.Lists.{Each}
 use Rattle.rw_world.specs.Specified.{WorldEntry}
 use Rattle.rw_script.specs.declared.steps.ScriptStep.{ScriptStep}
-use Rattle.rw_script.specs.Kept.{IsScriptStep}
+use Rattle.rw_script.specs.WellFormed.{IsScriptStep}
 use Rattle.rw_script.specs.Running.{call_of, made_after, made_by}
 use Rattle.rw_script.specs.Threads.{IsFollowed, IsPlayed, Moves, call_kept, calls_by, calls_kept, first, others, replies_kept}
 use Rattle.rw_script.proofs.PlayLaws.{made_is}
@@ -43,12 +43,12 @@ other_calls actor made step steps replies other = elim (eqb_tells step.actor act
   | inr t ↦ cond-false (nat_eq step.actor actor) _ _ (t.0)
 ]
 
--- the receipts before a place are those of the calls of the steps before an index
-pub record Follows (p : Pass ℕ) (steps : List ScriptStep) (index place : ℕ) (made : List ℕ) : Type 0 where
-  pub within : place ≤ length p.kept
-  pub rest : calls_by p.actor [] steps (replies_kept p.kept) ≡ calls_kept (take place p.kept) ++ calls_by p.actor made (drop index steps) (replies_kept (drop place p.kept))
+-- the receipts before this number are those of the calls of the steps before an index
+pub record Follows (p : Pass ℕ) (steps : List ScriptStep) (index number : ℕ) (made : List ℕ) : Type 0 where
+  pub within : number ≤ length p.kept
+  pub rest : calls_by p.actor [] steps (replies_kept p.kept) ≡ calls_kept (take number p.kept) ++ calls_by p.actor made (drop index steps) (replies_kept (drop number p.kept))
 
-module _ (p : Pass ℕ) (steps : List ScriptStep) (index : ℕ) (step : ScriptStep) (lt : index < length steps) (at : step ≡ get_or steps index step) (place : ℕ) (made : List ℕ) (so_far : Follows p steps index place made) (to : ℕ × ℕ) (moves : Moves p place step made to)
+module _ (p : Pass ℕ) (steps : List ScriptStep) (index : ℕ) (step : ScriptStep) (lt : index < length steps) (at : step ≡ get_or steps index step) (number : ℕ) (made : List ℕ) (so_far : Follows p steps index number made) (to : ℕ × ℕ) (moves : Moves p number step made to)
     (made' : List ℕ) (names : made' ≡ cond step.binds (made ++ to.1 ∷ []) made) where
   abbrev left : List ScriptStep
   left = drop (index + 1) steps
@@ -56,64 +56,64 @@ module _ (p : Pass ℕ) (steps : List ScriptStep) (index : ℕ) (step : ScriptSt
   abbrev ks : List (Kept ℕ)
   ks = p.kept
 
-  at_step : calls_by p.actor [] steps (replies_kept ks) ≡ calls_kept (take place ks) ++ calls_by p.actor made (step ∷ left) (replies_kept (drop place ks))
-  at_step = so_far.rest ∙ ap (λ ss. calls_kept (take place ks) ++ calls_by p.actor made ss (replies_kept (drop place ks))) (drop_more steps index step lt ∙ ap (λ s. s ∷ left) (sym at))
+  at_step : calls_by p.actor [] steps (replies_kept ks) ≡ calls_kept (take number ks) ++ calls_by p.actor made (step ∷ left) (replies_kept (drop number ks))
+  at_step = so_far.rest ∙ ap (λ ss. calls_kept (take number ks) ++ calls_by p.actor made ss (replies_kept (drop number ks))) (drop_more steps index step lt ∙ ap (λ s. s ∷ left) (sym at))
 
   over_own : step.actor ≡ p.actor → Follows p steps (index + 1) to.0 made'
   over_own same =
       let next = moves.own same in
       let k : Kept ℕ = next.receipt in
       let c : RowCall (ChanCall ℕ) = (call_of step made).1 in
-      let within : place < length ks = slice_get_within ks place k next.at in
-      let is : get_or ks place k ≡ k = get_or_from_slice_get ks place k k next.at in
-      let behind : List (Kept ℕ) = drop (place + 1) ks in
-      let split : drop place ks ≡ k ∷ behind = drop_more ks place k within ∙ ap (λ x. x ∷ behind) is in
-      let before : calls_kept (take (place + 1) ks) ≡ calls_kept (take place ks) ++ c ∷ [] =
-      ap calls_kept (take_more ks place k within ∙ ap (λ x. take place ks ++ x ∷ []) is) ∙ (map-append call_kept (take place ks) (k ∷ []) ∙ ap (λ x. calls_kept (take place ks) ++ x ∷ []) next.call) in
+      let within : number < length ks = slice_get_within ks number k next.at in
+      let is : get_or ks number k ≡ k = get_or_from_slice_get ks number k k next.at in
+      let behind : List (Kept ℕ) = drop (number + 1) ks in
+      let split : drop number ks ≡ k ∷ behind = drop_more ks number k within ∙ ap (λ x. x ∷ behind) is in
+      let before : calls_kept (take (number + 1) ks) ≡ calls_kept (take number ks) ++ c ∷ [] =
+      ap calls_kept (take_more ks number k within ∙ ap (λ x. take number ks ++ x ∷ []) is) ∙ (map-append call_kept (take number ks) (k ∷ []) ∙ ap (λ x. calls_kept (take number ks) ++ x ∷ []) next.call) in
       let handle : to.1 ≡ made_by k.reply = ap (λ t. t.1) next.to_is in
       let names' : made' ≡ made_after step.binds k.reply made = names ∙ made_is step.binds k.reply made to.1 handle in
       let rest : Calls = calls_by p.actor (made_after step.binds k.reply made) left (replies_kept behind) in
-      let whole : calls_by p.actor [] steps (replies_kept ks) ≡ calls_kept (take (place + 1) ks) ++ rest =
+      let whole : calls_by p.actor [] steps (replies_kept ks) ≡ calls_kept (take (number + 1) ks) ++ rest =
       at_step
-      ∙ (ap (λ x. calls_kept (take place ks) ++ calls_by p.actor made (step ∷ left) (replies_kept x)) split
-      ∙ (ap (λ x. calls_kept (take place ks) ++ x) (own_calls p.actor made step left (replies_kept (k ∷ behind)) same)
-      ∙ (sym (append_assoc (calls_kept (take place ks)) (c ∷ []) rest)
+      ∙ (ap (λ x. calls_kept (take number ks) ++ calls_by p.actor made (step ∷ left) (replies_kept x)) split
+      ∙ (ap (λ x. calls_kept (take number ks) ++ x) (own_calls p.actor made step left (replies_kept (k ∷ behind)) same)
+      ∙ (sym (append_assoc (calls_kept (take number ks)) (c ∷ []) rest)
       ∙ ap (λ x. x ++ rest) (sym before)))) in
-      let place_is : to.0 ≡ place + 1 = ap (λ t. t.0) next.to_is in
-      rw (place_is, names') (record { within = omega (arith, within); rest = whole })
+      let number_is : to.0 ≡ number + 1 = ap (λ t. t.0) next.to_is in
+      rw (number_is, names') (record { within = omega (arith, within); rest = whole })
 
   over_other : step.actor ≢ p.actor → Follows p steps (index + 1) to.0 made'
   over_other other =
       let to_is = moves.other other in
       let names' : made' ≡ made_after step.binds reply.NoChannel made = names ∙ made_is step.binds reply.NoChannel made to.1 (ap (λ t. t.1) to_is) in
-      let place_is : to.0 ≡ place = ap (λ t. t.0) to_is in
-      rw (place_is, names') (record {
+      let number_is : to.0 ≡ number = ap (λ t. t.0) to_is in
+      rw (number_is, names') (record {
         within = so_far.within;
-        rest = at_step ∙ ap (λ x. calls_kept (take place ks) ++ x) (other_calls p.actor made step left (replies_kept (drop place ks)) other);
+        rest = at_step ∙ ap (λ x. calls_kept (take number ks) ++ x) (other_calls p.actor made step left (replies_kept (drop number ks)) other);
       })
 
   follows_more : Follows p steps (index + 1) to.0 made'
   follows_more = elim (eqb_tells step.actor p.actor) [ inl t ↦ over_own t.1 | inr t ↦ over_other t.1 ]
 
 -- at the step of an index
-pub follows_at : (p : Pass ℕ) (steps : List ScriptStep) (index : ℕ) (d : ScriptStep) → index < length steps → (place : ℕ) (made : List ℕ) → Follows p steps index place made → (to : ℕ × ℕ) → Moves p place (get_or steps index d) made to
+pub follows_at : (p : Pass ℕ) (steps : List ScriptStep) (index : ℕ) (d : ScriptStep) → index < length steps → (number : ℕ) (made : List ℕ) → Follows p steps index number made → (to : ℕ × ℕ) → Moves p number (get_or steps index d) made to
     → (made' : List ℕ) → made' ≡ cond (get_or steps index d).binds (made ++ to.1 ∷ []) made → Follows p steps (index + 1) to.0 made'
-follows_at p steps index d lt place made so_far to moves made' names =
+follows_at p steps index d lt number made so_far to moves made' names =
     let step : ScriptStep = get_or steps index d in
-    follows_more p steps index step lt (get_or_default steps index d step lt) place made so_far to moves made' names
+    follows_more p steps index step lt (get_or_default steps index d step lt) number made so_far to moves made' names
 
 -- before the first step
 pub follows_none : (p : Pass ℕ) (steps : List ScriptStep) (made : List ℕ) → made ≡ [] → Follows p steps 0 0 made
 follows_none p steps made none = rw none (record { within = omega arith; rest = refl })
 
 -- after the last step
-pub follows_whole : (p : Pass ℕ) (steps : List ScriptStep) (index place : ℕ) (made : List ℕ) → Follows p steps index place made → length steps ≤ index → length p.kept ≤ place → IsFollowed steps p
-follows_whole p steps index place made f all whole =
+pub follows_whole : (p : Pass ℕ) (steps : List ScriptStep) (index number : ℕ) (made : List ℕ) → Follows p steps index number made → length steps ≤ index → length p.kept ≤ number → IsFollowed steps p
+follows_whole p steps index number made f all whole =
     sym (
     f.rest
-    ∙ (ap (λ ss. calls_kept (take place p.kept) ++ calls_by p.actor made ss (replies_kept (drop place p.kept))) (drop_all index steps all)
-    ∙ (append-nil (calls_kept (take place p.kept))
-    ∙ ap calls_kept (take_all place p.kept whole)))
+    ∙ (ap (λ ss. calls_kept (take number p.kept) ++ calls_by p.actor made ss (replies_kept (drop number p.kept))) (drop_all index steps all)
+    ∙ (append-nil (calls_kept (take number p.kept))
+    ∙ ap calls_kept (take_all number p.kept whole)))
     )
 
 -- ---- a run whose passes follow the lines

@@ -1,6 +1,6 @@
 pub mod NameLaws
 pub mod NamedLaws
-pub mod KeptLaws
+pub mod WellFormedLaws
 pub mod ReadingLaws
 pub mod PlayLaws
 pub mod Spared

@@ -14,15 +14,15 @@ use Rattle.std.proofs.lemmas.Slice.Eq.{bytes_eq-Decides}
 use Rattle.indexmap.specs.IndexMap.{insert_entry}
 use Rattle.rw_script.specs.StepLines.{Bound, number_of, is_taken}
 
--- ---- the first place
+-- ---- the first position
 
 pub first_at : {X : Type 0} (p : X → Bool) (xs : List X) (i : ℕ) (d : X) → i < length xs → ((k : ℕ) → k < i → p (get_or xs k d) ≡ false) → p (get_or xs i d) ≡ true → position p xs ≡ Some i
 first_at p xs i d lt before here =
     let e : position_or_len p xs ≡ i = position_or_len_is p xs i d (omega (arith, lt)) before (λ _. here) in
     rw e (cond-true (ltb i (length xs)) (Some i) None (lt-ltb i (length xs) lt))
 
-pub no_place : {X : Type 0} (p : X → Bool) (xs : List X) (d : X) → ((k : ℕ) → k < length xs → p (get_or xs k d) ≡ false) → position p xs ≡ None
-no_place p xs d fails =
+pub no_position : {X : Type 0} (p : X → Bool) (xs : List X) (d : X) → ((k : ℕ) → k < length xs → p (get_or xs k d) ≡ false) → position p xs ≡ None
+no_position p xs d fails =
     let e : position_or_len p xs ≡ length xs = position_or_len_is p xs (length xs) d (omega arith) fails (λ h. absurd (omega (arith, h))) in
     rw e (cond-false (ltb (length xs) (length xs)) (Some (length xs)) None (le-ltb (length xs) (length xs) (omega arith)))
 
@@ -103,7 +103,7 @@ module _ {K X : Type 0} (items : K → List ℕ) (by at : X → ℕ) where
     pub unbound_name : (es : List (K × X)) → position (is_it name) (keys_of es) ≡ None → number_of (map bound es) name actor channel ≡ None
     unbound_name [] e = refl
     unbound_name (e0 ∷ es) e =
-        no_place is_found (map bound (e0 ∷ es)) (bound e0) (λ k lt.
+        no_position is_found (map bound (e0 ∷ es)) (bound e0) (λ k lt.
         let within : k < length (e0 ∷ es) = omega (arith, lt, length-bound (e0 ∷ es)) in
         found_at (e0 ∷ es) k e0 within ∙ both _ _ (fails_everywhere (is_it name) (keys_of (e0 ∷ es)) e0.0 e k (omega (arith, within, length-keys (e0 ∷ es)))))
 
@@ -130,10 +130,10 @@ module _ {K X : Type 0} (items : K → List ℕ) (by at : X → ℕ) where
         let p = position-Some (is_it name) (keys_of (e0 ∷ es)) i e0.0 e in
         let ks : List K = keys_of (e0 ∷ es) in
         let not_own : is_here (get_or (values_of (e0 ∷ es)) i e0.1) ≡ false = ap is_here (get_or_from_slice_get (values_of (e0 ∷ es)) i x e0.1 at) ∙ here in
-        no_place is_found (map bound (e0 ∷ es)) (bound e0) (λ k lt.
+        no_position is_found (map bound (e0 ∷ es)) (bound e0) (λ k lt.
         let within : k < length (e0 ∷ es) = omega (arith, lt, length-bound (e0 ∷ es)) in
         found_at (e0 ∷ es) k e0 within ∙ elim (cases_order k i) [
-          | inl same_place ↦ and_false _ _ (ap (λ j. is_here (get_or (values_of (e0 ∷ es)) j e0.1)) same_place ∙ not_own)
+          | inl same_position ↦ and_false _ _ (ap (λ j. is_here (get_or (values_of (e0 ∷ es)) j e0.1)) same_position ∙ not_own)
           | inr other ↦ elim other [
             | inl below ↦ both _ _ (p.2 k below)
             | inr above ↦ both _ _ (it_is (get_or ks i e0.0) (get_or ks k e0.0) p.1 (apart_from_distinct same ks i k e0.0 distinct above (omega (arith, within, length-keys (e0 ∷ es)))))

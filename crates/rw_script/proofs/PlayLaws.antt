@@ -22,7 +22,7 @@ use Rattle.rw_world.specs.Specified.{StraysBySpecs}
 use Rattle.rw_journal.specs.Book.{Book, last_stamp_from, last_stamp, opening_of, state_of, reply_to}
 use Rattle.rw_journal.specs.Interleaving.{CountsFrom, interleaving_of}
 use Rattle.rw_script.specs.declared.steps.ScriptStep.{ScriptStep}
-use Rattle.rw_script.specs.Kept.{IsScriptStep}
+use Rattle.rw_script.specs.WellFormed.{IsScriptStep}
 use Rattle.rw_script.specs.Running.{Ran, IsMade, PlaysFrom, call_of, with_made_handle, made_after, made_by, onto, run_from, run_of, with_handle}
 use Rattle.rw_script.specs.Script.{Script}
 

@@ -43,14 +43,14 @@ bound_in (Some more) = name_behind_as (cut 32 more)
 
 -- the text of a call without its names
 pub record Named : Type 0 where
-  -- with `0` in a name's place, and without ` as NAME`
+  -- with `0` for a name, and without ` as NAME`
   pub text : List ℕ
-  -- the name in the handle's place
+  -- the name that stands for the handle
   pub target : Option (List ℕ)
   -- the name that is bound
   pub bound : Option (List ℕ)
 
--- the handle, or `0` in a name's place
+-- the handle, or `0` where a name stands for it
 abbrev pub handle_text : List ℕ → List ℕ
 handle_text handle = if is_name handle then codes "0" else handle
 

@@ -3,6 +3,6 @@ pub mod Fields
 pub mod StepLines
 pub mod Script
 pub mod Memory
-pub mod Kept
+pub mod WellFormed
 pub mod Running
 pub mod Threads

@@ -13,14 +13,14 @@ Adds old (Err fault) = ⊥
 
 -- a line was accepted or refused as specified, or memory ran out where the line allocates; old, new: the reader before and
 -- after it
-abbrev pub TakesLine : {X : Type 0} → Result X ScriptFaultKind → ScriptReader → ScriptReader → Result ScriptReader ScriptFaultKind → Type 0
-TakesLine (Ok x) old new said = said ≡ Ok new
-TakesLine (Err kind) old new said = (said ≡ Err kind) ⊎ ((kind ≡ NoMemory) × Adds old said)
+abbrev pub ReadsLine : {X : Type 0} → Result X ScriptFaultKind → ScriptReader → ScriptReader → Result ScriptReader ScriptFaultKind → Type 0
+ReadsLine (Ok x) old new said = said ≡ Ok new
+ReadsLine (Err kind) old new said = (said ≡ Err kind) ⊎ ((kind ≡ NoMemory) × Adds old said)
 
 -- the same, with the line's number
-abbrev pub Takes : {X : Type 0} → Result X ScriptFault → ScriptReader → ScriptReader → Result ScriptReader ScriptFault → Type 0
-Takes (Ok x) old new said = said ≡ Ok new
-Takes (Err fault) old new said = (said ≡ Err fault) ⊎ ((fault.kind ≡ NoMemory) × Adds old said)
+abbrev pub Reads : {X : Type 0} → Result X ScriptFault → ScriptReader → ScriptReader → Result ScriptReader ScriptFault → Type 0
+Reads (Ok x) old new said = said ≡ Ok new
+Reads (Err fault) old new said = (said ≡ Err fault) ⊎ ((fault.kind ≡ NoMemory) × Adds old said)
 
 -- ---- a whole script
 

@@ -26,7 +26,7 @@ use Rattle.rw_words.specs.Words.{◌>>=◌, or_fault, map_ok}
 pub record Said : Type 0 where
   -- its handle is 0 if a name stands for it
   pub call : ChanCall ℕ
-  -- the name in the handle's place
+  -- the name that stands for the handle
   pub target : Option (List ℕ)
   -- the name that the line binds
   pub bound : Option (List ℕ)
@@ -73,7 +73,7 @@ number_of names name actor channel = position (λ b. bytes_eq name b.name && (b.
 abbrev pub is_taken : List Bound → List ℕ → Bool
 is_taken names name = list_any (λ b. bytes_eq name b.name) names
 
--- the number of the name in the handle's place, if there is one
+-- the number of the name that stands for the handle, if there is one
 abbrev pub target_in : List Bound → ℕ → ℕ → Option (List ℕ) → Result (Option ℕ) ScriptFaultKind
 target_in names actor channel None = Ok None
 target_in names actor channel (Some name) = map_ok (λ i. Some i) (or_fault UnknownName (number_of names name actor channel))

@@ -57,14 +57,14 @@ IsFollowed steps p = calls_kept p.kept ≡ calls_by p.actor [] steps (replies_ke
 
 -- ---- the walk over an actor's lines and its receipts
 
--- the receipt at a place is that of a step's call; to: the next place, and the handle that the call made
-pub record IsNext (p : Pass ℕ) (place : ℕ) (step : ScriptStep) (made : List ℕ) (to : ℕ × ℕ) : Type 0 where
+-- the receipt of this number is that of a step's call; to: the next number, and the handle that the call made
+pub record IsNext (p : Pass ℕ) (number : ℕ) (step : ScriptStep) (made : List ℕ) (to : ℕ × ℕ) : Type 0 where
   pub receipt : Kept ℕ
-  pub at : slice_get p.kept place ≡ Some receipt
+  pub at : slice_get p.kept number ≡ Some receipt
   pub call : call_kept receipt ≡ (call_of step made).1
-  pub to_is : to ≡ (place + 1, made_by receipt.reply)
+  pub to_is : to ≡ (number + 1, made_by receipt.reply)
 
 -- a step of the pass's actor has the next receipt, and a step of another has none and makes no handle
-pub record Moves (p : Pass ℕ) (place : ℕ) (step : ScriptStep) (made : List ℕ) (to : ℕ × ℕ) : Type 0 where
-  pub own : step.actor ≡ p.actor → IsNext p place step made to
-  pub other : step.actor ≢ p.actor → to ≡ (place, NEVER_MADE)
+pub record Moves (p : Pass ℕ) (number : ℕ) (step : ScriptStep) (made : List ℕ) (to : ℕ × ℕ) : Type 0 where
+  pub own : step.actor ≡ p.actor → IsNext p number step made to
+  pub other : step.actor ≢ p.actor → to ≡ (number, NEVER_MADE)

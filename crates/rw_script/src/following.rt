@@ -5,7 +5,7 @@ ghost use Rattle.rw_world.specs.Lists.{Each};
 ghost use Rattle.rw_script.specs.Running.{call_of};
 ghost use Rattle.rw_script.specs.Threads.{IsFollowed, Moves, call_kept};
 
-use crate::running::{NEVER_MADE, RunFault, filled, keep_handle, made_by};
+use crate::running::{NEVER_MADE, RunFault, filled, made_by, push_handle};
 use crate::steps::ScriptStep;
 use rw_desk::{Kept, Pass};
 use std::alloc::Global;
@@ -17,17 +17,17 @@ fn is_call(receipt: &Kept<u64>, step: &ScriptStep, made: &[u32]) -> bool
     receipt.channel == step.channel && receipt.call == filled(step, made)
 }
 
-/// Moves past a step, and past its receipt if the step is the actor's. Returns the place of the next receipt, and the handle
+/// Moves past a step, and past its receipt if the step is the actor's. Returns the number of the next receipt, and the handle
 /// that the call made, or `None` if the receipt isn't for the call. `made` has the handles of the names so far.
-fn moved(pass: &Pass<u64>, place: usize, step: &ScriptStep, made: &[u32]) -> Option<(usize, u32)>
-    ensures { IfSome result (λ to. Moves pass.now place step.now made.now to) }
+fn moved(pass: &Pass<u64>, number: usize, step: &ScriptStep, made: &[u32]) -> Option<(usize, u32)>
+    ensures { IfSome result (λ to. Moves pass.now number step.now made.now to) }
 {
     if step.actor != pass.actor() {
-        return Some((place, NEVER_MADE));
+        return Some((number, NEVER_MADE));
     }
-    let receipt = pass.kept().get(place)?;
+    let receipt = pass.kept().get(number)?;
     if is_call(receipt, step, made) {
-        Some((place + 1, made_by(&receipt.reply)))
+        Some((number + 1, made_by(&receipt.reply)))
     } else {
         None
     }
@@ -38,15 +38,15 @@ fn follow(alloc: Global, steps: &[ScriptStep], pass: &Pass<u64>) -> Result<(), R
     ensures { OnOk result (IsFollowed steps.now pass.now) }
 {
     let mut made = Vec::new(alloc);
-    let mut place = 0;
+    let mut number = 0;
     'each_step: for step in steps {
-        let Some((next, handle)) = moved(pass, place, step, &made) else {
+        let Some((next, handle)) = moved(pass, number, step, &made) else {
             return Err(RunFault::Strayed);
         };
-        keep_handle(&mut made, step.binds, handle)?;
-        place = next;
+        push_handle(&mut made, step.binds, handle)?;
+        number = next;
     }
-    if place < pass.kept().len() {
+    if number < pass.kept().len() {
         return Err(RunFault::Strayed);
     }
     Ok(())

@@ -16,7 +16,7 @@ mod reader;
 mod running;
 mod said;
 mod script;
-mod start;
+mod start_latch;
 mod steps;
 mod threads;
 

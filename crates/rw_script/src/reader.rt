@@ -3,10 +3,10 @@
 ghost use Rattle.std.specs.Prelude.{◌≡◌, ◌+◌, ◌-◌, ◌^◌, ◌<◌, ◌≤◌, true, false, Some, length, map, option_map, slice_get, IfErr, OnErr, IfOk, OnOk};
 ghost use Rattle.rw_law.specs.declared.limits.TheConstants.{MOST_ACTORS};
 ghost use Rattle.rw_world.specs.declared.opening.TheConstants.{MOST_CHANNELS};
-ghost use Rattle.rw_script.specs.Memory.{Takes, TakesLine};
+ghost use Rattle.rw_script.specs.Memory.{Reads, ReadsLine};
 ghost use Rattle.rw_world.specs.Openings.{has_bad_capacity, spec_kind};
 ghost use Rattle.rw_lines.specs.declared.lines.TheConstants.{LONGEST_LINE};
-ghost use Rattle.rw_script.specs.Kept.{IsScriptStep};
+ghost use Rattle.rw_script.specs.WellFormed.{IsScriptStep};
 ghost use Rattle.rw_script.specs.Script.{actors_of, after_line, script_at_end, is_broadcast, is_in_head, is_mark, opening, spec_for, with_head, with_line, with_said, with_spec, with_step};
 ghost use Rattle.rw_script.specs.StepLines.{kind_if, said_of, target_in};
 ghost use Rattle.rw_words.specs.Words.{map_ok};
@@ -42,7 +42,7 @@ pub struct ScriptReader {
 
 impl Model for ScriptReader {
     ghost use Rattle.rw_script.specs.Script.{ScriptReader};
-    ghost use Rattle.rw_script.specs.Kept.{IsReading};
+    ghost use Rattle.rw_script.specs.WellFormed.{IsReading};
 
     ghost Value = { ScriptReader };
 
@@ -75,15 +75,15 @@ impl ScriptReader {
 
     /// Reads the next line, which is given without its LF. On an error nothing has changed, and the fault is that of this line.
     /// Only a channel line or a step line allocates, once it has no other fault.
-    pub fn take(&mut self, line: &[u8]) -> Result<(), ScriptFault>
+    pub fn read_line(&mut self, line: &[u8]) -> Result<(), ScriptFault>
         requires { self.old.lines < 2 ^ 64 - 1 }
-        ensures taken { Takes result self.old self.new (after_line self.old line.now) }
+        ensures taken { Reads result self.old self.new (after_line self.old line.now) }
         ensures lines { OnOk result (self.new.lines ≡ self.old.lines + 1) }
         ensures unchanged { OnErr result (self.new ≡ self.old) }
         ensures at { IfErr result (λ fault. fault.line ≡ self.old.lines + 1) }
     {
         self.lines += 1;
-        match self.take_line(line) {
+        match self.read_counted_line(line) {
             Ok(()) => Ok(()),
             Err(kind) => {
                 let line = self.lines;
@@ -120,8 +120,8 @@ impl ScriptReader {
 
     /// Reads a line that was already counted.
     #[tactic(auto, unfolding(crate::specs::Script::with_line))]
-    fn take_line(&mut self, line: &[u8]) -> Result<(), ScriptFaultKind>
-        ensures taken { TakesLine result self.old self.new (with_line self.old line.now) }
+    fn read_counted_line(&mut self, line: &[u8]) -> Result<(), ScriptFaultKind>
+        ensures taken { ReadsLine result self.old self.new (with_line self.old line.now) }
         ensures unchanged { OnErr result (self.new ≡ self.old) }
         ensures lines { self.new.lines ≡ self.old.lines }
     {
@@ -133,11 +133,11 @@ impl ScriptReader {
         }
         if self.is_in_head() {
             match HeadLine::of(line) {
-                Some(head) => self.take_head(head),
-                None => self.take_step(line),
+                Some(head) => self.add_head(head),
+                None => self.read_step(line),
             }
         } else {
-            self.take_step(line)
+            self.read_step(line)
         }
     }
 
@@ -149,9 +149,9 @@ impl ScriptReader {
     }
 
     /// Adds a channel line or the actors line.
-    fn take_head(&mut self, head: HeadLine) -> Result<(), ScriptFaultKind>
+    fn add_head(&mut self, head: HeadLine) -> Result<(), ScriptFaultKind>
         requires { is_in_head self.old ≡ true }
-        ensures taken { TakesLine result self.old self.new (with_head self.old head) }
+        ensures taken { ReadsLine result self.old self.new (with_head self.old head) }
         ensures unchanged { OnErr result (self.new ≡ self.old) }
         ensures lines { self.new.lines ≡ self.old.lines }
     {
@@ -160,9 +160,9 @@ impl ScriptReader {
                 if capacity < 1 || capacity > u64::from(MOST_CAPACITY) {
                     return Err(ScriptFaultKind::BadCapacity);
                 }
-                self.take_spec(Spec::Broadcast(capacity as u32))
+                self.add_spec(Spec::Broadcast(capacity as u32))
             }
-            HeadLine::Watch(value) => self.take_spec(Spec::Watch(value)),
+            HeadLine::Watch(value) => self.add_spec(Spec::Watch(value)),
             HeadLine::Actors(actors) => {
                 if actors < 1 || actors > u64::from(MOST_ACTORS) {
                     return Err(ScriptFaultKind::BadActors);
@@ -174,10 +174,10 @@ impl ScriptReader {
     }
 
     /// Adds a channel.
-    fn take_spec(&mut self, spec: Spec<u64>) -> Result<(), ScriptFaultKind>
+    fn add_spec(&mut self, spec: Spec<u64>) -> Result<(), ScriptFaultKind>
         requires head { is_in_head self.old ≡ true }
         requires good { has_bad_capacity spec ≡ false }
-        ensures taken { TakesLine result self.old self.new (with_spec self.old spec) }
+        ensures taken { ReadsLine result self.old self.new (with_spec self.old spec) }
         ensures unchanged { OnErr result (self.new ≡ self.old) }
         ensures lines { self.new.lines ≡ self.old.lines }
     {
@@ -192,23 +192,23 @@ impl ScriptReader {
 
     /// Reads a step line.
     #[tactic(auto, unfolding(crate::specs::Script::with_step))]
-    fn take_step(&mut self, line: &[u8]) -> Result<(), ScriptFaultKind>
+    fn read_step(&mut self, line: &[u8]) -> Result<(), ScriptFaultKind>
         requires { length line.now ≤ LONGEST_LINE }
-        ensures taken { TakesLine result self.old self.new (with_step self.old line.now) }
+        ensures taken { ReadsLine result self.old self.new (with_step self.old line.now) }
         ensures unchanged { OnErr result (self.new ≡ self.old) }
         ensures lines { self.new.lines ≡ self.old.lines }
     {
         let Some((actor, channel, text)) = fields_of(line) else {
             return Err(ScriptFaultKind::Syntax);
         };
-        let broadcast = self.is_broadcast(actor, channel)?;
+        let broadcast = self.kind_for(actor, channel)?;
         let said = read_said(broadcast, text)?;
         let target = self.target_of(actor as u32, channel as u32, said.target)?;
-        self.take_said(actor as u32, channel as u32, &said, target)
+        self.add_step(actor as u32, channel as u32, &said, target)
     }
 
-    /// Whether the channel that an actor calls is a broadcast.
-    fn is_broadcast(&self, actor: u64, channel: u64) -> Result<bool, ScriptFaultKind>
+    /// Returns whether the channel that an actor calls is a broadcast. Refuses an actor or a channel that the script lacks.
+    fn kind_for(&self, actor: u64, channel: u64) -> Result<bool, ScriptFaultKind>
         ensures kind { result ≡ map_ok is_broadcast (spec_for self.now actor channel) }
         ensures actor { OnOk result (actor < actors_of self.now) }
         ensures channel { IfOk result (λ b. slice_get (map spec_kind self.now.specs) channel ≡ Some (kind_if b)) }
@@ -224,7 +224,7 @@ impl ScriptReader {
         }
     }
 
-    /// Returns the number of the name in the handle's place, if there is one.
+    /// Returns the number of the name that stands for the handle, if there is one.
     fn target_of(
         &self,
         actor: u32,
@@ -243,7 +243,7 @@ impl ScriptReader {
     }
 
     /// Adds a step, with the name that it binds.
-    fn take_said(
+    fn add_step(
         &mut self,
         actor: u32,
         channel: u32,
@@ -251,7 +251,7 @@ impl ScriptReader {
         target: Option<u32>,
     ) -> Result<(), ScriptFaultKind>
         requires step { IsScriptStep self.old.specs (actors_of self.old) (record { line = self.old.lines; actor = actor; channel = channel; call = said.now.call; target = target; binds = false }) }
-        ensures taken { TakesLine result self.old self.new (with_said self.old actor channel (said_of said.now) target) }
+        ensures taken { ReadsLine result self.old self.new (with_said self.old actor channel (said_of said.now) target) }
         ensures unchanged { OnErr result (self.new ≡ self.old) }
         ensures lines { self.new.lines ≡ self.old.lines }
     {

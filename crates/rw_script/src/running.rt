@@ -109,7 +109,7 @@ fn run_step<M: Reversible<Call = RowCall<ChanCall<u64>>, Reply = ChanReply<u64>>
 }
 
 /// Stores the handle that a name stands for, if the step binds one.
-pub(crate) fn keep_handle(made: &mut Vec<u32>, binds: bool, handle: u32) -> Result<(), NoMemory>
+pub(crate) fn push_handle(made: &mut Vec<u32>, binds: bool, handle: u32) -> Result<(), NoMemory>
     ensures { OnOk result (made.new.items ≡ (if binds then made.old.items ++ handle ∷ [] else made.old.items)) }
 {
     if binds && made.push(handle).is_err() {
@@ -136,7 +136,7 @@ fn run_steps<M: Reversible<Call = RowCall<ChanCall<u64>>, Reply = ChanReply<u64>
         let Some(handle) = run_step(book, step, &made)? else {
             return Ok(Some(step.line));
         };
-        keep_handle(&mut made, step.binds, handle)?;
+        push_handle(&mut made, step.binds, handle)?;
     }
     Ok(None)
 }

@@ -20,7 +20,7 @@ use rw_world::ChanCall;
 pub(crate) struct SaidCall<'a> {
     /// The call. Its handle is 0 if a name stands for it.
     pub(crate) call: ChanCall<u64>,
-    /// The name in the handle's place.
+    /// The name that stands for the handle.
     pub(crate) target: Option<&'a [u8]>,
     /// The name that the line binds.
     pub(crate) bound: Option<&'a [u8]>,
@@ -63,7 +63,7 @@ fn handle_text(handle: &[u8]) -> &[u8]
     if is_name(handle) { b"0" } else { handle }
 }
 
-/// Writes a space and what follows the handle at a place, or nothing if nothing follows. Returns where that ends.
+/// Writes a space and what follows the handle at an offset, or nothing if nothing follows. Returns where that ends.
 fn put_rest(out: &mut [u8; 256], at: usize, more: Option<&[u8]>) -> usize
     requires { at + length (rest_text (option_map (λ m. m.now) more)) ≤ 256 }
     ensures end { result ≡ at + length (rest_text (option_map (λ m. m.now) more.entry)) }

@@ -6,7 +6,7 @@ ghost use Rattle.rw_script.specs.declared.reader.TheConstants.{MOST_STEPS};
 ghost use Rattle.rw_lines.specs.Lines.{lines};
 ghost use Rattle.rw_world.specs.Openings.{refusal};
 ghost use Rattle.rw_script.specs.Faults.{Gives};
-ghost use Rattle.rw_script.specs.Kept.{IsScript, IsScriptStep};
+ghost use Rattle.rw_script.specs.WellFormed.{IsScript, IsScriptStep};
 ghost use Rattle.rw_script.specs.Memory.{AsksMemory};
 ghost use Rattle.rw_script.specs.Script.{script_in};
 
@@ -28,7 +28,7 @@ pub struct Script {
 
 impl Model for Script {
     ghost use Rattle.rw_script.specs.Script.{Script as Said};
-    ghost use Rattle.rw_script.specs.Kept.{IsScript};
+    ghost use Rattle.rw_script.specs.WellFormed.{IsScript};
 
     ghost Value = { Said };
 
@@ -51,7 +51,7 @@ impl Script {
             if is_mark(line) {
                 return reader.finish();
             }
-            if let Err(fault) = reader.take(line) {
+            if let Err(fault) = reader.read_line(line) {
                 drop(reader);
                 return Err(fault);
             }

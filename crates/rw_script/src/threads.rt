@@ -6,9 +6,9 @@ ghost use Rattle.rw_script.specs.Threads.{IsRunOf};
 
 use crate::following::follow_all;
 use crate::gate::Gate;
-use crate::running::{NEVER_MADE, RunFault, filled, keep_handle, made_by};
+use crate::running::{NEVER_MADE, RunFault, filled, made_by, push_handle};
 use crate::script::Script;
-use crate::start::Start;
+use crate::start_latch::StartLatch;
 use crate::steps::ScriptStep;
 use rw_desk::{CloseFault, Desk, DeskFault, Pass};
 use rw_journal::Run;
@@ -87,7 +87,7 @@ fn make_calls<D: Calls, G: Gate, R: Wait>(
         } else {
             NEVER_MADE
         };
-        keep_handle(made, step.binds, handle)?;
+        push_handle(made, step.binds, handle)?;
     }
     Ok(())
 }
@@ -95,14 +95,14 @@ fn make_calls<D: Calls, G: Gate, R: Wait>(
 /// Waits for the signal, and makes an actor's calls if it is to go. Returns the pass, with the fault if there was one.
 fn play_actor<D: Calls, G: Gate, R: Wait>(
     rt: &R,
-    start: &Start,
+    latch: &StartLatch,
     desk: &D,
     gate: &G,
     steps: &[ScriptStep],
     mut pass: Pass<u64>,
     mut made: Vec<u32>,
 ) -> (Pass<u64>, Result<(), RunFault>) {
-    if !start.wait(rt) {
+    if !latch.wait(rt) {
         return (pass, Ok(()));
     }
     let played = make_calls(rt, desk, gate, steps, &mut pass, &mut made);
@@ -118,7 +118,7 @@ fn first_fault(one: Result<(), RunFault>, other: Result<(), RunFault>) -> Result
 }
 
 /// Stores a thread, for which there is room, and returns whether it was started.
-fn keep_started<T: Drop, E: Drop>(threads: &mut Vec<T>, thread: Result<T, E>) -> bool {
+fn push_started<T: Drop, E: Drop>(threads: &mut Vec<T>, thread: Result<T, E>) -> bool {
     match thread {
         Ok(thread) => threads.push(thread).is_ok(),
         Err(_) => false,
@@ -158,8 +158,8 @@ fn play_all<D: Calls + Sync, G: Gate + Sync, R: Threads + Wait + Sync>(
         drop(back);
         return Err(RunFault::NoMemory);
     };
-    let start = Start::new();
-    let signal = &start;
+    let latch = StartLatch::new();
+    let signal = &latch;
     // This remains the result unless all threads are started.
     let mut played = Err(RunFault::NoThread);
     thread::scope(thread::scope_env(), rt, |scope| {
@@ -167,7 +167,7 @@ fn play_all<D: Calls + Sync, G: Gate + Sync, R: Threads + Wait + Sync>(
         for pass in passes {
             let made = Vec::new(alloc);
             let thread = scope.spawn(move || play_actor(rt, signal, desk, gate, steps, pass, made));
-            started &= keep_started(&mut threads, thread);
+            started &= push_started(&mut threads, thread);
         }
         signal.tell(rt, started);
         let joined = join_all(rt, threads, &mut back);

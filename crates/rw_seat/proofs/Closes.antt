@@ -5,7 +5,7 @@ use Rattle.std.proofs.lemmas.List.Elements.{All-pop, All-same, All-nil}
 use Rattle.rw_seat.specs.declared.view.View.{View}
 use Rattle.rw_seat.specs.declared.view.Old.{Old}
 use Rattle.rw_seat.specs.Journals.{IsIn, IsQuiet}
-use Rattle.rw_seat.specs.Rule.{joined_view, Fits, OldsFit, Kept, Known, OldsKnown}
+use Rattle.rw_seat.specs.Rule.{joined_view, Fits, OldsFit, HasOneBook, Known, OldsKnown}
 use mathlib.Core.Option.{some}
 use lib.ListN.{get_elem?}
 use Rattle.atomic_table.specs.Table.{Final, Seen}
@@ -65,7 +65,7 @@ module _ {E S : Type 0} (author : E → ℕ) where
 
 -- what is known once all seats are joined
 pub ended : {B E S X : Type 0} (author : E → ℕ) (start : B → S) (journal : B → List E) (o : S) (seats count id : ℕ) (v : View E S) (ws : List ℕ) (xs : List (Option B)) (f : X → ℕ) (all left : List X) → seats ≡ count → v.held ≡ false
-    → left ≡ [] → ((n : ℕ) → IsIn n (map f all) → IsIn n (map f left) ⊎ IsIn n v.numbers) → ((n : ℕ) → n < count → IsIn n (map f all)) → Final (Seen (Kept author start journal o seats) id v) ws xs
+    → left ≡ [] → ((n : ℕ) → IsIn n (map f all) → IsIn n (map f left) ⊎ IsIn n v.numbers) → ((n : ℕ) → n < count → IsIn n (map f all)) → Final (Seen (HasOneBook author start journal o seats) id v) ws xs
     → (b : B) × (get_elem? xs 0 ≡ some (Some b)) × Fits author (journal b) v × (start b ≡ o)
 ended author start journal o seats count id v ws xs f all left same idle none each has end =
     closes author start journal o seats id v ws xs idle

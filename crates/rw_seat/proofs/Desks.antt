@@ -23,12 +23,12 @@ use Rattle.rw_desk.specs.declared.faults.DeskFault.TheVariants.{NoChannel}
 use Rattle.rw_desk.specs.Desks.{row_call}
 use Rattle.rw_desk.specs.Passes.{Pass}
 use Rattle.rw_seat.specs.declared.answered.Answered.{Answered}
-use Rattle.rw_seat.specs.Hands.{Home, HandOff}
+use Rattle.rw_seat.specs.HandOffs.{Home, HandOff}
 use Rattle.rw_seat.specs.Journals.{StartsWith}
 use Rattle.rw_seat.proofs.Journals.{quiet_self}
 use Rattle.rw_seat.specs.Fronts.{author_of, HasGoneOn, IsFaultAfter, IsFrontOf}
 use Rattle.rw_seat.specs.Calls.{IsMade, IsNotMade, OfOpening}
-use Rattle.rw_seat.specs.DeskSeats.{Hand, DeskSeat, front_at, IsDeskSeat, IsElsewhereAsBefore, HasSeen}
+use Rattle.rw_seat.specs.DeskSeats.{ChannelSeat, DeskSeat, front_at, IsDeskSeat, IsElsewhereAsBefore, HasSeen}
 use Rattle.rw_seat.specs.SeatDesks.{SeatDesk, IsAnswered, IsSeatOf, opening_at}
 use Rattle.rw_seat.proofs.Reaching.{each_front, elsewhere, front_here, has_called, has_seen, homes_still, seat_called, seat_looked}
 
@@ -41,12 +41,12 @@ module _ {V : Type 0} where
       go None holds from = absurd (cc)
       go (Some m) holds from = let same : (of_chan {V = V}).shown m ≡ x = cc in subst P same holds
 
-  -- a seat of the desk is still one after its hand at a channel was replaced, with a front of that channel
-  pub still_of : (desk : SeatDesk V) (pass new : Pass V) (hands : List (Hand V)) (at : ℕ) (hand h : Hand V) → at < length hands → hand ≡ get_or hands at hand → h.home ≡ hand.home
-      → IsFrontOf desk.specs at h.front → IsSeatOf desk (record { pass = pass; hands = hands }) → IsSeatOf desk (record { pass = new; hands = insert (remove hands at) at h })
-  still_of desk pass new hands at hand h within is home front seat = record {
-    homes = homes_still hands at hand h within is home ∙ seat.homes;
-    fronts = each_front hands at hand h within is (λ c es. IsFrontOf desk.specs c es) front (λ c other. seat.fronts c);
+  -- a seat of the desk is still one after its `HandSeat` at a channel was replaced, with a front of that channel
+  pub still_of : (desk : SeatDesk V) (pass new : Pass V) (hand_seats : List (ChannelSeat V)) (at : ℕ) (hand_seat h : ChannelSeat V) → at < length hand_seats → hand_seat ≡ get_or hand_seats at hand_seat → h.home ≡ hand_seat.home
+      → IsFrontOf desk.specs at h.front → IsSeatOf desk (record { pass = pass; hand_seats = hand_seats }) → IsSeatOf desk (record { pass = new; hand_seats = insert (remove hand_seats at) at h })
+  still_of desk pass new hand_seats at hand_seat h within is home front seat = record {
+    homes = homes_still hand_seats at hand_seat h within is home ∙ seat.homes;
+    fronts = each_front hand_seats at hand_seat h within is (λ c es. IsFrontOf desk.specs c es) front (λ c other. seat.fronts c);
   }
 
   -- the journal of a book from a spec's opening is a front of the spec's channel
@@ -68,19 +68,19 @@ module _ {V : Type 0} where
       let rest : map (λ (y : HandOff (Chan V)). opening_at y.home) xs ≡ map (λ spec. Some (opened_channel spec)) specs = cc in
       spec_of specs xs c h rest at
 
-  module _ (hands : List (Hand V)) (homes : List (Home (Chan V))) (at : ℕ) (home : Home (Chan V)) (same : map (λ (x : Hand V). x.home) hands ≡ homes) (there : slice_get homes at ≡ Some home) where
-    -- a seat of a desk has a hand for each of its channels
-    pub within_hands : at < length hands
-    within_hands =
+  module _ (hand_seats : List (ChannelSeat V)) (homes : List (Home (Chan V))) (at : ℕ) (home : Home (Chan V)) (same : map (λ (x : ChannelSeat V). x.home) hand_seats ≡ homes) (there : slice_get homes at ≡ Some home) where
+    -- a seat of a desk has a `HandSeat` for each of its channels
+    pub within_hand_seats : at < length hand_seats
+    within_hand_seats =
         let within : at < length homes = slice_get_within homes at home there in
-        omega (arith, within, ap length same, length-map hands (λ (x : Hand V). x.home))
+        omega (arith, within, ap length same, length-map hand_seats (λ (x : ChannelSeat V). x.home))
 
-    -- that hand is of the channel's hand-off
-    pub home_at : (hand : Hand V) → hand ≡ get_or hands at hand → hand.home ≡ home
-    home_at hand is =
-        ap (λ (x : Hand V). x.home) is
-        ∙ (sym (get_or-map (λ (x : Hand V). x.home) hands at hand hand.home within_hands)
-        ∙ (ap (λ (hs : List (Home (Chan V))). get_or hs at hand.home) same ∙ get_or_from_slice_get homes at home hand.home there))
+    -- that `HandSeat` is of the channel's hand-off
+    pub home_at : (hand_seat : ChannelSeat V) → hand_seat ≡ get_or hand_seats at hand_seat → hand_seat.home ≡ home
+    home_at hand_seat is =
+        ap (λ (x : ChannelSeat V). x.home) is
+        ∙ (sym (get_or-map (λ (x : ChannelSeat V). x.home) hand_seats at hand_seat hand_seat.home within_hand_seats)
+        ∙ (ap (λ (hs : List (Home (Chan V))). get_or hs at hand_seat.home) same ∙ get_or_from_slice_get homes at home hand_seat.home there))
 
   kind_after : (x : ChanShown V) (es : List (ChanEntry V)) → channel_kind (after_all of_chan x es) ≡ channel_kind x
   kind_after x [] = refl
@@ -106,7 +106,7 @@ module _ {V : Type 0} where
   pub refused_stray : (specs : List (Spec V)) (seat : DeskSeat V) (at : ℕ) (call : ChanCall V) → IsTrue (stray_of strays_at (map spec_kind specs) (row_call at call)) → IsAnswered specs seat seat at call (Err NoChannel)
   refused_stray specs seat at call strays = record {
     made = record {
-      seen = record { pass = refl; fronts = λ c. quiet_self author_of (seat.pass.actor ∷ []) (front_at seat.hands c) };
+      seen = record { pass = refl; fronts = λ c. quiet_self author_of (seat.pass.actor ∷ []) (front_at seat.hand_seats c) };
       reason = why (slice_get specs at) (subst (λ o. IsTrue (option_map_or (λ k. strays_at k call) o true)) (slice_get-map spec_kind specs at) strays);
     };
     elsewhere = λ c other. refl;
@@ -114,9 +114,9 @@ module _ {V : Type 0} where
   }
     where
       why : (o : Option (Spec V)) → IsTrue (option_map_or (λ k. strays_at k call) (option_map spec_kind o) true)
-          → MatchOption o (NoChannel ≡ NoChannel) (λ spec. IsFaultAfter (opened_channel spec) (front_at seat.hands at) seat.pass.clock call NoChannel)
+          → MatchOption o (NoChannel ≡ NoChannel) (λ spec. IsFaultAfter (opened_channel spec) (front_at seat.hand_seats at) seat.pass.clock call NoChannel)
       why None t = refl
-      why (Some spec) t = strays_after spec (front_at seat.hands at) call ∙ t
+      why (Some spec) t = strays_after spec (front_at seat.hand_seats at) call ∙ t
 
   -- a call strays if there is no channel; if there is one, that depends on its kind
   pub strays_past : (specs : List (Spec V)) (at : ℕ) (call : ChanCall V) → length specs ≤ at → IsTrue (stray_of strays_at (map spec_kind specs) (row_call at call))
@@ -152,61 +152,61 @@ module _ {V : Type 0} where
         short = omega (arith, length-append f begins.0, book.short);
       })
 
-  -- a seat whose hand has seen more of one channel, before its parts are put together again
-  module _ (seat : DeskSeat V) (pass : Pass V) (others : List (Hand V)) (at : ℕ) (hand h : Hand V) (within : at < length seat.hands) (same : pass ≡ seat.pass) (out : others ≡ remove seat.hands at)
-      (is : hand ≡ get_or seat.hands at hand) (kept : IsDeskSeat seat.pass seat.hands) (number : h.number ≡ hand.number) (on : HasGoneOn hand.number hand.front h.front) where
-    gone_on : HasGoneOn seat.pass.actor hand.front h.front
+  -- a seat whose `HandSeat` has seen more of one channel, before its parts are put together again
+  module _ (seat : DeskSeat V) (pass : Pass V) (others : List (ChannelSeat V)) (at : ℕ) (hand_seat h : ChannelSeat V) (within : at < length seat.hand_seats) (same : pass ≡ seat.pass) (out : others ≡ remove seat.hand_seats at)
+      (is : hand_seat ≡ get_or seat.hand_seats at hand_seat) (kept : IsDeskSeat seat.pass seat.hand_seats) (number : h.number ≡ hand_seat.number) (on : HasGoneOn hand_seat.number hand_seat.front h.front) where
+    gone_on : HasGoneOn seat.pass.actor hand_seat.front h.front
     gone_on =
-        let mine : hand.number ≡ seat.pass.actor = ap (λ (x : Hand V). x.number) is ∙ kept.numbers at hand within in
-        subst (λ (n : ℕ). HasGoneOn n hand.front h.front) mine on
+        let mine : hand_seat.number ≡ seat.pass.actor = ap (λ (x : ChannelSeat V). x.number) is ∙ kept.numbers at hand_seat within in
+        subst (λ (n : ℕ). HasGoneOn n hand_seat.front h.front) mine on
 
     pub looked_seat : IsDeskSeat pass (insert others at h)
-    looked_seat = subst (λ (z : Pass V × List (Hand V)). IsDeskSeat z.0 (insert z.1 at h)) (λ i. (sym same i, sym out i)) (seat_looked seat.hands at hand h within is seat.pass kept number gone_on)
+    looked_seat = subst (λ (z : Pass V × List (ChannelSeat V)). IsDeskSeat z.0 (insert z.1 at h)) (λ i. (sym same i, sym out i)) (seat_looked seat.hand_seats at hand_seat h within is seat.pass kept number gone_on)
 
     -- and after that
-    pub looked : (desk : SeatDesk V) (whole : DeskSeat V) → whole ≡ record { pass = pass; hands = insert others at h } → h.home ≡ hand.home → IsFrontOf desk.specs at h.front → IsSeatOf desk seat
-        → IsSeatOf desk whole × HasSeen seat whole × IsElsewhereAsBefore at seat whole × (front_at whole.hands at ≡ h.front)
+    pub looked : (desk : SeatDesk V) (whole : DeskSeat V) → whole ≡ record { pass = pass; hand_seats = insert others at h } → h.home ≡ hand_seat.home → IsFrontOf desk.specs at h.front → IsSeatOf desk seat
+        → IsSeatOf desk whole × HasSeen seat whole × IsElsewhereAsBefore at seat whole × (front_at whole.hand_seats at ≡ h.front)
     looked desk whole put home front of_desk =
-        let now : DeskSeat V = record { pass = pass; hands = insert (remove seat.hands at) at h } in
-        let eq : whole ≡ now = put ∙ ap (λ (hs : List (Hand V)). record { pass = pass; hands = insert hs at h }) out in
-        subst (λ (w : DeskSeat V). IsSeatOf desk w × HasSeen seat w × IsElsewhereAsBefore at seat w × (front_at w.hands at ≡ h.front)) (sym eq) (
-          still_of desk seat.pass pass seat.hands at hand h within is home front of_desk,
-          has_seen seat.hands at hand h within is seat.pass pass same gone_on,
-          elsewhere seat.hands at hand h within is seat.pass pass,
-          front_here seat.hands at hand h within is,
+        let now : DeskSeat V = record { pass = pass; hand_seats = insert (remove seat.hand_seats at) at h } in
+        let eq : whole ≡ now = put ∙ ap (λ (hs : List (ChannelSeat V)). record { pass = pass; hand_seats = insert hs at h }) out in
+        subst (λ (w : DeskSeat V). IsSeatOf desk w × HasSeen seat w × IsElsewhereAsBefore at seat w × (front_at w.hand_seats at ≡ h.front)) (sym eq) (
+          still_of desk seat.pass pass seat.hand_seats at hand_seat h within is home front of_desk,
+          has_seen seat.hand_seats at hand_seat h within is seat.pass pass same gone_on,
+          elsewhere seat.hand_seats at hand_seat h within is seat.pass pass,
+          front_here seat.hand_seats at hand_seat h within is,
         )
 
   pub seen_nothing : (s : DeskSeat V) → HasSeen s s
-  seen_nothing s = record { pass = refl; fronts = λ c. quiet_self author_of (s.pass.actor ∷ []) (front_at s.hands c) }
+  seen_nothing s = record { pass = refl; fronts = λ c. quiet_self author_of (s.pass.actor ∷ []) (front_at s.hand_seats c) }
 
   -- the invariant of a seat holds after a call
-  pub seat_after : (pass new : Pass V) (hands : List (Hand V)) (at : ℕ) (hand h : Hand V) (home : Home (Chan V)) (call : ChanCall V) (answer : Result (Answered V) DeskFault) → at < length hands → hand ≡ get_or hands at hand
-      → IsDeskSeat pass hands → h.number ≡ hand.number → IfOk answer (IsMade pass new hand.front h.front at call) → IfErr answer (IsNotMade home pass new hand.front h.front call) → IsDeskSeat new (insert (remove hands at) at h)
-  seat_after pass new hands at hand h home call (Ok a) within is seat number made refused = seat_called hands at hand h within is pass new call a seat number made
-  seat_after pass new hands at hand h home call (Err fault) within is seat number made refused =
-      subst (λ (p : Pass V). IsDeskSeat p (insert (remove hands at) at h)) (sym refused.pass) (seat_looked hands at hand h within is pass seat number refused.front)
+  pub seat_after : (pass new : Pass V) (hand_seats : List (ChannelSeat V)) (at : ℕ) (hand_seat h : ChannelSeat V) (home : Home (Chan V)) (call : ChanCall V) (answer : Result (Answered V) DeskFault) → at < length hand_seats → hand_seat ≡ get_or hand_seats at hand_seat
+      → IsDeskSeat pass hand_seats → h.number ≡ hand_seat.number → IfOk answer (IsMade pass new hand_seat.front h.front at call) → IfErr answer (IsNotMade home pass new hand_seat.front h.front call) → IsDeskSeat new (insert (remove hand_seats at) at h)
+  seat_after pass new hand_seats at hand_seat h home call (Ok a) within is seat number made refused = seat_called hand_seats at hand_seat h within is pass new call a seat number made
+  seat_after pass new hand_seats at hand_seat h home call (Err fault) within is seat number made refused =
+      subst (λ (p : Pass V). IsDeskSeat p (insert (remove hand_seats at) at h)) (sym refused.pass) (seat_looked hand_seats at hand_seat h within is pass seat number refused.front)
 
-  -- what a desk returns, from the result of the hand's call
-  pub answered : (specs : List (Spec V)) (pass new : Pass V) (hands : List (Hand V)) (at : ℕ) (hand h : Hand V) (home : Home (Chan V)) (spec : Spec V) (call : ChanCall V) (answer : Result (Answered V) DeskFault)
-      → at < length hands → hand ≡ get_or hands at hand → slice_get specs at ≡ Some spec → opening_at home ≡ Some (opened_channel spec) → strays_at (spec_kind spec) call ≡ false
-      → IsDeskSeat new (insert (remove hands at) at h)
-      → IfOk answer (IsMade pass new hand.front h.front at call) → IfErr answer (IsNotMade home pass new hand.front h.front call)
-      → IsAnswered specs (record { pass = pass; hands = hands }) (record { pass = new; hands = insert (remove hands at) at h }) at call answer
-  answered specs pass new hands at hand h home spec call (Ok a) within is there from stays seat made refused = record {
-    made = has_called hands at hand h within is pass new call a seat made;
-    elsewhere = elsewhere hands at hand h within is pass new;
+  -- what a desk returns, from the result of the `HandSeat`'s call
+  pub answered : (specs : List (Spec V)) (pass new : Pass V) (hand_seats : List (ChannelSeat V)) (at : ℕ) (hand_seat h : ChannelSeat V) (home : Home (Chan V)) (spec : Spec V) (call : ChanCall V) (answer : Result (Answered V) DeskFault)
+      → at < length hand_seats → hand_seat ≡ get_or hand_seats at hand_seat → slice_get specs at ≡ Some spec → opening_at home ≡ Some (opened_channel spec) → strays_at (spec_kind spec) call ≡ false
+      → IsDeskSeat new (insert (remove hand_seats at) at h)
+      → IfOk answer (IsMade pass new hand_seat.front h.front at call) → IfErr answer (IsNotMade home pass new hand_seat.front h.front call)
+      → IsAnswered specs (record { pass = pass; hand_seats = hand_seats }) (record { pass = new; hand_seats = insert (remove hand_seats at) at h }) at call answer
+  answered specs pass new hand_seats at hand_seat h home spec call (Ok a) within is there from stays seat made refused = record {
+    made = has_called hand_seats at hand_seat h within is pass new call a seat made;
+    elsewhere = elsewhere hand_seats at hand_seat h within is pass new;
     no_channel = ((λ no. absurd (cc)), (λ strays. absurd (true≢false (sym strays ∙ stays_in specs at spec call there stays))));
   }
-  answered specs pass new hands at hand h home spec call (Err fault) within is there from stays seat made refused = record {
+  answered specs pass new hand_seats at hand_seat h home spec call (Err fault) within is there from stays seat made refused = record {
     made = record {
-      seen = has_seen hands at hand h within is pass new refused.pass refused.front;
-      reason = subst (λ o. MatchOption o (fault ≡ NoChannel) (λ s. IsFaultAfter (opened_channel s) (front_at (insert (remove hands at) at h) at) pass.clock call fault)) (sym there)
-          (subst (λ (es : List (ChanEntry V)). IsFaultAfter (opened_channel spec) es pass.clock call fault) (sym (front_here hands at hand h within is))
+      seen = has_seen hand_seats at hand_seat h within is pass new refused.pass refused.front;
+      reason = subst (λ o. MatchOption o (fault ≡ NoChannel) (λ s. IsFaultAfter (opened_channel s) (front_at (insert (remove hand_seats at) at h) at) pass.clock call fault)) (sym there)
+          (subst (λ (es : List (ChanEntry V)). IsFaultAfter (opened_channel spec) es pass.clock call fault) (sym (front_here hand_seats at hand_seat h within is))
           (of_opening (λ x. IsFaultAfter x h.front pass.clock call fault) home (opened_channel spec) refused.reason from));
     };
-    elsewhere = elsewhere hands at hand h within is pass new;
+    elsewhere = elsewhere hand_seats at hand_seat h within is pass new;
     no_channel = (
-      (λ no. let is_no : fault ≡ NoChannel = cc in absurd (no_stray spec home pass new hand.front h.front call from stays (subst (IsNotMade home pass new hand.front h.front call) is_no refused))),
+      (λ no. let is_no : fault ≡ NoChannel = cc in absurd (no_stray spec home pass new hand_seat.front h.front call from stays (subst (IsNotMade home pass new hand_seat.front h.front call) is_no refused))),
       (λ strays. absurd (true≢false (sym strays ∙ stays_in specs at spec call there stays))),
     );
   }

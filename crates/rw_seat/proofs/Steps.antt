@@ -8,7 +8,7 @@ use Rattle.atomic_table.specs.Table.{State, Me, Act, step, keeps, takes, gives, 
 use Rattle.atomic_table.proofs.Lists.{set_again, set_here, set_else, at_longer}
 use Rattle.rw_seat.specs.declared.view.View.{View}
 use Rattle.rw_seat.specs.Journals.{IsIn, Apart, Distinct, IsQuiet, Adds}
-use Rattle.rw_seat.specs.Rule.{numbers_from, view_of, resting, spent_view, joined_view, first_part, other_part, Fits, Agree, AtHome, IsOut, Kept, Takes, Gives}
+use Rattle.rw_seat.specs.Rule.{numbers_from, view_of, resting, spent_view, joined_view, first_part, other_part, Fits, Agree, AtHome, IsOut, HasOneBook, Acquires, Releases}
 use Rattle.rw_seat.proofs.Journals.{in_from, quiet_self, quiet_more, olds_more}
 use Rattle.rw_seat.proofs.Views.{from_distinct, at_within, each_set, agree_set, each_split, agree_split, each_join, agree_join}
 
@@ -24,7 +24,7 @@ module _ {B E S : Type 0} (author : E → ℕ) (start : B → S) (journal : B �
   St = State (Option B) (View E S)
 
   abbrev Rule : St → Type 0
-  Rule = Kept author start journal o seats
+  Rule = HasOneBook author start journal o seats
 
   abbrev Mine : Type 0
   Mine = Me (Option B) (View E S)
@@ -75,7 +75,7 @@ module _ {B E S : Type 0} (author : E → ℕ) (start : B → S) (journal : B �
   -- an acquire
   abbrev Taking : ℕ → ℕ → View E S → St → Type 0
   Taking slots id v s = (w : View E S) × (a : Act (Option B)) × Valid s.homes [] a × Rule (stepped s 0 (either (eqb (slice_index s.words 0) 0) 1 (slice_index s.words 0)) id [] w a)
-      × Takes author start journal (step slots 0 0 1 none) (v, []) (slice_index s.words 0) (w, carried_after [] a)
+      × Acquires author start journal (step slots 0 0 1 none) (v, []) (slice_index s.words 0) (w, carried_after [] a)
 
   take_home : (slots id n : ℕ) (ns : List ℕ) (v : View E S) (b : B) (views : List (View E S)) → v.numbers ≡ n ∷ ns → get_elem? views id ≡ some v → start b ≡ o → Agree author o (journal b) seats views
       → ((j : ℕ) (u : View E S) → get_elem? views j ≡ some u → u.held ≡ false) → Taking slots id v (home_table b views)
@@ -120,7 +120,7 @@ module _ {B E S : Type 0} (author : E → ℕ) (start : B → S) (journal : B �
 
   -- an acquire that succeeds, and one that fails
   pub takes_turn : (slots id n : ℕ) (ns : List ℕ) (v : View E S) → v.numbers ≡ n ∷ ns
-      → Allows Rule slots id (v, []) 0 (λ k. either (eqb k 0) 1 k) (Takes author start journal (step slots 0 0 1 none) (v, []))
+      → Allows Rule slots id (v, []) 0 (λ k. either (eqb k 0) 1 k) (Acquires author start journal (step slots 0 0 1 none) (v, []))
   takes_turn slots id n ns v is s r deep at fits = ⊎_elim
       (λ (p : Free r.0 s). subst (Taking slots id v) (home_is s p.0 p.1 p.2)
       (take_home slots id n ns v p.0 s.views is at p.3 (subst (λ (h : List E). Agree author o h seats s.views) (sym p.4) r.1) p.5))
@@ -130,7 +130,7 @@ module _ {B E S : Type 0} (author : E → ℕ) (start : B → S) (journal : B �
   -- a release
   abbrev Giving : ℕ → ℕ → View E S → B → St → Type 0
   Giving slots id v b s = (w : View E S) × (a : Act (Option B)) × Valid s.homes ((0, Some b) ∷ []) a × Rule (stepped s 0 0 id ((0, Some b) ∷ []) w a)
-      × Gives author start journal (step slots 0 0 0 none) (v, (0, Some b) ∷ []) 0 (w, carried_after ((0, Some b) ∷ []) a)
+      × Releases author start journal (step slots 0 0 0 none) (v, (0, Some b) ∷ []) 0 (w, carried_after ((0, Some b) ∷ []) a)
 
   give_out : (slots id : ℕ) (v : View E S) (b : B) (h : List E) (views : List (View E S)) → get_elem? views id ≡ some v → v.front ≡ h → start b ≡ o → Adds author v.numbers v.front (journal b) → Agree author o h seats views
       → ((j : ℕ) (u : View E S) → get_elem? views j ≡ some u → u.held ≡ true → j ≡ id) → Giving slots id v b (out_table views)
@@ -160,7 +160,7 @@ module _ {B E S : Type 0} (author : E → ℕ) (start : B → S) (journal : B �
       book_of b c same = let e : Some b ≡ Some c = ap slot_of same in cc
 
   pub gives_back : (slots id : ℕ) (v : View E S) (b : B) → v.held ≡ true → v.start ≡ Some (start b) → Adds author v.numbers v.front (journal b)
-      → Allows Rule slots id (v, (0, Some b) ∷ []) 0 (λ _. 0) (λ _. Gives author start journal (step slots 0 0 0 none) (v, (0, Some b) ∷ []) 0)
+      → Allows Rule slots id (v, (0, Some b) ∷ []) 0 (λ _. 0) (λ _. Releases author start journal (step slots 0 0 0 none) (v, (0, Some b) ∷ []) 0)
   gives_back slots id v b held starts adds s r deep at fits = ⊎_elim
       (λ (p : Free r.0 s). absurd (true≢false (sym held ∙ p.5 id v at)))
       (λ (p : Taken r.0 s).
@@ -261,6 +261,6 @@ module _ {E S : Type 0} (author : E → ℕ) where
   met_two v w j h n is fit q = subst (λ (ns : List ℕ). IsQuiet author ns w.front h) q (subst (Fits author h) is fit).1.3.2
 
 pub splits_view : {B E S : Type 0} (author : E → ℕ) (start : B → S) (journal : B → List E) (o : S) (seats id m : ℕ) (ms : List ℕ) (from : Option S) (f : List E) (u : View E S) → u ≡ resting (m ∷ ms) from f
-    → Splits (Kept author start journal o seats) id u (first_part u) (other_part u)
+    → Splits (HasOneBook author start journal o seats) id u (first_part u) (other_part u)
 splits_view author start journal o seats id m ms from f u is =
-    subst (λ u. Splits (Kept author start journal o seats) id u (first_part u) (other_part u)) (sym is) (splits author start journal o seats id m ms from f)
+    subst (λ u. Splits (HasOneBook author start journal o seats) id u (first_part u) (other_part u)) (sym is) (splits author start journal o seats id m ms from f)

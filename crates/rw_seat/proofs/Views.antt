@@ -33,7 +33,7 @@ module _ {A : Type 0} where
   at_within (x ∷ xs) zero b e = omega arith
   at_within (x ∷ xs) (suc j) b e = let r = at_within xs j b e in omega arith
 
--- where a number goes at a split: m stays at id, the others of id go to the place l
+-- where a number goes at a split: m stays at id, the others of id go to the index l
 abbrev Fork : ℕ → ℕ → ℕ → ℕ → ℕ → ℕ → Type 0
 Fork id m l n k j = ((k ≡ id) × (n ≡ m) × (j ≡ id)) ⊎ (((k ≡ id) × (n ≢ m) × (j ≡ l)) ⊎ ((k ≢ id) × (j ≡ k)))
 
@@ -62,7 +62,7 @@ fits_spent : {E : Type 0} (S : Type 0) (author : E → ℕ) (h : List E) → Fit
 fits_spent S author h = ((h, refl, λ n i. absurd i), tt)
 
 module _ {E S : Type 0} (author : E → ℕ) where
-  -- if each number of a new view comes from one of an old one, and goes to one place, the new views are apart
+  -- if each number of a new view comes from one of an old one, and goes to one index, the new views are apart
   abbrev Origin : List (View E S) → (ℕ → ℕ → ℕ → Type 0) → ℕ → View E S → Type 0
   Origin old R j u = (n : ℕ) → IsIn n u.numbers → (k : ℕ) × (x : View E S) × (get_elem? old k ≡ some x) × IsIn n x.numbers × R n k j
 

@@ -1,4 +1,4 @@
--- Calls and reads by one hand, on the book of its channel.
+-- Calls and reads by one `HandSeat`, on the book of its channel.
 use Rattle.std.specs.Prelude.{◌≡◌, ℕ, ◌<◌, List, IfSome}
 use Rattle.rw_world.specs.declared.channels.Chan.{Chan}
 use Rattle.rw_world.specs.declared.channels.ChanCall.{ChanCall}
@@ -7,7 +7,7 @@ use Rattle.rw_world.specs.Specified.{ChanEntry}
 use Rattle.rw_desk.specs.declared.faults.DeskFault.{DeskFault}
 use Rattle.rw_desk.specs.Passes.{Pass, with_receipt}
 use Rattle.rw_seat.specs.declared.answered.Answered.{Answered}
-use Rattle.rw_seat.specs.Hands.{Home}
+use Rattle.rw_seat.specs.HandOffs.{Home}
 use Rattle.rw_seat.specs.Fronts.{EndsWithCall, HasGoneOn, IsFaultAfter}
 
 module _ {V : Type 0} where

@@ -1,7 +1,7 @@
 pub mod Journals
-pub mod Hands
+pub mod HandOffs
 pub mod Rule
-pub mod Lending
+pub mod LentBook
 pub mod Fronts
 pub mod Calls
 pub mod DeskSeats

@@ -74,20 +74,20 @@ module _ {B E S : Type 0} (author : E → ℕ) (start : B → S) (journal : B �
       (i : ℕ) × (n : ℕ) × (ns : List ℕ) × (s.words ≡ 1 ∷ []) × (s.homes ≡ none ∷ []) × (get_elem? s.views i ≡ some (view_of (n ∷ ns) (Some o) h true []))
       × ((j : ℕ) (v : View E S) → get_elem? s.views j ≡ some v → v.held ≡ true → j ≡ i)
 
-  abbrev pub Kept : S → ℕ → State (Option B) (View E S) → Type 0
-  Kept o seats s = (h : List E) × Agree author o h seats s.views × (AtHome o h s ⊎ IsOut o h s)
+  abbrev pub HasOneBook : S → ℕ → State (Option B) (View E S) → Type 0
+  HasOneBook o seats s = (h : List E) × Agree author o h seats s.views × (AtHome o h s ⊎ IsOut o h s)
 
   -- an acquire that succeeds: the seat gets the slot with a book, which starts as the seat knows, and whose journal fits the seat's front
   -- and each old one
-  abbrev pub Won : Me (Option B) (View E S) → Me (Option B) (View E S) → Type 0
-  Won m w = (b : B) × (w ≡ (view_of m.0.numbers m.0.start (journal b) true [], (0, Some b) ∷ [])) × (m.0.start ≡ Some (start b)) × Fits author (journal b) m.0
+  abbrev pub HasAcquired : Me (Option B) (View E S) → Me (Option B) (View E S) → Type 0
+  HasAcquired m w = (b : B) × (w ≡ (view_of m.0.numbers m.0.start (journal b) true [], (0, Some b) ∷ [])) × (m.0.start ≡ Some (start b)) × Fits author (journal b) m.0
 
-  abbrev pub Takes : Step (Option B) → Me (Option B) (View E S) → ℕ → Me (Option B) (View E S) → Type 0
-  Takes st m found w = (found ≡ 0 → Won m w) × (found ≢ 0 → w ≡ m)
+  abbrev pub Acquires : Step (Option B) → Me (Option B) (View E S) → ℕ → Me (Option B) (View E S) → Type 0
+  Acquires st m found w = (found ≡ 0 → HasAcquired m w) × (found ≢ 0 → w ≡ m)
 
   -- a release: the seat's front is then the book's journal
-  abbrev pub Gives : Step (Option B) → Me (Option B) (View E S) → ℕ → Me (Option B) (View E S) → Type 0
-  Gives st m found w = (b : B) → m.1 ≡ (0, Some b) ∷ [] → w ≡ (resting m.0.numbers m.0.start (journal b), [])
+  abbrev pub Releases : Step (Option B) → Me (Option B) (View E S) → ℕ → Me (Option B) (View E S) → Type 0
+  Releases st m found w = (b : B) → m.1 ≡ (0, Some b) ∷ [] → w ≡ (resting m.0.numbers m.0.start (journal b), [])
 
 module _ {B E S : Type 0} where
   -- a seat of one number, without the book

@@ -14,7 +14,7 @@ use Rattle.rw_desk.specs.declared.faults.DeskFault.TheVariants.{NoChannel}
 use Rattle.rw_desk.specs.Desks.{row_call}
 use Rattle.rw_desk.specs.Passes.{Pass}
 use Rattle.rw_seat.specs.declared.answered.Answered.{Answered}
-use Rattle.rw_seat.specs.Hands.{Home, HandOff}
+use Rattle.rw_seat.specs.HandOffs.{Home, HandOff}
 use Rattle.rw_seat.specs.Fronts.{IsFaultAfter, IsFrontOf}
 use Rattle.rw_seat.specs.DeskSeats.{DeskSeat, front_at, fresh_seat, HasCalled, HasSeen, IsElsewhereAsBefore}
 
@@ -37,10 +37,10 @@ module _ {V : Type 0} where
     pub one_each : length hand_offs ≡ length specs
     pub opened : map (λ h. opening_at h.home) hand_offs ≡ map (λ spec. Some (opened_channel spec)) specs
 
-  -- a seat of this desk: its hands are seats of the desk's hand-offs, and its fronts are fronts of the desk's channels
+  -- a seat of this desk: its `HandSeat`s are seats of the desk's hand-offs, and its fronts are fronts of the desk's channels
   pub record IsSeatOf (desk : SeatDesk V) (seat : DeskSeat V) : Type 0 where
-    pub homes : map (λ h. h.home) seat.hands ≡ desk.homes
-    pub fronts : (c : ℕ) → IsFrontOf desk.specs c (front_at seat.hands c)
+    pub homes : map (λ h. h.home) seat.hand_seats ≡ desk.homes
+    pub fronts : (c : ℕ) → IsFrontOf desk.specs c (front_at seat.hand_seats c)
 
   -- a desk with these specs and this many actors, with a seat for each actor, which has made no call and seen no entry
   pub record HasOpened (specs : List (Spec V)) (actors : ℕ) (desk : SeatDesk V) (seats : List (DeskSeat V)) : Type 0 where
@@ -52,7 +52,7 @@ module _ {V : Type 0} where
   -- no call was made: the seat may have seen more of the channel, and after that the call has this fault
   pub record IsRefused (specs : List (Spec V)) (old new : DeskSeat V) (channel : ℕ) (call : ChanCall V) (fault : DeskFault) : Type 0 where
     pub seen : HasSeen old new
-    pub reason : MatchOption (slice_get specs channel) (fault ≡ NoChannel) (λ spec. IsFaultAfter (opened_channel spec) (front_at new.hands channel) old.pass.clock call fault)
+    pub reason : MatchOption (slice_get specs channel) (fault ≡ NoChannel) (λ spec. IsFaultAfter (opened_channel spec) (front_at new.hand_seats channel) old.pass.clock call fault)
 
   -- What a desk returns for a seat's call. The fault is `NoChannel` exactly if the call strays by the specs.
   pub record IsAnswered (specs : List (Spec V)) (old new : DeskSeat V) (channel : ℕ) (call : ChanCall V) (answer : Result (Answered V) DeskFault) : Type 0 where

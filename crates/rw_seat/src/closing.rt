@@ -4,7 +4,7 @@ ghost use Rattle.std.specs.Prelude.{◌≡◌, ◌<◌, ◌∷◌, [], ℕ, Some
 ghost use Rattle.rw_seat.specs.Journals.{IsIn, IsQuiet};
 
 use crate::hand_off::{HandOff, HandSeat};
-use crate::plays::Meet;
+use crate::rule::Meet;
 use rw_journal::Keeps;
 
 /// Whether a seat with this number is here.
@@ -46,15 +46,15 @@ impl<B: Keeps + Drop> HandOff<B> {
             return Err((self, seats));
         }
         let mut seats = seats;
-        let Some(hand) = seats.pop() else {
+        let Some(hand_seat) = seats.pop() else {
             unreachable!()
         };
         let HandSeat {
             number: _,
             seat: mut all,
-        } = hand;
-        while let Some(hand) = seats.pop() {
-            let HandSeat { number: _, seat } = hand;
+        } = hand_seat;
+        while let Some(hand_seat) = seats.pop() {
+            let HandSeat { number: _, seat } = hand_seat;
             self.table.shared.join_seat::<Meet>(&mut all, seat);
         }
         seats.destroy_empty();

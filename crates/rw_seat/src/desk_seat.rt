@@ -4,7 +4,7 @@ ghost use Rattle.std.specs.Prelude.{◌≡◌, ◌<◌, ◌≤◌, [], length, g
 ghost use Rattle.std.specs.List.{insert, remove};
 ghost use Rattle.rw_law.specs.declared.limits.TheConstants.{MOST_ACTORS};
 ghost use Rattle.rw_desk.specs.Passes.{IsPass, fresh_pass};
-ghost use Rattle.rw_seat.specs.DeskSeats.{IsDeskSeat, with_hand};
+ghost use Rattle.rw_seat.specs.DeskSeats.{IsDeskSeat, with_hand_seat};
 
 use crate::hand_off::HandSeat;
 use rw_desk::{Kept, Pass};
@@ -15,13 +15,13 @@ use std::alloc::Global;
 use std::marker::Model;
 
 /// A seat of a channel's hand-off.
-pub(crate) type Hand<V> = HandSeat<Book<Chan<V>>>;
+pub(crate) type ChannelSeat<V> = HandSeat<Book<Chan<V>>>;
 
 /// An actor's seat at a desk: its clock and receipts, and what it has seen of each channel.
 #[derive(Drop)]
 pub struct DeskSeat<V: Payload> {
     pass: Pass<V>,
-    hands: Vec<HandSeat<Book<Chan<V>>>>,
+    hand_seats: Vec<HandSeat<Book<Chan<V>>>>,
 }
 
 impl<V: Payload> Model for DeskSeat<V> {
@@ -29,20 +29,20 @@ impl<V: Payload> Model for DeskSeat<V> {
 
     ghost Value = { Seen V };
 
-    ghost view = { λ s. record { pass = s.pass; hands = s.hands.items } };
+    ghost view = { λ s. record { pass = s.pass; hand_seats = s.hand_seats.items } };
 
-    ghost invariant = { λ s. IsDeskSeat s.pass s.hands.items };
+    ghost invariant = { λ s. IsDeskSeat s.pass s.hand_seats.items };
 }
 
 impl<V: Payload> DeskSeat<V> {
-    /// Makes an actor's seat, without hands.
+    /// Makes an actor's seat, without `HandSeat`s.
     pub(crate) fn new(alloc: Global, actor: u32) -> DeskSeat<V>
         requires { actor < MOST_ACTORS }
-        ensures { result ≡ record { pass = fresh_pass actor; hands = [] } }
+        ensures { result ≡ record { pass = fresh_pass actor; hand_seats = [] } }
     {
         DeskSeat {
             pass: Pass::new(alloc, actor),
-            hands: Vec::new(alloc),
+            hand_seats: Vec::new(alloc),
         }
     }
 
@@ -65,22 +65,22 @@ impl<V: Payload> DeskSeat<V> {
     pub fn kept(&self) -> &[Kept<V>]
         ensures kept { result.now ≡ self.now.pass.kept }
         ensures pass { IsPass self.now.pass.actor self.now.pass.clock result.now }
-        ensures seat { IsDeskSeat self.now.pass self.now.hands }
+        ensures seat { IsDeskSeat self.now.pass self.now.hand_seats }
     {
         self.pass.kept()
     }
 
-    /// Adds a hand to a seat that has made no call. The hand has seen nothing.
-    pub(crate) fn add(&mut self, hand: HandSeat<Book<Chan<V>>>) -> Result<(), NoMemory>
-        requires pass { self.old.pass ≡ fresh_pass hand.number }
-        requires front { hand.front ≡ [] }
-        ensures { OnOk result (self.new ≡ with_hand self.old hand) }
+    /// Adds a `HandSeat` to a seat that has made no call. The `HandSeat` has seen nothing.
+    pub(crate) fn add(&mut self, hand_seat: HandSeat<Book<Chan<V>>>) -> Result<(), NoMemory>
+        requires pass { self.old.pass ≡ fresh_pass hand_seat.number }
+        requires front { hand_seat.front ≡ [] }
+        ensures { OnOk result (self.new ≡ with_hand_seat self.old hand_seat) }
     {
-        self.hands.push(hand)?;
+        self.hand_seats.push(hand_seat)?;
         Ok(())
     }
 
-    /// Splits the seat into its pass, its other hands, and its hand at a channel.
+    /// Splits the seat into its pass, its other `HandSeat`s, and its `HandSeat` at a channel.
     pub(crate) fn reach(
         self,
         at: usize,
@@ -89,32 +89,35 @@ impl<V: Payload> DeskSeat<V> {
         Vec<HandSeat<Book<Chan<V>>>>,
         HandSeat<Book<Chan<V>>>,
     )
-        requires { at < length self.hands }
+        requires { at < length self.hand_seats }
         ensures pass { result.0 ≡ self.pass }
-        ensures others { result.1.items ≡ remove self.hands at }
+        ensures others { result.1.items ≡ remove self.hand_seats at }
         ensures within { at ≤ vec_len result.1 }
         ensures room { vec_len result.1 < vec_capacity result.1 }
-        ensures hand { result.2 ≡ get_or self.hands at result.2 }
-        ensures seat { IsDeskSeat self.pass self.hands }
+        ensures hand_seat { result.2 ≡ get_or self.hand_seats at result.2 }
+        ensures seat { IsDeskSeat self.pass self.hand_seats }
     {
-        let DeskSeat { pass, mut hands } = self;
-        let hand = hands.remove(at);
-        (pass, hands, hand)
+        let DeskSeat {
+            pass,
+            mut hand_seats,
+        } = self;
+        let hand_seat = hand_seats.remove(at);
+        (pass, hand_seats, hand_seat)
     }
 
     /// Puts together what `reach` has split.
     pub(crate) fn whole(
         pass: Pass<V>,
-        mut hands: Vec<HandSeat<Book<Chan<V>>>>,
+        mut hand_seats: Vec<HandSeat<Book<Chan<V>>>>,
         at: usize,
-        hand: HandSeat<Book<Chan<V>>>,
+        hand_seat: HandSeat<Book<Chan<V>>>,
     ) -> DeskSeat<V>
-        requires within { at ≤ vec_len hands }
-        requires room { vec_len hands < vec_capacity hands }
-        requires seat { IsDeskSeat pass (insert hands.items at hand) }
-        ensures { result ≡ record { pass = pass; hands = insert hands.items at hand } }
+        requires within { at ≤ vec_len hand_seats }
+        requires room { vec_len hand_seats < vec_capacity hand_seats }
+        requires seat { IsDeskSeat pass (insert hand_seats.items at hand_seat) }
+        ensures { result ≡ record { pass = pass; hand_seats = insert hand_seats.items at hand_seat } }
     {
-        hands.insert(at, hand).unwrap();
-        DeskSeat { pass, hands }
+        hand_seats.insert(at, hand_seat).unwrap();
+        DeskSeat { pass, hand_seats }
     }
 }

@@ -5,9 +5,9 @@ ghost use Rattle.rw_law.specs.declared.limits.TheConstants.{MOST_ACTORS};
 ghost use Rattle.rw_seat.specs.Journals.{IsQuiet};
 ghost use Rattle.rw_seat.specs.Rule.{numbers_from, resting};
 
+use crate::acquiring::{FREE, TableSeat, acquire, release};
 use crate::lent::Lent;
-use crate::plays::{Deal, Meet, OneBook};
-use crate::taking::{Chair, FREE, put_back, win};
+use crate::rule::{Deal, Meet, OneBook};
 use crate::view::{Opening, View};
 use atomic_table::{Refused, Table};
 use rw_journal::Keeps;
@@ -27,7 +27,7 @@ pub struct HandOff<B: Keeps + Drop> {
 impl<B: Keeps + Drop> Model for HandOff<B> {
     ghost use Rattle.std.specs.Prelude.{◌≡◌, ◌<◌, ◌≤◌, Some};
     ghost use Rattle.rw_law.specs.declared.limits.TheConstants.{MOST_ACTORS};
-    ghost use Rattle.rw_seat.specs.Hands.{HandOff as Seen};
+    ghost use Rattle.rw_seat.specs.HandOffs.{HandOff as Seen};
 
     ghost Value = { Seen B.Start };
 
@@ -40,11 +40,11 @@ impl<B: Keeps + Drop> Model for HandOff<B> {
 #[derive(Drop)]
 pub struct HandSeat<B: Keeps> {
     pub(crate) number: u32,
-    pub(crate) seat: Chair<B>,
+    pub(crate) seat: TableSeat<B>,
 }
 
 impl<B: Keeps> Model for HandSeat<B> {
-    ghost use Rattle.rw_seat.specs.Hands.{HandSeat as Seen};
+    ghost use Rattle.rw_seat.specs.HandOffs.{HandSeat as Seen};
     ghost use Rattle.rw_seat.specs.Rule.{HasOne};
 
     ghost Value = { Seen B.Entry B.Start };
@@ -76,7 +76,7 @@ impl<B: Keeps + Drop> HandOff<B> {
         ensures home { IfOk result (λ r. All (λ s. s.home ≡ r.0.home) r.1.items) }
         ensures seats { IfOk result (λ r. r.1.items ≡ map (λ n. record { number = n; home = r.0.home; front = B.journal book }) (numbers_from 0 seats)) }
     {
-        let mut hands = Vec::with_capacity(alloc, seats as usize)?;
+        let mut hand_seats = Vec::with_capacity(alloc, seats as usize)?;
         let mut slots = Vec::with_capacity(alloc, 1)?;
         let key = Opening {
             book: Snapshot::of(&book),
@@ -86,28 +86,28 @@ impl<B: Keeps + Drop> HandOff<B> {
         match Table::new(alloc, &[FREE], slots, &key) {
             Ok((table, seat)) => {
                 let all = HandOff { table, seats };
-                all.deal(seat, &mut hands);
-                Ok((all, hands))
+                all.deal(seat, &mut hand_seats);
+                Ok((all, hand_seats))
             }
             Err(Refused { slots: _ }) => Err(NoMemory),
         }
     }
 
     /// Splits a seat of all numbers into seats of one number each.
-    fn deal(&self, seat: Chair<B>, hands: &mut Vec<HandSeat<B>>)
-        requires place { seat.table_id ≡ self.now.home.table }
-        requires room { (hands.old.items ≡ []) × (self.now.seats ≤ vec_capacity hands.old) }
+    fn deal(&self, seat: TableSeat<B>, hand_seats: &mut Vec<HandSeat<B>>)
+        requires of_table { seat.table_id ≡ self.now.home.table }
+        requires room { (hand_seats.old.items ≡ []) × (self.now.seats ≤ vec_capacity hand_seats.old) }
         requires all { seat.me ≡ (resting (numbers_from 0 self.now.seats) self.now.home.start seat.me.0.front, []) }
-        ensures dealt { hands.new.items ≡ map (λ n. record { number = n; home = self.now.home; front = seat.me.0.front }) (numbers_from 0 self.now.seats) }
-        ensures home { All (λ s. s.home ≡ self.now.home) hands.new.items }
+        ensures dealt { hand_seats.new.items ≡ map (λ n. record { number = n; home = self.now.home; front = seat.me.0.front }) (numbers_from 0 self.now.seats) }
+        ensures home { All (λ s. s.home ≡ self.now.home) hand_seats.new.items }
     {
         let mut rest = seat;
         for number in 0..self.seats - 1 {
             let others = self.table.shared.split_seat::<Deal>(&mut rest);
-            hands.push_reserved(HandSeat { number, seat: rest });
+            hand_seats.push_reserved(HandSeat { number, seat: rest });
             rest = others;
         }
-        hands.push_reserved(HandSeat {
+        hand_seats.push_reserved(HandSeat {
             number: self.seats - 1,
             seat: rest,
         });
@@ -124,7 +124,7 @@ impl<B: Keeps + Drop> HandOff<B> {
         ensures book { IsQuiet B.author (seat.number ∷ []) seat.front (B.journal result.book) }
     {
         let HandSeat { number, mut seat } = seat;
-        let book = win(&self.table.shared, rt, &mut seat);
+        let book = acquire(&self.table.shared, rt, &mut seat);
         Lent {
             from: self,
             number,
@@ -157,11 +157,11 @@ impl<B: Keeps + Drop> HandOff<B> {
             number: second,
             seat: other,
         } = two;
-        let board = &self.table.shared;
-        board.join_seat::<Meet>(&mut seat, other);
-        let book = win(board, rt, &mut seat);
-        put_back(board, &mut seat, book);
-        let other = board.split_seat::<Deal>(&mut seat);
+        let table = &self.table.shared;
+        table.join_seat::<Meet>(&mut seat, other);
+        let book = acquire(table, rt, &mut seat);
+        release(table, &mut seat, book);
+        let other = table.split_seat::<Deal>(&mut seat);
         let one = HandSeat {
             number: first,
             seat,

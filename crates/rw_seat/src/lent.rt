@@ -4,8 +4,8 @@ ghost use Rattle.std.specs.Prelude.{◌≡◌, ◌∷◌, [], Some};
 ghost use Rattle.rw_seat.specs.Journals.{Adds};
 ghost use Rattle.rw_seat.specs.Rule.{Holds};
 
+use crate::acquiring::{TableSeat, release};
 use crate::hand_off::{HandOff, HandSeat};
-use crate::taking::{Chair, put_back};
 use rw_journal::Keeps;
 
 /// The book, lent to a seat. If it is dropped, the book is never released, and no other seat can acquire it.
@@ -13,10 +13,10 @@ use rw_journal::Keeps;
 pub struct Lent<'a, B: Keeps + Drop> {
     pub(crate) from: &'a HandOff<B>,
     pub(crate) number: u32,
-    pub(crate) seat: Chair<B>,
+    pub(crate) seat: TableSeat<B>,
     pub(crate) book: B,
     ghost mine: { Holds number seat.me },
-    ghost place: { seat.table_id ≡ from.now.home.table },
+    ghost of_table: { seat.table_id ≡ from.now.home.table },
     ghost start: { seat.me.0.start ≡ from.now.home.start },
 }
 
@@ -35,7 +35,7 @@ impl<'a, B: Keeps + Drop> Lent<'a, B> {
             mut seat,
             book,
         } = self;
-        put_back(&from.table.shared, &mut seat, book);
+        release(&from.table.shared, &mut seat, book);
         HandSeat { number, seat }
     }
 }

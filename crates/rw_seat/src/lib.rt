@@ -5,19 +5,19 @@
 //! a hand-off, whichever seat has the book. Then read `hand_off.rt` and `seat_desk.rt`.
 #![tactic(auto)]
 
+mod acquiring;
 mod answered;
 mod calling;
 mod closing;
 mod desk_closing;
 mod desk_seat;
 mod hand_off;
-mod lends;
 mod lent;
+mod lent_book;
 mod opening;
-mod plays;
 mod receipts;
+mod rule;
 mod seat_desk;
-mod taking;
 mod view;
 
 pub use answered::Answered;

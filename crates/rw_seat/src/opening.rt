@@ -6,8 +6,8 @@ ghost use Rattle.rw_world.specs.declared.channels.Chan.{Chan as Chans};
 ghost use Rattle.rw_world.specs.Openings.{has_bad_capacity, opened_channel, refusal};
 ghost use Rattle.rw_desk.specs.Desks.{refusal_to_open};
 ghost use Rattle.rw_desk.specs.Passes.{fresh_pass};
-ghost use Rattle.rw_seat.specs.DeskSeats.{Hand, fresh_hand, fresh_seat, with_hand, DeskSeat as Seated};
-ghost use Rattle.rw_seat.specs.Hands.{HandOff as Handed};
+ghost use Rattle.rw_seat.specs.DeskSeats.{ChannelSeat, fresh_hand_seat, fresh_seat, with_hand_seat, DeskSeat as Seated};
+ghost use Rattle.rw_seat.specs.HandOffs.{HandOff as HandOffs};
 ghost use Rattle.rw_seat.specs.Rule.{numbers_from};
 ghost use Rattle.rw_seat.specs.SeatDesks.{HasOpened, opening_at};
 
@@ -53,7 +53,7 @@ fn open_all<V: Payload>(
     requires few { actors ≤ MOST_ACTORS }
     ensures { IfOk result (λ r. HasOpened specs.now actors r.0 r.1.items) }
 {
-    let mut seats = seats_without_hands(alloc, actors)?;
+    let mut seats = seats_without_hand_seats(alloc, actors)?;
     let Ok(hand_offs) = open_hand_offs(alloc, specs, actors, &mut seats) else {
         drop(seats);
         return Err(NoMemory);
@@ -71,7 +71,8 @@ fn open_all<V: Payload>(
     Ok((desk, seats))
 }
 
-/// Opens a channel for each spec, and adds a hand of it to each seat. If an allocation fails, some seats may already have hands.
+/// Opens a channel for each spec, and adds a `HandSeat` of it to each seat. If an allocation fails, some seats may already have
+/// `HandSeat`s.
 fn open_hand_offs<V: Payload>(
     alloc: Global,
     specs: &[Spec<V>],
@@ -97,7 +98,8 @@ fn open_hand_offs<V: Payload>(
     Ok(hand_offs)
 }
 
-/// Opens a channel, and adds a hand of it to each seat. Its hand-off is pushed even if the allocation for a hand fails.
+/// Opens a channel, and adds a `HandSeat` of it to each seat. Its hand-off is pushed even if the allocation for a `HandSeat`
+/// fails.
 fn open_to_seats<V: Payload>(
     alloc: Global,
     spec: &Spec<V>,
@@ -114,17 +116,20 @@ fn open_to_seats<V: Payload>(
     ensures length { length seats.new ≡ length seats.old }
     ensures len { OnOk result (vec_len hand_offs.new ≡ vec_len hand_offs.old + 1) }
     ensures capacity { vec_capacity hand_offs.new ≡ vec_capacity hand_offs.old }
-    ensures opened { OnOk result ((h : Handed (Chans V)) × (hand_offs.new.items ≡ hand_offs.old.items ++ h ∷ []) × (opening_at h.home ≡ Some (opened_channel spec.now)) × ((a : ℕ) (s : Seated V) → a < actors → slice_get seats.old a ≡ Some s → slice_get seats.new a ≡ Some (with_hand s (fresh_hand a h.home)))) }
+    ensures opened { OnOk result ((h : HandOffs (Chans V)) × (hand_offs.new.items ≡ hand_offs.old.items ++ h ∷ []) × (opening_at h.home ≡ Some (opened_channel spec.now)) × ((a : ℕ) (s : Seated V) → a < actors → slice_get seats.old a ≡ Some s → slice_get seats.new a ≡ Some (with_hand_seat s (fresh_hand_seat a h.home)))) }
 {
-    let (hand_off, hands) = open_hand_off(alloc, spec, actors)?;
+    let (hand_off, hand_seats) = open_hand_off(alloc, spec, actors)?;
     hand_offs.push_reserved(hand_off);
-    hand_out(seats, hands)
+    add_hand_seats(seats, hand_seats)
 }
 
-/// Makes a seat for each actor, without hands.
-fn seats_without_hands<V: Payload>(alloc: Global, actors: u32) -> Result<Vec<DeskSeat<V>>, NoMemory>
+/// Makes a seat for each actor, without `HandSeat`s.
+fn seats_without_hand_seats<V: Payload>(
+    alloc: Global,
+    actors: u32,
+) -> Result<Vec<DeskSeat<V>>, NoMemory>
     requires { actors ≤ MOST_ACTORS }
-    ensures { IfOk result (λ seats. (length seats.items ≡ actors) × ((a : ℕ) → a < actors → slice_get seats.items a ≡ Some (record { pass = fresh_pass a; hands = [] }))) }
+    ensures { IfOk result (λ seats. (length seats.items ≡ actors) × ((a : ℕ) → a < actors → slice_get seats.items a ≡ Some (record { pass = fresh_pass a; hand_seats = [] }))) }
 {
     let mut seats = Vec::new(alloc);
     for actor in 0..actors {
@@ -143,30 +148,30 @@ fn open_hand_off<V: Payload>(
     requires some { 0 < seats }
     requires few { seats ≤ MOST_ACTORS }
     ensures opened { IfOk result (λ r. opening_at r.0.home ≡ Some (opened_channel spec.now)) }
-    ensures seats { IfOk result (λ r. r.1.items ≡ map (λ n. fresh_hand n r.0.home) (numbers_from 0 seats)) }
+    ensures seats { IfOk result (λ r. r.1.items ≡ map (λ n. fresh_hand_seat n r.0.home) (numbers_from 0 seats)) }
 {
     let channel = open_channel(alloc, spec)?;
     let book = Book::open(alloc, channel)?;
     HandOff::open(alloc, book, seats)
 }
 
-/// Adds each hand to the seat with its number. A hand whose allocation fails is dropped.
-fn hand_out<V: Payload>(
+/// Adds each `HandSeat` to the seat with its number. A `HandSeat` whose allocation fails is dropped.
+fn add_hand_seats<V: Payload>(
     seats: &mut [DeskSeat<V>],
-    mut hands: Vec<HandSeat<Book<Chan<V>>>>,
+    mut hand_seats: Vec<HandSeat<Book<Chan<V>>>>,
 ) -> Result<(), NoMemory>
-    requires all { length seats.old ≡ length hands.items }
+    requires all { length seats.old ≡ length hand_seats.items }
     requires fresh { (a : ℕ) → IfSome (slice_get seats.old a) (λ s. s.pass ≡ fresh_pass a) }
-    requires hands { (a : ℕ) → IfSome (slice_get hands.items a) (λ h. (h.number ≡ a) × (h.front ≡ [])) }
+    requires hand_seats { (a : ℕ) → IfSome (slice_get hand_seats.items a) (λ h. (h.number ≡ a) × (h.front ≡ [])) }
     ensures length { length seats.new ≡ length seats.old }
-    ensures each { OnOk result ((a : ℕ) (s : Seated V) (h : Hand V) → slice_get seats.old a ≡ Some s → slice_get hands.items a ≡ Some h → slice_get seats.new a ≡ Some (with_hand s h)) }
+    ensures each { OnOk result ((a : ℕ) (s : Seated V) (h : ChannelSeat V) → slice_get seats.old a ≡ Some s → slice_get hand_seats.items a ≡ Some h → slice_get seats.new a ≡ Some (with_hand_seat s h)) }
 {
-    let mut handed = Ok(());
-    while let Some(hand) = hands.pop() {
-        if let Err(fault) = seats[hands.len()].add(hand) {
-            handed = Err(fault);
+    let mut added = Ok(());
+    while let Some(hand_seat) = hand_seats.pop() {
+        if let Err(fault) = seats[hand_seats.len()].add(hand_seat) {
+            added = Err(fault);
         }
     }
-    hands.destroy_empty();
-    handed
+    hand_seats.destroy_empty();
+    added
 }

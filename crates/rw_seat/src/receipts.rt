@@ -53,14 +53,14 @@ fn receipts_of<V: Payload>(seats: &[DeskSeat<V>], actor: u32) -> &[Kept<V>]
     &[]
 }
 
-/// Returns the least actor whose receipts aren't its entries, and the first place at which they differ.
+/// Returns the least actor whose receipts aren't its entries, and the number of the first at which they differ.
 pub(crate) fn strayed<V: Payload>(run: &Run<V>, seats: &[DeskSeat<V>]) -> Option<(u32, u64)>
     ensures none { IfNone result (AreAllTheirs (passes_in seats.now) run.now.entries) }
     ensures some { IfSome result (λ r. IsStray (passes_in seats.now) run.now.entries r.0 r.1) }
 {
     for actor in 0..MOST_ACTORS {
-        if let Some(place) = compare(run, actor, receipts_of(seats, actor)) {
-            return Some((actor, place));
+        if let Some(number) = compare(run, actor, receipts_of(seats, actor)) {
+            return Some((actor, number));
         }
     }
     None

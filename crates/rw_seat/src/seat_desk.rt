@@ -11,7 +11,7 @@ ghost use Rattle.rw_seat.specs.DeskSeats.{HasSeen, IsElsewhereAsBefore, front_at
 ghost use Rattle.rw_seat.specs.SeatDesks.{IsAnswered, IsSeatOf, opening_at};
 
 use crate::answered::Answered;
-use crate::calling::{call_by_hand, look_by_hand};
+use crate::calling::{call_by_seat, length_by_seat};
 use crate::desk_seat::DeskSeat;
 use crate::hand_off::HandOff;
 use rw_desk::{DeskFault, strays};
@@ -57,9 +57,9 @@ impl<V: Payload> SeatDesk<V> {
             return (seat, Err(DeskFault::NoChannel));
         };
         let at = channel as usize;
-        let (mut pass, hands, hand) = seat.reach(at);
-        let (hand, answer) = call_by_hand(rt, hand_off, hand, &mut pass, channel, call);
-        (DeskSeat::whole(pass, hands, at, hand), answer)
+        let (mut pass, hand_seats, hand_seat) = seat.reach(at);
+        let (hand_seat, answer) = call_by_seat(rt, hand_off, hand_seat, &mut pass, channel, call);
+        (DeskSeat::whole(pass, hand_seats, at, hand_seat), answer)
     }
 
     /// Lets two seats meet on a channel: the first has then seen all that the second has seen of it. Returns the length of what
@@ -78,7 +78,7 @@ impl<V: Payload> SeatDesk<V> {
         ensures elsewhere { IsElsewhereAsBefore channel one result.0 × IsElsewhereAsBefore channel two result.1 }
         ensures none { IsNone result.2 ↔ length self.now.specs ≤ channel }
         ensures nothing { IfNone result.2 ((result.0 ≡ one) × (result.1 ≡ two)) }
-        ensures met { IfSome result.2 (λ n. (n ≡ length (front_at result.0.hands channel)) × StartsWith (front_at result.0.hands channel) (front_at result.1.hands channel)) }
+        ensures met { IfSome result.2 (λ n. (n ≡ length (front_at result.0.hand_seats channel)) × StartsWith (front_at result.0.hand_seats channel) (front_at result.1.hand_seats channel)) }
     {
         let at = channel as usize;
         let Some(hand_off) = self.hand_off_at(at) else {
@@ -87,7 +87,7 @@ impl<V: Payload> SeatDesk<V> {
         let (first, ours, one) = one.reach(at);
         let (second, theirs, two) = two.reach(at);
         let (one, two) = hand_off.meet(rt, one, two);
-        let (one, length) = look_by_hand(rt, hand_off, one);
+        let (one, length) = length_by_seat(rt, hand_off, one);
         (
             DeskSeat::whole(first, ours, at, one),
             DeskSeat::whole(second, theirs, at, two),

@@ -1,16 +1,19 @@
 //! The calls that each kind of handle has.
+//!
+//! They are over any values, where their proofs don't look into a desk. A public function names the numbers, once for all tests.
 
 use crate::hand::Hand;
 use rw_broadcast::{BCall, BReply};
 use rw_desk::{BRx, BTx, Desk, DeskFault, Made, Pass, WRx, WTx};
+use rw_law::Payload;
 use rw_watch::{WCall, WReply};
 use rw_world::{ChanCall, ChanReply};
 use std::sync::Wait;
 
 /// What a call by a handle returned.
 #[derive(Drop)]
-pub struct Called {
-    pub reply: Result<ChanReply<u64>, DeskFault>,
+pub struct Called<V: Copy> {
+    pub reply: Result<ChanReply<V>, DeskFault>,
     /// The handle that the call made. One that is dropped as a value stays alive in its channel.
     pub made: Option<Hand>,
     /// Whether the call's closure was called.
@@ -18,7 +21,7 @@ pub struct Called {
 }
 
 /// The reply of a call that may have made a sender of a broadcast.
-fn b_sender_made(made: Made<BTx, BReply<u64>>) -> (BReply<u64>, Option<Hand>) {
+fn b_sender_made<V>(made: Made<BTx, BReply<V>>) -> (BReply<V>, Option<Hand>) {
     match made {
         Made::New(sender) => (BReply::New(sender.number()), Some(Hand::BTx(sender))),
         Made::Refused(reply) => (reply, None),
@@ -26,7 +29,7 @@ fn b_sender_made(made: Made<BTx, BReply<u64>>) -> (BReply<u64>, Option<Hand>) {
 }
 
 /// The reply of a call that may have made a receiver of a broadcast.
-fn b_receiver_made(made: Made<BRx, BReply<u64>>) -> (BReply<u64>, Option<Hand>) {
+fn b_receiver_made<V>(made: Made<BRx, BReply<V>>) -> (BReply<V>, Option<Hand>) {
     match made {
         Made::New(receiver) => (BReply::New(receiver.number()), Some(Hand::BRx(receiver))),
         Made::Refused(reply) => (reply, None),
@@ -34,7 +37,7 @@ fn b_receiver_made(made: Made<BRx, BReply<u64>>) -> (BReply<u64>, Option<Hand>) 
 }
 
 /// The reply of a call that may have made a sender of a watch.
-fn w_sender_made(made: Made<WTx, WReply<u64>>) -> (WReply<u64>, Option<Hand>) {
+fn w_sender_made<V>(made: Made<WTx, WReply<V>>) -> (WReply<V>, Option<Hand>) {
     match made {
         Made::New(sender) => (WReply::New(sender.number()), Some(Hand::WTx(sender))),
         Made::Refused(reply) => (reply, None),
@@ -42,7 +45,7 @@ fn w_sender_made(made: Made<WTx, WReply<u64>>) -> (WReply<u64>, Option<Hand>) {
 }
 
 /// The reply of a call that may have made a receiver of a watch.
-fn w_receiver_made(made: Made<WRx, WReply<u64>>) -> (WReply<u64>, Option<Hand>) {
+fn w_receiver_made<V>(made: Made<WRx, WReply<V>>) -> (WReply<V>, Option<Hand>) {
     match made {
         Made::New(receiver) => (WReply::New(receiver.number()), Some(Hand::WRx(receiver))),
         Made::Refused(reply) => (reply, None),
@@ -50,13 +53,13 @@ fn w_receiver_made(made: Made<WRx, WReply<u64>>) -> (WReply<u64>, Option<Hand>) 
 }
 
 /// A call by a sender of a broadcast. A call of another kind of handle is refused with `NoChannel`.
-fn by_b_sender<R: Wait>(
+fn by_b_sender<V: Payload, R: Wait>(
     rt: &R,
-    desk: &Desk<u64>,
-    pass: &mut Pass<u64>,
+    desk: &Desk<V>,
+    pass: &mut Pass<V>,
     sender: &BTx,
-    call: BCall<u64>,
-) -> Result<(BReply<u64>, Option<Hand>), DeskFault> {
+    call: BCall<V>,
+) -> Result<(BReply<V>, Option<Hand>), DeskFault> {
     let reply = match call {
         BCall::Send(_, value) => desk.b_send(rt, pass, sender, value),
         BCall::SenderLen(_) => desk.b_sender_len(rt, pass, sender),
@@ -69,13 +72,13 @@ fn by_b_sender<R: Wait>(
 }
 
 /// A call by a receiver of a broadcast.
-fn by_b_receiver<R: Wait>(
+fn by_b_receiver<V: Payload, R: Wait>(
     rt: &R,
-    desk: &Desk<u64>,
-    pass: &mut Pass<u64>,
+    desk: &Desk<V>,
+    pass: &mut Pass<V>,
     receiver: &BRx,
-    call: BCall<u64>,
-) -> Result<(BReply<u64>, Option<Hand>), DeskFault> {
+    call: BCall<V>,
+) -> Result<(BReply<V>, Option<Hand>), DeskFault> {
     let reply = match call {
         BCall::TryRecv(_) => desk.b_try_recv(rt, pass, receiver),
         BCall::Recv(_) => desk.b_recv(rt, pass, receiver),
@@ -89,13 +92,13 @@ fn by_b_receiver<R: Wait>(
 }
 
 /// A call by a sender of a watch that takes no closure.
-fn by_w_sender<R: Wait>(
+fn by_w_sender<V: Payload, R: Wait>(
     rt: &R,
-    desk: &Desk<u64>,
-    pass: &mut Pass<u64>,
+    desk: &Desk<V>,
+    pass: &mut Pass<V>,
     sender: &WTx,
-    call: WCall<u64>,
-) -> Result<(WReply<u64>, Option<Hand>), DeskFault> {
+    call: WCall<V>,
+) -> Result<(WReply<V>, Option<Hand>), DeskFault> {
     let reply = match call {
         WCall::Send(_, value) => desk.w_send(rt, pass, sender, value),
         WCall::SendReplace(_, value) => desk.w_send_replace(rt, pass, sender, value),
@@ -111,13 +114,13 @@ fn by_w_sender<R: Wait>(
 }
 
 /// A call by a receiver of a watch.
-fn by_w_receiver<R: Wait>(
+fn by_w_receiver<V: Payload, R: Wait>(
     rt: &R,
-    desk: &Desk<u64>,
-    pass: &mut Pass<u64>,
+    desk: &Desk<V>,
+    pass: &mut Pass<V>,
     receiver: &WRx,
-    call: WCall<u64>,
-) -> Result<(WReply<u64>, Option<Hand>), DeskFault> {
+    call: WCall<V>,
+) -> Result<(WReply<V>, Option<Hand>), DeskFault> {
     let reply = match call {
         WCall::Borrow(_) => desk.w_borrow(rt, pass, receiver),
         WCall::Update(_) => desk.w_update(rt, pass, receiver),
@@ -134,13 +137,13 @@ fn by_w_receiver<R: Wait>(
 }
 
 /// Stores a value by a closure that returns nothing, with which the receivers are notified. Also whether the closure was called.
-fn modify<R: Wait>(
+fn modify<V: Payload, R: Wait>(
     rt: &R,
-    desk: &Desk<u64>,
-    pass: &mut Pass<u64>,
+    desk: &Desk<V>,
+    pass: &mut Pass<V>,
     sender: &WTx,
-    value: u64,
-) -> (Result<WReply<u64>, DeskFault>, bool) {
+    value: V,
+) -> (Result<WReply<V>, DeskFault>, bool) {
     let mut was_called = false;
     let reply = desk.w_send_modify(rt, pass, sender, |held| {
         was_called = true;
@@ -150,13 +153,13 @@ fn modify<R: Wait>(
 }
 
 /// Stores a value by a closure that returns `false`, with which nobody is notified. Also whether the closure was called.
-fn modify_silently<R: Wait>(
+fn modify_silently<V: Payload, R: Wait>(
     rt: &R,
-    desk: &Desk<u64>,
-    pass: &mut Pass<u64>,
+    desk: &Desk<V>,
+    pass: &mut Pass<V>,
     sender: &WTx,
-    value: u64,
-) -> (Result<WReply<u64>, DeskFault>, bool) {
+    value: V,
+) -> (Result<WReply<V>, DeskFault>, bool) {
     let mut was_called = false;
     let reply = desk.w_send_if_modified(rt, pass, sender, |held| {
         was_called = true;
@@ -167,7 +170,7 @@ fn modify_silently<R: Wait>(
 }
 
 /// What a call of a broadcast returned.
-fn of_broadcast(answer: Result<(BReply<u64>, Option<Hand>), DeskFault>) -> Called {
+fn of_broadcast<V: Copy>(answer: Result<(BReply<V>, Option<Hand>), DeskFault>) -> Called<V> {
     let (reply, made) = match answer {
         Ok((reply, made)) => (Ok(ChanReply::B(reply)), made),
         Err(fault) => (Err(fault), None),
@@ -180,7 +183,7 @@ fn of_broadcast(answer: Result<(BReply<u64>, Option<Hand>), DeskFault>) -> Calle
 }
 
 /// What a call of a watch returned that takes no closure.
-fn of_watch(answer: Result<(WReply<u64>, Option<Hand>), DeskFault>) -> Called {
+fn of_watch<V: Copy>(answer: Result<(WReply<V>, Option<Hand>), DeskFault>) -> Called<V> {
     let (reply, made) = match answer {
         Ok((reply, made)) => (Ok(ChanReply::W(reply)), made),
         Err(fault) => (Err(fault), None),
@@ -193,7 +196,7 @@ fn of_watch(answer: Result<(WReply<u64>, Option<Hand>), DeskFault>) -> Called {
 }
 
 /// What a call of a watch returned that takes a closure.
-fn of_closure((answer, was_called): (Result<WReply<u64>, DeskFault>, bool)) -> Called {
+fn of_closure<V: Copy>((answer, was_called): (Result<WReply<V>, DeskFault>, bool)) -> Called<V> {
     let reply = match answer {
         Ok(reply) => Ok(ChanReply::W(reply)),
         Err(fault) => Err(fault),
@@ -205,15 +208,14 @@ fn of_closure((answer, was_called): (Result<WReply<u64>, DeskFault>, bool)) -> C
     }
 }
 
-/// Makes a call by a handle. The handle's number in the call isn't looked at. A call that this kind of handle doesn't have, and a
-/// drop, are refused with `NoChannel`.
-pub fn call_by<R: Wait>(
+/// Makes a call by a handle of any kind.
+fn call<V: Payload, R: Wait>(
     rt: &R,
-    desk: &Desk<u64>,
-    pass: &mut Pass<u64>,
+    desk: &Desk<V>,
+    pass: &mut Pass<V>,
     hand: &Hand,
-    call: ChanCall<u64>,
-) -> Called {
+    call: ChanCall<V>,
+) -> Called<V> {
     match (hand, call) {
         (Hand::BTx(sender), ChanCall::B(call)) => {
             of_broadcast(by_b_sender(rt, desk, pass, sender, call))
@@ -244,13 +246,13 @@ pub fn call_by<R: Wait>(
     }
 }
 
-/// Drops a handle in its channel. Beside a fault it comes back.
-pub fn drop_hand<R: Wait>(
+/// Drops a handle of any kind.
+fn drop_in_channel<V: Payload, R: Wait>(
     rt: &R,
-    desk: &Desk<u64>,
-    pass: &mut Pass<u64>,
+    desk: &Desk<V>,
+    pass: &mut Pass<V>,
     hand: Hand,
-) -> Result<ChanReply<u64>, (DeskFault, Hand)> {
+) -> Result<ChanReply<V>, (DeskFault, Hand)> {
     match hand {
         Hand::BTx(sender) => match desk.b_drop_sender(rt, pass, sender) {
             Ok(reply) => Ok(ChanReply::B(reply)),
@@ -269,6 +271,76 @@ pub fn drop_hand<R: Wait>(
             Err((fault, receiver)) => Err((fault, Hand::WRx(receiver))),
         },
     }
+}
+
+/// Makes a call by a handle. The handle's number in the call isn't looked at. A call that this kind of handle doesn't have, and a
+/// drop, are refused with `NoChannel`.
+pub fn call_by<R: Wait>(
+    rt: &R,
+    desk: &Desk<u64>,
+    pass: &mut Pass<u64>,
+    hand: &Hand,
+    asked: ChanCall<u64>,
+) -> Called<u64> {
+    call(rt, desk, pass, hand, asked)
+}
+
+/// Makes a call by a sender of a broadcast. Where the call makes a handle, that is dropped as a value.
+pub fn by_sender<R: Wait>(
+    rt: &R,
+    desk: &Desk<u64>,
+    pass: &mut Pass<u64>,
+    sender: &BTx,
+    asked: BCall<u64>,
+) -> Result<BReply<u64>, DeskFault> {
+    let (reply, _) = by_b_sender(rt, desk, pass, sender, asked)?;
+    Ok(reply)
+}
+
+/// Makes a call by a receiver of a broadcast, as `by_sender` does.
+pub fn by_receiver<R: Wait>(
+    rt: &R,
+    desk: &Desk<u64>,
+    pass: &mut Pass<u64>,
+    receiver: &BRx,
+    asked: BCall<u64>,
+) -> Result<BReply<u64>, DeskFault> {
+    let (reply, _) = by_b_receiver(rt, desk, pass, receiver, asked)?;
+    Ok(reply)
+}
+
+/// Makes a call by a sender of a watch, as `by_sender` does. A `Modify` is refused with `NoChannel`, since it takes a closure.
+pub fn by_writer<R: Wait>(
+    rt: &R,
+    desk: &Desk<u64>,
+    pass: &mut Pass<u64>,
+    writer: &WTx,
+    asked: WCall<u64>,
+) -> Result<WReply<u64>, DeskFault> {
+    let (reply, _) = by_w_sender(rt, desk, pass, writer, asked)?;
+    Ok(reply)
+}
+
+/// Makes a call by a receiver of a watch, as `by_sender` does.
+pub fn by_reader<R: Wait>(
+    rt: &R,
+    desk: &Desk<u64>,
+    pass: &mut Pass<u64>,
+    reader: &WRx,
+    asked: WCall<u64>,
+) -> Result<WReply<u64>, DeskFault> {
+    let (reply, _) = by_w_receiver(rt, desk, pass, reader, asked)?;
+    Ok(reply)
+}
+
+/// Drops a handle in its channel. Beside a fault it comes back.
+pub fn drop_hand<R: Wait>(
+    rt: &R,
+    desk: &Desk<u64>,
+    pass: &mut Pass<u64>,
+    hand: Hand,
+) -> Result<ChanReply<u64>, (DeskFault, Hand)> {
+    drop_in_channel(rt, desk, pass, hand)
 }
 
 /// Waits by a receiver of a watch for a value that is at least this. Another handle is refused with `NoChannel`.

@@ -16,7 +16,7 @@ use std::test::Fail;
 use support_fixtures::record;
 
 /// Calls by actor 0, with their stamps.
-const ONE_TO_SEVEN: [(u32, u64, u64); 7] = [
+static ONE_TO_SEVEN: [(u32, u64, u64); 7] = [
     (0, 1, 1),
     (0, 2, 2),
     (0, 3, 3),
@@ -54,18 +54,21 @@ fn the_machine_had_as_many_calls_as_places_were_passed(rt: HostRuntime) -> Resul
     Ok(())
 }
 
+/// Moves of the same navigator one after the other: the result, the place after it, and how many calls the machine had by then.
+static TURNS: [(Move, Result<(), OutOfRange>, u64, u64); 7] = [
+    (Move::End, Ok(()), 3, 3),
+    (Move::Back(1), Ok(()), 2, 4),
+    (Move::Goto(0), Ok(()), 0, 6),
+    (Move::Forward(2), Ok(()), 2, 8),
+    (Move::Back(7), Err(OutOfRange), 2, 8),
+    (Move::Start, Ok(()), 0, 10),
+    (Move::Goto(3), Ok(()), 3, 13),
+];
+
 /// Each move has this result, and the machine had as many calls as the navigator counts.
 fn counts_its_turns(rt: &impl Abort, navigator: &mut Navigator<Metered<Adder>>) {
-    for (to, answer, place, turns) in [
-        (Move::End, Ok(()), 3, 3),
-        (Move::Back(1), Ok(()), 2, 4),
-        (Move::Goto(0), Ok(()), 0, 6),
-        (Move::Forward(2), Ok(()), 2, 8),
-        (Move::Back(7), Err(OutOfRange), 2, 8),
-        (Move::Start, Ok(()), 0, 10),
-        (Move::Goto(3), Ok(()), 3, 13),
-    ] {
-        let answered = navigator.step(to);
+    for (to, answer, place, turns) in &TURNS {
+        let answered = navigator.step(*to);
         let counts = [
             navigator.place(),
             navigator.turns(),
@@ -75,29 +78,40 @@ fn counts_its_turns(rt: &impl Abort, navigator: &mut Navigator<Metered<Adder>>) 
             rt,
             &"counts its turns",
             &(answered, counts),
-            &(answer, [place, turns, turns]),
+            &(*answer, [*place, *turns, *turns]),
         );
     }
 }
 
+/// Moves from the opening of seven entries.
+static MOVES: [Move; 5] = [
+    Move::Back(5),
+    Move::Forward(9),
+    Move::Goto(4),
+    Move::Start,
+    Move::End,
+];
+
+/// The results of those moves.
+static ANSWERS: [Result<(), OutOfRange>; 5] = [
+    Err(OutOfRange),
+    Err(OutOfRange),
+    Ok(()),
+    Ok(()),
+    Ok(()),
+];
+
 #[test]
 fn walks_by_moves_and_refuses_those_out_of_range(rt: HostRuntime) -> Result<(), Fail> {
     let mut navigator = at_opening(rt.alloc())?;
-    let moves = [
-        Move::Back(5),
-        Move::Forward(9),
-        Move::Goto(4),
-        Move::Start,
-        Move::End,
-    ];
-    let (walked, sum) = walked(rt.alloc(), &mut navigator, &moves);
+    let (walked, sum) = walked(rt.alloc(), &mut navigator, &MOVES);
     refuses(&rt, &mut navigator);
     drop_navigator(navigator);
     same(
         &rt,
         &"walks by moves and refuses those out of range",
         &walked?.as_slice(),
-        &[Err(OutOfRange), Err(OutOfRange), Ok(()), Ok(()), Ok(())].as_slice(),
+        &ANSWERS.as_slice(),
     );
     same(&rt, &"sum", &sum, &28);
     Ok(())
@@ -115,6 +129,14 @@ fn walked(
 /// Drops a navigator. A test that calls `drop` itself has its instance put together in its proof.
 fn drop_navigator(_navigator: Navigator<Adder>) {}
 
+/// Moves out of the range of seven entries, from place 7.
+static TOO_FAR: [Move; 4] = [
+    Move::Forward(u64::MAX),
+    Move::Back(u64::MAX),
+    Move::Goto(u64::MAX),
+    Move::Goto(8),
+];
+
 /// Moves out of the range of seven entries are refused, and change nothing.
 fn refuses(rt: &impl Abort, navigator: &mut Navigator<Adder>) {
     same(
@@ -123,13 +145,8 @@ fn refuses(rt: &impl Abort, navigator: &mut Navigator<Adder>) {
         &(navigator.place(), navigator.turns()),
         &(7, 15),
     );
-    for to in [
-        Move::Forward(u64::MAX),
-        Move::Back(u64::MAX),
-        Move::Goto(u64::MAX),
-        Move::Goto(8),
-    ] {
-        let answer = navigator.step(to);
+    for to in &TOO_FAR {
+        let answer = navigator.step(*to);
         same(
             rt,
             &"refuses",
@@ -155,7 +172,7 @@ const ODD_SUM: Parity = Parity {
 };
 
 /// A condition, a place, and the nearest hits below it and above it. The sums at the places 0 to 7 are 0, 1, 3, 6, 10, 15, 21, 28.
-const NEAREST: [(Parity, u64, Option<u64>, Option<u64>); 12] = [
+static NEAREST: [(Parity, u64, Option<u64>, Option<u64>); 12] = [
     (EVEN_AMOUNT, 0, None, Some(2)),
     (EVEN_AMOUNT, 2, None, Some(4)),
     (EVEN_AMOUNT, 6, Some(4), None),
@@ -173,8 +190,8 @@ const NEAREST: [(Parity, u64, Option<u64>, Option<u64>); 12] = [
 #[test]
 fn finds_the_nearest_hit_in_each_direction(rt: HostRuntime) -> Result<(), Fail> {
     let mut navigator = at_opening(rt.alloc())?;
-    for (probe, from, below, above) in NEAREST {
-        finds(&rt, &mut navigator, probe, from, below, above);
+    for (probe, from, below, above) in &NEAREST {
+        finds(&rt, &mut navigator, *probe, *from, *below, *above);
     }
     drop_navigator(navigator);
     Ok(())

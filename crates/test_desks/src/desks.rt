@@ -1,11 +1,12 @@
 //! Passes, which record calls, and desks.
 
 mod full;
+mod most;
 mod one_thread;
 mod passes;
 pub mod plain;
 mod rows;
 mod settling;
-mod shared;
+pub mod shared;
 mod straying;
 mod threads;

@@ -1,15 +1,30 @@
-//! Flags that a thread of a test waits for.
+//! What a thread of a test waits for: a flag, or that another thread waits on a channel.
 
+use crate::desks::shared::Calls;
+use std::sync::Wait;
 use std::sync::atomic::{AtomicBool, Ordering};
 use std::thread::yield_now;
 
-/// How often a flag is looked at: some seconds.
+/// How often it is looked for: some seconds.
 const MOST_LOOKS: u64 = 10_000_000;
 
 /// Waits until a flag is set, but no longer than the limit. Says whether it was.
 pub fn is_set_in_time(flag: &AtomicBool) -> bool {
     for _ in 0..MOST_LOOKS {
         if flag.load(Ordering::SeqCst) {
+            return true;
+        }
+        yield_now();
+    }
+    false
+}
+
+/// Waits until a thread waits on a channel of the desk, but no longer than the limit. Says whether one did.
+///
+/// That thread has released the channel's lock, and sleeps. So only a wake-up ends its wait.
+pub fn is_awaited_in_time<D: Calls, R: Wait>(rt: &R, desk: &D, channel: u32) -> bool {
+    for _ in 0..MOST_LOOKS {
+        if desk.is_awaited(rt, channel) {
             return true;
         }
         yield_now();

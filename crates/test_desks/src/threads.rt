@@ -15,23 +15,45 @@ use std::sync::atomic::{AtomicBool, Ordering};
 use std::test::Fail;
 use std::thread::Threads;
 
-/// Holds actor 0's call 0 until actor 1's call 0 was made.
+/// Holds actor 0's call 0 until actor 1's call 0 was made. Actor 1 then goes on only once actor 0 has reached its call 1.
 #[derive(Drop)]
 struct Held {
     made: AtomicBool,
+    next_reached: AtomicBool,
     limit_met: AtomicBool,
+}
+
+impl Held {
+    fn new() -> Held {
+        Held {
+            made: AtomicBool::new(false),
+            next_reached: AtomicBool::new(false),
+            limit_met: AtomicBool::new(false),
+        }
+    }
+
+    /// Waits for a flag, and notes where the limit was met.
+    fn hold(&self, flag: &AtomicBool) {
+        if !is_set_in_time(flag) {
+            self.limit_met.store(true, Ordering::SeqCst);
+        }
+    }
 }
 
 impl Gate for Held {
     fn before(&self, actor: u32, i: u64) {
-        if (actor, i) == (0, 0) && !is_set_in_time(&self.made) {
-            self.limit_met.store(true, Ordering::SeqCst);
+        match (actor, i) {
+            (0, 0) => self.hold(&self.made),
+            (0, 1) => self.next_reached.store(true, Ordering::SeqCst),
+            _ => {}
         }
     }
 
     fn after(&self, actor: u32, i: u64) {
         if (actor, i) == (1, 0) {
             self.made.store(true, Ordering::SeqCst);
+            // Actor 0's call 0 is made meanwhile. If actor 1's isn't made yet, it comes second.
+            self.hold(&self.next_reached);
         }
     }
 }
@@ -42,6 +64,22 @@ struct Meeting {
     first: AtomicBool,
     second: AtomicBool,
     limit_met: AtomicBool,
+}
+
+impl Meeting {
+    fn new() -> Meeting {
+        Meeting {
+            first: AtomicBool::new(false),
+            second: AtomicBool::new(false),
+            limit_met: AtomicBool::new(false),
+        }
+    }
+
+    /// Whether both threads were there, and neither met the limit.
+    fn was_held(&self) -> bool {
+        let were_there = self.first.load(Ordering::SeqCst) && self.second.load(Ordering::SeqCst);
+        were_there && !self.limit_met.load(Ordering::SeqCst)
+    }
 }
 
 impl Gate for Meeting {
@@ -143,39 +181,49 @@ const APART_RUN: &str = "1 0 0 send 0 1 = sent 1/1 1 1 send 0 6 = stored/";
 #[test]
 fn threads_on_two_channels(rt: HostRuntime) -> Result<(), Fail> {
     plays_to(&rt, rt.alloc(), APART, &(), APART_RUN)?;
-    let held = Held {
-        made: AtomicBool::new(false),
-        limit_met: AtomicBool::new(false),
-    };
-    plays_to(&rt, rt.alloc(), APART, &held, APART_RUN)?;
-    assert!(rt; !held.limit_met.load(Ordering::SeqCst));
-    let meeting = Meeting {
-        first: AtomicBool::new(false),
-        second: AtomicBool::new(false),
-        limit_met: AtomicBool::new(false),
-    };
+    let meeting = Meeting::new();
     plays_to(&rt, rt.alloc(), APART, &meeting, APART_RUN)?;
-    assert!(rt; !meeting.limit_met.load(Ordering::SeqCst));
+    assert!(rt; meeting.was_held());
     Ok(())
 }
 
+/// Three sends on one channel, the last by the other actor.
+const TOGETHER: &str = "broadcast 4/actors 2/0 0 send 0 1/0 0 send 0 2/1 0 send 0 3";
+
+/// Their run where actor 1's call was made before those of actor 0.
+const TOGETHER_RUN: &str =
+    "1 1 0 send 0 3 = sent 1/2 0 0 send 0 1 = sent 1/3 0 0 send 0 2 = sent 1/";
+
+#[test]
+fn gate_orders_the_calls_of_two_threads(rt: HostRuntime) -> Result<(), Fail> {
+    let held = Held::new();
+    plays_to(&rt, rt.alloc(), TOGETHER, &held, TOGETHER_RUN)?;
+    // Actor 0 was held until actor 1's call was made, and actor 1 until actor 0 had reached its call 1.
+    assert!(rt; held.made.load(Ordering::SeqCst));
+    assert!(rt; held.next_reached.load(Ordering::SeqCst));
+    assert!(rt; !held.limit_met.load(Ordering::SeqCst));
+    Ok(())
+}
+
+/// Scripts with the same run in every schedule, and these runs.
+static WAITING: [(&str, &str); 3] = [
+    // No call.
+    ("watch 1", ""),
+    // A call waits for one of another thread, whichever comes first.
+    (
+        "broadcast 2/actors 2/0 0 recv 1/1 0 send 0 5",
+        "1 1 0 send 0 5 = sent 1/2 0 0 recv 1 = value 5/",
+    ),
+    // Names of two actors: each names the handle that its own line made.
+    (
+        "broadcast 4/watch 3/actors 2/0 0 subscribe 0 as a/1 1 clone-receiver 1 as b/0 0 send 0 7/0 0 try-recv a/1 1 drop b",
+        "1 0 0 subscribe 0 = new 2/1 1 1 clone-receiver 1 = new 2/2 0 0 send 0 7 = sent 2/2 1 1 drop 2 = dropped/3 0 0 try-recv 2 = value 7/",
+    ),
+];
+
 #[test]
 fn threads_wait_and_use_names(rt: HostRuntime) -> Result<(), Fail> {
-    let cases = [
-        // No call.
-        ("watch 1", ""),
-        // A call waits for one of another thread, whichever comes first.
-        (
-            "broadcast 2/actors 2/0 0 recv 1/1 0 send 0 5",
-            "1 1 0 send 0 5 = sent 1/2 0 0 recv 1 = value 5/",
-        ),
-        // Names of two actors: each names the handle that its own line made.
-        (
-            "broadcast 4/watch 3/actors 2/0 0 subscribe 0 as a/1 1 clone-receiver 1 as b/0 0 send 0 7/0 0 try-recv a/1 1 drop b",
-            "1 0 0 subscribe 0 = new 2/1 1 1 clone-receiver 1 = new 2/2 0 0 send 0 7 = sent 2/2 1 1 drop 2 = dropped/3 0 0 try-recv 2 = value 7/",
-        ),
-    ];
-    for (script, want) in cases {
+    for (script, want) in &WAITING {
         plays_to(&rt, rt.alloc(), script, &(), want)?;
     }
     Ok(())

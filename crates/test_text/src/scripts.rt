@@ -64,13 +64,13 @@ fn fill(reader: &mut ScriptReader) -> Result<(), ScriptFault> {
     if reader.lines() > 0 {
         return Ok(());
     }
-    reader.take(b"broadcast 1")?;
-    reader.take(b"0 0 subscribe 9 as r")?;
+    reader.read_line(b"broadcast 1")?;
+    reader.read_line(b"0 0 subscribe 9 as r")?;
     for _ in 1..1_048_576 {
         if reader.lines() > 2_000_000 {
             break;
         }
-        reader.take(b"0 0 drop 9")?;
+        reader.read_line(b"0 0 drop 9")?;
     }
     Ok(())
 }
@@ -91,7 +91,7 @@ fn is_full(rt: &impl Abort, reader: &mut ScriptReader) {
                 line: 1_048_578,
                 kind: *kind,
             };
-            same(rt, &"a step", &reader.take(line), &Err(fault));
+            same(rt, &"a step", &reader.read_line(line), &Err(fault));
         }
     }
 }

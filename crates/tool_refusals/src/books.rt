@@ -5,7 +5,7 @@ ghost use Rattle.rw_law.specs.declared.limits.TheConstants.{MOST_ACTORS};
 
 use crate::machines::MUCH;
 use crate::met::{Met, TRIES};
-use crate::places::Shows;
+use crate::readings::Shows;
 use rw_journal::{Book, TakeFault};
 use rw_law::NoMemory;
 use std::alloc::Global;
@@ -42,12 +42,12 @@ fn take<M: Shows>(
 ) -> Result<(u64, M::Reply), TakeFault>
     requires { actor < MOST_ACTORS }
 {
-    let (length, place) = (book.len(), book.machine().place());
+    let (length, readings) = (book.len(), book.machine().readings());
     for _ in 0..TRIES {
         match book.take(actor, 0, call) {
             Ok(receipt) => return Ok((receipt.stamp, receipt.reply)),
             Err(TakeFault::NoMemory) => {
-                met.refused(book.len() == length && book.machine().place() == place);
+                met.refused(book.len() == length && book.machine().readings() == readings);
             }
             Err(fault) => return Err(fault),
         }
@@ -57,11 +57,11 @@ fn take<M: Shows>(
 
 /// Makes room for the next call.
 fn ready<M: Shows>(met: &mut Met, book: &mut Book<M>) -> Result<(), TakeFault> {
-    let (length, place) = (book.len(), book.machine().place());
+    let (length, readings) = (book.len(), book.machine().readings());
     for _ in 0..TRIES {
         match book.ready(0) {
             Err(TakeFault::NoMemory) => {
-                met.refused(book.len() == length && book.machine().place() == place);
+                met.refused(book.len() == length && book.machine().readings() == readings);
             }
             answer => return answer,
         }
@@ -138,7 +138,7 @@ where
 {
     take_all(rt, met, book, single)?;
     run_all(rt, met, book, listed)?;
-    println!(rt; "  {:?}, {:?}", ready(met, book), book.machine().place())
+    println!(rt; "  {:?}, {:?}", ready(met, book), book.machine().readings())
 }
 
 /// Opens a book, plays it, and drops it.

@@ -2,7 +2,7 @@
 
 use crate::callers::{ByNumbers, ask};
 use crate::met::{Met, TRIES};
-use crate::places::SPECS;
+use crate::readings::SPECS;
 use rw_broadcast::BCall;
 use rw_desk::{CloseFault, Desk, DeskOpenFault, Ends, Pass};
 use rw_journal::Run;

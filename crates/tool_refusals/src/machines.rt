@@ -1,7 +1,7 @@
 //! Tables, rings and channels: opened, made ready, and called.
 
 use crate::met::{Met, TRIES};
-use crate::places::Shows;
+use crate::readings::Shows;
 use rw_broadcast::{BCall, Broadcast};
 use rw_handles::{Kind, Table};
 use rw_law::NoMemory;
@@ -19,14 +19,14 @@ pub const MUCH: u64 = 1_000;
 
 /// Makes a machine ready for a few calls.
 fn make_ready<M: Shows>(met: &mut Met, machine: &mut M) -> Result<(), NoMemory> {
-    let place = machine.place();
+    let readings = machine.readings();
     for _ in 0..TRIES {
         if machine.weight() > MUCH {
             return Err(NoMemory);
         }
         match machine.ready(AHEAD) {
             Ok(()) => return Ok(()),
-            Err(NoMemory) => met.refused(machine.place() == place),
+            Err(NoMemory) => met.refused(machine.readings() == readings),
         }
     }
     Err(NoMemory)

@@ -11,13 +11,13 @@ mod books;
 mod broadcasts;
 mod callers;
 mod desks;
-mod hands;
+mod hand_offs;
 mod journals;
 mod lines;
 mod machines;
 mod met;
 mod passes;
-mod places;
+mod readings;
 mod runs;
 mod scripts;
 mod seats;
@@ -48,7 +48,7 @@ fn play_desks<R: Wait + Print>(rt: &R, alloc: Global, met: &mut Met) -> io::Resu
     desks::play(rt, alloc, met)?;
     broadcasts::play(rt, alloc, met)?;
     watches::play(rt, alloc, met)?;
-    hands::play(rt, alloc, met)?;
+    hand_offs::play(rt, alloc, met)?;
     seats::play(rt, alloc, met)
 }
 

@@ -2,10 +2,10 @@
 
 ghost use Rattle.std.specs.Prelude.{◌≡◌, false, IfOk};
 ghost use Rattle.rw_world.specs.Openings.{has_bad_capacity};
-ghost use Rattle.rw_desk.specs.Locked.{IsOpenedFrom};
+ghost use Rattle.rw_desk.specs.GuardedBook.{IsOpenedFrom};
 
 use crate::met::{Met, TRIES};
-use crate::places::counted;
+use crate::readings::counted;
 use rw_broadcast::BCall;
 use rw_desk::{DeskFault, Pass};
 use rw_journal::Book;
@@ -18,7 +18,7 @@ use std::io;
 use support_desks::StampedCall;
 
 /// What is compared of a book of a channel: its length, its handles, and its sends or notified changes.
-pub type BookPlace = (u64, (u32, u64));
+pub type BookReadings = (u64, (u32, u64));
 
 /// How many receipts a pass has, and its clock.
 pub fn held<V: Copy>(pass: &Pass<V>) -> (usize, u64) {
@@ -58,7 +58,7 @@ fn new_book<V: Copy>(
 
 /// Returns what is compared of a book. Here alone the length and the channel of a book are read, since each function that does it puts
 /// an instance together.
-pub fn place_of<V: Copy>(book: &Book<Chan<V>>) -> BookPlace {
+pub fn readings_of<V: Copy>(book: &Book<Chan<V>>) -> BookReadings {
     (book.len(), counted(book.machine()))
 }
 
@@ -69,10 +69,10 @@ fn record<V: Copy>(
     book: &mut Book<Chan<V>>,
     call: ChanCall<V>,
 ) -> Result<ChanReply<V>, DeskFault> {
-    let before = (held(pass), place_of(book));
+    let before = (held(pass), readings_of(book));
     for _ in 0..TRIES {
         match pass.record(book, 0, call) {
-            Err(DeskFault::NoMemory) => met.refused((held(pass), place_of(book)) == before),
+            Err(DeskFault::NoMemory) => met.refused((held(pass), readings_of(book)) == before),
             answer => return answer,
         }
     }
@@ -121,7 +121,7 @@ fn say_records<V: Copy + Debug>(
         println!(rt; "  {:?}", record(met, pass, book, call))?;
     }
     println!(rt; "  {:?}", record(met, pass, book, last))?;
-    let (length, _) = place_of(book);
+    let (length, _) = readings_of(book);
     println!(rt; "  {:?}, {length} entries", held(pass))
 }
 

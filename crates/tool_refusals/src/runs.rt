@@ -1,7 +1,7 @@
 //! Runs: built entry by entry, and opened again at their start.
 
 use crate::met::{Met, TRIES};
-use crate::places::{SPECS, WorldPlace, of_world};
+use crate::readings::{SPECS, WorldReadings, of_world};
 use rw_broadcast::{BCall, BReply};
 use rw_journal::{PushFault, Run, RunDraft};
 use rw_law::{NoMemory, Payload};
@@ -91,14 +91,14 @@ pub fn build(alloc: Global, met: &mut Met) -> Option<Run<u64>> {
 }
 
 /// What a world shows, which is dropped.
-fn place_in(world: World<u64>) -> WorldPlace {
+fn readings_in(world: World<u64>) -> WorldReadings {
     of_world(&world)
 }
 
 /// Prints what a run's channels show before its first entry.
 fn say_start(rt: &impl Print, alloc: Global, met: &mut Met, run: &Run<u64>) -> io::Result<()> {
     match start(alloc, met, run) {
-        Ok(world) => println!(rt; "  {:?}", place_in(world)),
+        Ok(world) => println!(rt; "  {:?}", readings_in(world)),
         Err(NoMemory) => println!(rt; "  isn't started"),
     }
 }

@@ -67,7 +67,7 @@ fn take_line(met: &mut Met, reader: &mut ScriptReader, line: &[u8]) -> Result<()
         if reader.lines() > MOST_STEPS as u64 {
             return Ok(());
         }
-        match reader.take(line) {
+        match reader.read_line(line) {
             Ok(()) => return Ok(()),
             Err(fault) => met.refused(is_refused(fault) && reader.lines() == lines),
         }

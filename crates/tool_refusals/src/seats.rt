@@ -3,7 +3,7 @@
 ghost use Rattle.std.specs.Prelude.{All, IfOk, IfSome};
 
 use crate::met::{Met, TRIES};
-use crate::places::SPECS;
+use crate::readings::SPECS;
 use rw_broadcast::BCall;
 use rw_desk::{CloseFault, DeskFault, DeskOpenFault};
 use rw_law::Payload;

@@ -6,7 +6,7 @@ ghost use Rattle.rw_law.specs.declared.limits.TheConstants.{MOST_ACTORS};
 use crate::books::play_book;
 use crate::machines::play_machine;
 use crate::met::Met;
-use crate::places::Shows;
+use crate::readings::Shows;
 use rw_broadcast::BCall;
 use rw_watch::WCall;
 use rw_world::{ChanCall, RowCall, World};

@@ -10,14 +10,12 @@ mod playing;
 mod resident;
 
 use crate::desks::{Calls, Seated};
-use crate::passes::PassDesk;
 use anyhow::Result;
 use calls::pairs;
 use desks::{cost_of_book, cost_of_desk, time_apart, time_beside, time_closing};
 use resident::Cost;
 use rw_desk::Kept;
 use rw_law::Entry;
-use rw_seat::SeatDesk;
 use rw_world::{Chan, ChanCall, Spec};
 use std::alloc::Global;
 use std::io;
@@ -174,11 +172,15 @@ where
 }
 
 /// Measures `asked` calls of each workload, but at most `MOST_CALLS`.
-pub fn measure<R: Clock + Files + AllocGlobal + Threads + Wait + Sync + Print + Eprint>(
-    rt: &R,
-    alloc: Global,
-    asked: u64,
-) -> Result<()> {
+pub fn measure<
+    P: Calls + Sync + Drop,
+    S: Seated + Sync + Drop,
+    R: Clock + Files + AllocGlobal + Threads + Wait + Sync + Print + Eprint,
+>(rt: &R, alloc: Global, asked: u64) -> Result<()>
+where
+    P::Actor: Send + Drop,
+    S::Actor: Send + Drop,
+{
     let count = asked.min(MOST_CALLS);
     eprintln!(rt;
         "bytes of an entry: {}, of a receipt: {}",
@@ -188,13 +190,7 @@ pub fn measure<R: Clock + Files + AllocGlobal + Threads + Wait + Sync + Print + 
     eprintln!(rt; "nanoseconds each:")?;
     let on_broadcast = pairs(alloc, &BROADCAST, count)?;
     let on_watch = pairs(alloc, &WATCH, count)?;
-    let measured = measure_all::<PassDesk, SeatDesk<u64>, R>(
-        rt,
-        alloc,
-        &on_broadcast,
-        &on_watch,
-        count,
-    );
+    let measured = measure_all::<P, S, R>(rt, alloc, &on_broadcast, &on_watch, count);
     drop(on_broadcast);
     drop(on_watch);
     measured

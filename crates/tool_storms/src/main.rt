@@ -20,7 +20,7 @@ mod storm;
 
 use anyhow::{Context, Result, bail};
 use bench::measure;
-use desks::Calls;
+use desks::{Calls, Seated};
 use passes::PassDesk;
 use rw_seat::SeatDesk;
 use std::alloc::Global;
@@ -45,9 +45,9 @@ const DEFAULT_COUNT: u64 = 1_000;
 /// How many times to check whether a seed was played, a hundredth of a second apart. A seed takes a second or two.
 const MOST_LOOKS: u64 = 10_000;
 
-/// Returns the number at this place of the command line, or the default.
-fn asked(rt: &(impl Env + Alloc), place: usize, default: u64) -> Result<u64> {
-    match env::args(rt)?.nth(place) {
+/// Returns the number at this index of the command line, or the default.
+fn asked(rt: &(impl Env + Alloc), index: usize, default: u64) -> Result<u64> {
+    match env::args(rt)?.nth(index) {
         Some(number) => number
             .parse::<u64>()
             .context("SEEDS, CALLS and COUNT must be numbers"),
@@ -80,20 +80,23 @@ where
     bail!("a wait does not end")
 }
 
-/// Makes `calls` calls for each of `seeds` seeds.
-fn storms<R: Threads + Wait + Clock + Copy + Send + Sync + Print + Eprint + 'static>(
-    rt: &R,
-    alloc: Global,
-    seeds: u64,
-    calls: u64,
-) -> Result<()> {
+/// Makes `calls` calls for each of `seeds` seeds, on a desk with passes and on one with seats.
+fn storms<
+    P: Calls + Sync + Drop + 'static,
+    S: Seated + Sync + Drop,
+    R: Threads + Wait + Clock + Copy + Send + Sync + Print + Eprint + 'static,
+>(rt: &R, alloc: Global, seeds: u64, calls: u64) -> Result<()>
+where
+    P::Actor: Send + Drop,
+    S::Actor: Send + Drop,
+{
     for seed in 0..seeds {
-        let recorded = play_in_time::<PassDesk, R>(*rt, alloc, seed, calls)?;
+        let recorded = play_in_time::<P, R>(*rt, alloc, seed, calls)?;
         eprintln!(rt; "seed {seed}: {recorded} calls recorded")?;
         println!(rt;
             "seed {seed}: {calls} calls of {PLAYERS} threads, {WAITERS} others waited and were told, closed, each actor's receipts are its entries"
         )?;
-        let recorded = play_seats::<SeatDesk<u64>, R>(rt, alloc, seed, calls)?;
+        let recorded = play_seats::<S, R>(rt, alloc, seed, calls)?;
         eprintln!(rt; "seed {seed}: {recorded} calls of seats recorded")?;
         println!(rt;
             "seed {seed}: {SEATS} seats in two threads, which met by twos, closed, each seat's receipts are its entries, each front is its entry's place"
@@ -102,18 +105,44 @@ fn storms<R: Threads + Wait + Clock + Copy + Send + Sync + Print + Eprint + 'sta
     Ok(())
 }
 
-fn main(rt: HostRuntime) -> Result<()> {
-    let alloc = rt.alloc();
-    let Some(verb) = env::args(&rt)?.nth(1) else {
-        storms(&rt, alloc, DEFAULT_SEEDS, DEFAULT_CALLS)?;
-        return measure(&rt, alloc, DEFAULT_COUNT);
+/// Does what the command line asks for, on a desk with passes and on one with seats.
+fn play<
+    P: Calls + Sync + Drop + 'static,
+    S: Seated + Sync + Drop,
+    R: Env
+        + Alloc
+        + Files
+        + AllocGlobal
+        + Threads
+        + Wait
+        + Clock
+        + Copy
+        + Send
+        + Sync
+        + Print
+        + Eprint
+        + 'static,
+>(rt: &R, alloc: Global) -> Result<()>
+where
+    P::Actor: Send + Drop,
+    S::Actor: Send + Drop,
+{
+    let Some(verb) = env::args(rt)?.nth(1) else {
+        storms::<P, S, R>(rt, alloc, DEFAULT_SEEDS, DEFAULT_CALLS)?;
+        return measure::<P, S, R>(rt, alloc, DEFAULT_COUNT);
     };
     if verb.as_str() == "storm" {
-        let seeds = asked(&rt, 2, DEFAULT_SEEDS)?;
-        storms(&rt, alloc, seeds, asked(&rt, 3, DEFAULT_CALLS)?)
+        let seeds = asked(rt, 2, DEFAULT_SEEDS)?;
+        storms::<P, S, R>(rt, alloc, seeds, asked(rt, 3, DEFAULT_CALLS)?)
     } else if verb.as_str() == "bench" {
-        measure(&rt, alloc, asked(&rt, 2, DEFAULT_COUNT)?)
+        measure::<P, S, R>(rt, alloc, asked(rt, 2, DEFAULT_COUNT)?)
     } else {
         bail!("the words are: storm SEEDS CALLS, or bench COUNT")
     }
+}
+
+// Here alone the two kinds of desks are named: each function that does it puts their instances together.
+fn main(rt: HostRuntime) -> Result<()> {
+    let alloc = rt.alloc();
+    play::<PassDesk, SeatDesk<u64>, HostRuntime>(&rt, alloc)
 }

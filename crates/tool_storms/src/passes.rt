@@ -1,10 +1,10 @@
 //! The desk with passes.
 
 use crate::desks::{Calls, Shared};
-use rw_broadcast::BCall;
-use rw_desk::{Desk, DeskFault, DeskOpenFault, Ends, Kept, Pass, WTx};
+use rw_broadcast::{BCall, BReply};
+use rw_desk::{Desk, DeskFault, DeskOpenFault, Ends, Kept, Pass, WRx, WTx};
 use rw_journal::Run;
-use rw_watch::WCall;
+use rw_watch::{WCall, WReply};
 use rw_world::{ChanCall, ChanReply, Spec};
 use std::alloc::Global;
 use std::sync::Wait;
@@ -73,36 +73,28 @@ impl Calls for PassDesk {
         call: ChanCall<u64>,
         waits: bool,
     ) -> Result<ChanReply<u64>, DeskFault> {
-        match (self.ends.get(channel as usize), call) {
-            (Some(Ends::Broadcast(sender, _)), ChanCall::B(BCall::Send(0, value))) => {
-                let reply = self.desk.b_send(rt, pass, sender, value)?;
-                Ok(ChanReply::B(reply))
+        match self.ends.get(channel as usize) {
+            Some(Ends::Broadcast(sender, receiver)) => match call {
+                ChanCall::B(BCall::Send(0, value)) => {
+                    of_broadcast(self.desk.b_send(rt, pass, sender, value))
+                }
+                ChanCall::B(BCall::Recv(1)) if waits => {
+                    of_broadcast(self.desk.b_recv(rt, pass, receiver))
+                }
+                call => by_numbers(rt, &self.desk, pass, channel, call, waits),
+            },
+            Some(Ends::Watch(sender, receiver)) => {
+                on_watch(
+                    rt,
+                    &self.desk,
+                    pass,
+                    (sender, receiver),
+                    channel,
+                    call,
+                    waits,
+                )
             }
-            (Some(Ends::Broadcast(_, receiver)), ChanCall::B(BCall::Recv(1))) if waits => {
-                let reply = self.desk.b_recv(rt, pass, receiver)?;
-                Ok(ChanReply::B(reply))
-            }
-            (
-                Some(Ends::Watch(sender, _)),
-                ChanCall::W(
-                    WCall::Modify {
-                        handle: 0,
-                        told,
-                        ..
-                    },
-                ),
-            ) => { modify(rt, &self.desk, pass, sender, told) }
-            (Some(Ends::Watch(_, receiver)), ChanCall::W(WCall::Changed(1))) => {
-                // The condition holds at once or never. If never, the wait lasts until the channel is closed.
-                let reply = self.desk.w_wait_for(rt, pass, receiver, |_| !waits)?;
-                Ok(ChanReply::W(reply))
-            }
-            (Some(Ends::Watch(sender, _)), ChanCall::W(WCall::AwaitClosed(0))) if waits => {
-                let reply = self.desk.w_closed(rt, pass, sender)?;
-                Ok(ChanReply::W(reply))
-            }
-            (_, call) if waits => self.desk.wait_call(rt, pass, channel, call),
-            (_, call) => self.desk.call(rt, pass, channel, call),
+            None => by_numbers(rt, &self.desk, pass, channel, call, waits),
         }
     }
 
@@ -114,6 +106,66 @@ impl Calls for PassDesk {
     }
 }
 
+/// Returns a reply of a broadcast as one of any channel.
+fn of_broadcast(reply: Result<BReply<u64>, DeskFault>) -> Result<ChanReply<u64>, DeskFault> {
+    match reply {
+        Ok(reply) => Ok(ChanReply::B(reply)),
+        Err(fault) => Err(fault),
+    }
+}
+
+/// Returns a reply of a watch as one of any channel.
+fn of_watch(reply: Result<WReply<u64>, DeskFault>) -> Result<ChanReply<u64>, DeskFault> {
+    match reply {
+        Ok(reply) => Ok(ChanReply::W(reply)),
+        Err(fault) => Err(fault),
+    }
+}
+
+/// Makes a call by the numbers of its channel and its handle.
+fn by_numbers<R: Wait>(
+    rt: &R,
+    desk: &Desk<u64>,
+    pass: &mut Pass<u64>,
+    channel: u32,
+    call: ChanCall<u64>,
+    waits: bool,
+) -> Result<ChanReply<u64>, DeskFault> {
+    if waits {
+        desk.wait_call(rt, pass, channel, call)
+    } else {
+        desk.call(rt, pass, channel, call)
+    }
+}
+
+/// Makes a call on a watch. A change by a closure, a wait for a change and one for the close are made by these handles if the call
+/// names them.
+fn on_watch<R: Wait>(
+    rt: &R,
+    desk: &Desk<u64>,
+    pass: &mut Pass<u64>,
+    (sender, receiver): (&WTx, &WRx),
+    channel: u32,
+    call: ChanCall<u64>,
+    waits: bool,
+) -> Result<ChanReply<u64>, DeskFault> {
+    match call {
+        ChanCall::W(
+            WCall::Modify {
+                handle: 0,
+                told,
+                ..
+            },
+        ) => of_watch(modify(rt, desk, pass, sender, told)),
+        // The condition holds at once or never. If never, the wait lasts until the channel is closed.
+        ChanCall::W(WCall::Changed(1)) => {
+            of_watch(desk.w_wait_for(rt, pass, receiver, |_| !waits))
+        }
+        ChanCall::W(WCall::AwaitClosed(0)) if waits => of_watch(desk.w_closed(rt, pass, sender)),
+        call => by_numbers(rt, desk, pass, channel, call, waits),
+    }
+}
+
 /// Modifies the value of a watch under its lock.
 fn modify<R: Wait>(
     rt: &R,
@@ -121,10 +173,9 @@ fn modify<R: Wait>(
     pass: &mut Pass<u64>,
     sender: &WTx,
     told: bool,
-) -> Result<ChanReply<u64>, DeskFault> {
-    let reply = desk.w_send_if_modified(rt, pass, sender, |value| {
+) -> Result<WReply<u64>, DeskFault> {
+    desk.w_send_if_modified(rt, pass, sender, |value| {
         *value = value.wrapping_add(1);
         told
-    })?;
-    Ok(ChanReply::W(reply))
+    })
 }

@@ -76,6 +76,7 @@ mod linked {
         unsafe { *__errno_location() = error }
     }
 
+    /// The program requests alignments up to 16, which each block of `malloc` has.
     #[unsafe(no_mangle)]
     extern "C" fn rattle_alloc(size: usize, _align: usize) -> Tried {
         // SAFETY: any size may be requested. It is at least 1, since a size of 0 may return null.

@@ -4,11 +4,13 @@ use super::BroadcastHandle;
 use super::error::{RecvError, TryRecvError};
 use super::values::Value;
 use crate::block_on;
-use crate::channel::{CoreChannel, LockedChannel, RecordedChannel};
+use crate::channel::{CallSite, CoreChannel, LockedChannel};
 use crate::handle::Kind;
-use crate::recorder::{Handle, TextOf};
-use crate::wait::WaitFor;
+use crate::recorder::{Handle, RecordedHandle, TextOf};
+use crate::replay::Word;
+use crate::wait::{Method, Pending, WaitFor};
 use std::fmt;
+use std::future::Future;
 use std::task::{Context, Poll};
 
 /// The receiving half of a broadcast channel.
@@ -61,11 +63,13 @@ impl<T> Receiver<T> {
     /// assert_eq!(chart.try_recv(), Err(TryRecvError::Lagged(1)));
     /// assert_eq!(chart.len(), 2);
     /// ```
+    #[track_caller]
     pub fn len(&self) -> usize {
-        self.handle
-            .ask_count(CoreChannel::broadcast_receiver_len, |core, rx| {
-                core.unread(rx)
-            })
+        self.handle.ask_count(
+            Word::ReceiverLen,
+            CoreChannel::broadcast_receiver_len,
+            |core, rx| core.unread(rx),
+        )
     }
 
     /// Returns `true` if this receiver has received everything that was sent to it, as in tokio: if [`len`](Receiver::len) is 0.
@@ -82,6 +86,7 @@ impl<T> Receiver<T> {
     /// assert!(mailer.is_empty());
     /// assert!(!audit.is_empty());
     /// ```
+    #[track_caller]
     pub fn is_empty(&self) -> bool {
         self.len() == 0
     }
@@ -162,6 +167,7 @@ impl<T> Receiver<T> {
     }
 
     /// Returns the value that this receiver has received, not yet cloned.
+    #[inline]
     fn take(&self, channel: &mut LockedChannel<'_>, number: u64) -> Value<T> {
         channel.guarded(&self.handle.channel.values).take(number)
     }
@@ -185,11 +191,14 @@ impl<T: Clone> Receiver<T> {
     /// assert_eq!(late.try_recv(), Err(TryRecvError::Empty));
     /// assert_eq!(chart.try_recv(), Ok(101));
     /// ```
+    #[track_caller]
     pub fn resubscribe(&self) -> Receiver<T> {
         Receiver {
-            handle: self
-                .handle
-                .create(Kind::Receiver, CoreChannel::broadcast_resubscribe),
+            handle: self.handle.create(
+                Kind::Receiver,
+                Word::Resubscribe,
+                CoreChannel::broadcast_resubscribe,
+            ),
         }
     }
 
@@ -239,24 +248,40 @@ impl<T: Clone> Receiver<T> {
     ///     assert_eq!(chart.recv().await, Ok(102));
     /// });
     /// ```
-    pub async fn recv(&mut self) -> Result<T, RecvError> {
+    #[track_caller]
+    pub fn recv(&mut self) -> impl Future<Output = Result<T, RecvError>> {
+        self.recv_by(Method::called("recv"))
+    }
+
+    /// Receives the next value for this method.
+    async fn recv_by(&mut self, method: Method) -> Result<T, RecvError> {
         let received = self
             .handle
-            .wait(WaitFor::Value, |channel| self.attempt_recv(channel));
+            .wait(WaitFor::Value, Word::Recv, method, |channel| {
+                self.attempt_recv(channel)
+            });
         received.await.map(Value::cloned)
     }
 
-    /// [`recv`](Receiver::recv) without a future. Between polls the caller holds its place in the queue.
+    /// [`recv`](Receiver::recv) without a future. Between polls the caller holds what is kept of the call.
     pub(crate) fn poll_recv(
         &mut self,
+        called_at: CallSite,
         context: &Context<'_>,
-        place: &mut Option<u64>,
+        pending: &mut Pending,
     ) -> Poll<Result<T, RecvError>> {
-        let received = self
-            .handle
-            .poll_wait(WaitFor::Value, place, context, |channel| {
-                self.attempt_recv(channel)
-            });
+        let method = Method {
+            name: "recv",
+            called_at,
+        };
+        let received = self.handle.poll_wait(
+            WaitFor::Value,
+            Word::Recv,
+            method,
+            pending,
+            context,
+            |channel| self.attempt_recv(channel),
+        );
         received.map_ok(Value::cloned)
     }
 
@@ -282,8 +307,9 @@ impl<T: Clone> Receiver<T> {
     /// assert_eq!(listener.try_recv(), Ok("user created"));
     /// assert_eq!(listener.try_recv(), Err(TryRecvError::Closed));
     /// ```
+    #[track_caller]
     pub fn try_recv(&mut self) -> Result<T, TryRecvError> {
-        let mut channel = self.handle.lock();
+        let mut channel = self.handle.lock(Word::TryRecv);
         let reply = channel.call(CoreChannel::broadcast_try_recv);
         let received = reply
             .received_at_once()
@@ -312,14 +338,15 @@ impl<T: Clone> Receiver<T> {
     /// prices.send(101).unwrap();
     /// assert_eq!(screen.join().unwrap(), Ok(101));
     /// ```
+    #[track_caller]
     pub fn blocking_recv(&mut self) -> Result<T, RecvError> {
-        block_on(self.recv())
+        block_on(self.recv_by(Method::called("blocking_recv")))
     }
 }
 
 impl<T> Drop for Receiver<T> {
     fn drop(&mut self) {
-        let mut channel = self.handle.lock();
+        let mut channel = self.handle.lock_at(Word::Drop, None);
         let unread = channel.core().unread(self.handle.number);
         let wakers = channel.drop_handle(Kind::Receiver, CoreChannel::broadcast_drop);
         let values = channel.guarded(&self.handle.channel.values);
@@ -339,8 +366,8 @@ impl<T> fmt::Debug for Receiver<T> {
 impl<T> Handle for Receiver<T> {
     type Value = T;
 
-    fn recorded(&self) -> &RecordedChannel {
-        self.handle.recorded()
+    fn recorded(&self) -> RecordedHandle<'_> {
+        self.handle.of_recorder()
     }
 
     fn set_text_of(&self, text_of: TextOf<T>) {

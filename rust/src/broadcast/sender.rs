@@ -2,11 +2,13 @@
 
 use super::error::SendError;
 use super::{BroadcastHandle, Receiver, WeakSender, open};
-use crate::channel::{CoreChannel, RecordedChannel};
+use crate::channel::CoreChannel;
 use crate::handle::Kind;
-use crate::recorder::{Handle, TextOf};
-use crate::wait::WaitFor;
+use crate::recorder::{Handle, RecordedHandle, TextOf};
+use crate::replay::Word;
+use crate::wait::{Method, WaitFor};
 use std::fmt;
+use std::future::Future;
 use std::task::Poll;
 
 /// The sending half of a broadcast channel.
@@ -91,9 +93,10 @@ impl<T> Sender<T> {
     /// assert_eq!(prices.send(103).unwrap(), 1);
     /// assert_eq!(late.try_recv(), Ok(103));
     /// ```
+    #[track_caller]
     pub fn send(&self, value: T) -> Result<usize, SendError<T>> {
         let text = self.handle.channel.text(&value);
-        let mut channel = self.handle.lock();
+        let mut channel = self.handle.lock(Word::Send);
         let (number, reply) = channel.send(text, CoreChannel::broadcast_send);
         let Some(receivers) = reply.sent() else {
             return Err(SendError(value));
@@ -124,11 +127,14 @@ impl<T> Sender<T> {
     /// assert_eq!(late.try_recv(), Err(TryRecvError::Empty));
     /// assert_eq!(chart.try_recv(), Ok(101));
     /// ```
+    #[track_caller]
     pub fn subscribe(&self) -> Receiver<T> {
         Receiver {
-            handle: self
-                .handle
-                .create(Kind::Receiver, CoreChannel::broadcast_subscribe),
+            handle: self.handle.create(
+                Kind::Receiver,
+                Word::Subscribe,
+                CoreChannel::broadcast_subscribe,
+            ),
         }
     }
 
@@ -150,11 +156,14 @@ impl<T> Sender<T> {
     /// assert!(audit.is_closed());
     /// ```
     #[must_use = "a weak sender that isn't used does nothing"]
+    #[track_caller]
     pub fn downgrade(&self) -> WeakSender<T> {
         WeakSender {
-            handle: self
-                .handle
-                .create(Kind::WeakSender, CoreChannel::broadcast_downgrade),
+            handle: self.handle.create(
+                Kind::WeakSender,
+                Word::Downgrade,
+                CoreChannel::broadcast_downgrade,
+            ),
         }
     }
 
@@ -177,9 +186,13 @@ impl<T> Sender<T> {
     /// drop(chart);
     /// assert_eq!(prices.len(), 0);
     /// ```
+    #[track_caller]
     pub fn len(&self) -> usize {
-        self.handle
-            .ask_count(CoreChannel::broadcast_sender_len, |core, _| core.queued())
+        self.handle.ask_count(
+            Word::SenderLen,
+            CoreChannel::broadcast_sender_len,
+            |core, _| core.queued(),
+        )
     }
 
     /// Returns `true` if no value is queued, as in tokio: if [`len`](Sender::len) is 0.
@@ -196,6 +209,7 @@ impl<T> Sender<T> {
     /// chart.try_recv().unwrap();
     /// assert!(prices.is_empty());
     /// ```
+    #[track_caller]
     pub fn is_empty(&self) -> bool {
         self.len() == 0
     }
@@ -216,11 +230,13 @@ impl<T> Sender<T> {
     /// drop((mailer, audit));
     /// assert_eq!(bus.receiver_count(), 0);
     /// ```
+    #[track_caller]
     pub fn receiver_count(&self) -> usize {
-        self.handle
-            .ask_count(CoreChannel::broadcast_receiver_count, |core, _| {
-                core.receivers()
-            })
+        self.handle.ask_count(
+            Word::ReceiverCount,
+            CoreChannel::broadcast_receiver_count,
+            |core, _| core.receivers(),
+        )
     }
 
     /// Returns `true` if both senders belong to the same channel, as in tokio. It is not recorded.
@@ -257,16 +273,17 @@ impl<T> Sender<T> {
     /// assert_eq!(prices.receiver_count(), 0);
     /// window.join().unwrap();
     /// ```
-    pub async fn closed(&self) {
+    #[track_caller]
+    pub fn closed(&self) -> impl Future<Output = ()> {
+        let method = Method::called("closed");
         self.handle
-            .wait(WaitFor::NoReceiver, |channel| {
+            .wait(WaitFor::NoReceiver, Word::NoReceiver, method, |channel| {
                 if channel.core().receivers() > 0 {
                     return Poll::Pending;
                 }
-                channel.call(CoreChannel::broadcast_receiver_count);
+                channel.call_that_waits(CoreChannel::broadcast_receiver_count);
                 Poll::Ready(())
             })
-            .await
     }
 
     /// Returns the number of senders that are alive, as in tokio. Weak senders are not counted. It is not recorded.
@@ -308,11 +325,14 @@ impl<T> Sender<T> {
 
 impl<T> Clone for Sender<T> {
     /// Creates another sender of the same channel.
+    #[track_caller]
     fn clone(&self) -> Sender<T> {
         Sender {
-            handle: self
-                .handle
-                .create(Kind::Sender, CoreChannel::broadcast_clone_sender),
+            handle: self.handle.create(
+                Kind::Sender,
+                Word::CloneSender,
+                CoreChannel::broadcast_clone_sender,
+            ),
         }
     }
 }
@@ -332,8 +352,8 @@ impl<T> fmt::Debug for Sender<T> {
 impl<T> Handle for Sender<T> {
     type Value = T;
 
-    fn recorded(&self) -> &RecordedChannel {
-        self.handle.recorded()
+    fn recorded(&self) -> RecordedHandle<'_> {
+        self.handle.of_recorder()
     }
 
     fn set_text_of(&self, text_of: TextOf<T>) {

@@ -1,9 +1,10 @@
 //! Senders that do not keep a broadcast channel open.
 
 use super::{BroadcastHandle, Sender};
-use crate::channel::{CoreChannel, RecordedChannel};
+use crate::channel::CoreChannel;
 use crate::handle::Kind;
-use crate::recorder::{Handle, TextOf};
+use crate::recorder::{Handle, RecordedHandle, TextOf};
+use crate::replay::Word;
 use std::fmt;
 
 /// A sender that does not keep the channel open.
@@ -53,10 +54,11 @@ impl<T> WeakSender<T> {
     /// assert!(weak.upgrade().is_none());
     /// ```
     #[must_use]
+    #[track_caller]
     pub fn upgrade(&self) -> Option<Sender<T>> {
         let number = self
             .handle
-            .lock()
+            .lock(Word::Upgrade)
             .create(CoreChannel::broadcast_upgrade)
             .upgraded()?;
         Some(Sender {
@@ -102,11 +104,14 @@ impl<T> WeakSender<T> {
 
 impl<T> Clone for WeakSender<T> {
     /// Creates another weak sender of the same channel.
+    #[track_caller]
     fn clone(&self) -> WeakSender<T> {
         WeakSender {
-            handle: self
-                .handle
-                .create(Kind::WeakSender, CoreChannel::broadcast_clone_weak),
+            handle: self.handle.create(
+                Kind::WeakSender,
+                Word::CloneWeak,
+                CoreChannel::broadcast_clone_weak,
+            ),
         }
     }
 }
@@ -126,8 +131,8 @@ impl<T> fmt::Debug for WeakSender<T> {
 impl<T> Handle for WeakSender<T> {
     type Value = T;
 
-    fn recorded(&self) -> &RecordedChannel {
-        self.handle.recorded()
+    fn recorded(&self) -> RecordedHandle<'_> {
+        self.handle.of_recorder()
     }
 
     fn set_text_of(&self, text_of: TextOf<T>) {

@@ -188,7 +188,7 @@ impl CoreChannel {
         let machine = self.machine(number);
         let reply = by_other(machine);
         match machine.count_made(reply) {
-            Reply::New(handle) => Reply::New(number as u32 * MOST_HANDLES + handle),
+            Reply::New(handle) => Reply::New(number as u64 * u64::from(MOST_HANDLES) + handle),
             reply => reply,
         }
     }
@@ -288,7 +288,7 @@ fn greater(one: Reply, other: Reply) -> Reply {
 /// Whether there are no receivers, of the replies of two machines that ask or wait for it.
 fn all_closed(one: Reply, other: Reply) -> Reply {
     match one {
-        Reply::Flag(true) | Reply::Done => other,
+        Reply::Flag(1) | Reply::Done => other,
         reply => reply,
     }
 }
@@ -416,7 +416,8 @@ impl CoreChannel {
                     |core, other| core.watch_subscribe(caller, other),
                     |core, other| core.watch_clone_receiver(caller, other),
                 );
-                if let Reply::New(clone) = reply {
+                if let Reply::New(_) = reply {
+                    let clone = reply.new_handle();
                     match is_seen {
                         true => made(machine.core.watch_mark_unchanged(caller, clone)),
                         false => made(machine.core.watch_mark_changed(caller, clone)),

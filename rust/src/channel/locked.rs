@@ -1,60 +1,126 @@
 //! Calls, which are made while the channel is locked.
 
-use super::{Call, ChannelState, CoreChannel, RecordedChannel};
+use super::{Call, CallSite, ChannelState, CoreChannel, RecordedChannel};
+use crate::actors;
 use crate::core::{Actor, Caller};
 use crate::guarded_by::GuardedBy;
 use crate::handle::Kind;
 use crate::lock::lock;
-use crate::recorder::RecordedBy;
+use crate::recorder::Shared;
+use crate::replay::{Permit, Word};
 use crate::reply::Reply;
-use crate::wait::WaitFor;
+use crate::wait::{Method, Pending, Wait, WaitFor};
 use crate::wakers::Wakers;
 use std::sync::MutexGuard;
 
 /// A channel whose lock is held, for the calls of one actor by one handle.
+///
+/// What each recorded call does is inlined into its caller. What only a replay does, or the end of a recording, is in functions of its own.
 pub(crate) struct LockedChannel<'a> {
     pub(crate) state: MutexGuard<'a, ChannelState>,
-    pub(crate) recorder: &'a RecordedBy,
+    channel: &'a RecordedChannel,
+    // Of the next call.
+    permit: Permit<'a>,
     actor: Actor,
     handle: u32,
+    called_at: CallSite,
 }
 
 impl RecordedChannel {
-    /// Locks the channel for calls by the handle with this number.
+    /// Locks the channel for a call by the handle with this number, which is made here in the source, once its turn has come.
     #[inline]
-    pub(crate) fn lock(&self, handle: u32) -> LockedChannel<'_> {
-        let actor = self.recorder.actor();
+    pub(crate) fn lock(&self, handle: u32, word: Word, called_at: CallSite) -> LockedChannel<'_> {
+        let permit = self.pass(handle, word, called_at);
+        self.lock_with(permit, handle, called_at)
+    }
+
+    /// Locks the channel for a call that has its turn by this permit.
+    #[inline]
+    pub(crate) fn lock_with<'a>(
+        &'a self,
+        permit: Permit<'a>,
+        handle: u32,
+        called_at: CallSite,
+    ) -> LockedChannel<'a> {
+        let actor = self.recorder.actor(called_at);
         LockedChannel {
             state: lock(&self.state),
-            recorder: &self.recorder,
+            channel: self,
+            permit,
             actor,
             handle,
+            called_at,
         }
+    }
+
+    /// Ends the recording of this channel, whose state this is. A replay no longer orders its calls.
+    #[cold]
+    fn end_recording(&self, state: &mut ChannelState) {
+        state.end_recording();
+        if let Some(replayed) = &self.replayed {
+            replayed.set_free();
+        }
+    }
+
+    /// Ends the recording of this channel, since no journal can name a further handle of it.
+    #[cold]
+    fn end_for_handles(&self, state: &mut ChannelState) {
+        self.end_recording(state);
+        if let Some(recorder) = &self.recorder.0 {
+            recorder.tell_of_too_many_handles();
+        }
+    }
+
+    /// Ends a call that has left no entry and replied so, and returns its reply. A call for which the journal had no room wasn't made: the
+    /// recording of all channels ends at it, and it is made now.
+    #[cold]
+    fn end_unrecorded(
+        &self,
+        state: &mut ChannelState,
+        mut permit: Permit<'_>,
+        caller: Caller,
+        reply: Reply,
+        call: impl Fn(&mut CoreChannel, Caller) -> Reply,
+    ) -> Reply {
+        state.remove_location();
+        if reply != Reply::JournalFull {
+            permit.would_wait();
+            return reply.expect_made();
+        }
+        if let Some(recorder) = &self.recorder.0 {
+            recorder.end_at(caller.clock);
+        }
+        self.end_recording(state);
+        call(&mut state.core, caller).expect_made()
     }
 }
 
-impl LockedChannel<'_> {
+/// Lets the next call of a replay come, since the one with this permit is made. `text` is that of the value that it has sent.
+#[cold]
+fn tell_made(mut permit: Permit<'_>, is_recorded: bool, text: Option<&str>) {
+    if is_recorded {
+        permit.made(text);
+    }
+}
+
+impl<'a> LockedChannel<'a> {
     /// Makes a call.
-    #[inline]
+    #[inline(always)]
     pub(crate) fn call(&mut self, call: Call) -> Reply {
         let handle = self.handle;
-        self.call_core(|core, caller| call(core, caller, handle))
+        self.call_core(None, move |core, caller| call(core, caller, handle))
     }
 
     /// Makes a call that creates a handle. If a journal can't name that handle, the recording of this channel ends before.
     pub(crate) fn create(&mut self, call: Call) -> Reply {
         if self.state.is_recorded && self.state.core.has_named_all() {
-            self.end_for_handles();
+            self.channel.end_for_handles(&mut self.state);
         }
-        self.call(call)
-    }
-
-    #[cold]
-    fn end_for_handles(&mut self) {
-        self.state.end_recording();
-        if let Some(recorder) = &self.recorder.0 {
-            recorder.tell_of_too_many_handles();
+        let reply = self.call(call);
+        if let Reply::New(_) = reply {
+            self.state.keep_making(self.called_at);
         }
+        reply
     }
 
     /// Makes a call that passes a new value to the core, by the value's number, and stores its text. Returns the number with the reply.
@@ -66,7 +132,9 @@ impl LockedChannel<'_> {
     ) -> (u64, Reply) {
         let (handle, number) = (self.handle, self.state.value_count);
         self.state.value_count += 1;
-        let reply = self.call_core(|core, caller| call(core, caller, handle, number));
+        let reply = self.call_core(text.as_deref(), move |core, caller| {
+            call(core, caller, handle, number)
+        });
         if let Some(text) = text.filter(|_| self.state.is_recorded) {
             self.state.texts.insert(number, text);
         }
@@ -74,49 +142,99 @@ impl LockedChannel<'_> {
     }
 
     /// Makes a call. It takes the recorder's next number under the channel's lock, so stamps differ and are in the order of the calls: on
-    /// each channel, and on several channels if one call returned before the other began.
-    #[inline]
-    fn call_core(&mut self, call: impl Fn(&mut CoreChannel, Caller) -> Reply) -> Reply {
-        if self.state.is_recorded && self.has_ended() {
-            self.state.end_recording();
-        }
-        let caller = Caller {
-            actor: self.actor,
-            clock: self.recorder.tick(),
-        };
-        match call(&mut self.state.core, caller) {
-            Reply::JournalFull => self.call_unrecorded(caller, call),
-            reply => reply.expect_made(),
-        }
-    }
-
-    /// Whether the recording of all channels has ended.
-    #[inline]
-    fn has_ended(&self) -> bool {
-        self.recorder
-            .0
-            .as_ref()
-            .is_some_and(|recorder| recorder.has_ended())
-    }
-
-    /// Makes a call for which the journal has no room. The recording of all channels ends at this call.
-    #[cold]
-    fn call_unrecorded(
+    /// each channel, and on several channels if one call returned before the other began. `text` is that of the value that it sends.
+    // Where it isn't inlined, the core's call is one by a pointer.
+    #[inline(always)]
+    fn call_core(
         &mut self,
-        caller: Caller,
+        text: Option<&str>,
         call: impl Fn(&mut CoreChannel, Caller) -> Reply,
     ) -> Reply {
-        if let Some(recorder) = &self.recorder.0 {
-            recorder.end_at(caller.clock);
+        let clock = match &self.channel.recorder.0 {
+            Some(recorder) => self.tick(recorder),
+            None => 0,
+        };
+        let caller = Caller {
+            actor: self.actor,
+            clock,
+        };
+        let reply = call(&mut self.state.core, caller);
+        if !reply.leaves_entry() {
+            let permit = self.permit.take();
+            return self
+                .channel
+                .end_unrecorded(&mut self.state, permit, caller, reply, call);
         }
-        self.state.end_recording();
-        call(&mut self.state.core, caller).expect_made()
+        if self.permit.is_held() {
+            tell_made(self.permit.take(), self.state.is_recorded, text);
+        }
+        reply
+    }
+
+    /// Stores where the next call is made, if this recorder is to record it, and returns the clock's number for it.
+    #[inline(always)]
+    fn tick(&mut self, recorder: &Shared) -> u64 {
+        if self.state.is_recorded {
+            match recorder.has_ended() {
+                true => self.channel.end_recording(&mut self.state),
+                // It is stored before the call, so that nothing of the reply has to be kept meanwhile.
+                false => self.state.locations.of_calls.push(self.called_at),
+            }
+        }
+        recorder.tick()
+    }
+
+    /// Makes a call that waits, and for which a journal has the word of one that doesn't.
+    pub(crate) fn call_that_waits(&mut self, call: Call) {
+        self.call(call);
+        let entry = self.state.last_entry();
+        self.state.waited.extend(entry);
+    }
+
+    /// Returns the greatest stamp that a recorded call can have so far.
+    pub(crate) fn clock(&self) -> u64 {
+        let recorder = self.channel.recorder.0.as_ref();
+        recorder.map_or(0, |recorder| recorder.last())
+    }
+
+    /// Unlocks the channel without a call, and returns the permit of the call.
+    pub(crate) fn into_permit(self) -> Permit<'a> {
+        self.permit
+    }
+
+    /// Says that the call has to wait, if it was its turn in a replay.
+    #[inline]
+    pub(crate) fn would_wait(&mut self) {
+        self.permit.would_wait();
+    }
+
+    /// Lists a call of the handle among those that wait since this time of the clock, unless it is there or the channel has no recorder.
+    pub(crate) fn list_wait(
+        &mut self,
+        wait_for: WaitFor,
+        method: Method,
+        since: u64,
+        pending: &mut Pending,
+    ) {
+        if self.channel.recorder.0.is_some() && pending.listed.is_none() {
+            pending.listed = Some(self.state.waits.add(Wait {
+                actor: self.actor,
+                handle: self.handle,
+                wait_for,
+                method,
+                since,
+            }));
+        }
     }
 
     /// Makes the call that drops the handle. Returns the futures that wait for it: those of receivers if it was the last sender, and those
     /// of senders if it was the last receiver.
     pub(crate) fn drop_handle(&mut self, kind: Kind, call: Call) -> Wakers {
         self.call(call);
+        if actors::is_dropping_future() {
+            let entry = self.state.last_entry();
+            self.state.cancelled.extend(entry);
+        }
         match kind {
             Kind::Sender if self.core().senders() == 0 => self.take_wakers(WaitFor::Value),
             Kind::Receiver if self.core().receivers() == 0 => self.take_wakers(WaitFor::NoReceiver),

@@ -6,7 +6,7 @@ use crate::reply::Reply;
 use std::collections::VecDeque;
 
 /// A call by the number of a handle.
-#[derive(Clone, Copy)]
+#[derive(Clone, Copy, Debug, PartialEq, Eq)]
 pub(super) enum BroadcastCall {
     Send(u64),
     Subscribe,
@@ -60,6 +60,13 @@ impl Broadcast {
     /// How many values a receiver has yet to receive, including evicted ones.
     pub(super) fn unread(&self, receiver: u32) -> Result<u64, Reply> {
         Ok(self.sent - self.handles.receiver(receiver)?)
+    }
+
+    /// How many values were overwritten before a receiver had received them.
+    pub(super) fn lag(&self, receiver: u32) -> Result<u64, Reply> {
+        Ok(self
+            .oldest()
+            .saturating_sub(*self.handles.receiver(receiver)?))
     }
 
     /// Makes a call by this handle. A refusal of the handle is an error.

@@ -1,5 +1,5 @@
-//! The plain core makes the same calls as the proved one, and the two are compared: each reply, what the channels show after it, and the
-//! journal texts of cuts, byte by byte.
+//! The plain core makes the same calls as the proved one, and the two are compared: each reply, what the channels show after it, the
+//! journal texts of cuts, byte by byte, and the calls that both read in these texts.
 
 use crate::core::{Actor, Caller, CutFault};
 use crate::reply::Reply;
@@ -131,7 +131,7 @@ impl Pair {
                     name.split_once('_').unwrap().1,
                     "subscribe" | "resubscribe" | "clone_receiver"
                 ) {
-                    self.receivers.insert(handle);
+                    self.receivers.insert(handle as u32);
                 }
             }
             Reply::Dropped => drop(self.receivers.remove(&given.handle)),
@@ -318,7 +318,11 @@ fn random_calls_are_answered_and_recorded_alike() {
                     .random
                     .one_of(&[0, play.clock / 2, play.clock, u64::MAX]);
                 match cut(&mut play.pairs, last) {
-                    Ok(_) => texts += 1,
+                    Ok(text) => {
+                        texts += 1;
+                        let text = text.as_bytes();
+                        assert_eq!(plain::calls_of(text), proved::calls_of(text));
+                    }
                     Err(fault) => {
                         assert_eq!(fault, CutFault::OutOfOrder);
                         assert!(!play.counts, "a recorder's stamps rise");
@@ -364,7 +368,10 @@ fn the_65537th_handle_is_refused() {
     let mut pair = Pair::broadcast(2);
     assert_eq!(pair.make("broadcast_downgrade", 0, 0), Reply::New(2));
     for made in 3..65_536 {
-        assert_eq!(pair.make("broadcast_subscribe", 0, 0), Reply::New(made));
+        assert_eq!(
+            pair.make("broadcast_subscribe", 0, 0),
+            Reply::New(made.into())
+        );
         assert_eq!(pair.make("broadcast_drop", 0, made), Reply::Dropped);
     }
     for (name, handle) in [

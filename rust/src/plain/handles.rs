@@ -54,6 +54,11 @@ impl<R> Handles<R> {
         self.receivers.iter().map(|(_, receiver)| receiver)
     }
 
+    /// The numbers of the receivers that are alive, in no order.
+    pub(super) fn alive_receivers(&self) -> impl Iterator<Item = u32> {
+        self.receivers.iter().map(|(number, _)| *number)
+    }
+
     /// Checks that this handle is alive, for a call by any kind.
     pub(super) fn by_any(&mut self, handle: u32) -> Result<&mut Handles<R>, Reply> {
         self.alive(handle)?;
@@ -147,7 +152,7 @@ impl<R> Handles<R> {
             return Err(Reply::TooManyHandles);
         }
         self.made.push(handle);
-        Ok(Reply::New(number as u32))
+        Ok(Reply::New(number as u64))
     }
 
     fn alive(&self, handle: u32) -> Result<Handle, Reply> {

@@ -4,7 +4,7 @@ use super::handles::Handles;
 use crate::reply::Reply;
 
 /// A call by the number of a handle.
-#[derive(Clone, Copy)]
+#[derive(Clone, Copy, Debug, PartialEq, Eq)]
 pub(super) enum WatchCall {
     Send(u64),
     SendReplace(u64),
@@ -42,6 +42,16 @@ impl Watch {
         }
     }
 
+    /// How many changes the receivers were notified of.
+    pub(super) fn version(&self) -> u64 {
+        self.version
+    }
+
+    /// Returns the version that a receiver has seen, if it has seen one.
+    pub(super) fn mark_of(&self, receiver: u32) -> Result<Option<u64>, Reply> {
+        self.handles.receiver(receiver).copied()
+    }
+
     /// Whether a receiver has seen the value.
     pub(super) fn is_seen(&self, receiver: u32) -> Result<bool, Reply> {
         Ok(*self.handles.receiver(receiver)? == Some(self.version))
@@ -71,7 +81,7 @@ impl Watch {
             WatchCall::ReceiverCount => Ok(Reply::Count(handles.by_sender(handle)?.receivers())),
             WatchCall::IsClosed => {
                 let receivers = handles.by_sender(handle)?.receivers();
-                Ok(Reply::Flag(receivers == 0))
+                Ok(Reply::flag(receivers == 0))
             }
             WatchCall::AwaitClosed => Ok(match handles.by_sender(handle)?.receivers() {
                 0 => Reply::Done,
@@ -100,14 +110,14 @@ impl Watch {
         self.handles.by_sender(sender)?;
         self.value = value;
         self.version += u64::from(told);
-        Ok(Reply::Told(told))
+        Ok(Reply::Told(told.into()))
     }
 
     fn has_changed(&self, receiver: u32) -> Result<Reply, Reply> {
         let is_seen = self.is_seen(receiver)?;
         Ok(match self.handles.senders() {
             0 => Reply::Closed,
-            _ => Reply::Flag(!is_seen),
+            _ => Reply::flag(!is_seen),
         })
     }
 

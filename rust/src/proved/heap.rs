@@ -120,13 +120,20 @@ macro_rules! symbols {
 
 symbols!(rattle_alloc rattle_realloc rattle_dealloc);
 
+/// Allocates a block. An alignment above 16 is refused.
+///
 /// # Safety
 ///
-/// Any size and alignment that the core requests is allowed.
-pub(super) unsafe extern "C" fn rattle_alloc(size: usize, _align: usize) -> Tried {
+/// Any size and alignment is allowed.
+pub(super) unsafe extern "C" fn rattle_alloc(size: usize, align: usize) -> Tried {
+    if align > ALIGN {
+        return Tried::NO_MEMORY;
+    }
     allocate(size)
 }
 
+/// Resizes a block, which then keeps its first `old` bytes. An alignment above 16 is refused, and the block stays as it was.
+///
 /// # Safety
 ///
 /// `p` is the pointer of a block that these functions allocated, and isn't used again if there is memory.
@@ -134,8 +141,11 @@ pub(super) unsafe extern "C" fn rattle_realloc(
     p: *mut u8,
     old: usize,
     new: usize,
-    _align: usize,
+    align: usize,
 ) -> Tried {
+    if align > ALIGN {
+        return Tried::NO_MEMORY;
+    }
     // SAFETY: `p` is the pointer of a block.
     let (_, size) = unsafe { block_of(p) };
     if new <= size && new >= LARGE {

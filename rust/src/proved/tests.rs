@@ -1,8 +1,10 @@
 //! Tests of the declarations and the heap alone: what the tests in `tests/` reach late or not at all. `rust/test` runs them under valgrind.
 
 use super::heap::{JOURNAL, LARGE, rattle_alloc, rattle_dealloc, rattle_realloc};
+use super::run::{CallFound, Run};
 use super::{CoreChannel, Cut, Found, Held};
 use crate::core::{Actor, Caller};
+use crate::findings::TextFault;
 use crate::reply::Reply;
 
 // The crate itself doesn't use a receiver's position.
@@ -86,6 +88,69 @@ fn where_recording_ended_calls_go_on_without_entries() {
 }
 
 #[test]
+fn a_run_gives_its_calls_and_then_none() {
+    let text = b"ttd-journal 2\nbroadcast 2\nwatch 4\nsteps\n3 1 0 send 0 7 = sent 1\n\
+        3 2 1 modify 0 8 yes = told yes\n5 2 1 has-changed 1 = flag yes\n9 1 0 drop 1 = dropped\nend\n";
+    let mut run = Run::of(text).unwrap();
+    let wanted = [
+        CallFound {
+            is_some: 1,
+            actor: 1,
+            channel: 0,
+            call: 0,
+            handle: 0,
+            told: 0,
+            kind: 0,
+            stamp: 3,
+            value: 7,
+            number: 1,
+        },
+        CallFound {
+            is_some: 1,
+            actor: 2,
+            channel: 1,
+            call: 15,
+            handle: 0,
+            told: 1,
+            kind: 16,
+            stamp: 3,
+            value: 8,
+            number: 1,
+        },
+        CallFound {
+            is_some: 1,
+            actor: 2,
+            channel: 1,
+            call: 21,
+            handle: 1,
+            told: 0,
+            kind: 17,
+            stamp: 5,
+            value: 0,
+            number: 1,
+        },
+        CallFound {
+            is_some: 1,
+            actor: 1,
+            channel: 0,
+            call: 6,
+            handle: 1,
+            told: 0,
+            kind: 8,
+            stamp: 9,
+            value: 0,
+            number: 0,
+        },
+    ];
+    for call in wanted {
+        assert_eq!(run.next_call(), Some(call));
+    }
+    assert_eq!((run.next_call(), run.next_call()), (None, None));
+    let cut = &text[..text.len() - 4];
+    assert_eq!(Run::of(cut).map(|_| ()), Err(TextFault::Truncated));
+}
+
+#[test]
 fn a_journal_and_its_text_grow_past_a_large_block() {
     const CALLS: u64 = 100_000;
     let mut channel = CoreChannel::broadcast(1).unwrap();
@@ -146,5 +211,22 @@ fn a_size_that_no_memory_has_is_refused_and_the_block_stays() {
         assert!(!rattle_realloc(block, 64, usize::MAX - 8, 8).ok);
         assert_eq!(block.read(), 17);
         rattle_dealloc(block);
+    }
+}
+
+#[test]
+fn an_alignment_above_16_is_refused_and_the_block_stays() {
+    // SAFETY: these functions allocated the block, and it is used until it is freed.
+    unsafe {
+        assert!(!rattle_alloc(64, 32).ok);
+        let block = rattle_alloc(64, 16);
+        assert!(block.ok && block.p.addr() % 16 == 0);
+        block.p.write(17);
+        assert!(!rattle_realloc(block.p, 64, 128, 32).ok);
+        assert_eq!(block.p.read(), 17);
+        let grown = rattle_realloc(block.p, 64, 128, 16);
+        assert!(grown.ok);
+        assert_eq!(grown.p.read(), 17);
+        rattle_dealloc(grown.p);
     }
 }

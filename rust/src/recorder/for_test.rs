@@ -1,18 +1,22 @@
-//! The recorder of a test, which writes the journal if the test fails.
+//! The recorder of a test, which says what happened if the test fails.
 
+use super::watchdog::Watchdog;
 use super::{Entered, Recorder};
-use std::ffi::OsStr;
 use std::ops::Deref;
-use std::path::{self, Path, PathBuf};
-use std::{env, fs, thread};
+use std::panic::AssertUnwindSafe;
+use std::sync::atomic::{AtomicBool, Ordering};
+use std::{env, panic, thread};
 
 impl Recorder {
     /// Creates a recorder for a test, and enters it on this thread until the result is dropped.
     ///
-    /// If the thread panics while the result is alive, or the environment variable `YOVANELUM_KEEP` is set, the drop of the result writes
-    /// the journal to `yovanelum/NAME.journal` in the build's folder `target`, and the names to `NAME.names` beside it. Two lines on
-    /// standard error say where the journal is and how to walk it. If it cannot be written, one line says why. A `/` in the name becomes a
-    /// `_`.
+    /// If the thread panics while the result is alive, or the environment variable `YOVANELUM_KEEP` is set, the drop of the result prints a
+    /// report on standard error, of 15 lines at most: which receiver lost values, which send overwrote the first of them, whether it was
+    /// told, and which calls still wait. It writes the journal to `yovanelum/NAME.journal` in the build's folder `target`, the names to
+    /// `NAME.names` beside it, and the page that draws the run to `NAME.html`. The last line of the report is the page's address. If a file
+    /// cannot be written, one line says why. A `/` in the name becomes a `_`.
+    ///
+    /// Nothing is written or printed if the test passes, or if the result was created while its thread was panicking already.
     ///
     /// Make it the first variable of the test. It is then dropped last, and the drops of senders and receivers are in the journal.
     ///
@@ -20,8 +24,8 @@ impl Recorder {
     /// a task [`scope`](Recorder::scope), and if no other test runs in the process [`install`](Recorder::install). A test that is itself a
     /// task, which may move from thread to thread, uses `scope` and [`save_on_panic`](Recorder::save_on_panic).
     ///
-    /// A test that returns an `Err` does not panic, so its journal is written only with `YOVANELUM_KEEP`. If a test passes, cargo shows
-    /// the two lines only with `-- --nocapture`.
+    /// A test that returns an `Err` does not panic. [`save_on_err`](ForTest::save_on_err) takes its result. If a test passes, cargo shows the
+    /// report of `YOVANELUM_KEEP` only with `-- --nocapture`.
     ///
     /// # Examples
     ///
@@ -36,18 +40,18 @@ impl Recorder {
     /// ```
     #[must_use = "dropped at once, it records nothing"]
     pub fn for_test(name: &str) -> ForTest {
-        let recorder = Recorder::new();
+        let recorder = Recorder::of_test(name);
         ForTest {
             saved: recorder.save_on_panic(name),
             _entered: recorder.enter(),
         }
     }
 
-    /// Writes the journal when the returned guard is dropped, if the thread that drops it panics or the environment variable
-    /// `YOVANELUM_KEEP` is set.
+    /// Writes the journal and prints the report when the returned guard is dropped, if the thread that drops it panics or the environment
+    /// variable `YOVANELUM_KEEP` is set.
     ///
-    /// It is the part of [`for_test`](Recorder::for_test) that writes: the same files, and the same lines on standard error. The guard enters
-    /// no thread, so it may be sent.
+    /// It is the part of [`for_test`](Recorder::for_test) that writes: the same files, and the same report on standard error. The guard
+    /// enters no thread, so it may be sent.
     ///
     /// # Examples
     ///
@@ -73,6 +77,9 @@ impl Recorder {
         SaveOnPanic {
             recorder: self.clone(),
             name: name.to_string(),
+            watchdog: None,
+            began_in_panic: thread::panicking(),
+            has_failed: AtomicBool::new(false),
         }
     }
 }
@@ -80,7 +87,7 @@ impl Recorder {
 /// A recorder for a test, returned by [`Recorder::for_test`].
 ///
 /// It dereferences to the [`Recorder`], which is entered on this thread until this is dropped. If the test has panicked, the drop writes
-/// the journal. It cannot be sent to another thread. [`SaveOnPanic`] can.
+/// the journal and prints the report. It cannot be sent to another thread. [`SaveOnPanic`] can.
 ///
 /// # Examples
 ///
@@ -96,8 +103,38 @@ impl Recorder {
 /// ```
 #[derive(Debug)]
 pub struct ForTest {
-    saved: SaveOnPanic,
+    pub(super) saved: SaveOnPanic,
     _entered: Entered,
+}
+
+impl ForTest {
+    /// Passes on the result of a test that returns one. If it is an `Err`, the drop of the recorder writes the journal and prints the report,
+    /// as after a panic.
+    ///
+    /// It does not panic, so the test returns its error as before. What `?` returns earlier isn't seen, so wrap the whole body.
+    ///
+    /// # Examples
+    ///
+    /// ```
+    /// use std::error::Error;
+    /// use yovanelum::{Recorder, broadcast};
+    ///
+    /// // With `#[test]`.
+    /// fn each_price_arrives() -> Result<(), Box<dyn Error>> {
+    ///     let recorder = Recorder::for_test("each_price_arrives");
+    ///     let chart = || {
+    ///         let (prices, mut chart) = broadcast::channel(2);
+    ///         prices.send(101)?;
+    ///         assert_eq!(chart.try_recv()?, 101);
+    ///         Ok(())
+    ///     };
+    ///     recorder.save_on_err(chart())
+    /// }
+    /// each_price_arrives().unwrap();
+    /// ```
+    pub fn save_on_err<T, E>(&self, result: Result<T, E>) -> Result<T, E> {
+        self.saved.save_on_err(result)
+    }
 }
 
 impl Deref for ForTest {
@@ -108,7 +145,7 @@ impl Deref for ForTest {
     }
 }
 
-/// Guard returned by [`Recorder::save_on_panic`], which writes the journal if it is dropped by a thread that panics.
+/// Guard returned by [`Recorder::save_on_panic`], which writes the journal and prints the report if it is dropped by a thread that panics.
 ///
 /// # Examples
 ///
@@ -135,50 +172,64 @@ impl Deref for ForTest {
 /// ```
 #[derive(Debug)]
 pub struct SaveOnPanic {
-    recorder: Recorder,
-    name: String,
+    pub(super) recorder: Recorder,
+    pub(super) name: String,
+    pub(super) watchdog: Option<Watchdog>,
+    // Then a panic isn't one of this test.
+    began_in_panic: bool,
+    // Whether the test returns an `Err`.
+    has_failed: AtomicBool,
+}
+
+impl SaveOnPanic {
+    /// Passes on the result of a test that returns one, as [`ForTest::save_on_err`] does.
+    ///
+    /// # Examples
+    ///
+    /// ```
+    /// use yovanelum::{Recorder, broadcast};
+    ///
+    /// let recorder = Recorder::new();
+    /// let _entered = recorder.enter();
+    /// let saved = recorder.save_on_panic("each_price_arrives");
+    /// let (prices, mut chart) = broadcast::channel(2);
+    /// prices.send(101).unwrap();
+    /// assert_eq!(saved.save_on_err(chart.try_recv()), Ok(101));
+    /// ```
+    pub fn save_on_err<T, E>(&self, result: Result<T, E>) -> Result<T, E> {
+        if result.is_err() {
+            self.has_failed.store(true, Ordering::Relaxed);
+        }
+        result
+    }
+
+    /// Whether the test failed, as far as it has ended.
+    fn has_failed(&self) -> bool {
+        let has_panicked = thread::panicking() && !self.began_in_panic;
+        has_panicked || self.has_failed.load(Ordering::Relaxed)
+    }
+
+    /// Whether the test failed, or its journal is to be kept all the same.
+    fn is_wanted(&self) -> bool {
+        match (thread::panicking(), self.began_in_panic) {
+            (true, true) => false,
+            (true, false) => true,
+            (false, _) => {
+                self.has_failed.load(Ordering::Relaxed) || env::var_os("YOVANELUM_KEEP").is_some()
+            }
+        }
+    }
 }
 
 impl Drop for SaveOnPanic {
     fn drop(&mut self) {
-        if thread::panicking() || env::var_os("YOVANELUM_KEEP").is_some() {
-            self.write_journal();
+        // The test has ended, so a report on those who wait would come late.
+        self.watchdog = None;
+        self.recorder.end_replay_of_test(self.has_failed());
+        if self.is_wanted() {
+            // A panic in a drop while a panic unwinds would end the process, and with it all other tests.
+            let report = || self.recorder.report_on(&self.name, self.has_failed());
+            let _ = panic::catch_unwind(AssertUnwindSafe(report));
         }
     }
-}
-
-impl SaveOnPanic {
-    fn write_journal(&self) {
-        // An absolute path, since the reader may be in another folder, such as that of a workspace.
-        let target = target_folder();
-        let folder = path::absolute(&target).unwrap_or(target).join("yovanelum");
-        // A name with a path separator is one file too.
-        let path = folder.join(format!("{}.journal", self.name.replace('/', "_")));
-        let saved = fs::create_dir_all(&folder).and_then(|()| self.recorder.save(&path));
-        let path = path.display();
-        match saved {
-            Ok(()) => {
-                eprintln!("yovanelum: the calls of {} are in {path}", self.name);
-                eprintln!(
-                    "yovanelum: walk them by `ttd debug {path}`, or drop that file on {PAGE}"
-                );
-            }
-            Err(error) => eprintln!("yovanelum: {path} isn't written: {error}"),
-        }
-    }
-}
-
-/// The page, which comes with the sources of this crate.
-const PAGE: &str = concat!(env!("CARGO_MANIFEST_DIR"), "/built/yovanelum.html");
-
-/// Returns the folder `target` of the build that this program is from, or else that of the working folder.
-fn target_folder() -> PathBuf {
-    if let Some(folder) = env::var_os("CARGO_TARGET_DIR") {
-        return folder.into();
-    }
-    let program = env::current_exe().unwrap_or_default();
-    let found = program
-        .ancestors()
-        .find(|folder| folder.file_name() == Some(OsStr::new("target")));
-    found.map_or_else(|| PathBuf::from("target"), Path::to_path_buf)
 }

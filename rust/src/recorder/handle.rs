@@ -2,10 +2,11 @@
 
 use super::TextOf;
 use crate::channel::RecordedChannel;
+use crate::handle::Kind;
 
 /// A sender or a receiver, of either kind of channel.
 ///
-/// [`Recorder::name`], [`Recorder::show`] and [`Recorder::of`] take any. It is implemented for the senders and receivers of
+/// [`Recorder::name`], [`Recorder::show`], [`Recorder::of`] and their kin take any. It is implemented for the senders and receivers of
 /// [`broadcast`](crate::broadcast) and [`watch`](crate::watch), weak senders included, and cannot be implemented for other types.
 ///
 /// [`Recorder::name`]: super::Recorder::name
@@ -21,7 +22,7 @@ use crate::channel::RecordedChannel;
 /// use yovanelum::{Handle, Recorder, broadcast, watch};
 ///
 /// fn describe<H: Handle<Value: Debug>>(recorder: &Recorder, handle: &H, name: &str) {
-///     recorder.name(handle, name).show(handle, |value| format!("{value:?}"));
+///     recorder.name_channel(handle, name).show(handle, |value| format!("{value:?}"));
 /// }
 ///
 /// let recorder = Recorder::new();
@@ -39,11 +40,18 @@ pub trait Handle {
     /// The type of the channel's values.
     type Value;
 
-    // `RecordedChannel` has no public path. So no other crate can write this method, or implement the trait.
+    // `RecordedHandle` has no public path. So no other crate can write this method, or implement the trait.
     #[doc(hidden)]
-    fn recorded(&self) -> &RecordedChannel;
+    fn recorded(&self) -> RecordedHandle<'_>;
 
     // Nor has `TextOf`.
     #[doc(hidden)]
     fn set_text_of(&self, text_of: TextOf<Self::Value>);
+}
+
+/// What a recorder knows of a handle: its channel, its number there, and its kind.
+pub struct RecordedHandle<'a> {
+    pub(crate) channel: &'a RecordedChannel,
+    pub(crate) number: u32,
+    pub(crate) kind: Kind,
 }

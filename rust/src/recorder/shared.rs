@@ -3,9 +3,14 @@
 use super::texts::Texts;
 use crate::actors::{self, Actors};
 use crate::atomic::AtomicU64;
-use crate::channel::ChannelState;
+use crate::channel::{CallSite, ChannelState};
 use crate::core::Actor;
 use crate::lock::lock;
+use crate::names::Maker;
+use crate::replay::{self, Gate};
+use std::collections::HashMap;
+use std::io;
+use std::path::Path;
 use std::sync::atomic::{AtomicBool, Ordering};
 use std::sync::{Arc, Mutex, Weak};
 
@@ -24,7 +29,7 @@ struct Clock(AtomicU64);
 
 /// What a recorder's channels share.
 pub(crate) struct Shared {
-    id: u64,
+    pub(crate) id: u64,
     // Whether channels that are created under this recorder aren't recorded.
     pub(super) is_off: bool,
     clock: Clock,
@@ -36,6 +41,10 @@ pub(crate) struct Shared {
     told_of: Told,
     pub(super) channels: Mutex<Vec<Arc<Mutex<ChannelState>>>>,
     pub(super) actors: Mutex<Actors>,
+    // Of a replay.
+    pub(crate) gate: Option<Arc<Gate>>,
+    // How many channels each caller has made, by the name of the caller.
+    makers: Mutex<HashMap<Option<String>, u64>>,
     // Held by the handles of the recorder alone. A channel, which holds this, may be held by a function there.
     texts: Mutex<Weak<Texts>>,
 }
@@ -69,22 +78,47 @@ impl Shared {
             told_of: Told::default(),
             channels: Mutex::default(),
             actors: Mutex::default(),
+            gate: None,
+            makers: Mutex::default(),
             texts: Mutex::default(),
         }
+    }
+
+    /// Creates the shared part of a recorder that replays the journal at this path.
+    pub(super) fn replay(path: &Path) -> io::Result<Shared> {
+        let mut shared = Shared::new(false);
+        let gate = replay::open(path, shared.id)?;
+        lock(&shared.actors).preload(gate.actors());
+        shared.gate = Some(gate);
+        Ok(shared)
+    }
+
+    /// Returns who makes a channel now. It is called once for each channel of this recorder.
+    pub(crate) fn maker(&self) -> Maker {
+        let name = actors::name_of_caller();
+        if let Some(gate) = &self.gate {
+            gate.see_maker(&name);
+        }
+        let mut makers = lock(&self.makers);
+        let count = makers.entry(name.clone()).or_default();
+        let nth = *count;
+        *count += 1;
+        Maker { name, nth }
     }
 
     /// Returns the functions that the recorder's handles hold.
     pub(super) fn texts(&self) -> Arc<Texts> {
         let mut held = lock(&self.texts);
         held.upgrade().unwrap_or_else(|| {
-            let texts = Arc::default();
+            let texts = Arc::new(Texts::new(self.gate.clone()));
             *held = Arc::downgrade(&texts);
             texts
         })
     }
 
     /// Returns the greatest stamp that a recorded call can have so far.
-    pub(super) fn last(&self) -> u64 {
+    #[inline]
+    pub(crate) fn last(&self) -> u64 {
         let Clock(clock) = &self.clock;
         clock
             .load(Ordering::SeqCst)
@@ -110,14 +144,15 @@ impl Shared {
         self.end.load(Ordering::SeqCst) != NEVER
     }
 
+    /// Returns the actor of a call that is made here in the source.
     #[inline]
-    pub(crate) fn actor(&self) -> Actor {
-        actors::current(self.id, || self.find_actor())
+    pub(crate) fn actor(&self, called_at: CallSite) -> Actor {
+        actors::current(self.id, |task| self.find_actor(task, called_at))
     }
 
     #[cold]
-    fn find_actor(&self) -> Actor {
-        let (actor, is_first_to_share) = lock(&self.actors).find();
+    fn find_actor(&self, task: Option<u64>, called_at: CallSite) -> Actor {
+        let (actor, is_first_to_share) = lock(&self.actors).find(task, called_at);
         if is_first_to_share {
             eprintln!(
                 "yovanelum: a journal names 64 actors; those who come later are recorded as the last one"
@@ -193,16 +228,10 @@ impl RecordedBy {
         self.0.as_ref().is_none_or(|recorder| recorder.is_quiet())
     }
 
-    /// Returns the actor of a call. What isn't recorded has the first one.
+    /// Returns the actor of a call that is made here in the source. What isn't recorded has the first one.
     #[inline]
-    pub(crate) fn actor(&self) -> Actor {
-        let actor = self.0.as_ref().map(|recorder| recorder.actor());
+    pub(crate) fn actor(&self, called_at: CallSite) -> Actor {
+        let actor = self.0.as_ref().map(|recorder| recorder.actor(called_at));
         actor.unwrap_or(Actor::FIRST)
-    }
-
-    /// Returns the clock's number for a call whose channel is locked. What isn't recorded has no clock.
-    #[inline]
-    pub(crate) fn tick(&self) -> u64 {
-        self.0.as_ref().map_or(0, |recorder| recorder.tick())
     }
 }

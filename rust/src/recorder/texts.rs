@@ -4,13 +4,16 @@
 //! would hold itself, and stay open forever.
 
 use crate::lock::lock;
+use crate::replay::{Gate, TestEnd};
 use std::any::Any;
 use std::collections::HashMap;
 use std::sync::{Arc, Mutex, Weak};
 
-/// The functions that a recorder holds, until its last handle is dropped.
-#[derive(Default)]
-pub(crate) struct Texts(Mutex<Functions>);
+/// The functions that a recorder holds, until its last handle is dropped. Then its replay ends too, if it has one.
+pub(crate) struct Texts {
+    functions: Mutex<Functions>,
+    replay: Option<Arc<Gate>>,
+}
 
 #[derive(Default)]
 struct Functions {
@@ -25,14 +28,29 @@ pub struct TextOf<T> {
     number: u64,
 }
 
+impl Drop for Texts {
+    fn drop(&mut self) {
+        if let Some(gate) = &self.replay {
+            gate.conclude(TestEnd::Unknown);
+        }
+    }
+}
+
 impl Texts {
+    pub(super) fn new(replay: Option<Arc<Gate>>) -> Texts {
+        Texts {
+            functions: Mutex::default(),
+            replay,
+        }
+    }
+
     /// Holds a function.
     pub(super) fn hold<T>(
         self: &Arc<Texts>,
         function: impl Fn(&T) -> String + Send + Sync + 'static,
     ) -> TextOf<T> {
         let function = Arc::new(function);
-        let mut functions = lock(&self.0);
+        let mut functions = lock(&self.functions);
         let number = functions.next;
         functions.next += 1;
         functions.by_number.insert(number, function.clone());
@@ -56,7 +74,7 @@ impl<T> Drop for TextOf<T> {
         let Some(texts) = self.held_by.upgrade() else {
             return;
         };
-        let function = lock(&texts.0).by_number.remove(&self.number);
+        let function = lock(&texts.functions).by_number.remove(&self.number);
         // This runs user code, so nothing is locked here.
         drop(function);
     }

@@ -1,11 +1,14 @@
 //! The receiving half of a watch channel.
 
 use super::error::RecvError;
-use super::{Ref, WatchHandle};
-use crate::channel::{CoreChannel, RecordedChannel};
+use super::{Ref, WatchHandle, attempt_changed};
+use crate::channel::{CallSite, CoreChannel, call_site};
 use crate::handle::Kind;
-use crate::recorder::{Handle, TextOf};
+use crate::recorder::{Handle, RecordedHandle, TextOf};
+use crate::replay::{Permit, Word};
+use crate::wait::{Method, Pending, WaitFor};
 use std::fmt;
+use std::future::Future;
 use std::task::{Context, Poll};
 
 /// The receiving half of a watch channel.
@@ -51,6 +54,7 @@ impl<T> Receiver<T> {
     /// assert_eq!(*rx.borrow(), "log = debug");
     /// assert!(rx.has_changed().unwrap());
     /// ```
+    #[track_caller]
     pub fn borrow(&self) -> Ref<'_, T> {
         self.handle.borrow()
     }
@@ -70,8 +74,17 @@ impl<T> Receiver<T> {
     /// assert_eq!(*rx.borrow_and_update(), "log = debug");
     /// assert!(!rx.has_changed().unwrap());
     /// ```
+    #[track_caller]
     pub fn borrow_and_update(&mut self) -> Ref<'_, T> {
-        self.handle.borrow_and_update()
+        self.borrow_and_update_at(call_site())
+    }
+
+    /// [`borrow_and_update`](Receiver::borrow_and_update), which is called here in the source.
+    pub(crate) fn borrow_and_update_at(&mut self, called_at: CallSite) -> Ref<'_, T> {
+        let permit = self.handle.pass(Word::Update, called_at);
+        self.handle.borrow_by(permit, called_at, |channel| {
+            channel.call(CoreChannel::watch_update);
+        })
     }
 
     /// Returns `true` if there is a value that this receiver has not seen.
@@ -96,9 +109,15 @@ impl<T> Receiver<T> {
     /// assert!(rx.has_changed().is_err());
     /// assert_eq!(*rx.borrow(), "log = info");
     /// ```
+    #[track_caller]
     pub fn has_changed(&self) -> Result<bool, RecvError> {
-        let mut channel = self.handle.lock();
-        if !channel.recorder.is_quiet() {
+        let (word, called_at) = (Word::HasChanged, call_site());
+        let permit = match self.handle.recorded().recorder.is_quiet() {
+            true => Permit::free(),
+            false => self.handle.pass(word, called_at),
+        };
+        let mut channel = self.handle.lock_with(permit, called_at);
+        if !self.handle.recorded().recorder.is_quiet() {
             return channel.call(CoreChannel::watch_has_changed).has_changed();
         }
         match channel.core().senders() {
@@ -124,8 +143,10 @@ impl<T> Receiver<T> {
     /// block_on(rx.changed()).unwrap();
     /// assert!(!rx.has_changed().unwrap());
     /// ```
+    #[track_caller]
     pub fn mark_changed(&mut self) {
-        self.handle.call(CoreChannel::watch_mark_changed);
+        self.handle
+            .call(Word::MarkChanged, CoreChannel::watch_mark_changed);
     }
 
     /// Marks the last value as seen by this receiver.
@@ -144,8 +165,10 @@ impl<T> Receiver<T> {
     /// config.send("log = warn").unwrap();
     /// assert!(rx.has_changed().unwrap());
     /// ```
+    #[track_caller]
     pub fn mark_unchanged(&mut self) {
-        self.handle.call(CoreChannel::watch_mark_unchanged);
+        self.handle
+            .call(Word::MarkUnchanged, CoreChannel::watch_mark_unchanged);
     }
 
     /// Waits until there is a value that this receiver has not seen, and marks it as seen.
@@ -178,16 +201,30 @@ impl<T> Receiver<T> {
     /// });
     /// exchange.join().unwrap();
     /// ```
-    pub async fn changed(&mut self) -> Result<(), RecvError> {
-        self.handle.changed().await
+    #[track_caller]
+    pub fn changed(&mut self) -> impl Future<Output = Result<(), RecvError>> {
+        self.handle.changed(Method::called("changed"))
     }
 
+    /// [`changed`](Receiver::changed) without a future. Between polls the caller holds what is kept of the call.
     pub(crate) fn poll_changed(
         &mut self,
+        called_at: CallSite,
         context: &Context<'_>,
-        place: &mut Option<u64>,
+        pending: &mut Pending,
     ) -> Poll<Result<(), RecvError>> {
-        self.handle.poll_changed(context, place)
+        let method = Method {
+            name: "changed",
+            called_at,
+        };
+        self.handle.poll_wait(
+            WaitFor::Value,
+            Word::Changed,
+            method,
+            pending,
+            context,
+            attempt_changed,
+        )
     }
 
     /// Waits until the closure returns `true` for the value, and returns a reference to that value.
@@ -227,18 +264,26 @@ impl<T> Receiver<T> {
     /// worker.join().unwrap();
     /// assert!(block_on(rx.wait_for(|state| *state == "stopped")).is_err());
     /// ```
-    pub async fn wait_for(
+    #[track_caller]
+    pub fn wait_for(
         &mut self,
         mut f: impl FnMut(&T) -> bool,
-    ) -> Result<Ref<'_, T>, RecvError> {
-        loop {
-            {
-                let value = self.handle.borrow_and_update();
-                if self.handle.channel.values.run_reading(|| f(&value)) {
-                    return Ok(value);
+    ) -> impl Future<Output = Result<Ref<'_, T>, RecvError>> {
+        let method = Method::called("wait_for");
+        async move {
+            loop {
+                {
+                    let (word, called_at) = (Word::WaitFor, method.called_at);
+                    let permit = self.handle.turn(word, called_at).await;
+                    let value = self.handle.borrow_by(permit, called_at, |channel| {
+                        channel.call_that_waits(CoreChannel::watch_update);
+                    });
+                    if self.handle.channel.values.run_reading(|| f(&value)) {
+                        return Ok(value);
+                    }
                 }
+                self.handle.changed(method).await?;
             }
-            self.handle.changed().await?;
         }
     }
 
@@ -261,11 +306,14 @@ impl<T> Receiver<T> {
 
 impl<T> Clone for Receiver<T> {
     /// Creates another receiver of the same channel, which has seen what this one has.
+    #[track_caller]
     fn clone(&self) -> Receiver<T> {
         Receiver {
-            handle: self
-                .handle
-                .create(Kind::Receiver, CoreChannel::watch_clone_receiver),
+            handle: self.handle.create(
+                Kind::Receiver,
+                Word::CloneReceiver,
+                CoreChannel::watch_clone_receiver,
+            ),
         }
     }
 }
@@ -285,8 +333,8 @@ impl<T: fmt::Debug> fmt::Debug for Receiver<T> {
 impl<T> Handle for Receiver<T> {
     type Value = T;
 
-    fn recorded(&self) -> &RecordedChannel {
-        self.handle.recorded()
+    fn recorded(&self) -> RecordedHandle<'_> {
+        self.handle.of_recorder()
     }
 
     fn set_text_of(&self, text_of: TextOf<T>) {

@@ -2,13 +2,15 @@
 
 use super::error::SendError;
 use super::{Receiver, Ref, WatchHandle, channel};
-use crate::channel::{CoreChannel, RecordedChannel};
+use crate::channel::{CoreChannel, LockedChannel, call_site};
 use crate::core::Caller;
 use crate::handle::Kind;
-use crate::recorder::{Handle, TextOf};
+use crate::recorder::{Handle, RecordedHandle, TextOf};
+use crate::replay::{Permit, Word};
 use crate::reply::Reply;
-use crate::wait::WaitFor;
+use crate::wait::{Method, WaitFor};
 use crate::wakers::Wakers;
+use std::future::Future;
 use std::{fmt, mem, panic};
 
 /// The sending half of a watch channel.
@@ -53,6 +55,7 @@ impl<T> Sender<T> {
     /// assert!(!config.is_closed());
     /// assert_eq!(*rx.borrow(), "log = info");
     /// ```
+    #[track_caller]
     pub fn new(init: T) -> Sender<T> {
         // The core opens each channel with a receiver.
         let (sender, receiver) = channel(init);
@@ -82,16 +85,18 @@ impl<T> Sender<T> {
     /// assert_eq!(config.send("log = warn").unwrap_err().0, "log = warn");
     /// assert_eq!(*config.subscribe().borrow(), "log = debug");
     /// ```
+    #[track_caller]
     pub fn send(&self, value: T) -> Result<(), SendError<T>> {
         let mut text = self.handle.channel.text(&value);
+        let mut permit = self.handle.pass(Word::Send, call_site());
         let lock = &self.handle.channel.values;
         let mut stored = match lock.try_write() {
             Some(stored) => stored,
             // The value is locked, perhaps by this thread. Without receivers the send changes nothing, so it doesn't wait.
-            None if self.send_is_refused(&mut text) => return Err(SendError(value)),
+            None if self.send_is_refused(&mut text, &mut permit) => return Err(SendError(value)),
             None => lock.write(),
         };
-        let mut channel = self.handle.lock();
+        let mut channel = self.handle.lock_with(permit, call_site());
         let (_, reply) = channel.send(text, CoreChannel::watch_send);
         if matches!(reply, Reply::NoReceivers(_)) {
             return Err(SendError(value));
@@ -107,9 +112,12 @@ impl<T> Sender<T> {
 
     /// If there is no receiver, makes the send, which is then refused, and returns `true`. The check and the send are under one lock.
     #[cold]
-    fn send_is_refused(&self, text: &mut Option<String>) -> bool {
-        let mut channel = self.handle.lock();
+    #[track_caller]
+    fn send_is_refused<'a>(&'a self, text: &mut Option<String>, permit: &mut Permit<'a>) -> bool {
+        let turn = permit.take();
+        let mut channel = self.handle.lock_with(turn, call_site());
         if channel.core().receivers() > 0 {
+            *permit = channel.into_permit();
             return false;
         }
         let (_, reply) = channel.send(text.take(), CoreChannel::watch_send);
@@ -140,6 +148,7 @@ impl<T> Sender<T> {
     /// assert!(rx.has_changed().unwrap());
     /// assert_eq!(*rx.borrow(), ["log = info", "port = 80"]);
     /// ```
+    #[track_caller]
     pub fn send_modify<F>(&self, modify: F)
     where
         F: FnOnce(&mut T),
@@ -189,10 +198,15 @@ impl<T> Sender<T> {
     /// assert!(!rx.has_changed().unwrap());
     /// assert_eq!(*rx.borrow(), 103);
     /// ```
+    #[track_caller]
     pub fn send_if_modified<F>(&self, modify: F) -> bool
     where
         F: FnOnce(&mut T) -> bool,
     {
+        let called_at = call_site();
+        self.handle
+            .recorded()
+            .pass_to_modify(self.handle.number, called_at);
         let lock = &self.handle.channel.values;
         let mut value = lock.write();
         let result = lock.run_changing(|| modify(&mut value));
@@ -202,7 +216,8 @@ impl<T> Sender<T> {
             Ok(text) => (text, None),
             Err(panicked) => (None, Some(panicked)),
         };
-        let wakers = self.make_send(text, notify, |core, caller, sender, number| {
+        let channel = self.handle.lock_at(Word::Modify, called_at);
+        let wakers = make_send(channel, text, notify, |core, caller, sender, number| {
             core.watch_modify(caller, notify, sender, number)
         });
         drop(value);
@@ -228,30 +243,18 @@ impl<T> Sender<T> {
     /// assert_eq!(config.send_replace("log = debug"), "log = info");
     /// assert_eq!(*config.subscribe().borrow(), "log = debug");
     /// ```
+    #[track_caller]
     pub fn send_replace(&self, value: T) -> T {
         let text = self.handle.channel.text(&value);
+        let (word, called_at) = (Word::SendReplace, call_site());
+        let permit = self.handle.pass(word, called_at);
         let mut stored = self.handle.channel.values.write();
-        let wakers = self.make_send(text, true, CoreChannel::watch_send_replace);
+        let channel = self.handle.lock_with(permit, called_at);
+        let wakers = make_send(channel, text, true, CoreChannel::watch_send_replace);
         let before = mem::replace(&mut *stored, value);
         drop(stored);
         wakers.wake();
         before
-    }
-
-    /// Makes a call with a new value. Returns the receivers that wait for one, if they are notified. They are to be woken once the value is
-    /// stored and no lock is held, since a waker may look at it.
-    fn make_send(
-        &self,
-        text: Option<String>,
-        notify: bool,
-        call: impl Fn(&mut CoreChannel, Caller, u32, u64) -> Reply,
-    ) -> Wakers {
-        let mut channel = self.handle.lock();
-        channel.send(text, call);
-        match notify {
-            true => channel.take_wakers(WaitFor::Value),
-            false => Wakers::default(),
-        }
     }
 
     /// Returns a reference to the last value.
@@ -268,6 +271,7 @@ impl<T> Sender<T> {
     /// config.send("log = debug").unwrap();
     /// assert_eq!(*config.borrow(), "log = debug");
     /// ```
+    #[track_caller]
     pub fn borrow(&self) -> Ref<'_, T> {
         self.handle.borrow()
     }
@@ -288,11 +292,14 @@ impl<T> Sender<T> {
     /// let _rx = config.subscribe();
     /// assert!(!config.is_closed());
     /// ```
+    #[track_caller]
     pub fn is_closed(&self) -> bool {
-        let reply = self.handle.ask(CoreChannel::watch_is_closed, |core, _| {
-            Reply::Flag(core.receivers() == 0)
-        });
-        reply == Reply::Flag(true)
+        let reply = self
+            .handle
+            .ask(Word::IsClosed, CoreChannel::watch_is_closed, |core, _| {
+                Reply::flag(core.receivers() == 0)
+            });
+        reply == Reply::flag(true)
     }
 
     /// Waits until the channel has no receiver.
@@ -317,12 +324,13 @@ impl<T> Sender<T> {
     /// assert!(price.is_closed());
     /// window.join().unwrap();
     /// ```
-    pub async fn closed(&self) {
+    #[track_caller]
+    pub fn closed(&self) -> impl Future<Output = ()> {
+        let method = Method::called("closed");
         self.handle
-            .wait(WaitFor::NoReceiver, |channel| {
+            .wait(WaitFor::NoReceiver, Word::Closed, method, |channel| {
                 channel.call(CoreChannel::watch_closed).closed()
             })
-            .await
     }
 
     /// Creates a receiver, which has seen the value that the channel holds.
@@ -343,11 +351,14 @@ impl<T> Sender<T> {
     /// config.send("log = warn").unwrap();
     /// assert!(rx.has_changed().unwrap());
     /// ```
+    #[track_caller]
     pub fn subscribe(&self) -> Receiver<T> {
         Receiver {
-            handle: self
-                .handle
-                .create(Kind::Receiver, CoreChannel::watch_subscribe),
+            handle: self.handle.create(
+                Kind::Receiver,
+                Word::Subscribe,
+                CoreChannel::watch_subscribe,
+            ),
         }
     }
 
@@ -364,11 +375,13 @@ impl<T> Sender<T> {
     /// drop((rx, other));
     /// assert_eq!(config.receiver_count(), 0);
     /// ```
+    #[track_caller]
     pub fn receiver_count(&self) -> usize {
-        self.handle
-            .ask_count(CoreChannel::watch_receiver_count, |core, _| {
-                core.receivers()
-            })
+        self.handle.ask_count(
+            Word::ReceiverCount,
+            CoreChannel::watch_receiver_count,
+            |core, _| core.receivers(),
+        )
     }
 
     /// Returns the number of senders that are alive, as in tokio. It is not recorded.
@@ -405,18 +418,37 @@ impl<T> Sender<T> {
     }
 }
 
+/// Makes a call with a new value. Returns the receivers that wait for one, if they are notified. They are to be woken once the value is stored
+/// and no lock is held, since a waker may look at it.
+fn make_send(
+    mut channel: LockedChannel<'_>,
+    text: Option<String>,
+    notify: bool,
+    call: impl Fn(&mut CoreChannel, Caller, u32, u64) -> Reply,
+) -> Wakers {
+    channel.send(text, call);
+    match notify {
+        true => channel.take_wakers(WaitFor::Value),
+        false => Wakers::default(),
+    }
+}
+
 impl<T> Clone for Sender<T> {
     /// Creates another sender of the same channel.
+    #[track_caller]
     fn clone(&self) -> Sender<T> {
         Sender {
-            handle: self
-                .handle
-                .create(Kind::Sender, CoreChannel::watch_clone_sender),
+            handle: self.handle.create(
+                Kind::Sender,
+                Word::CloneSender,
+                CoreChannel::watch_clone_sender,
+            ),
         }
     }
 }
 
 impl<T: Default> Default for Sender<T> {
+    #[track_caller]
     fn default() -> Sender<T> {
         Sender::new(T::default())
     }
@@ -437,8 +469,8 @@ impl<T: fmt::Debug> fmt::Debug for Sender<T> {
 impl<T> Handle for Sender<T> {
     type Value = T;
 
-    fn recorded(&self) -> &RecordedChannel {
-        self.handle.recorded()
+    fn recorded(&self) -> RecordedHandle<'_> {
+        self.handle.of_recorder()
     }
 
     fn set_text_of(&self, text_of: TextOf<T>) {

@@ -1,6 +1,7 @@
 //! What several tests share.
 #![allow(dead_code)]
 
+pub mod named;
 pub mod parts;
 
 use std::future::Future;
@@ -93,9 +94,22 @@ pub fn accepted(recorder: &Recorder, name: &str) -> u64 {
             path.display()
         );
     }
+    let names = std::fs::read_to_string(path.with_extension("names")).unwrap();
+    named::assert_each_call_has_its_place(&text, &names);
     std::fs::remove_file(&path).unwrap();
     std::fs::remove_file(path.with_extension("names")).unwrap();
     entries
+}
+
+/// Returns the names that a recorder saves beside its journal.
+pub fn saved_names(recorder: &Recorder, name: &str) -> String {
+    let path =
+        std::env::temp_dir().join(format!("yovanelum-{name}-{}.journal", std::process::id()));
+    recorder.save(&path).unwrap();
+    let names = std::fs::read_to_string(path.with_extension("names")).unwrap();
+    std::fs::remove_file(path.with_extension("names")).unwrap();
+    std::fs::remove_file(path).unwrap();
+    names
 }
 
 /// Returns what `ttd debug` writes for these commands over a journal, if the variable `YOVANELUM_TTD` names the program.

@@ -1,10 +1,12 @@
 //! tokio's `runtime`, with a builder whose threads follow the one that builds.
 //!
 //! So `#[tokio::test(flavor = "multi_thread")]` needs no other line: a recorder that the test creates is entered on the threads of its
-//! runtime too, where its tasks run.
+//! runtime too, where its tasks run. Tasks without a name are told apart by their ids, where this tokio has `task::try_id`. An older one,
+//! as 1.24, has it under `--cfg tokio_unstable` alone.
 
 pub use real_tokio::runtime::*;
 
+use crate::tasks;
 use real_tokio::runtime as theirs;
 use std::ops::{Deref, DerefMut};
 use yovanelum::follow_this_thread;
@@ -40,6 +42,7 @@ impl Builder {
     }
 
     fn following(mut builder: theirs::Builder) -> Builder {
+        tasks::tell_apart();
         builder.on_thread_start(follow_this_thread());
         Builder(builder)
     }

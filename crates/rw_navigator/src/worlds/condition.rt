@@ -153,7 +153,8 @@ fn unread_at<V: Copy>(world: &World<V>, channel: u64, handle: u64) -> Option<u64
     broadcast.unread(handle_below(broadcast.made(), handle)?)
 }
 
-fn lag_at<V: Copy>(world: &World<V>, channel: u64, handle: u64) -> Option<u64>
+/// Returns how many values a receiver of a broadcast has yet to receive that are no longer retained, if it is alive.
+pub fn lag_at<V: Copy>(world: &World<V>, channel: u64, handle: u64) -> Option<u64>
     ensures { result ≡ lag_at (⟦<World<V> as Reversible>⟧.shown world.now) channel handle }
 {
     let broadcast = broadcast_at(world, channel)?;
@@ -166,7 +167,8 @@ fn queued_at<V: Copy>(world: &World<V>, channel: u64) -> Option<u64>
     Some(broadcast_at(world, channel)?.queued())
 }
 
-fn seen_at<V: Copy>(world: &World<V>, channel: u64, handle: u64) -> Option<bool>
+/// Whether a receiver of a watch has seen its value, if it is alive.
+pub fn seen_at<V: Copy>(world: &World<V>, channel: u64, handle: u64) -> Option<bool>
     ensures { result ≡ seen_at (⟦<World<V> as Reversible>⟧.shown world.now) channel handle }
 {
     let watch = watch_at(world, channel)?;
@@ -179,8 +181,8 @@ fn version_at<V: Copy>(world: &World<V>, channel: u64) -> Option<u64>
     Some(watch_at(world, channel)?.version())
 }
 
-/// Whether no sender of a channel is alive.
-fn closed_at<V: Copy>(world: &World<V>, channel: u64) -> Option<bool>
+/// Whether no sender of a channel is alive, if there is such a channel.
+pub fn closed_at<V: Copy>(world: &World<V>, channel: u64) -> Option<bool>
     ensures { result ≡ closed_at (⟦<World<V> as Reversible>⟧.shown world.now) channel }
 {
     match channel_at(world, channel)? {

@@ -4,26 +4,29 @@ use crate::comparing::same;
 use rw_broadcast::{BCall, BPatch, BReply, Broadcast, OpenFault};
 use rw_law::Reversible;
 use rw_watch::{WCall, WPatch, WReply, Watch};
+use std::alloc::Global;
 use std::test::Fail;
 
+/// What capacity is asked for, and how many values the channel then retains.
+static CAPACITIES: [(u32, Result<u64, OpenFault>); 5] = [
+    (0, Err(OpenFault::BadCapacity)),
+    (1, Ok(1)),
+    (3, Ok(4)),
+    (65_536, Ok(65_536)),
+    (65_537, Err(OpenFault::BadCapacity)),
+];
+
+/// Returns how many values a channel retains that is opened with this capacity. Drops the channel.
+fn retained(alloc: Global, asked: u32) -> Result<u64, OpenFault> {
+    let machine: Broadcast<u64> = Broadcast::open(alloc, asked)?;
+    Ok(machine.capacity())
+}
+
 #[test]
-fn capacities_of_openings(rt: HostRuntime) -> Result<(), Fail> {
-    for (asked, retained) in [
-        (0, Err(OpenFault::BadCapacity)),
-        (1, Ok(1)),
-        (3, Ok(4)),
-        (65_536, Ok(65_536)),
-        (65_537, Err(OpenFault::BadCapacity)),
-    ] {
-        let opened: Result<Broadcast<u64>, OpenFault> = Broadcast::open(rt.alloc(), asked);
-        same(
-            &rt,
-            &"capacities of openings",
-            &opened.map(|machine| machine.capacity()),
-            &retained,
-        );
+fn capacities_of_openings(rt: HostRuntime) {
+    for (asked, answer) in &CAPACITIES {
+        same(&rt, asked, &retained(rt.alloc(), *asked), answer);
     }
-    Ok(())
 }
 
 #[test]

@@ -139,28 +139,32 @@ fn stamps_end_at_two_to_the_62(rt: HostRuntime) -> Result<(), Fail> {
     Ok(())
 }
 
+/// The last stamp.
+const LAST: u64 = 1 << 62;
+
+/// Clocks one after the other, and what a call at each of them returns.
+static CLOCKS: [(u64, Result<(u64, u64), TakeFault>); 5] = [
+    (u64::MAX, Err(TakeFault::JournalFull)),
+    (LAST, Err(TakeFault::JournalFull)),
+    (LAST - 1, Ok((LAST, 0))),
+    (0, Err(TakeFault::JournalFull)),
+    (u64::MAX, Err(TakeFault::JournalFull)),
+];
+
 /// The last stamp is used, and no call is recorded after it.
 fn ends_its_stamps(rt: &impl Abort, book: &mut Book<Cell>) {
-    let last = 1 << 62;
-    let full = Err(TakeFault::JournalFull);
-    for (clock, answer) in [
-        (u64::MAX, full),
-        (last, full),
-        (last - 1, Ok((last, 0))),
-        (0, full),
-        (u64::MAX, full),
-    ] {
+    for (clock, answer) in &CLOCKS {
         same(
             rt,
             &"ends its stamps",
-            &ready(book, clock).is_ok(),
+            &ready(book, *clock).is_ok(),
             &answer.is_ok(),
         );
         same(
             rt,
             &"ends its stamps",
-            &take(book, clock, Call::Set(1)),
-            &answer,
+            &take(book, *clock, Call::Set(1)),
+            answer,
         );
     }
 }

@@ -1,7 +1,7 @@
 //! A desk with a channel whose journal is full.
 
 use super::plain::{
-    OfBoth, b_receiver_count, b_send, call, open_both, receipts, run_of_one, w_send,
+    OfBoth, b_receiver_count, b_send, call, entries, open_both, receipts, run_of_one, stamp, w_send,
 };
 use super::shared::length_of;
 use crate::comparing::same;
@@ -36,7 +36,7 @@ fn is_full<R: Wait + Abort>(rt: &R, desk: &Desk<u64>, pass: &mut Pass<u64>, send
     same(
         rt,
         &"is full",
-        &(pass.stamp(), receipts(pass).len()),
+        &(stamp(pass), receipts(pass).len()),
         &(1_048_576, 1_048_576),
     );
 }
@@ -83,7 +83,7 @@ fn fills_one<R: Wait + Abort>(rt: &R, open: &mut OfBoth) {
     same(
         rt,
         &"fills one",
-        &(stored, pass.stamp()),
+        &(stored, stamp(pass)),
         &(Ok(WReply::Stored), 1_048_577),
     );
 }
@@ -94,7 +94,7 @@ fn a_full_channel_of_a_desk(rt: HostRuntime) -> Result<(), Fail> {
     let mut open = open_both(alloc, &[Spec::Broadcast(1), Spec::Watch(1)])?;
     fills_one(&rt, &mut open);
     let run = run_of_one(alloc, open.desk, open.pass)?;
-    let ends = ends_on_both(&rt, run.entries());
+    let ends = ends_on_both(&rt, entries(&run));
     same(
         &rt,
         &"a full channel of a desk",

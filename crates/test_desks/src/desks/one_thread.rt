@@ -5,10 +5,10 @@
 mod handles;
 
 use super::plain::{
-    OfBoth, OfBroadcast, OfWatch, b_receiver_len, b_recv, b_send, b_try_recv, both_ends, call,
-    close, differs, drop_broadcast, drop_desk, drop_ends, drop_pass, drop_passes, drop_run,
+    self, OfBoth, OfBroadcast, OfWatch, b_receiver_len, b_recv, b_send, b_try_recv, both_ends,
+    call, close, differs, drop_broadcast, drop_desk, drop_ends, drop_pass, drop_passes, drop_run,
     last_three, open, open_both, open_broadcast, open_watch, order, receipts, run_of, run_of_one,
-    run_with, w_drop_sender, w_send, w_send_if_modified, w_wait_for, wait_call,
+    run_with, stamp, w_drop_sender, w_send, w_send_if_modified, w_wait_for, wait_call,
 };
 use super::shared::{desk_of_two, length_of, run_of_two};
 use crate::comparing::same;
@@ -91,11 +91,11 @@ fn differs_at(rt: &impl Abort, run: &Run<u64>, kept: &[Kept<u64>]) -> Result<(),
         reply: ChanReply::B(BReply::Value(5)),
         ..*second
     };
-    let places = [
+    let numbers = [
         differs(run, 0, &[*first, *second]),
         differs(run, 0, &[*first, other, *third]),
     ];
-    same(rt, &"places", &places, &[Some(2), Some(1)]);
+    same(rt, &"numbers", &numbers, &[Some(2), Some(1)]);
     Ok(())
 }
 
@@ -112,7 +112,7 @@ fn calls_thrice<R: Wait>(
     Vec::from_slice(alloc, receipts(pass))
 }
 
-/// The place of the first receipt that isn't its actor's entry of the run.
+/// The number of the first receipt that isn't its actor's entry of the run.
 #[test]
 fn receipts_beside_a_run(rt: HostRuntime) -> Result<(), Fail> {
     let alloc = rt.alloc();
@@ -217,12 +217,12 @@ fn heeds<R: Wait + Abort>(rt: &R, open: &mut OfTwo, heed: u64, next: u64) {
         same(rt, &"sent", &sent, &Ok(BReply::Sent(1)));
     }
     let second = &mut open.second;
-    second.heed(heed);
+    plain::heed(second, heed);
     let stored = w_send(desk, rt, second, &open.writer, 6);
     same(
         rt,
         &"heeds",
-        &(stored, second.stamp()),
+        &(stored, stamp(second)),
         &(Ok(WReply::Stored), next),
     );
 }
@@ -378,7 +378,7 @@ fn comes_back<R: Wait + Abort>(
     same(
         rt,
         &"comes back",
-        &(back, pass.stamp(), receipts(pass).len()),
+        &(back, stamp(pass), receipts(pass).len()),
         &(Some((DeskFault::JournalFull, 0)), heeded, 0),
     );
 }
@@ -386,7 +386,7 @@ fn comes_back<R: Wait + Abort>(
 /// No call is recorded by an actor that has heeded a stamp after which there is none.
 fn records_nothing<R: Wait + Abort>(rt: &R, alloc: Global, heeded: u64) -> Result<(), Fail> {
     let mut open = open_both(alloc, &[Spec::Broadcast(2), Spec::Watch(1)])?;
-    open.pass.heed(heeded);
+    plain::heed(&mut open.pass, heeded);
     has_no_stamp(rt, &mut open);
     comes_back(rt, &open.desk, &mut open.pass, open.writer, heeded);
     let run = run_of_one(alloc, open.desk, open.pass)?;

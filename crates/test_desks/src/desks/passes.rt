@@ -1,6 +1,10 @@
 //! Passes on books of one channel.
 
-use super::plain::drop_pass;
+ghost use Rattle.std.specs.Prelude.{◌≡◌, ◌<◌, false};
+ghost use Rattle.rw_law.specs.declared.limits.TheConstants.{MOST_ACTORS};
+ghost use Rattle.rw_world.specs.Openings.{has_bad_capacity};
+
+use super::plain::{drop_pass, heed, receipts, stamp};
 use crate::comparing::same;
 use rw_broadcast::{BCall, BReply};
 use rw_desk::{DeskFault, Kept, Pass};
@@ -12,17 +16,36 @@ use std::alloc::Global;
 use std::process::Abort;
 use std::test::Fail;
 
-/// A book of a broadcast of capacity 2.
-fn broadcast_book(alloc: Global) -> Result<Book<Chan<u64>>, NoMemory> {
-    Book::open(alloc, open_channel(alloc, &Spec::Broadcast(2))?)
+/// A book of a channel that is opened from this spec.
+fn book_of(alloc: Global, spec: &Spec<u64>) -> Result<Book<Chan<u64>>, NoMemory>
+    requires { has_bad_capacity spec.now ≡ false }
+{
+    Book::open(alloc, open_channel(alloc, spec)?)
 }
 
 /// Drops a book.
 fn drop_book(_book: Book<Chan<u64>>) {}
 
-/// A book of a watch of 7.
-fn watch_book(alloc: Global) -> Result<Book<Chan<u64>>, NoMemory> {
-    Book::open(alloc, open_channel(alloc, &Spec::Watch(7))?)
+/// The entries of a book.
+fn entries_of(book: &Book<Chan<u64>>) -> &[Entry<Chan<u64>>] {
+    book.entries()
+}
+
+/// A pass of an actor.
+fn pass_of(alloc: Global, actor: u32) -> Pass<u64>
+    requires { actor < MOST_ACTORS }
+{
+    Pass::new(alloc, actor)
+}
+
+/// The actor of a pass.
+fn actor_of(pass: &Pass<u64>) -> u32 {
+    pass.actor()
+}
+
+/// The stamp of a pass, and how many receipts it and how many entries the book has.
+fn counts(book: &Book<Chan<u64>>, pass: &Pass<u64>) -> (u64, usize, u64) {
+    (stamp(pass), receipts(pass).len(), book.len())
 }
 
 /// Records a call by a pass.
@@ -50,11 +73,11 @@ fn records(rt: &impl Abort, book: &mut Book<Chan<u64>>, pass: &mut Pass<u64>) {
         Err(DeskFault::Waits),
     ];
     same(rt, &"answers", &answers, &wanted);
-    let counts = (pass.actor(), pass.stamp(), book.len(), pass.kept().len());
-    same(rt, &"counts", &counts, &(5, 2, 2, 2));
+    let found = (actor_of(pass), counts(book, pass));
+    same(rt, &"counts", &found, &(5, (2, 2, 2)));
 }
 
-/// The actor, the channel and the stamp of the receipt at a place, if it is that of the entry there.
+/// The actor, the channel and the stamp of the receipt of a number, if it is that of the entry there.
 fn receipt_at(
     entries: &[Entry<Chan<u64>>],
     kept: &[Kept<u64>],
@@ -67,12 +90,12 @@ fn receipt_at(
 
 #[test]
 fn a_pass_keeps_what_it_recorded(rt: HostRuntime) -> Result<(), Fail> {
-    let mut book = broadcast_book(rt.alloc())?;
-    let mut pass = Pass::<u64>::new(rt.alloc(), 5);
+    let mut book = book_of(rt.alloc(), &Spec::Broadcast(2))?;
+    let mut pass = pass_of(rt.alloc(), 5);
     records(&rt, &mut book, &mut pass);
     let found = [
-        receipt_at(book.entries(), pass.kept(), 0),
-        receipt_at(book.entries(), pass.kept(), 1),
+        receipt_at(entries_of(&book), receipts(&pass), 0),
+        receipt_at(entries_of(&book), receipts(&pass), 1),
     ];
     drop_book(book);
     drop_pass(pass);
@@ -87,8 +110,8 @@ fn a_pass_keeps_what_it_recorded(rt: HostRuntime) -> Result<(), Fail> {
 
 /// A pass that has heeded a stamp after which there is none records no call, and keeps its clock.
 fn records_nothing(rt: &impl Abort, book: &mut Book<Chan<u64>>, pass: &mut Pass<u64>, heeded: u64) {
-    pass.heed(heeded);
-    let clock = pass.stamp();
+    heed(pass, heeded);
+    let clock = stamp(pass);
     // A stray call isn't one for a full journal.
     let answers = [
         record(book, pass, 0, ChanCall::B(BCall::ReceiverCount(0))),
@@ -96,15 +119,14 @@ fn records_nothing(rt: &impl Abort, book: &mut Book<Chan<u64>>, pass: &mut Pass<
     ];
     let faults = [Err(DeskFault::JournalFull), Err(DeskFault::NoChannel)];
     same(rt, &"answers", &answers, &faults);
-    let counts = (pass.stamp(), pass.kept().len(), book.len());
-    same(rt, &"counts", &counts, &(clock, 1, 1));
+    same(rt, &"counts", &counts(book, pass), &(clock, 1, 1));
 }
 
 /// The last stamp is given, and then none, whatever is heeded.
 fn ends_its_clock(rt: &impl Abort, book: &mut Book<Chan<u64>>, pass: &mut Pass<u64>) {
-    pass.heed((1 << 62) - 1);
-    pass.heed(3);
-    same(rt, &"heeded", &pass.stamp(), &((1 << 62) - 1));
+    heed(pass, (1 << 62) - 1);
+    heed(pass, 3);
+    same(rt, &"heeded", &stamp(pass), &((1 << 62) - 1));
     let counted = record(book, pass, 0, ChanCall::B(BCall::ReceiverCount(0)));
     same(
         rt,
@@ -115,13 +137,13 @@ fn ends_its_clock(rt: &impl Abort, book: &mut Book<Chan<u64>>, pass: &mut Pass<u
     for heeded in [0, 1 << 62, u64::MAX] {
         records_nothing(rt, book, pass, heeded);
     }
-    same(rt, &"at last", &pass.stamp(), &u64::MAX);
+    same(rt, &"at last", &stamp(pass), &u64::MAX);
 }
 
 #[test]
 fn the_clock_ends_at_two_to_the_62(rt: HostRuntime) -> Result<(), Fail> {
-    let mut book = broadcast_book(rt.alloc())?;
-    let mut pass = Pass::<u64>::new(rt.alloc(), 0);
+    let mut book = book_of(rt.alloc(), &Spec::Broadcast(2))?;
+    let mut pass = pass_of(rt.alloc(), 0);
     ends_its_clock(&rt, &mut book, &mut pass);
     drop_book(book);
     drop_pass(pass);
@@ -130,13 +152,13 @@ fn the_clock_ends_at_two_to_the_62(rt: HostRuntime) -> Result<(), Fail> {
 
 #[test]
 fn a_refused_call_is_recorded(rt: HostRuntime) -> Result<(), Fail> {
-    let mut book = watch_book(rt.alloc())?;
-    let mut pass = Pass::<u64>::new(rt.alloc(), 63);
+    let mut book = book_of(rt.alloc(), &Spec::Watch(7))?;
+    let mut pass = pass_of(rt.alloc(), 63);
     let answer = record(&mut book, &mut pass, 0, ChanCall::W(WCall::Borrow(9)));
-    let stamp = pass.stamp();
+    let last = stamp(&pass);
     drop_book(book);
     drop_pass(pass);
     let unknown = Ok(ChanReply::W(WReply::Unknown));
-    same(&rt, &"a refused call", &(answer, stamp), &(unknown, 1));
+    same(&rt, &"a refused call", &(answer, last), &(unknown, 1));
     Ok(())
 }

@@ -1,15 +1,17 @@
 //! Calls of desks without their contracts: each instance of a generic call is put together here once, and not in every test.
 
-use rw_broadcast::BReply;
+use rw_broadcast::{BCall, BReply};
 use rw_desk::{
     BRx, BTx, CloseFault, Desk, DeskFault, DeskOpenFault, Ends, Kept, Made, Pass, WRx, WTx, compare,
 };
 use rw_journal::Run;
-use rw_watch::WReply;
-use rw_world::{ChanCall, ChanReply, Spec};
+use rw_law::Entry;
+use rw_watch::{WCall, WReply};
+use rw_world::{ChanCall, ChanReply, Spec, World};
 use std::alloc::{AllocError, Global};
 use std::sync::Wait;
 use std::test::Fail;
+use support_desks::{by_reader, by_receiver, by_sender, by_writer};
 
 /// A desk of one actor with a broadcast channel.
 #[derive(Drop)]
@@ -233,9 +235,29 @@ pub fn wait_call<R: Wait>(
     desk.wait_call(rt, pass, channel, call)
 }
 
+/// Whether a thread waits on a channel.
+pub fn is_awaited<R: Wait>(desk: &Desk<u64>, rt: &R, channel: u32) -> Option<bool> {
+    desk.is_awaited(rt, channel)
+}
+
 /// The receipts of a pass.
 pub fn receipts(pass: &Pass<u64>) -> &[Kept<u64>] {
     pass.kept()
+}
+
+/// The stamp of a pass's last call.
+pub fn stamp(pass: &Pass<u64>) -> u64 {
+    pass.stamp()
+}
+
+/// Lets the next call of a pass have a stamp above this one.
+pub fn heed(pass: &mut Pass<u64>, stamp: u64) {
+    pass.heed(stamp);
+}
+
+/// The entries of a run.
+pub fn entries(run: &Run<u64>) -> &[Entry<World<u64>>] {
+    run.entries()
 }
 
 /// The calls and replies of the last three receipts.
@@ -250,7 +272,29 @@ pub fn last_three(kept: &[Kept<u64>]) -> Option<[(ChanCall<u64>, ChanReply<u64>)
     ])
 }
 
-/// The least place at which receipts and entries differ.
+/// The call and the reply of each receipt.
+fn calls_in(
+    alloc: Global,
+    kept: &[Kept<u64>],
+) -> Result<Vec<(ChanCall<u64>, ChanReply<u64>)>, AllocError> {
+    let mut calls = Vec::new(alloc);
+    for receipt in kept {
+        calls.push((receipt.call, receipt.reply))?;
+    }
+    Ok(calls)
+}
+
+/// The same of a pass that is dropped.
+pub fn calls_of(
+    alloc: Global,
+    pass: Pass<u64>,
+) -> Result<Vec<(ChanCall<u64>, ChanReply<u64>)>, AllocError> {
+    let calls = calls_in(alloc, receipts(&pass));
+    drop_pass(pass);
+    calls
+}
+
+/// The number of the first receipt at which receipts and entries differ.
 pub fn differs(run: &Run<u64>, actor: u32, kept: &[Kept<u64>]) -> Option<u64> {
     compare(run, actor, kept)
 }
@@ -258,7 +302,7 @@ pub fn differs(run: &Run<u64>, actor: u32, kept: &[Kept<u64>]) -> Option<u64> {
 /// Each entry's stamp and channel.
 fn order_in(alloc: Global, run: &Run<u64>) -> Result<Vec<(u64, u32)>, AllocError> {
     let mut order = Vec::new(alloc);
-    for entry in run.entries() {
+    for entry in entries(run) {
         order.push((entry.stamp, entry.call.channel))?;
     }
     Ok(order)
@@ -279,7 +323,7 @@ pub fn b_send<R: Wait>(
     sender: &BTx,
     value: u64,
 ) -> Result<BReply<u64>, DeskFault> {
-    desk.b_send(rt, pass, sender, value)
+    by_sender(rt, desk, pass, sender, BCall::Send(sender.number(), value))
 }
 
 /// Receives a value of a broadcast channel, if there is one.
@@ -289,7 +333,7 @@ pub fn b_try_recv<R: Wait>(
     pass: &mut Pass<u64>,
     receiver: &BRx,
 ) -> Result<BReply<u64>, DeskFault> {
-    desk.b_try_recv(rt, pass, receiver)
+    by_receiver(rt, desk, pass, receiver, BCall::TryRecv(receiver.number()))
 }
 
 /// Receives a value of a broadcast channel, and waits for it.
@@ -299,7 +343,7 @@ pub fn b_recv<R: Wait>(
     pass: &mut Pass<u64>,
     receiver: &BRx,
 ) -> Result<BReply<u64>, DeskFault> {
-    desk.b_recv(rt, pass, receiver)
+    by_receiver(rt, desk, pass, receiver, BCall::Recv(receiver.number()))
 }
 
 /// Counts the values that a receiver has not received.
@@ -309,7 +353,13 @@ pub fn b_receiver_len<R: Wait>(
     pass: &mut Pass<u64>,
     receiver: &BRx,
 ) -> Result<BReply<u64>, DeskFault> {
-    desk.b_receiver_len(rt, pass, receiver)
+    by_receiver(
+        rt,
+        desk,
+        pass,
+        receiver,
+        BCall::ReceiverLen(receiver.number()),
+    )
 }
 
 /// Drops a sender of a broadcast channel.
@@ -339,7 +389,13 @@ pub fn b_receiver_count<R: Wait>(
     pass: &mut Pass<u64>,
     sender: &BTx,
 ) -> Result<BReply<u64>, DeskFault> {
-    desk.b_receiver_count(rt, pass, sender)
+    by_sender(
+        rt,
+        desk,
+        pass,
+        sender,
+        BCall::ReceiverCount(sender.number()),
+    )
 }
 
 /// Writes the value of a watch channel.
@@ -350,7 +406,7 @@ pub fn w_send<R: Wait>(
     sender: &WTx,
     value: u64,
 ) -> Result<WReply<u64>, DeskFault> {
-    desk.w_send(rt, pass, sender, value)
+    by_writer(rt, desk, pass, sender, WCall::Send(sender.number(), value))
 }
 
 /// Makes another sender of a watch channel.
@@ -370,7 +426,7 @@ pub fn w_peek<R: Wait>(
     pass: &mut Pass<u64>,
     sender: &WTx,
 ) -> Result<WReply<u64>, DeskFault> {
-    desk.w_peek(rt, pass, sender)
+    by_writer(rt, desk, pass, sender, WCall::Borrow(sender.number()))
 }
 
 /// Reads the value of a watch channel, which is then seen.
@@ -380,7 +436,7 @@ pub fn w_update<R: Wait>(
     pass: &mut Pass<u64>,
     receiver: &WRx,
 ) -> Result<WReply<u64>, DeskFault> {
-    desk.w_update(rt, pass, receiver)
+    by_reader(rt, desk, pass, receiver, WCall::Update(receiver.number()))
 }
 
 /// Drops a sender of a watch channel.
@@ -410,7 +466,7 @@ pub fn w_closed<R: Wait>(
     pass: &mut Pass<u64>,
     sender: &WTx,
 ) -> Result<WReply<u64>, DeskFault> {
-    desk.w_closed(rt, pass, sender)
+    by_writer(rt, desk, pass, sender, WCall::AwaitClosed(sender.number()))
 }
 
 /// Stores what f makes of the value of a watch channel.

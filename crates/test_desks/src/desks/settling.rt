@@ -15,16 +15,23 @@ use std::test::Fail;
 use support_desks::StampedCall;
 
 /// What is called, by actor 0.
-const CALLS: [StampedCall<u64>; 3] = [
+static CALLS: [StampedCall<u64>; 3] = [
     (0, 1, ChanCall::B(BCall::Send(0, 4))),
     (0, 2, ChanCall::B(BCall::TryRecv(1))),
     (0, 3, ChanCall::B(BCall::TryRecv(1))),
 ];
 
 /// Calls by actor 5, with the same stamp.
-const TWICE: [StampedCall<u64>; 2] = [
+static TWICE: [StampedCall<u64>; 2] = [
     (5, 2, ChanCall::B(BCall::TryRecv(1))),
     (5, 2, ChanCall::B(BCall::TryRecv(1))),
+];
+
+/// How many of the calls settle, and how long their run is and where the receipts differ, or why they don't settle.
+static FRONTS: [(usize, Result<(u64, Option<u64>), CloseFault>); 3] = [
+    (3, Ok((3, None))),
+    (0, Err(CloseFault::Strayed(0, 0))),
+    (2, Err(CloseFault::Strayed(0, 2))),
 ];
 
 /// Records calls by a pass.
@@ -73,17 +80,26 @@ fn settle_row<V: Payload>(
     Ok(Ok(found))
 }
 
+/// The same of a broadcast of numbers of capacity 2.
+fn settle_numbers(
+    alloc: Global,
+    steps: &[StampedCall<u64>],
+    passes: &[Pass<u64>; 1],
+) -> Result<Result<(u64, Option<u64>), CloseFault>, Fail> {
+    settle_row(alloc, &[Spec::Broadcast(2)], steps, passes)
+}
+
+/// Drops a pass that is alone.
+fn drop_alone(_passes: [Pass<u64>; 1]) {}
+
 /// The calls settle with the pass that made them, and fewer and other ones don't.
 fn settles_with(rt: &impl Abort, alloc: Global, passes: &[Pass<u64>; 1]) -> Result<(), Fail> {
-    for (steps, answer) in [
-        (CALLS.as_slice(), Ok((3, None))),
-        (&CALLS[..0], Err(CloseFault::Strayed(0, 0))),
-        (&CALLS[..2], Err(CloseFault::Strayed(0, 2))),
-        (&TWICE, Err(CloseFault::Strayed(5, 1))),
-    ] {
-        let settled = settle_row(alloc, &[Spec::Broadcast(2)], steps, passes)?;
-        same(rt, &"settled", &settled, &answer);
+    for (count, answer) in &FRONTS {
+        let settled = settle_numbers(alloc, &CALLS[..(*count).min(3)], passes)?;
+        same(rt, count, &settled, answer);
     }
+    let settled = settle_numbers(alloc, &TWICE, passes)?;
+    same(rt, &"twice", &settled, &Err(CloseFault::Strayed(5, 1)));
     Ok(())
 }
 
@@ -92,6 +108,6 @@ fn settles(rt: HostRuntime) -> Result<(), Fail> {
     let alloc = rt.alloc();
     let passes = [pass_of(alloc, &CALLS)?];
     let settles = settles_with(&rt, alloc, &passes);
-    drop(passes);
+    drop_alone(passes);
     settles
 }

@@ -1,8 +1,9 @@
 //! Desks that threads share, and how tests open desks of two actors and close any.
 
 use super::plain::{
-    b_drop_sender, b_recv, b_send, drop_desk, drop_ends, drop_passes, drop_run, open, run_of,
-    w_closed, w_drop_receiver, w_send, w_send_if_modified, w_wait_for,
+    b_drop_sender, b_recv, b_send, drop_desk, drop_ends, drop_passes, drop_run, entries,
+    is_awaited, open, run_of, w_closed, w_drop_receiver, w_send, w_send_if_modified, w_send_modify,
+    w_wait_for,
 };
 use rw_broadcast::BReply;
 use rw_desk::{BRx, BTx, CloseFault, Desk, DeskFault, Ends, Pass, WRx, WTx};
@@ -57,13 +58,16 @@ pub fn run_of_two(
 
 /// How many entries a run has, which is dropped.
 pub fn length_of(run: Run<u64>) -> u64 {
-    let length = run.len();
+    let length = entries(&run).len() as u64;
     drop_run(run);
     length
 }
 
 /// What threads make their calls on. They share it as a parameter, so that their proof needn't look into a desk.
 pub trait Calls {
+    /// Whether a thread waits on a channel.
+    fn is_awaited<R: Wait>(&self, rt: &R, channel: u32) -> bool;
+
     /// Sends a value on a broadcast channel.
     fn b_send<R: Wait>(
         &self,
@@ -97,6 +101,16 @@ pub trait Calls {
         sender: &WTx,
         value: u64,
     ) -> Result<WReply<u64>, DeskFault>;
+
+    /// Stores what `f` makes of the value of a watch channel.
+    fn w_send_modify<R: Wait, F: FnOnce(&mut u64)>(
+        &self,
+        rt: &R,
+        pass: &mut Pass<u64>,
+        sender: &WTx,
+        f: F,
+    ) -> Result<WReply<u64>, DeskFault>
+        requires { F.IsAlwaysCallable f };
 
     /// Stores what `f` makes of the value of a watch channel, with or without notification.
     fn w_send_if_modified<R: Wait, F: FnOnce(&mut u64) -> bool>(
@@ -136,6 +150,10 @@ pub trait Calls {
 }
 
 impl Calls for Desk<u64> {
+    fn is_awaited<R: Wait>(&self, rt: &R, channel: u32) -> bool {
+        is_awaited(self, rt, channel) == Some(true)
+    }
+
     fn b_send<R: Wait>(
         &self,
         rt: &R,
@@ -172,6 +190,16 @@ impl Calls for Desk<u64> {
         value: u64,
     ) -> Result<WReply<u64>, DeskFault> {
         w_send(self, rt, pass, sender, value)
+    }
+
+    fn w_send_modify<R: Wait, F: FnOnce(&mut u64)>(
+        &self,
+        rt: &R,
+        pass: &mut Pass<u64>,
+        sender: &WTx,
+        f: F,
+    ) -> Result<WReply<u64>, DeskFault> {
+        w_send_modify(self, rt, pass, sender, f)
     }
 
     fn w_send_if_modified<R: Wait, F: FnOnce(&mut u64) -> bool>(

@@ -2,7 +2,7 @@
 //!
 //! Each desk of a test has two broadcast channels and two actors. Tables say what is called, and with whose passes each desk closes.
 
-use super::plain::{call, close, drop_ends, open};
+use super::plain::{call, close, drop_ends, open, stamp};
 use super::shared::length_of;
 use crate::comparing::same;
 use rw_broadcast::BCall;
@@ -75,7 +75,7 @@ impl Desks {
         let passes = self.passes.get_mut(made.of).ok_or("no such passes")?;
         let pass = passes.get_mut(made.actor).ok_or("no such pass")?;
         match call(desk, rt, pass, made.channel, made.call) {
-            Ok(_) => Ok(pass.stamp()),
+            Ok(_) => Ok(stamp(pass)),
             Err(_) => Err("a call that is refused"),
         }
     }

@@ -1,9 +1,9 @@
 //! Desks that threads share.
 
-use super::plain::{drop_desk, drop_pass, drop_run, last_three, receipts, w_peek};
+use super::plain::{calls_of, drop_desk, drop_run, entries, w_peek};
 use super::shared::{Calls, desk_of_two, length_of, run_of_two};
 use crate::comparing::same;
-use crate::flags::is_set_in_time;
+use crate::flags::{is_awaited_in_time, is_set_in_time};
 use rw_broadcast::{BCall, BReply};
 use rw_desk::{BRx, BTx, Desk, Ends, Pass, WRx, WTx};
 use rw_journal::Run;
@@ -35,7 +35,7 @@ type Shown = (u64, u32, u32, ChanReply<u64>);
 /// The entries of a run.
 fn shown(alloc: Global, run: &Run<u64>) -> Result<Vec<Shown>, AllocError> {
     let mut shown = Vec::new(alloc);
-    for entry in run.entries() {
+    for entry in entries(run) {
         shown.push((entry.stamp, entry.call.channel, entry.actor, entry.reply))?;
     }
     Ok(shown)
@@ -106,15 +106,16 @@ fn closures_of_two_threads(rt: HostRuntime) -> Result<(), Fail> {
     Ok(())
 }
 
-/// A receiver's wait, in another thread, and the value that it waits for, sent in this one.
-fn receive_beside<D: Calls + Sync, R: Threads + Wait + Sync>(
+/// A receiver's wait, in another thread, and the value that it waits for, sent in this one. Says whether the receiver was seen to
+/// wait before that.
+pub fn receive_beside<D: Calls + Sync, R: Threads + Wait + Sync>(
     rt: &R,
     desk: &D,
     mut first: Pass<u64>,
     second: &mut Pass<u64>,
     receiver: &BRx,
     sender: &BTx,
-) -> Option<Pass<u64>> {
+) -> Option<(Pass<u64>, bool)> {
     let mut back = None;
     thread::scope(thread::scope_env(), rt, |scope| {
         let waiting = scope.spawn(move || {
@@ -122,8 +123,9 @@ fn receive_beside<D: Calls + Sync, R: Threads + Wait + Sync>(
             first
         });
         if let Ok(other) = waiting {
+            let in_time = is_awaited_in_time(rt, desk, 0);
             let _ = desk.b_send(rt, second, sender, 5);
-            back = Some(other.join(rt));
+            back = Some((other.join(rt), in_time));
         }
     });
     back
@@ -137,11 +139,13 @@ fn a_value_for_a_thread_that_waits(rt: HostRuntime) -> Result<(), Fail> {
         drop_desk(desk);
         return Err(Fail::from("no broadcast"));
     };
-    let Some(first) = receive_beside(&rt, &desk, first, &mut second, receiver, sender) else {
+    let received = receive_beside(&rt, &desk, first, &mut second, receiver, sender);
+    let Some((first, in_time)) = received else {
         drop_desk(desk);
         return Err(Fail::from("no thread"));
     };
     let run = run_of_two(alloc, desk, second, first)?;
+    assert!(rt; in_time);
     let wanted = [
         (1, 0, 1, ChanReply::B(BReply::Sent(1))),
         (2, 0, 0, ChanReply::B(BReply::Value(5))),
@@ -279,21 +283,27 @@ fn wait_thrice<D: Calls, R: Wait>(
     pass
 }
 
-/// Writes 1, 2 and 3, drops the only sender of the broadcast, and the only receiver of the other watch.
-fn end_waits<D: Calls, R: Wait>(rt: &R, desk: &D, pass: &mut Pass<u64>, ending: Ending) {
+/// Writes 1, 2 and 3, drops the only sender of the broadcast, and the only receiver of the other watch, each once the other
+/// thread waits for it. Says whether that was so each time.
+fn end_waits<D: Calls, R: Wait>(rt: &R, desk: &D, pass: &mut Pass<u64>, ending: Ending) -> bool {
     let Ending {
         writer,
         sender,
         reader,
     } = ending;
+    let mut in_time = true;
     for value in 1..=3 {
+        in_time &= is_awaited_in_time(rt, desk, 0);
         let _ = desk.w_send(rt, pass, &writer, value);
     }
+    in_time &= is_awaited_in_time(rt, desk, 1);
     let _ = desk.b_drop_sender(rt, pass, sender);
+    in_time &= is_awaited_in_time(rt, desk, 2);
     let _ = desk.w_drop_receiver(rt, pass, reader);
+    in_time
 }
 
-/// The waits in another thread, and what ends them in this one.
+/// The waits in another thread, and what ends them in this one. Says whether each was seen before it was ended.
 fn wait_beside<D: Calls + Sync, R: Threads + Wait + Sync>(
     rt: &R,
     desk: &D,
@@ -301,12 +311,12 @@ fn wait_beside<D: Calls + Sync, R: Threads + Wait + Sync>(
     second: &mut Pass<u64>,
     waits: &Waits,
     ending: Ending,
-) -> Option<Pass<u64>> {
+) -> Option<(Pass<u64>, bool)> {
     let mut back = None;
     thread::scope(thread::scope_env(), rt, |scope| {
         if let Ok(other) = scope.spawn(move || wait_thrice(rt, desk, first, waits)) {
-            end_waits(rt, desk, second, ending);
-            back = Some(other.join(rt));
+            let in_time = end_waits(rt, desk, second, ending);
+            back = Some((other.join(rt), in_time));
         }
     });
     back
@@ -334,30 +344,106 @@ fn roles(mut ends: Vec<Ends>) -> Option<(Waits, Ending)> {
     Some((waits, ending))
 }
 
+/// An update of receiver 1 of a watch that read this value.
+fn updated(value: u64) -> (ChanCall<u64>, ChanReply<u64>) {
+    (
+        ChanCall::W(WCall::Update(1)),
+        ChanReply::W(WReply::Value(value)),
+    )
+}
+
+/// A wait of receiver 1 of a watch that a change has ended.
+const CHANGED: (ChanCall<u64>, ChanReply<u64>) = (
+    ChanCall::W(WCall::Changed(1)),
+    ChanReply::W(WReply::Done),
+);
+
 #[test]
 fn waits_that_another_thread_ends(rt: HostRuntime) -> Result<(), Fail> {
+    let alloc = rt.alloc();
     let specs = [Spec::Watch(0), Spec::Broadcast(2), Spec::Watch(0)];
-    let (desk, ends, first, mut second) = desk_of_two(rt.alloc(), &specs)?;
+    let (desk, ends, first, mut second) = desk_of_two(alloc, &specs)?;
     let Some((waits, ending)) = roles(ends) else {
         drop_desk(desk);
         return Err(Fail::from("other ends"));
     };
     let back = wait_beside(&rt, &desk, first, &mut second, &waits, ending);
     drop_desk(desk);
-    let first = back.ok_or("no thread")?;
-    let last = last_three(receipts(&first));
-    drop_pass(first);
+    let (first, in_time) = back.ok_or("no thread")?;
+    let made = calls_of(alloc, first)?;
     let wanted = [
-        (
-            ChanCall::W(WCall::Update(1)),
-            ChanReply::W(WReply::Value(3)),
-        ),
+        updated(0),
+        CHANGED,
+        updated(1),
+        CHANGED,
+        updated(2),
+        CHANGED,
+        updated(3),
         (ChanCall::B(BCall::Recv(1)), ChanReply::B(BReply::Closed)),
         (
             ChanCall::W(WCall::AwaitClosed(0)),
             ChanReply::W(WReply::Done),
         ),
     ];
-    same(&rt, &"receipts", &last, &Some(wanted));
+    same(
+        &rt,
+        &"receipts",
+        &(made.as_slice(), in_time),
+        &(wanted.as_slice(), true),
+    );
+    Ok(())
+}
+
+/// A wait for the value 3 in another thread, and two closures in this one that add to the value, each once the other thread waits.
+/// Says whether it did.
+fn modify_for_one_that_waits<D: Calls + Sync, R: Threads + Wait + Sync>(
+    rt: &R,
+    desk: &D,
+    mut first: Pass<u64>,
+    second: &mut Pass<u64>,
+    reader: &WRx,
+    writer: &WTx,
+) -> Option<(Pass<u64>, bool)> {
+    let mut back = None;
+    thread::scope(thread::scope_env(), rt, |scope| {
+        let waiting = scope.spawn(move || {
+            let _ = desk.w_wait_for(rt, &mut first, reader, |value| *value == 3);
+            first
+        });
+        if let Ok(other) = waiting {
+            let mut in_time = is_awaited_in_time(rt, desk, 0);
+            let _ = desk.w_send_modify(rt, second, writer, |value| {
+                *value = value.wrapping_add(1);
+            });
+            in_time &= is_awaited_in_time(rt, desk, 0);
+            let _ = desk.w_send_if_modified(rt, second, writer, |value| {
+                *value = value.wrapping_add(2);
+                true
+            });
+            back = Some((other.join(rt), in_time));
+        }
+    });
+    back
+}
+
+#[test]
+fn closures_for_a_thread_that_waits(rt: HostRuntime) -> Result<(), Fail> {
+    let alloc = rt.alloc();
+    let (desk, ends, first, mut second) = desk_of_two(alloc, &[Spec::Watch(0)])?;
+    let [Ends::Watch(writer, reader)] = ends.as_slice() else {
+        drop_desk(desk);
+        return Err(Fail::from("no watch"));
+    };
+    let back = modify_for_one_that_waits(&rt, &desk, first, &mut second, reader, writer);
+    drop_desk(desk);
+    let (first, in_time) = back.ok_or("no thread")?;
+    let made = calls_of(alloc, first)?;
+    let wanted = [updated(0), CHANGED, updated(1), CHANGED, updated(3)];
+    same(
+        &rt,
+        &"receipts",
+        &(made.as_slice(), in_time),
+        &(wanted.as_slice(), true),
+    );
     Ok(())
 }

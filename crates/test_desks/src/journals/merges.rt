@@ -21,10 +21,10 @@ fn steps(alloc: Global, marks: &[(u32, u64)]) -> Result<Vec<StampedCall<u64>>, A
 }
 
 /// The actors and stamps of two channels' entries, and why they aren't merged or in which order.
-type Case<'a> = (
-    &'a [(u32, u64)],
-    &'a [(u32, u64)],
-    Result<&'a [(u64, u32)], MergeFault>,
+type Case = (
+    &'static [(u32, u64)],
+    &'static [(u32, u64)],
+    Result<&'static [(u64, u32)], MergeFault>,
 );
 
 /// In which order the journals of these channels are merged, or why they aren't.
@@ -61,27 +61,28 @@ fn merge_case(rt: &impl Abort, alloc: Global, case: &Case) -> Result<(), Fail> {
     Ok(())
 }
 
+static CASES: [Case; 6] = [
+    (
+        &[(0, 1), (0, 3)],
+        &[(1, 1), (1, 2)],
+        Ok(&[(1, 0), (1, 1), (2, 1), (3, 0)]),
+    ),
+    (&[(0, 2), (0, 2)], &[], Err(MergeFault::OutOfOrder(0, 1))),
+    (&[(0, 0)], &[], Err(MergeFault::OutOfOrder(0, 0))),
+    // An actor has one stamp on two channels.
+    (&[(0, 1)], &[(0, 1)], Err(MergeFault::OutOfOrder(1, 0))),
+    // Its own channel's order is looked at before the actor's.
+    (
+        &[(0, 1)],
+        &[(0, 1), (1, 1)],
+        Err(MergeFault::OutOfOrder(1, 1)),
+    ),
+    (&[], &[], Ok(&[])),
+];
+
 #[test]
 fn merges(rt: HostRuntime) -> Result<(), Fail> {
-    let cases: [Case; 6] = [
-        (
-            &[(0, 1), (0, 3)],
-            &[(1, 1), (1, 2)],
-            Ok(&[(1, 0), (1, 1), (2, 1), (3, 0)]),
-        ),
-        (&[(0, 2), (0, 2)], &[], Err(MergeFault::OutOfOrder(0, 1))),
-        (&[(0, 0)], &[], Err(MergeFault::OutOfOrder(0, 0))),
-        // An actor has one stamp on two channels.
-        (&[(0, 1)], &[(0, 1)], Err(MergeFault::OutOfOrder(1, 0))),
-        // Its own channel's order is looked at before the actor's.
-        (
-            &[(0, 1)],
-            &[(0, 1), (1, 1)],
-            Err(MergeFault::OutOfOrder(1, 1)),
-        ),
-        (&[], &[], Ok(&[])),
-    ];
-    for case in &cases {
+    for case in &CASES {
         merge_case(&rt, rt.alloc(), case)?;
     }
     Ok(())

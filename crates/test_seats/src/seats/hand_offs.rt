@@ -13,7 +13,7 @@ use std::sync::Wait;
 use std::test::Fail;
 
 /// A book of a broadcast. The tests are generic over it, so that only the proofs of its one `impl` look into a book.
-trait Recorded: Keeps {
+pub trait Recorded: Keeps {
     ghost use Rattle.std.specs.Prelude.{◌≡◌, ◌∷◌, []};
     ghost use Rattle.rw_seat.specs.Journals.{Adds};
 
@@ -62,7 +62,7 @@ impl<V: Payload> Recorded for Book<Chan<V>> {
 }
 
 /// Opens a hand-off of a book, with this many seats.
-fn open<B: Recorded + Drop>(
+pub fn open<B: Recorded + Drop>(
     alloc: Global,
     seats: u32,
 ) -> Result<(HandOff<B>, Vec<HandSeat<B>>), NoMemory>
@@ -73,7 +73,7 @@ fn open<B: Recorded + Drop>(
 }
 
 /// Pops the last of a hand-off's seats.
-fn last_seat<B: Keeps + Drop>(
+pub fn last_seat<B: Keeps + Drop>(
     hand_off: &HandOff<B>,
     seats: &mut Vec<HandSeat<B>>,
 ) -> Option<HandSeat<B>>
@@ -85,7 +85,7 @@ fn last_seat<B: Keeps + Drop>(
 }
 
 /// Pushes one more seat onto a hand-off's seats.
-fn with_seat<B: Keeps + Drop>(
+pub fn with_seat<B: Keeps + Drop>(
     hand_off: &HandOff<B>,
     mut seats: Vec<HandSeat<B>>,
     seat: HandSeat<B>,
@@ -115,7 +115,7 @@ fn send<B: Recorded + Drop, R: Wait>(
 }
 
 /// Acquires the book with a seat, reads its length and the actor of its last entry, and releases it.
-fn look<B: Recorded + Drop, R: Wait>(
+pub fn look<B: Recorded + Drop, R: Wait>(
     rt: &R,
     hand_off: &HandOff<B>,
     seat: HandSeat<B>,
@@ -129,8 +129,34 @@ fn look<B: Recorded + Drop, R: Wait>(
     (lent.give(), shown)
 }
 
+/// Reads the book by each seat, from the last to the first. Returns the seats, and how many have read this length and this actor.
+fn look_each<B: Recorded + Drop, R: Wait>(
+    rt: &R,
+    alloc: Global,
+    hand_off: &HandOff<B>,
+    mut seats: Vec<HandSeat<B>>,
+    wanted: (u64, Option<u32>),
+) -> Result<(Vec<HandSeat<B>>, u32), AllocError>
+    requires { All (λ s. s.home ≡ hand_off.now.home) seats.items }
+    ensures { IfOk result (λ r. All (λ s. s.home ≡ hand_off.now.home) r.0.items) }
+{
+    let mut back = Vec::new(alloc);
+    let mut same = 0u32;
+    for _ in 0..64 {
+        let Some(seat) = last_seat(hand_off, &mut seats) else {
+            break;
+        };
+        let (seat, shown) = look(rt, hand_off, seat);
+        if shown == wanted {
+            same = same.saturating_add(1);
+        }
+        back = with_seat(hand_off, back, seat)?;
+    }
+    Ok((back, same))
+}
+
 /// Closes a hand-off with these seats and one more.
-fn close_with<B: Keeps + Drop>(
+pub fn close_with<B: Keeps + Drop>(
     hand_off: HandOff<B>,
     seats: Vec<HandSeat<B>>,
     seat: HandSeat<B>,
@@ -221,5 +247,33 @@ fn second_seat_finds_the_entry(rt: HostRuntime) -> Result<(), Fail> {
         &sent,
         &(Ok(ChanReply::B(BReply::Sent(1))), (1, Some(0)), 1),
     );
+    Ok(())
+}
+
+/// Reads the book of a hand-off by each of 64 seats, sends a value by seat 0, and reads it by all others. Returns how many have
+/// read a book without entries, how many one with the entry, and the length of the book at the close.
+fn read_by_all<B: Recorded + Drop, R: Wait>(
+    rt: &R,
+    alloc: Global,
+    value: B::Value,
+) -> Result<(u32, u32, u64), Fail> {
+    let (hand_off, seats) = open::<B>(alloc, 64)?;
+    let (mut seats, before) = look_each(rt, alloc, &hand_off, seats, (0, None))?;
+    let Some(zero) = last_seat(&hand_off, &mut seats) else {
+        return Err(Fail::from("no seat 0"));
+    };
+    if zero.number() != 0 {
+        return Err(Fail::from("the first seat is not seat 0"));
+    }
+    let (zero, _) = send(rt, &hand_off, zero, value);
+    let (seats, after) = look_each(rt, alloc, &hand_off, seats, (1, Some(0)))?;
+    let book = close_with(hand_off, seats, zero)?;
+    Ok((before, after, book.len()))
+}
+
+#[test]
+fn hand_off_of_64(rt: HostRuntime) -> Result<(), Fail> {
+    let read = read_by_all::<Book<Chan<u64>>, _>(&rt, rt.alloc(), 4)?;
+    same(&rt, &"read by all", &read, &(64, 63, 1));
     Ok(())
 }

@@ -130,7 +130,7 @@ impl<V: Payload> Seated for SeatDesk<V> {
 }
 
 /// Pops the last of a desk's seats.
-fn last_seat<D: Seated>(desk: &D, seats: &mut Vec<D::Seat>) -> Option<D::Seat>
+pub fn last_seat<D: Seated>(desk: &D, seats: &mut Vec<D::Seat>) -> Option<D::Seat>
     requires { All (D.owns desk.now) seats.old.items }
     ensures seat { IfSome result (D.owns desk.now) }
     ensures rest { All (D.owns desk.now) seats.new.items }
@@ -139,7 +139,7 @@ fn last_seat<D: Seated>(desk: &D, seats: &mut Vec<D::Seat>) -> Option<D::Seat>
 }
 
 /// Pushes one more seat onto a desk's seats.
-fn with_seat<D: Seated>(
+pub fn with_seat<D: Seated>(
     desk: &D,
     mut seats: Vec<D::Seat>,
     seat: D::Seat,
@@ -189,6 +189,23 @@ where
     Ok((desk, first, second))
 }
 
+/// Closes a desk with these seats, and returns the order of its calls.
+pub fn close_all<D: Seated + Drop, R: Wait>(
+    rt: &R,
+    alloc: Global,
+    desk: D,
+    seats: Vec<D::Seat>,
+) -> Result<Vec<(u32, u64, u32)>, Fail>
+where
+    D::Seat: Drop,
+    requires { All (D.owns desk) seats.items }
+{
+    let Ok(run) = desk.close(rt, alloc, seats) else {
+        return Err(Fail::from("not closed"));
+    };
+    Ok(order(alloc, &run)?)
+}
+
 /// Closes a desk with these seats and one more, and returns the order of its calls.
 fn close_with<D: Seated + Drop, R: Wait>(
     rt: &R,
@@ -203,10 +220,7 @@ where
     requires seat { D.owns desk seat }
 {
     let seats = with_seat(&desk, seats, seat)?;
-    let Ok(run) = desk.close(rt, alloc, seats) else {
-        return Err(Fail::from("not closed"));
-    };
-    Ok(order(alloc, &run)?)
+    close_all(rt, alloc, desk, seats)
 }
 
 /// Closes a desk without its seat, which is refused, and then with it. Returns why it was refused, and the order of the calls.

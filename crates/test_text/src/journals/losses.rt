@@ -2,9 +2,9 @@
 
 use crate::plain::same;
 use crate::texts::rows::{OVERRUN, run_of};
+use rw_findings::{Loss, LossEnd, losses_of};
 use rw_journal::Run;
 use rw_law::NoMemory;
-use rw_navigator::{Loss, LossEnd, losses_of};
 use std::alloc::Global;
 use std::test::Fail;
 

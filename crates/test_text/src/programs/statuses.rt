@@ -4,7 +4,7 @@ use super::endings::{Ending, ends_as};
 use crate::plain::same;
 use crate::streams::session_by;
 use rw_console::{Outcome, SessionFault};
-use rw_program::{said, status};
+use rw_program::{error_line, status};
 use rw_script::{ScriptFault, ScriptFaultKind};
 use std::alloc::Global;
 use std::process::Abort;
@@ -29,7 +29,7 @@ static STATUSES: [(Result<Outcome, SessionFault>, u8, &str); 7] = [
 #[test]
 fn answers_statuses(rt: HostRuntime) {
     for (ended, number, line) in &STATUSES {
-        let found = (status(*ended), said(*ended));
+        let found = (status(*ended), error_line(*ended));
         same(&rt, line, &found, &(*number, *line));
     }
 }

@@ -4,7 +4,7 @@ use super::endings::Ending;
 use super::files::{JOURNAL, SCRIPT};
 use crate::plain::same;
 use rw_program::{
-    Asked, Ended, Verb, over_opened, read_words, refuse_words, session_end, threads_over_opened,
+    Asked, Ended, Verb, over_opened, read_words, refuse_words, run_session, threads_over_opened,
 };
 use std::alloc::Global;
 use std::io::{Read, Write};
@@ -127,7 +127,7 @@ fn led_to<T: Threads + Wait + Sync, F: Read + Drop, R: Read, W: Write>(
     out: &mut W,
 ) -> Ended {
     match read_words(alloc, words) {
-        Ok(Asked::Session) => session_end(alloc, input, out),
+        Ok(Asked::Session) => run_session(alloc, input, out),
         Ok(Asked::Over(verb, _)) => over_opened(alloc, verb, Ok(file), input, out),
         Ok(Asked::Threads(_)) => threads_over_opened(rt, alloc, Ok(file), out),
         Err(error) => refuse_words(alloc, &error),

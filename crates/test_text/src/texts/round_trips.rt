@@ -31,3 +31,23 @@ fn a_run_is_read_back(rt: HostRuntime) -> Result<(), Fail> {
     }
     Ok(())
 }
+
+/// The text of a run of this many calls on a watch.
+fn text_of_calls(alloc: Global, calls: u64) -> Result<Vec<u8>, Fail> {
+    let mut text = Vec::new(alloc);
+    text.extend_from_slice(b"ttd-journal 2\nwatch 7\nsteps\n")?;
+    for stamp in 1..=calls {
+        let line = format!(in alloc; "{stamp} 0 0 send 0 {stamp} = stored\n")?;
+        text.extend_from_slice(line.as_bytes())?;
+    }
+    text.extend_from_slice(b"end\n")?;
+    Ok(text)
+}
+
+#[test]
+fn a_run_of_100_000_entries_is_read_back(rt: HostRuntime) -> Result<(), Fail> {
+    let text = text_of_calls(rt.alloc(), 100_000)?;
+    let found = entries_read_back::<u64>(rt.alloc(), &text)?;
+    same(&rt, &"entries", &found, &100_000);
+    Ok(())
+}

@@ -2,7 +2,8 @@
 //!
 //! Players make calls of every kind on the first four channels, with handles that any of them may name and drop. On the other
 //! three each player has its own handle, which it drops at its end. Others wait there, for values and for the channel's close. So
-//! each wait ends, since players wait for nobody.
+//! each wait ends, since players wait for nobody. By sender 0 of the awaited watch all players change its value with closures, until
+//! player 0 ends and drops it.
 
 use rw_broadcast::BCall;
 use rw_watch::WCall;
@@ -14,8 +15,11 @@ pub const PLAYED: usize = 4;
 /// The broadcast whose values are awaited. Each player has a sender of it.
 pub const AWAITED_BROADCAST: u32 = 4;
 
-/// The watch whose changes are awaited. Each player has a sender of it.
+/// The watch whose changes are awaited. Each player has a sender of it, and all share another.
 pub const AWAITED_WATCH: u32 = 5;
+
+/// The sender of the awaited watch that all players share.
+pub const SHARED_SENDER: u32 = 0;
 
 /// The watch whose close is awaited by senders. Each player has a receiver of it.
 pub const LEFT_WATCH: u32 = 6;
@@ -56,12 +60,17 @@ pub const OWN_HANDLES: [(u32, ChanCall<u64>); 3] = [
     (LEFT_WATCH, ChanCall::W(WCall::Subscribe(0))),
 ];
 
-/// The calls that drop those first handles that would keep the last three channels open.
-pub const FIRST_DROPS: [(u32, ChanCall<u64>); 3] = [
+/// The calls that drop those first handles that would keep two of the last three channels open.
+pub const FIRST_DROPS: [(u32, ChanCall<u64>); 2] = [
     (AWAITED_BROADCAST, ChanCall::B(BCall::DropHandle(0))),
-    (AWAITED_WATCH, ChanCall::W(WCall::DropHandle(0))),
     (LEFT_WATCH, ChanCall::W(WCall::DropHandle(1))),
 ];
+
+/// The call that drops the handle that all players share. Player 0 makes it at its end. Later calls with the handle are refused.
+pub const SHARED_DROP: [(u32, ChanCall<u64>); 1] = [(
+    AWAITED_WATCH,
+    ChanCall::W(WCall::DropHandle(SHARED_SENDER)),
+)];
 
 /// Returns the calls that drop a player's handles.
 pub fn own_drops(player: u32) -> [(u32, ChanCall<u64>); 3] {

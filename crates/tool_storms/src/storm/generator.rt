@@ -4,7 +4,7 @@ ghost use Rattle.std.specs.Prelude.{◌≡◌};
 ghost use Rattle.rw_broadcast.specs.Channel.{handle_of};
 ghost use Rattle.rw_watch.specs.Channel.{handle_of as handle_at_watch};
 
-use super::channels::{AWAITED_BROADCAST, AWAITED_WATCH, PLAYED, own_handle};
+use super::channels::{AWAITED_BROADCAST, AWAITED_WATCH, PLAYED, SHARED_SENDER, own_handle};
 use rand_core::{Rng, SeedableRng};
 use rand_xoshiro::Xoshiro256PlusPlus;
 use rw_broadcast::{BCall, BReply};
@@ -44,13 +44,15 @@ impl Generator {
         }
     }
 
-    /// Chooses the next call: a send to those that wait, or any call on a channel that is played on.
+    /// Chooses the next call: a send to those that wait, a change of their watch by a closure, or any call on a channel that is
+    /// played on.
     pub fn choose(&mut self) -> Choice {
         let word = self.words.next_u64();
         let value = self.words.next_u64();
         let (channel, call) = match word % 16 {
             0 => (AWAITED_BROADCAST, ChanCall::B(BCall::Send(self.own, value))),
             1 => (AWAITED_WATCH, ChanCall::W(WCall::Send(self.own, value))),
+            2 => (AWAITED_WATCH, ChanCall::W(closure_on(SHARED_SENDER, value))),
             _ => {
                 let channel = ((word >> 4) % PLAYED as u64) as u32;
                 (channel, self.any_call(channel as usize, value))
@@ -116,6 +118,17 @@ fn to_broadcast(kind: u64, handle: u32, value: u64) -> BCall<u64>
     }
 }
 
+/// Returns a call of a watch by which a closure changes the value, with or without notification.
+fn closure_on(handle: u32, value: u64) -> WCall<u64>
+    ensures { handle_at_watch result ≡ handle }
+{
+    WCall::Modify {
+        told: value % 2 == 0,
+        handle,
+        value,
+    }
+}
+
 /// Returns a call of a watch with this handle.
 fn to_watch(kind: u64, handle: u32, value: u64) -> WCall<u64>
     ensures { handle_at_watch result ≡ handle }
@@ -123,11 +136,7 @@ fn to_watch(kind: u64, handle: u32, value: u64) -> WCall<u64>
     match kind % 16 {
         0 => WCall::Send(handle, value),
         1 => WCall::SendReplace(handle, value),
-        2 => WCall::Modify {
-            told: value % 2 == 0,
-            handle,
-            value,
-        },
+        2 => closure_on(handle, value),
         3 => WCall::Subscribe(handle),
         4 => WCall::CloneSender(handle),
         5 => WCall::CloneReceiver(handle),

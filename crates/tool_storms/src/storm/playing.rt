@@ -1,6 +1,6 @@
 //! The threads of a storm, one for each actor.
 
-use super::channels::{FIRST_DROPS, OWN_HANDLES, PLAYERS, SECOND_HANDLES, own_drops};
+use super::channels::{FIRST_DROPS, OWN_HANDLES, PLAYERS, SECOND_HANDLES, SHARED_DROP, own_drops};
 use super::generator::Generator;
 use super::waiting::wait_for_end;
 use crate::desks::Calls;
@@ -66,7 +66,8 @@ fn play<D: Calls, R: Wait>(
     let mut generator = Generator::new(seed, player);
     let made = make_calls(rt, desk, pass, &mut generator, calls);
     drop(generator);
-    if make_all(rt, desk, pass, &own_drops(player)) && made.is_ok() {
+    let shares = player != 0 || make_all(rt, desk, pass, &SHARED_DROP);
+    if make_all(rt, desk, pass, &own_drops(player)) && shares && made.is_ok() {
         Some(0)
     } else {
         None

@@ -56,8 +56,8 @@ macro_rules! create_on_both {
         if let (Reply::New(in_many), Reply::New(in_one)) = (many, one) {
             $pair.handles.push(Handle {
                 kind: $kind,
-                in_many,
-                in_one,
+                in_many: in_many as u32,
+                in_one: in_one as u32,
             });
         }
     };
@@ -316,9 +316,7 @@ fn a_machine_whose_handles_are_dropped_is_dropped_and_its_place_is_used_again() 
     channel.end();
     let mut kept = Vec::new();
     for round in 0..1_000 {
-        let Reply::New(receiver) = channel.broadcast_subscribe(CALLER, 0) else {
-            panic!("at {round}");
-        };
+        let receiver = channel.broadcast_subscribe(CALLER, 0).new_handle();
         match round {
             100 | 500 => kept.push(receiver),
             _ => assert_eq!(channel.broadcast_drop(CALLER, receiver), Reply::Dropped),
@@ -339,11 +337,11 @@ fn the_first_machine_makes_as_many_handles_as_a_journal_names() {
     let mut channel = CoreChannel::watch().unwrap();
     for made in 2..MOST_HANDLES {
         assert!(!channel.has_named_all());
-        assert_eq!(channel.watch_subscribe(CALLER, 0), Reply::New(made));
+        assert_eq!(channel.watch_subscribe(CALLER, 0).new_handle(), made);
     }
     assert!(channel.has_named_all());
     assert!(
-        matches!(channel.watch_subscribe(CALLER, 0), Reply::New(handle) if handle > MOST_HANDLES)
+        matches!(channel.watch_subscribe(CALLER, 0), Reply::New(handle) if handle > MOST_HANDLES.into())
     );
     assert_eq!(
         channel.watch_receiver_count(CALLER, 0),

@@ -79,6 +79,7 @@ impl<T: 'static + Clone + Send> BroadcastStream<T> {
     /// let mut events = BroadcastStream::new(listener);
     /// assert_eq!(block_on(events.next()), Some(Ok("user created")));
     /// ```
+    #[track_caller]
     pub fn new(rx: Receiver<T>) -> Self {
         BroadcastStream {
             inner: Polled::new(rx),
@@ -105,6 +106,7 @@ impl<T> fmt::Debug for BroadcastStream<T> {
 }
 
 impl<T: 'static + Clone + Send> From<Receiver<T>> for BroadcastStream<T> {
+    #[track_caller]
     fn from(recv: Receiver<T>) -> Self {
         Self::new(recv)
     }

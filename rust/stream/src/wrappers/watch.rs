@@ -63,6 +63,7 @@ impl<T: 'static + Clone + Send + Sync> WatchStream<T> {
     /// let mut configs = WatchStream::new(rx);
     /// assert_eq!(block_on(configs.next()), Some("log = info"));
     /// ```
+    #[track_caller]
     pub fn new(rx: Receiver<T>) -> Self {
         WatchStream {
             inner: Polled::new(rx),
@@ -86,6 +87,7 @@ impl<T: 'static + Clone + Send + Sync> WatchStream<T> {
     /// config.send("log = debug").unwrap();
     /// assert_eq!(block_on(changes.next()), Some("log = debug"));
     /// ```
+    #[track_caller]
     pub fn from_changes(rx: Receiver<T>) -> Self {
         WatchStream {
             inner: Polled::new(rx),
@@ -114,6 +116,7 @@ impl<T> fmt::Debug for WatchStream<T> {
 }
 
 impl<T: 'static + Clone + Send + Sync> From<Receiver<T>> for WatchStream<T> {
+    #[track_caller]
     fn from(recv: Receiver<T>) -> Self {
         Self::new(recv)
     }

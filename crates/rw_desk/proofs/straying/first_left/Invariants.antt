@@ -3,4 +3,4 @@ use Rattle.rw_desk.specs.Closing.{receipts_of}
 use Rattle.rw_desk.proofs.straying.first_left.Given as goal
 
 abbrev pub invariant-loop-actor : goal.invariant-loop-actor
-invariant-loop-actor g l = (a : ℕ) → a < l.actor → length (receipts_of a l.passes) ≤ get_or l.places a 0
+invariant-loop-actor g l = (a : ℕ) → a < l.actor → length (receipts_of a l.passes) ≤ get_or l.numbers a 0

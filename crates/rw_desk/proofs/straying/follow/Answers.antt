@@ -6,13 +6,13 @@ use Rattle.rw_desk.proofs.straying.follow.Goals as goal
 pub returns-then-not-is_next-clause-same : goal.returns-then-not-is_next-clause-same
 returns-then-not-is_next-clause-same g c = rw (← c.receipts_of.ensures) c.if-not-is_next.ensures
 
-pub overflow_add-places : goal.overflow_add-places
-overflow_add-places g c =
-    let within = slice_get_within c.receipts_of.result.now (get_or c.args.places.now c.args.entry.now.actor 0) (receipt_of c.args.entry.now) (c.if-not-is_next.ensures.0 refl) in
+pub overflow_add-numbers : goal.overflow_add-numbers
+overflow_add-numbers g c =
+    let within = slice_get_within c.receipts_of.result.now (get_or c.args.numbers.now c.args.entry.now.actor 0) (receipt_of c.args.entry.now) (c.if-not-is_next.ensures.0 refl) in
     omega (arith, within)
 
 pub returns-clause-same : goal.returns-clause-same
 returns-clause-same g c = rw (← c.receipts_of.ensures) c.if-not-is_next.ensures
 
-pub returns-clause-places : goal.returns-clause-places
-returns-clause-places g c = refl
+pub returns-clause-numbers : goal.returns-clause-numbers
+returns-clause-numbers g c = refl

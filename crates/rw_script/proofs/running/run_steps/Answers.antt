@@ -30,8 +30,8 @@ returns-in_default-clause-waits g c =
 
 pub each_step-preserved : goal.each_step-preserved
 each_step-preserved g c =
-    goes_on_at g.M.Reversible c.args.script.now _ c.requires.plays c.steps-step-items.result.now c.steps-step-items.ensures.steps c.each_step.step-index _ c.each_step-test.true c.each_step.book c.run_step.new.book c.each_step.made.items c.keep_handle.new.made.items c.in-Some.handle
-    c.each_step.invariant (rw c.deref.ensures.value at (rw c.in-Some.is at c.in_ok-handle.ensures)) c.in_ok-keep_handle.ensures
+    goes_on_at g.M.Reversible c.args.script.now _ c.requires.plays c.steps-step-items.result.now c.steps-step-items.ensures.steps c.each_step.step-index _ c.each_step-test.true c.each_step.book c.run_step.new.book c.each_step.made.items c.push_handle.new.made.items c.in-Some.handle
+    c.each_step.invariant (rw c.deref.ensures.value at (rw c.in-Some.is at c.in_ok-handle.ensures)) c.in_ok-push_handle.ensures
 
 pub returns-clause-calls : goal.returns-clause-calls
 returns-clause-calls g c =

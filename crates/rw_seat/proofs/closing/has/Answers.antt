@@ -1,5 +1,5 @@
 use Rattle.std.proofs.Common.{arith, ◌≡◌, ◌<◌, ℕ, suc, ◌+◌, map, take, length, get_or, List, sym, ap, ◌∙◌, subst}
-use Rattle.rw_seat.specs.Hands.{HandSeat}
+use Rattle.rw_seat.specs.HandOffs.{HandSeat}
 use Rattle.rw_seat.specs.Journals.{IsIn}
 use Rattle.rw_seat.proofs.Closes.{in_at, not_more}
 use Rattle.rw_seat.proofs.closing.has.Goals as goal

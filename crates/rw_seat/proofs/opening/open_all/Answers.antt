@@ -4,7 +4,7 @@ use Rattle.std.proofs.lemmas.List.{length-map}
 use Rattle.rw_world.specs.declared.opening.Spec.{Spec}
 use Rattle.rw_world.specs.declared.channels.Chan.{Chan}
 use Rattle.rw_world.specs.Openings.{opened_channel, refusal}
-use Rattle.rw_seat.specs.Hands.{HandOff, Home}
+use Rattle.rw_seat.specs.HandOffs.{HandOff, Home}
 use Rattle.rw_seat.specs.DeskSeats.{DeskSeat, fresh_seat}
 use Rattle.rw_seat.specs.SeatDesks.{SeatDesk, opening_at}
 use Rattle.rw_seat.proofs.Giving.{AreFresh, fresh_of, written}

@@ -3,7 +3,7 @@ use Rattle.std.proofs.lemmas.List.{map-append, take_all}
 use Rattle.rw_world.specs.declared.opening.Spec.{Spec}
 use Rattle.rw_world.specs.declared.channels.Chan.{Chan}
 use Rattle.rw_world.specs.Openings.{has_bad_capacity, opened_channel}
-use Rattle.rw_seat.specs.Hands.{HandOff, Home}
+use Rattle.rw_seat.specs.HandOffs.{HandOff, Home}
 use Rattle.rw_seat.proofs.Giving.{AreFresh, fresh_more, fresh_passes, opened_more}
 use Rattle.rw_seat.proofs.opening.open_hand_offs.Goals as goal
 

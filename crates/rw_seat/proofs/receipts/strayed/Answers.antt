@@ -8,7 +8,7 @@ loop-actor-init g c = λ a below. absurd (omega arith)
 pub returns-in-Some-clause-some : goal.returns-in-Some-clause-some
 returns-in-Some-clause-some g c = record {
   least = c.loop-actor.invariant;
-  differs = subst (λ ks. DiffersFirstAt ks (projection c.loop-actor.actor c.args.run.now.entries) c.in-Some.place) c.receipts_of.ensures c.in-Some.ensures;
+  differs = subst (λ ks. DiffersFirstAt ks (projection c.loop-actor.actor c.args.run.now.entries) c.in-Some.number) c.receipts_of.ensures c.in-Some.ensures;
 }
 
 pub loop-actor-preserved : goal.loop-actor-preserved

@@ -9,7 +9,7 @@ invariant_of-desk g c = record {
   opens = subst (λ specs. refusal specs ≡ None) (sym c.in-Ok.ensures.items) c.requires.opens;
   some_actor = c.requires.some;
   few_actors = c.requires.few;
-  locked = c.in_ok-places.ensures ∙ ap length (sym c.in-Ok.ensures.items);
+  locked = c.in_ok-locks.ensures ∙ ap length (sym c.in-Ok.ensures.items);
 }
 
 pub returns : goal.returns

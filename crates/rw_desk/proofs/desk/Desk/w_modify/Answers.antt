@@ -1,7 +1,8 @@
-use Rattle.std.proofs.Common.{◌≡◌, Bool, IsTrue, refl, subst}
+use Rattle.std.proofs.Common.{◌≡◌, Bool, IsTrue, Some, refl, subst, sym}
 use Rattle.std.specs.Fn.{FnOnceReturnsAtMut}
 use Rattle.rw_watch.specs.declared.calls.WCall.TheVariants.{Borrow}
 use Rattle.rw_desk.specs.declared.faults.DeskFault.TheVariants.{NoChannel}
+use Rattle.rw_desk.specs.Modifying.{HasModified, HasModifiedChannel}
 use Rattle.rw_desk.proofs.Errors.{handed_on, other_error}
 use Rattle.rw_desk.proofs.Modifications.{only_watches_modified}
 use Rattle.rw_desk.proofs.WaitReplies.{no_fault, strays_alike, watch_found, watch_there}
@@ -25,7 +26,15 @@ returns-in_err-reply-clause-no_channel g c =
 pub unreachable-requires : goal.unreachable-requires
 unreachable-requires g c =
     let makes : g.row.V.Denot → Bool → g.row.V.Denot → Type 0 = λ v told w. (t : g.row.T.Denot) × FnOnceReturnsAtMut g.F.FnOnce c.args.f v t w × (told ≡ g.T.Told.tells t) in
-    only_watches_modified makes c.args.pass.now c.modify.new.pass c.args.sender.now.channel c.args.sender.now.number (λ v. Unit {0}) c.in_ok-reply.field-0 c.in_ok-reply.ensures.modified c.in_default-2.not-W
+    only_watches_modified makes (Some c.in-Some.spec.now) c.args.pass.now c.modify.new.pass c.args.sender.now.channel c.args.sender.now.number (λ v. Unit {0}) c.in_ok-reply.field-0 c.in_ok-reply.ensures.modified c.in_default-2.not-W
+
+pub returns-clause-modified : goal.returns-clause-modified
+returns-clause-modified g c =
+    let makes : g.row.V.Denot → Bool → g.row.V.Denot → Type 0 = λ v told w. (t : g.row.T.Denot) × FnOnceReturnsAtMut g.F.FnOnce c.args.f v t w × (told ≡ g.T.Told.tells t) in
+    let channel = c.args.sender.now.channel in
+    let number = c.args.sender.now.number in
+    let modified = subst (HasModifiedChannel makes (λ v. Unit {0}) (Some c.in-Some.spec.now) c.args.pass.now c.modify.new.pass channel number) c.in-W.is c.in_ok-reply.ensures.modified in
+    subst (λ spec. HasModified makes (λ v. Unit {0}) spec c.args.pass.now c.modify.new.pass channel number c.in-W.reply) (sym c.in-Some.ensures.there) modified
 
 pub returns-clause-no_channel : goal.returns-clause-no_channel
 returns-clause-no_channel g c = (

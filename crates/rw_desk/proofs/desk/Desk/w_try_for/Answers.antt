@@ -1,5 +1,6 @@
 -- `w_try_for` records an update, which ends the wait or not, and then a wait for a change. Before a fault the recorded steps stand.
 use Rattle.std.proofs.Common.{Bool, true, false, Some, None, IsErrOf, IsTrue, ◌↔◌, refl, subst, sym, inl, inr}
+use Rattle.std.specs.Prelude.{slice_get}
 use Rattle.std.specs.Fn.{FnReturnsAt}
 use Rattle.rw_watch.specs.declared.calls.WCall.TheVariants.{Update, Changed}
 use Rattle.rw_watch.specs.declared.calls.WReply.TheVariants.{Value}
@@ -23,7 +24,7 @@ returns-in_err-refused-clause-no_wait g c = rw (handed_on c.from_residual.result
 pub returns-then-f-clause-tried : goal.returns-then-f-clause-tried
 returns-then-f-clause-tried g c =
     let told : FnReturnsAt g.F.Fn c.args.f.now c.in-Value.value true = record { shown = _; shows = refl; says = record { met = c.if-f.ensures } } in
-    inl (c.in-Value.value, refl, told, subst (HasLooked c.args.receiver.now.channel c.args.receiver.now.number c.args.pass.now c.w_wait.new.pass) c.in-Value.is c.in_ok-refused.ensures.answered.receipt)
+    inl (c.in-Value.value, refl, told, subst (HasLooked (slice_get c.args.self.now.specs c.args.receiver.now.channel) c.args.receiver.now.channel c.args.receiver.now.number c.args.pass.now c.w_wait.new.pass) c.in-Value.is c.in_ok-refused.ensures.answered.receipt)
 
 pub returns-then-f-clause-no_channel : goal.returns-then-f-clause-no_channel
 returns-then-f-clause-no_channel g c =
@@ -33,7 +34,7 @@ pub returns-in_default : goal.returns-in_default
 returns-in_default g c =
     let receipt = c.in_ok-refused.ensures.answered.receipt in
     record {
-      tried = elim (of_look c.args.pass.now c.w_wait.new.pass c.args.receiver.now.channel c.args.receiver.now.number c.in_ok-refused.refused receipt) [
+      tried = elim (of_look (slice_get c.args.self.now.specs c.args.receiver.now.channel) c.args.pass.now c.w_wait.new.pass c.args.receiver.now.channel c.args.receiver.now.number c.in_ok-refused.refused receipt) [
         | inl value ↦ absurd (c.in_default.not-Value value.0 value.1)
         | inr refusal ↦ inr (inl (refusal, receipt))
       ];
@@ -45,9 +46,9 @@ returns-in_default g c =
 pub returns-in_err-ended-clause-broken : goal.returns-in_err-ended-clause-broken
 returns-in_err-ended-clause-broken g c =
     let untrue : FnReturnsAt g.F.Fn c.args.f.now c.in-Value.value false = record { shown = _; shows = refl; says = record { met = c.if-f.ensures } } in
-    let looked = subst (HasLooked c.args.receiver.now.channel c.args.receiver.now.number c.args.pass.now c.w_wait.new.pass) c.in-Value.is c.in_ok-refused.ensures.answered.receipt in
+    let looked = subst (HasLooked (slice_get c.args.self.now.specs c.args.receiver.now.channel) c.args.receiver.now.channel c.args.receiver.now.number c.args.pass.now c.w_wait.new.pass) c.in-Value.is c.in_ok-refused.ensures.answered.receipt in
     let same = c.in_err-ended.ensures.answered.refused in
-    beside_error c.from_residual-in_err-ended.result _ (inr (c.in-Value.value, untrue, subst (λ p. HasLooked c.args.receiver.now.channel c.args.receiver.now.number c.args.pass.now p (Value c.in-Value.value)) (sym same) looked))
+    beside_error c.from_residual-in_err-ended.result _ (inr (c.in-Value.value, untrue, subst (λ p. HasLooked (slice_get c.args.self.now.specs c.args.receiver.now.channel) c.args.receiver.now.channel c.args.receiver.now.number c.args.pass.now p (Value c.in-Value.value)) (sym same) looked))
 
 pub returns-in_err-ended-clause-no_channel : goal.returns-in_err-ended-clause-no_channel
 returns-in_err-ended-clause-no_channel g c =
@@ -61,9 +62,9 @@ pub returns-in-Done-clause-tried : goal.returns-in-Done-clause-tried
 returns-in-Done-clause-tried g c = record {
   value = c.in-Value.value;
   between = c.w_wait.new.pass;
-  looked = subst (HasLooked c.args.receiver.now.channel c.args.receiver.now.number c.args.pass.now c.w_wait.new.pass) c.in-Value.is c.in_ok-refused.ensures.answered.receipt;
+  looked = subst (HasLooked (slice_get c.args.self.now.specs c.args.receiver.now.channel) c.args.receiver.now.channel c.args.receiver.now.number c.args.pass.now c.w_wait.new.pass) c.in-Value.is c.in_ok-refused.ensures.answered.receipt;
   untrue = record { shown = _; shows = refl; says = record { met = c.if-f.ensures } };
-  changed = subst (HasChanged c.args.receiver.now.channel c.args.receiver.now.number c.w_wait.new.pass c.w_changed.new.pass) c.in-Done.is c.in_ok-ended.ensures.answered.receipt;
+  changed = subst (HasChanged (slice_get c.args.self.now.specs c.args.receiver.now.channel) c.args.receiver.now.channel c.args.receiver.now.number c.w_wait.new.pass c.w_changed.new.pass) c.in-Done.is c.in_ok-ended.ensures.answered.receipt;
 }
 
 pub returns-in-Done-clause-no_channel : goal.returns-in-Done-clause-no_channel
@@ -74,15 +75,15 @@ pub returns-in_default-2 : goal.returns-in_default-2
 returns-in_default-2 g c =
     let tells : g.row.V.Denot → Bool → Type 0 = λ v told. FnReturnsAt g.F.Fn c.args.f.now v told in
     let receipt = c.in_ok-ended.ensures.answered.receipt in
-    let tried : HasTried tells c.args.receiver.now.channel c.args.receiver.now.number c.args.pass.now c.w_changed.new.pass c.in_ok-ended.ended = record {
+    let tried : HasTried tells (slice_get c.args.self.now.specs c.args.receiver.now.channel) c.args.receiver.now.channel c.args.receiver.now.number c.args.pass.now c.w_changed.new.pass c.in_ok-ended.ended = record {
       value = c.in-Value.value;
       between = c.w_wait.new.pass;
-      looked = subst (HasLooked c.args.receiver.now.channel c.args.receiver.now.number c.args.pass.now c.w_wait.new.pass) c.in-Value.is c.in_ok-refused.ensures.answered.receipt;
+      looked = subst (HasLooked (slice_get c.args.self.now.specs c.args.receiver.now.channel) c.args.receiver.now.channel c.args.receiver.now.number c.args.pass.now c.w_wait.new.pass) c.in-Value.is c.in_ok-refused.ensures.answered.receipt;
       untrue = record { shown = _; shows = refl; says = record { met = c.if-f.ensures } };
       changed = receipt;
     } in
     record {
-      tried = elim (of_change c.w_wait.new.pass c.w_changed.new.pass c.args.receiver.now.channel c.args.receiver.now.number c.in_ok-ended.ended receipt) [
+      tried = elim (of_change (slice_get c.args.self.now.specs c.args.receiver.now.channel) c.w_wait.new.pass c.w_changed.new.pass c.args.receiver.now.channel c.args.receiver.now.number c.in_ok-ended.ended receipt) [
         | inl done ↦ absurd (c.in_default-2.not-Done done)
         | inr ended ↦ inr (inr (ended, tried))
       ];

@@ -13,5 +13,5 @@ returns-in-Err-clause-memory c =
 
 pub each_line-preserved : goal.each_line-preserved
 each_line-preserved c =
-    read_more c.args.bytes.now c.each_line.rest.now c.first_line.result.0.now c.first_line.result.1.now c.each_line.reader c.each_line.invariant c.first_line.ensures.lines c.take.new.self
+    read_more c.args.bytes.now c.each_line.rest.now c.first_line.result.0.now c.first_line.result.1.now c.each_line.reader c.each_line.invariant c.first_line.ensures.lines c.read_line.new.self
     (sym c.is_mark.ensures ∙ c.if-is_mark.false) c.in_default.ensures.taken c.in_default.ensures.lines c.first_line.ensures.shorter

@@ -3,9 +3,9 @@ use Rattle.rw_seat.specs.Journals.{IsIn, IsQuiet}
 use Rattle.rw_seat.specs.Rule.{Known}
 use Rattle.rw_seat.proofs.hand_off.HandOff.close.Given as goal
 
-abbrev pub invariant-loop-hand : goal.invariant-loop-hand
-invariant-loop-hand g l = record {
-  place : (l.all.table_id ≡ l.fn.self.home.table) × (l.all.me.1 ≡ []) × (l.all.me.0.held ≡ false);
+abbrev pub invariant-loop-hand_seat : goal.invariant-loop-hand_seat
+invariant-loop-hand_seat g l = record {
+  of_table : (l.all.table_id ≡ l.fn.self.home.table) × (l.all.me.1 ≡ []) × (l.all.me.0.held ≡ false);
   living : (n : ℕ) × IsIn n l.all.me.0.numbers;
   fit : All (λ s. s.home ≡ l.fn.self.home) l.seats.items;
   numbers : (n : ℕ) → IsIn n (map (λ s. s.number) l.fn.seats.items) → IsIn n (map (λ s. s.number) l.seats.items) ⊎ IsIn n l.all.me.0.numbers;
@@ -13,5 +13,5 @@ invariant-loop-hand g l = record {
       → All (λ s. IsQuiet g.B.Keeps.author (s.number ∷ []) s.front h) l.fn.seats.items;
 }
 
-abbrev pub decreases-loop-hand : goal.decreases-loop-hand
-decreases-loop-hand g l = length l.seats.items
+abbrev pub decreases-loop-hand_seat : goal.decreases-loop-hand_seat
+decreases-loop-hand_seat g l = length l.seats.items

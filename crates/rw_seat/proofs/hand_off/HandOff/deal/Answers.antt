@@ -2,7 +2,7 @@
 use Rattle.std.proofs.Common.{rules, arith, ◌≡◌, refl, ◌<◌, ℕ, List, [], ◌∷◌, ◌+◌, ◌-◌, map, Option, sym, ap, ◌∙◌, subst}
 use Rattle.atomic_table.specs.Table.{Me}
 use Rattle.rw_seat.specs.declared.view.View.{View}
-use Rattle.rw_seat.specs.Hands.{HandSeat}
+use Rattle.rw_seat.specs.HandOffs.{HandSeat}
 use Rattle.rw_seat.specs.Rule.{resting, numbers_from, first_part, other_part}
 use Rattle.rw_seat.proofs.Dealing.{deal_next, dealt_more, each_dealt}
 use Rattle.rw_seat.proofs.Steps.{splits_view}
@@ -45,16 +45,16 @@ loop-number-preserved g c =
     let v : (other_part c.loop-number.rest.me.0, []) ≡ (resting (numbers_from (n + 1) left.0) home.start f, []) =
     ap (λ (m : M). (other_part m.0, [])) left.2 in
     let w : (resting (numbers_from (n + 1) left.0) home.start f, []) ≡ (resting ((n + 1) ∷ numbers_from ((n + 1) + 1) next.0) home.start f, []) = ap (λ (l : List ℕ). (resting l home.start f, [])) next.2 in
-    let hand : ℕ → H = λ k. record { number = k; home = home; front = f } in
+    let hand_seat : ℕ → H = λ k. record { number = k; home = home; front = f } in
     let table : c.split_seat-others.new.seat.table_id ≡ home.table = c.split_seat-others.ensures.0 ∙ inv.seated in
     let from : c.split_seat-others.new.seat.me.0.start ≡ home.start = ap (λ (m : M). m.0.start) c.split_seat-others.ensures.2 ∙ ap (λ (m : M). m.0.start) left.2 in
     let seen : c.split_seat-others.new.seat.me.0.front ≡ f = ap (λ (m : M). m.0.front) c.split_seat-others.ensures.2 ∙ ap (λ (m : M). m.0.front) left.2 in
-    let dealt : ◌≡◌ {A = H} (record { number = n; home = record { table = c.split_seat-others.new.seat.table_id; start = c.split_seat-others.new.seat.me.0.start }; front = c.split_seat-others.new.seat.me.0.front }) (hand n) =
+    let dealt : ◌≡◌ {A = H} (record { number = n; home = record { table = c.split_seat-others.new.seat.table_id; start = c.split_seat-others.new.seat.me.0.start }; front = c.split_seat-others.new.seat.me.0.front }) (hand_seat n) =
     λ i. record { number = n; home = record { table = table i; start = from i }; front = seen i } in record {
       seated = search rules;
       left = (next.0, next.1, u ∙ (v ∙ w));
       room = (omega arith, omega arith);
-      dealt = dealt_more hand c.loop-number.hands.items c.push_reserved.new.self.items _ n c.push_reserved.ensures.items inv.dealt dealt;
+      dealt = dealt_more hand_seat c.loop-number.hand_seats.items c.push_reserved.new.self.items _ n c.push_reserved.ensures.items inv.dealt dealt;
     }
 
 pub returns-clause-dealt : goal.returns-clause-dealt
@@ -66,18 +66,18 @@ returns-clause-dealt g c =
     let n : ℕ = c.loop-number.number in
     let home = c.args.self.now.home in
     let f : List g.row.B-Entry.Denot = c.args.seat.me.0.front in
-    let hand : ℕ → H = λ k. record { number = k; home = home; front = f } in
+    let hand_seat : ℕ → H = λ k. record { number = k; home = home; front = f } in
     let seats : c.self.inside.seats ≡ c.args.self.now.seats = ap (λ h. h.seats) c.self.view_is in
     let last : c.self.inside.seats - 1 ≡ n = omega (arith, seats, inv.left.1) in
     let all : n + 1 ≡ c.args.self.now.seats = omega (arith, seats, inv.left.1) in
     let from : rest.me.0.start ≡ home.start = ap (λ (m : M). m.0.start) inv.left.2 in
     let seen : rest.me.0.front ≡ f = ap (λ (m : M). m.0.front) inv.left.2 in
-    let dealt : ◌≡◌ {A = H} (record { number = c.self.inside.seats - 1; home = record { table = rest.table_id; start = rest.me.0.start }; front = rest.me.0.front }) (hand n) =
+    let dealt : ◌≡◌ {A = H} (record { number = c.self.inside.seats - 1; home = record { table = rest.table_id; start = rest.me.0.start }; front = rest.me.0.front }) (hand_seat n) =
     λ i. record { number = last i; home = record { table = inv.seated i; start = from i }; front = seen i } in
-    dealt_more hand c.loop-number.hands.items c.push_reserved-2.new.self.items _ n c.push_reserved-2.ensures.items inv.dealt dealt ∙ ap (λ (k : ℕ). map hand (numbers_from 0 k)) all
+    dealt_more hand_seat c.loop-number.hand_seats.items c.push_reserved-2.new.self.items _ n c.push_reserved-2.ensures.items inv.dealt dealt ∙ ap (λ (k : ℕ). map hand_seat (numbers_from 0 k)) all
 
 pub returns-clause-home : goal.returns-clause-home
 returns-clause-home g c =
     let H : Type 0 = HandSeat g.row.B-Entry.Denot g.row.B-Start.Denot in
-    let hand : ℕ → H = λ k. record { number = k; home = c.args.self.now.home; front = c.args.seat.me.0.front } in
-    each_dealt (λ (s : H). s.home ≡ c.args.self.now.home) hand c.push_reserved-2.new.self.items (numbers_from 0 c.args.self.now.seats) (returns-clause-dealt g c) (λ n. refl)
+    let hand_seat : ℕ → H = λ k. record { number = k; home = c.args.self.now.home; front = c.args.seat.me.0.front } in
+    each_dealt (λ (s : H). s.home ≡ c.args.self.now.home) hand_seat c.push_reserved-2.new.self.items (numbers_from 0 c.args.self.now.seats) (returns-clause-dealt g c) (λ n. refl)

@@ -1,7 +1,7 @@
 use Rattle.std.proofs.Common.{rules, arith, ℕ, ◌<◌, map, sym, ap, subst}
 use mathlib.Core.Logic.{dite}
 use native.Mathlib.Decide.{ℕ_discrete}
-use Rattle.rw_seat.specs.Hands.{HandSeat}
+use Rattle.rw_seat.specs.HandOffs.{HandSeat}
 use Rattle.rw_seat.specs.Journals.{IsIn}
 use Rattle.rw_seat.proofs.hand_off.HandOff.has_all.Goals as goal
 

@@ -2,7 +2,7 @@
 use Rattle.std.proofs.Common.{rules, ◌≡◌, ℕ, List, [], ◌∷◌, Option, refl, sym, ap, ◌∙◌, subst, inl}
 use Rattle.atomic_table.specs.Table.{Me}
 use Rattle.rw_seat.specs.declared.view.View.{View}
-use Rattle.rw_seat.specs.Hands.{HandSeat}
+use Rattle.rw_seat.specs.HandOffs.{HandSeat}
 use Rattle.rw_seat.specs.Journals.{IsIn, IsQuiet}
 use Rattle.rw_seat.specs.Rule.{resting}
 use Rattle.rw_seat.proofs.Steps.{joins, joined_numbers, met_one, met_two, splits_view}
@@ -24,8 +24,8 @@ join_seat-requires g c =
           (ap (λ (m : M). m.0.held) c.one.invariant) (ap (λ (m : M). m.0.held) c.two.invariant),
     )
 
-pub win-book-requires-clause-living : goal.win-book-requires-clause-living
-win-book-requires-clause-living g c =
+pub acquire-book-requires-clause-living : goal.acquire-book-requires-clause-living
+acquire-book-requires-clause-living g c =
     let M : Type 0 = Me (Option g.row.B.Denot) (View g.row.B-Entry.Denot g.row.B-Start.Denot) in
     let one = c.one.inside in
     let two = c.two.inside in (
@@ -45,17 +45,17 @@ split_seat-other-requires g c =
     let two = c.two.inside in
     let first : ℕ = one.number in
     let second : ℕ = two.number in
-    let h : List g.row.B-Entry.Denot = g.B.Keeps.journal c.win-book.result in
+    let h : List g.row.B-Entry.Denot = g.B.Keeps.journal c.acquire-book.result in
     let j : V = c.join_seat.new.seat.me.0 in
-    let u : V = c.put_back.new.seat.me.0 in
-    let from : Option g.row.B-Start.Denot = c.win-book.new.seat.me.0.start in
-    let held : c.win-book.new.seat.me.0.numbers ≡ j.numbers = ap (λ (m : M). m.0.numbers) c.win-book.ensures.held in
+    let u : V = c.release.new.seat.me.0 in
+    let from : Option g.row.B-Start.Denot = c.acquire-book.new.seat.me.0.start in
+    let held : c.acquire-book.new.seat.me.0.numbers ≡ j.numbers = ap (λ (m : M). m.0.numbers) c.acquire-book.ensures.held in
     let both = joined_numbers g.B.Keeps.author one.seat.me.0 two.seat.me.0 j first second (ap (λ (m : M). m.0) c.join_seat.ensures.2) (ap (λ (m : M). m.0.numbers) c.one.invariant) (ap (λ (m : M). m.0.numbers) c.two.invariant) in
-    let ns : c.win-book.new.seat.me.0.numbers ≡ first ∷ (second ∷ []) = held ∙ both in
-    let is : u ≡ resting (first ∷ (second ∷ [])) from h = ap (λ (m : M). m.0) c.put_back.ensures.view ∙ ap (λ (l : List ℕ). resting l from h) ns in (
+    let ns : c.acquire-book.new.seat.me.0.numbers ≡ first ∷ (second ∷ []) = held ∙ both in
+    let is : u ≡ resting (first ∷ (second ∷ [])) from h = ap (λ (m : M). m.0) c.release.ensures.view ∙ ap (λ (l : List ℕ). resting l from h) ns in (
       search rules,
       search rules,
-      splits_view g.B.Keeps.author start g.B.Keeps.journal (start key.book.value) key.seats c.put_back.new.seat.id first (second ∷ []) from h u is,
+      splits_view g.B.Keeps.author start g.B.Keeps.journal (start key.book.value) key.seats c.release.new.seat.id first (second ∷ []) from h u is,
     )
 
 pub returns-clause-numbers : goal.returns-clause-numbers
@@ -74,10 +74,10 @@ returns-clause-one g c =
     let M : Type 0 = Me (Option g.row.B.Denot) V in
     let author = g.B.Keeps.author in
     let one = c.one.inside in
-    let h : List g.row.B-Entry.Denot = g.B.Keeps.journal c.win-book.result in
-    let end : c.split_seat-other.new.seat.me.0.front ≡ h = ap (λ (m : M). m.0.front) c.split_seat-other.ensures.2 ∙ ap (λ (m : M). m.0.front) c.put_back.ensures.view in
+    let h : List g.row.B-Entry.Denot = g.B.Keeps.journal c.acquire-book.result in
+    let end : c.split_seat-other.new.seat.me.0.front ≡ h = ap (λ (m : M). m.0.front) c.split_seat-other.ensures.2 ∙ ap (λ (m : M). m.0.front) c.release.ensures.view in
     rw (← c.one.view_is) (subst (λ (l : List g.row.B-Entry.Denot). IsQuiet author (one.number ∷ []) one.seat.me.0.front l) (sym end)
-    (met_one author one.seat.me.0 c.two.inside.seat.me.0 c.join_seat.new.seat.me.0 h one.number (ap (λ (m : M). m.0) c.join_seat.ensures.2) c.win-book.ensures.fits (ap (λ (m : M). m.0.numbers) c.one.invariant)))
+    (met_one author one.seat.me.0 c.two.inside.seat.me.0 c.join_seat.new.seat.me.0 h one.number (ap (λ (m : M). m.0) c.join_seat.ensures.2) c.acquire-book.ensures.fits (ap (λ (m : M). m.0.numbers) c.one.invariant)))
 
 pub returns-clause-two : goal.returns-clause-two
 returns-clause-two g c =
@@ -85,7 +85,7 @@ returns-clause-two g c =
     let M : Type 0 = Me (Option g.row.B.Denot) V in
     let author = g.B.Keeps.author in
     let two = c.two.inside in
-    let h : List g.row.B-Entry.Denot = g.B.Keeps.journal c.win-book.result in
-    let end : c.split_seat-other.result.me.0.front ≡ h = ap (λ (m : M). m.0.front) c.split_seat-other.ensures.4 ∙ ap (λ (m : M). m.0.front) c.put_back.ensures.view in
+    let h : List g.row.B-Entry.Denot = g.B.Keeps.journal c.acquire-book.result in
+    let end : c.split_seat-other.result.me.0.front ≡ h = ap (λ (m : M). m.0.front) c.split_seat-other.ensures.4 ∙ ap (λ (m : M). m.0.front) c.release.ensures.view in
     rw (← c.two.view_is) (subst (λ (l : List g.row.B-Entry.Denot). IsQuiet author (two.number ∷ []) two.seat.me.0.front l) (sym end)
-    (met_two author c.one.inside.seat.me.0 two.seat.me.0 c.join_seat.new.seat.me.0 h two.number (ap (λ (m : M). m.0) c.join_seat.ensures.2) c.win-book.ensures.fits (ap (λ (m : M). m.0.numbers) c.two.invariant)))
+    (met_two author c.one.inside.seat.me.0 two.seat.me.0 c.join_seat.new.seat.me.0 h two.number (ap (λ (m : M). m.0) c.join_seat.ensures.2) c.acquire-book.ensures.fits (ap (λ (m : M). m.0.numbers) c.two.invariant)))

@@ -10,7 +10,7 @@ returns-clause-book g c =
     let M : Type 0 = Me (Option g.row.B.Denot) (View g.row.B-Entry.Denot g.row.B-Start.Denot) in
     let s = c.seat.inside.seat in
     let ns : s.me.0.numbers ≡ c.seat.inside.number ∷ [] = ap (λ (m : M). m.0.numbers) c.seat.invariant in
-    rw (← c.seat.view_is) (subst (λ (l : List ℕ). IsQuiet author l s.me.0.front (g.B.Keeps.journal c.win-book.result)) ns c.win-book.ensures.fits.0)
+    rw (← c.seat.view_is) (subst (λ (l : List ℕ). IsQuiet author l s.me.0.front (g.B.Keeps.journal c.acquire-book.result)) ns c.acquire-book.ensures.fits.0)
 
-pub win-book-requires-clause-living : goal.win-book-requires-clause-living
-win-book-requires-clause-living g c = (c.seat.inside.number, [], ap (λ (m : Me (Option g.row.B.Denot) (View g.row.B-Entry.Denot g.row.B-Start.Denot)). m.0.numbers) c.seat.invariant)
+pub acquire-book-requires-clause-living : goal.acquire-book-requires-clause-living
+acquire-book-requires-clause-living g c = (c.seat.inside.number, [], ap (λ (m : Me (Option g.row.B.Denot) (View g.row.B-Entry.Denot g.row.B-Start.Denot)). m.0.numbers) c.seat.invariant)

@@ -12,7 +12,7 @@ returns g c = (
       seat = c.args.self.now.seat;
       book = w;
       mine = me_set g.row.B g.row.B-Entry g.row.B-Start _ _ (c.self-1.given w).0 c.args.self.now.mine i;
-      place = table_id_set _ _ (c.self-1.given w).1.0 c.args.self.now.place i;
+      of_table = table_id_set _ _ (c.self-1.given w).1.0 c.args.self.now.of_table i;
       start = start_set g.row.B-Start _ _ (c.self-1.given w).1.1.0 c.args.self.now.start i;
     },
   ),

@@ -1,6 +1,6 @@
 use Rattle.std.proofs.Common.{◌≡◌}
 use Rattle.std.proofs.lemmas.List.Elements.{All-pop}
-use Rattle.rw_seat.specs.Hands.{HandSeat}
+use Rattle.rw_seat.specs.HandOffs.{HandSeat}
 use Rattle.test_seats.proofs.seats.hand_offs.last_seat.Goals as goal
 
 pub returns-clause-seat : goal.returns-clause-seat

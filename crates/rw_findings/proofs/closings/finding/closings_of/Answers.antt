@@ -1,0 +1,95 @@
+use Rattle.std.proofs.Common.{◌≡◌, ◌<◌, ◌≤◌, ◌+◌, ◌*◌, ◌^◌, ◌∙◌, ◌++◌, [], length, get_or, take, drop, refl, sym, ap, subst, rules, arith}
+use Rattle.rw_world.specs.Machines.{of_world}
+use Rattle.rw_world.specs.declared.opening.TheConstants.{MOST_CHANNELS}
+use Rattle.rw_navigator.specs.Debugger.{StandsAt, WentBy}
+use Rattle.rw_navigator.specs.declared.moves.Move.TheVariants.{Goto}
+use Rattle.rw_navigator.specs.Places.{last_place, shown_at}
+use Rattle.rw_findings.specs.LateReaders.{opened, with_entry, with_closings, with_all_readers, HaveRoom, HaveFewHandles}
+use Rattle.rw_findings.proofs.LossCode.{written}
+use Rattle.rw_findings.proofs.LossRuns.{at_place, length_at, few_specs}
+use Rattle.rw_findings.proofs.ClosingRuns.{AreKept, first_kept, have_room, few_handles, few_channels}
+use Rattle.rw_findings.proofs.ClosingsOfRuns.{goes, kept_entry, are_closings}
+use Rattle.rw_findings.proofs.closings.finding.closings_of.Goals as goal
+
+pub loop-entry-init : goal.loop-entry-init
+loop-entry-init g c =
+    let run = c.args.run.now in
+    let stands : StandsAt c.in_ok-debugger.debugger run 0 = c.in_ok-debugger.ensures in
+    let opened_are : c.in_ok-closed.closed.items ≡ opened c.specs.result.now = c.in_ok-closed.ensures in
+    record {
+      place = refl;
+      entries = c.entries-entry-items.ensures.entries;
+      run = stands.run_is;
+      kept = subst (λ ks. AreKept (at_place run) run.entries 0 ks) (sym (opened_are ∙ ap opened c.specs.ensures.specs)) (first_kept (at_place run) run.entries run.specs refl);
+    }
+
+pub loop-entry-preserved : goal.loop-entry-preserved
+loop-entry-preserved g c =
+    let run = c.args.run.now in
+    let n = c.loop-entry.entry-index in
+    let ks = c.loop-entry.closed.items in
+    let e = c.entry-item.result in
+    let entries = c.loop-entry.invariant.entries in
+    let xs = of_world.shown c.state.result.now in
+    let place : c.loop-entry.place + 1 ≡ n + 1 = search rules in
+    let within : n < length run.entries = subst (λ es. n < length es) entries c.loop-entry-test.true in
+    let moved : WentBy c.loop-entry.debugger c.step-moved.new.self (Goto (c.loop-entry.place + 1)) = c.step-moved.ensures.moved in
+    let run_then : c.step-moved.new.self.run ≡ run = moved.run ∙ c.loop-entry.invariant.run in
+    let last : last_place c.loop-entry.debugger.run ≡ length run.entries = ap (λ r. last_place r) c.loop-entry.invariant.run in
+    let place_then : c.step-moved.new.self.place ≡ c.loop-entry.place + 1 =
+    moved.place ∙ goes (last_place c.loop-entry.debugger.run) c.loop-entry.debugger.place (c.loop-entry.place + 1) (omega (arith, place, within, last)) in
+    let shown : xs ≡ shown_at run (c.loop-entry.place + 1) =
+    c.state.ensures.documented ∙ ap (λ r. shown_at r c.step-moved.new.self.place) run_then ∙ ap (λ p. shown_at run p) place_then in
+    let taken : c.take.new.closed ≡ with_entry xs c.deref_mut.result.now e (c.loop-entry.place + 1) = search rules in
+    let closed_are : take c.loop-entry.closed.len (c.take.new.closed ++ drop (length c.take.new.closed) ks) ≡ with_entry xs ks e (c.loop-entry.place + 1) =
+    written c.loop-entry.closed.len c.take.new.closed ks (search rules) (search rules)
+    ∙ taken ∙ ap (λ us. with_entry xs us e (c.loop-entry.place + 1)) c.deref_mut.ensures.value in
+    let read : e ≡ get_or run.entries n e = c.entry-item.is ∙ ap (λ es. get_or es n e) entries in
+    record {
+      place = place;
+      entries = entries;
+      run = run_then;
+      kept = subst (λ us. AreKept (at_place run) run.entries (n + 1) us) (sym closed_are)
+          (kept_entry c.documented.ensures.places run n (c.loop-entry.place + 1) e xs ks place shown within read c.loop-entry.invariant.kept);
+    }
+
+pub take-requires : goal.take-requires
+take-requires g c =
+    let run = c.args.run.now in
+    let n = c.loop-entry.entry-index in
+    let few : n < 2 ^ 60 = omega arith in
+    subst (λ us. HaveRoom us) (sym c.deref_mut.ensures.value) (have_room (at_place run) run.entries n c.loop-entry.closed.items few c.loop-entry.invariant.kept)
+
+pub push_closings-requires : goal.push_closings-requires
+push_closings-requires g c =
+    let run = c.args.run.now in
+    let last : c.loop-entry.entry-index ≡ last_place run = search rules in
+    let kept = subst (λ n. AreKept (at_place run) run.entries n c.loop-entry.closed.items) last c.loop-entry.invariant.kept in
+    let channels : length (at_place run (last_place run)) ≤ MOST_CHANNELS = omega (arith, length_at run (last_place run), few_specs run.specs c.entries-entry-items.ensures.run.opens) in
+    subst (λ us. length us ≤ MOST_CHANNELS) (sym c.deref.ensures.value) (few_channels (at_place run) run.entries (last_place run) c.loop-entry.closed.items channels kept)
+
+pub push_readers-requires-clause-few : goal.push_readers-requires-clause-few
+push_readers-requires-clause-few g c =
+    let run = c.args.run.now in
+    let last : c.loop-entry.entry-index ≡ last_place run = search rules in
+    let kept = subst (λ n. AreKept (at_place run) run.entries n c.loop-entry.closed.items) last c.loop-entry.invariant.kept in
+    let channels : length (at_place run (last_place run)) ≤ MOST_CHANNELS = omega (arith, length_at run (last_place run), few_specs run.specs c.entries-entry-items.ensures.run.opens) in
+    subst (λ us. length us ≤ MOST_CHANNELS) (sym c.deref-2.ensures.value) (few_channels (at_place run) run.entries (last_place run) c.loop-entry.closed.items channels kept)
+
+pub push_readers-requires-clause-small : goal.push_readers-requires-clause-small
+push_readers-requires-clause-small g c =
+    let run = c.args.run.now in
+    let last : c.loop-entry.entry-index ≡ last_place run = search rules in
+    let kept = subst (λ n. AreKept (at_place run) run.entries n c.loop-entry.closed.items) last c.loop-entry.invariant.kept in
+    subst (λ us. HaveFewHandles us) (sym c.deref-2.ensures.value) (few_handles (at_place run) run.entries (last_place run) c.loop-entry.closed.items kept)
+
+pub returns : goal.returns
+returns g c =
+    let run = c.args.run.now in
+    let ks = c.loop-entry.closed.items in
+    let last : c.loop-entry.entry-index ≡ last_place run = search rules in
+    let kept = subst (λ n. AreKept (at_place run) run.entries n ks) last c.loop-entry.invariant.kept in
+    let closings : c.push_closings.new.closings.items ≡ with_closings [] c.deref.result.now (length c.deref.result.now) = search rules in
+    let readers : c.push_readers.new.readers.items ≡ with_all_readers [] c.deref-2.result.now (length c.deref-2.result.now) = search rules in
+    are_closings c.documented.ensures.places run ks c.push_closings.new.closings.items c.push_readers.new.readers.items kept
+    (closings ∙ ap (λ us. with_closings [] us (length us)) c.deref.ensures.value) (readers ∙ ap (λ us. with_all_readers [] us (length us)) c.deref-2.ensures.value)

@@ -1,0 +1,11 @@
+use Rattle.std.proofs.Common.{◌≡◌}
+use Rattle.rw_findings.proofs.LossRuns.{at_place}
+use Rattle.rw_findings.proofs.TallyRuns.{AreKept}
+use Rattle.rw_findings.proofs.totals.totalling.totals_of.Given as goal
+
+abbrev pub invariant-loop-entry : goal.invariant-loop-entry
+invariant-loop-entry g l = record {
+  place : l.place ≡ l.entry-index;
+  entries : l.entry-items ≡ l.run.entries;
+  kept : AreKept (at_place l.run) l.run.entries l.entry-index l.tallies.items;
+}

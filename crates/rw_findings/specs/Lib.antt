@@ -1,0 +1,13 @@
+pub mod Losses
+pub mod LossTracks
+pub mod Totals
+pub mod BroadcastTallies
+pub mod WatchTallies
+pub mod Tallies
+pub mod Closings
+pub mod LateReaders
+pub mod Subjects
+pub mod Following
+pub mod Lives
+pub mod Peaks
+pub mod Values

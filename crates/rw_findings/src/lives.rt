@@ -1,0 +1,7 @@
+//! The lives of a channel's handles: when and by whom each was made, when it was dropped, and who called with it.
+
+mod finding;
+mod life;
+
+pub use finding::lives_of;
+pub use life::Life;

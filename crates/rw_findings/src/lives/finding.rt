@@ -1,0 +1,115 @@
+//! The pass over a run that finds the lives of a channel's handles.
+
+ghost use Rattle.std.specs.Prelude.{◌≡◌, ◌+◌, ◌<◌, ◌^◌, [], ◌∷◌, ◌++◌, None, IfOk, OnOk, slice_get, slice_index_or};
+ghost use Rattle.rw_findings.specs.Following.{Stands};
+ghost use Rattle.rw_findings.specs.Lives.{AreLives, AreLivesTo, Life as Seen, TookCall, TookMade, born};
+ghost use Rattle.rw_navigator.specs.Places.{last_place};
+
+use super::life::Life;
+use crate::following::{advance, opened};
+use crate::handles::{kind_of, made};
+use crate::subjects::handle_in;
+use rw_handles::Kind;
+use rw_journal::Run;
+use rw_law::{NoMemory, Reversible};
+use rw_world::{Chan, documented};
+use std::alloc::Global;
+
+/// Finds the lives of a channel's handles, in the order of their numbers.
+///
+/// It passes once over the entries. Besides the lives it needs a channel's memory.
+pub fn lives_of<V: Copy>(alloc: Global, run: &Run<V>, channel: u32) -> Result<Vec<Life>, NoMemory>
+    ensures { IfOk result (λ lives. AreLives run.now channel lives.items) }
+{
+    documented::<V>();
+    let mut lives = Vec::new(alloc);
+    if run.specs().len() <= channel as usize {
+        return Ok(lives);
+    }
+    let mut machine = opened(alloc, run, channel)?;
+    open_lives(alloc, &mut lives)?;
+    'each_place: for place in 0..run.len() {
+        follow(alloc, run, channel, place, &mut machine, &mut lives)?;
+    }
+    Ok(lives)
+}
+
+/// Appends the lives of the handles that a channel opens with: a sender and a receiver.
+fn open_lives(alloc: Global, lives: &mut Vec<Life>) -> Result<(), NoMemory>
+    ensures { OnOk result (lives.new.items ≡ lives.old.items ++ born Kind.Sender 0 None ∷ born Kind.Receiver 0 None ∷ []) }
+{
+    lives.push(Life::new(alloc, Kind::Sender, 0, None))?;
+    lives.push(Life::new(alloc, Kind::Receiver, 0, None))?;
+    Ok(())
+}
+
+/// Takes in the entry that leads on from a place, and makes its call if it is on the channel.
+fn follow<V: Copy>(
+    alloc: Global,
+    run: &Run<V>,
+    channel: u32,
+    place: u64,
+    machine: &mut Chan<V>,
+    lives: &mut Vec<Life>,
+) -> Result<(), NoMemory>
+    requires here { Stands run.now channel machine.old place }
+    requires more { place < last_place run.now }
+    requires lives { AreLivesTo run.now channel place lives.old.items }
+    ensures here { OnOk result (Stands run.now channel machine.new (place + 1)) }
+    ensures lives { OnOk result (AreLivesTo run.now channel (place + 1) lives.new.items) }
+{
+    documented::<V>();
+    let entry = &run.entries()[place as usize];
+    advance(machine, run, channel, place);
+    if entry.call.channel != channel {
+        return Ok(());
+    }
+    let handle = handle_in(&entry.call.call);
+    take_call(
+        lives,
+        handle,
+        entry.actor,
+        kind_of(machine, handle),
+        place + 1,
+    )?;
+    take_made(alloc, lives, machine, place + 1, entry.actor)?;
+    Ok(())
+}
+
+/// Counts an actor's call with a handle, if this was made, and takes in the kind that the handle has at a place.
+fn take_call(
+    lives: &mut Vec<Life>,
+    handle: u32,
+    actor: u32,
+    kind: Option<Kind>,
+    place: u64,
+) -> Result<(), NoMemory>
+    requires { (life : Seen) → slice_get lives.old.items handle ≡ Some life → slice_index_or life.calls actor 0 < 2 ^ 63 }
+    ensures { OnOk result (TookCall lives.old.items lives.new.items handle actor kind place) }
+{
+    if (handle as usize) < lives.len() {
+        let life = &mut lives[handle as usize];
+        life.count(actor)?;
+        life.see(kind, place);
+    }
+    Ok(())
+}
+
+/// Appends the life of the handle that a channel has just made, if it has made one.
+fn take_made<V: Copy>(
+    alloc: Global,
+    lives: &mut Vec<Life>,
+    machine: &Chan<V>,
+    place: u64,
+    actor: u32,
+) -> Result<(), NoMemory>
+    ensures { OnOk result (TookMade lives.old.items lives.new.items (⟦<Chan<V> as Reversible>⟧.shown machine.now) place actor) }
+{
+    if made(machine) as usize <= lives.len() {
+        return Ok(());
+    }
+    if let Some(kind) = kind_of(machine, lives.len() as u32) {
+        lives.push(Life::new(alloc, kind, place, Some(actor)))?;
+    }
+    Ok(())
+}

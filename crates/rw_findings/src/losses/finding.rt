@@ -1,0 +1,141 @@
+//! The pass over a run that finds its losses.
+
+ghost use Rattle.std.specs.Prelude.{◌≡◌, ◌≤◌, ◌+◌, IfOk, OnOk, None, length, option_map};
+ghost use Rattle.rw_handles.specs.declared.table.TheConstants.{MOST_HANDLES};
+ghost use Rattle.rw_world.specs.Lists.{Each};
+ghost use Rattle.rw_world.specs.Openings.{refusal};
+ghost use Rattle.rw_world.specs.declared.opening.TheConstants.{MOST_CHANNELS};
+ghost use Rattle.rw_findings.specs.Losses.{AreLosses};
+ghost use Rattle.rw_findings.specs.LossTracks.{HasFewHandles, loss_of_entry, opened_tracks, with_call, with_entry, with_loss, with_open, with_open_of};
+
+use super::loss::{Loss, LossEnd};
+use super::track::Track;
+use rw_broadcast::{BCall, BReply};
+use rw_journal::Run;
+use rw_law::{Entry, NoMemory};
+use rw_world::{ChanCall, ChanReply, Spec, World, documented, machines, refusal_of};
+use std::alloc::Global;
+
+/// Finds all losses of a run, in the order of the places at which they began, then of channels, then of receivers.
+///
+/// It passes once over the entries and makes no call. Besides the losses it needs 8 bytes a send, and 16 a handle.
+pub fn losses_of<V: Copy>(alloc: Global, run: &Run<V>) -> Result<Vec<Loss>, NoMemory>
+    ensures { IfOk result (λ losses. AreLosses run.now losses.items) }
+{
+    machines::<V>();
+    documented::<V>();
+    let mut tracks = open_tracks(alloc, run.specs())?;
+    let mut losses = Vec::new(alloc);
+    let mut place = 0;
+    for entry in run.entries() {
+        place += 1;
+        push(&mut losses, loss_of_entry(&tracks, entry, place))?;
+        take(&mut tracks, entry, place)?;
+    }
+    push_open(&tracks, &mut losses)?;
+    losses.sort_unstable_by_key(|loss| loss.order());
+    Ok(losses)
+}
+
+/// Returns the tracks of channels at their opening. A watch has none.
+fn open_tracks<V: Copy>(alloc: Global, specs: &[Spec<V>]) -> Result<Vec<Option<Track>>, NoMemory>
+    requires { refusal specs.now ≡ None }
+    ensures { IfOk result (λ tracks. tracks.items ≡ opened_tracks specs.now) }
+{
+    // The proof needs this call: it ensures that each capacity is one that a broadcast can have.
+    let _refusal = refusal_of(specs);
+    let mut tracks = Vec::with_capacity(alloc, specs.len())?;
+    for spec in specs {
+        let track = match *spec {
+            Spec::Broadcast(capacity) => Some(Track::open(alloc, capacity)?),
+            Spec::Watch(_) => None,
+        };
+        tracks.push_reserved(track);
+    }
+    Ok(tracks)
+}
+
+/// Returns the loss that ends by an entry, which leads to this place.
+fn loss_of_entry<V: Copy>(
+    tracks: &[Option<Track>],
+    entry: &Entry<World<V>>,
+    place: u64,
+) -> Option<Loss>
+    ensures { result ≡ loss_of_entry tracks.now entry.now place }
+{
+    let channel = entry.call.channel;
+    match (entry.call.call, entry.reply) {
+        (ChanCall::B(call), ChanReply::B(reply)) => {
+            let track = tracks.get(channel as usize)?.as_ref()?;
+            track.loss_by(channel, &call, &reply, place)
+        }
+        _ => None,
+    }
+}
+
+/// Takes an entry, which leads to this place, into the track of its channel.
+fn take<V: Copy>(
+    tracks: &mut [Option<Track>],
+    entry: &Entry<World<V>>,
+    place: u64,
+) -> Result<(), NoMemory>
+    ensures { OnOk result (tracks.new ≡ with_entry tracks.old entry.now place) }
+{
+    let channel = entry.call.channel as usize;
+    if let (ChanCall::B(call), ChanReply::B(reply)) = (entry.call.call, entry.reply) {
+        if channel < tracks.len() {
+            take_on(&mut tracks[channel], &call, &reply, place)?;
+        }
+    }
+    Ok(())
+}
+
+/// Takes a call on a channel into its track.
+fn take_on<V: Copy>(
+    track: &mut Option<Track>,
+    call: &BCall<V>,
+    reply: &BReply<V>,
+    place: u64,
+) -> Result<(), NoMemory>
+    ensures { OnOk result (track.new ≡ option_map (λ t. with_call t call.now reply.now place) track.old) }
+{
+    match track {
+        Some(track) => track.take(call, reply, place),
+        None => Ok(()),
+    }
+}
+
+/// Appends a loss, if there is one.
+fn push(losses: &mut Vec<Loss>, loss: Option<Loss>) -> Result<(), NoMemory>
+    ensures { OnOk result (losses.new.items ≡ with_loss losses.old.items loss) }
+{
+    if let Some(loss) = loss {
+        losses.push(loss)?;
+    }
+    Ok(())
+}
+
+/// Appends the losses of the receivers that lag, which have no end.
+fn push_open(tracks: &[Option<Track>], losses: &mut Vec<Loss>) -> Result<(), NoMemory>
+    requires few { length tracks.now ≤ MOST_CHANNELS }
+    requires small { HasFewHandles tracks.now }
+    ensures { OnOk result (losses.new.items ≡ with_open losses.old.items tracks.now (length tracks.now)) }
+{
+    for channel in 0..tracks.len() {
+        if let Some(track) = &tracks[channel] {
+            push_open_of(track, channel as u32, losses)?;
+        }
+    }
+    Ok(())
+}
+
+/// Appends those of one channel.
+fn push_open_of(track: &Track, channel: u32, losses: &mut Vec<Loss>) -> Result<(), NoMemory>
+    requires { length track.now.positions ≤ MOST_HANDLES }
+    ensures { OnOk result (losses.new.items ≡ with_open_of losses.old.items track.now channel (length track.now.positions)) }
+{
+    for receiver in 0..track.made() {
+        push(losses, track.loss(channel, receiver as u32, LossEnd::Open))?;
+    }
+    Ok(())
+}

@@ -1,6 +1,0 @@
-use Rattle.std.proofs.Common.{◌≡◌}
-use Rattle.rw_navigator.specs.LossTracks.{with_open}
-use Rattle.rw_navigator.proofs.worlds.losses.finding.push_open.Given as goal
-
-abbrev pub invariant-loop-channel : goal.invariant-loop-channel
-invariant-loop-channel l = l.losses.items ≡ with_open l.fn.losses.items l.tracks l.channel

@@ -1,8 +1,0 @@
-//! The losses of a run: which receivers missed values of a broadcast, from which send on, and how that ended.
-
-mod finding;
-mod loss;
-mod track;
-
-pub use finding::losses_of;
-pub use loss::{Loss, LossEnd};

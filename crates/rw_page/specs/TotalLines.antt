@@ -1,0 +1,56 @@
+-- The text of a run's totals.
+use Rattle.std.specs.Prelude.{◌≡◌, ℕ, List, ◌++◌, Result, Ok, Err, codes}
+use Rattle.std.specs.List.{flat_map}
+use Rattle.rw_journal.specs.Run.{Run}
+use Rattle.rw_law.specs.Numbers.{numbers}
+use Rattle.rw_console.specs.Texts.{with_number}
+use Rattle.rw_findings.specs.Totals.{AreTotals}
+use Rattle.rw_findings.specs.declared.totals.total.BroadcastCounts.{BroadcastCounts}
+use Rattle.rw_findings.specs.declared.totals.total.WatchCounts.{WatchCounts}
+use Rattle.rw_findings.specs.declared.totals.total.Counts.{Counts}
+use Rattle.rw_findings.specs.declared.totals.total.Counts.TheVariants.{Broadcast, Watch}
+use Rattle.rw_findings.specs.declared.totals.total.Totals.{Totals}
+use Rattle.rw_text.specs.declared.faults.TextFault.{TextFault}
+use Rattle.rw_text.specs.Reading.{reading_of}
+use Rattle.rw_page.specs.Lines.{number_or_dash}
+use Rattle.rw_page.specs.Pages.{Holds, Lacks, fault_line}
+
+-- a receiver of a channel of this kind
+abbrev pub receiver_words : List ℕ → (channel receiver : ℕ) → List ℕ
+receiver_words kind channel receiver = with_number kind channel ++ with_number (codes " ") receiver
+
+-- the line of a broadcast's receiver: how many values it received, how often it was told that it lags, how many values it lost, its greatest lag and the
+-- first place with that lag, and how many values it has yet to receive
+unfoldable pub broadcast_line : (channel receiver : ℕ) → BroadcastCounts → List ℕ
+broadcast_line channel receiver counts =
+    receiver_words (codes "broadcast ") channel receiver ++ with_number (codes " ") counts.received ++ with_number (codes " ") counts.told
+    ++ with_number (codes " ") counts.lost ++ with_number (codes " ") counts.worst ++ with_number (codes " ") counts.worst_place
+    ++ number_or_dash counts.unread ++ codes "\n"
+
+-- the line of a watch's receiver: of how many changes it was told, and how many it missed
+unfoldable pub watch_line : (channel receiver : ℕ) → WatchCounts → List ℕ
+watch_line channel receiver counts =
+    receiver_words (codes "watch ") channel receiver ++ with_number (codes " ") counts.changes ++ with_number (codes " ") counts.missed ++ codes "\n"
+
+abbrev pub counts_line : (channel receiver : ℕ) → Counts → List ℕ
+counts_line channel receiver (Broadcast counts) = broadcast_line channel receiver counts
+counts_line channel receiver (Watch counts) = watch_line channel receiver counts
+
+abbrev pub totals_line : Totals → List ℕ
+totals_line totals = counts_line totals.channel totals.receiver totals.counts
+
+-- the text is that of a run's totals, a line each, or of a journal text's first fault
+abbrev pub IsTotalReport : Result (Run ℕ) TextFault → List ℕ → Type 0
+IsTotalReport (Ok run) text = (totals : List Totals) × AreTotals run totals × (text ≡ flat_map totals_line totals)
+IsTotalReport (Err fault) text = text ≡ fault_line fault
+
+-- the same of the run whose journal text the bytes are
+abbrev pub IsTotalPage : List ℕ → List ℕ → Type 0
+IsTotalPage journal text = IsTotalReport (reading_of numbers journal) text
+
+-- the text is at the start of a buffer, or the buffer is too small for it
+abbrev pub HoldsTotals : List ℕ → ℕ → List ℕ → Type 0
+HoldsTotals buffer count journal = (text : List ℕ) × IsTotalPage journal text × Holds buffer count text
+
+abbrev pub LacksTotals : List ℕ → ℕ → List ℕ → Type 0
+LacksTotals buffer count journal = (text : List ℕ) × IsTotalPage journal text × Lacks buffer count text

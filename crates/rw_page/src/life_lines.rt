@@ -1,0 +1,108 @@
+//! The lives of a run's handles as text.
+
+ghost use Rattle.std.specs.Prelude.{◌≡◌, ◌++◌, IfOk, OnOk, length};
+ghost use Rattle.rw_page.specs.LifeLines.{AreLifeTexts, IsLifePage, IsLifeText, caller_words, callers_words, kind_word, life_line, life_lines};
+ghost use Rattle.rw_page.specs.PeakLines.{Appended};
+
+use crate::lines::{push_number_or_dash, push_with_number};
+use crate::pages::fault_page;
+use rw_findings::{Life, lives_of};
+use rw_handles::Kind;
+use rw_journal::Run;
+use rw_law::NoMemory;
+use rw_text::TextFault;
+use std::alloc::{AllocError, Global};
+
+fn kind_word(kind: Kind) -> &'static [u8]
+    ensures { result.now ≡ kind_word kind }
+{
+    match kind {
+        Kind::Sender => b" sender",
+        Kind::Receiver => b" receiver",
+        Kind::Weak => b" weak-sender",
+    }
+}
+
+/// Appends an actor and how many calls it made, if it made any.
+fn push_caller(out: &mut Vec<u8>, actor: u64, calls: u64) -> Result<(), AllocError>
+    ensures { OnOk result (out.new.items ≡ out.old.items ++ caller_words actor calls) }
+{
+    if 0 < calls {
+        push_with_number(out, b" ", actor)?;
+        push_with_number(out, b" ", calls)?;
+    }
+    Ok(())
+}
+
+/// Appends all actors that made calls.
+fn push_callers(out: &mut Vec<u8>, calls: &[u64]) -> Result<(), AllocError>
+    ensures { OnOk result (out.new.items ≡ out.old.items ++ callers_words calls.now (length calls.now)) }
+{
+    'each_actor: for actor in 0..calls.len() {
+        push_caller(out, actor as u64, calls[actor])?;
+    }
+    Ok(())
+}
+
+/// Appends the line of a handle.
+#[tactic(auto, unfolding(crate::specs::LifeLines::life_line))]
+fn push_life(out: &mut Vec<u8>, channel: u64, handle: u64, life: &Life) -> Result<(), AllocError>
+    ensures { OnOk result (out.new.items ≡ out.old.items ++ life_line channel handle life.now) }
+{
+    push_with_number(out, b"handle ", channel)?;
+    push_with_number(out, b" ", handle)?;
+    out.extend_from_slice(kind_word(life.kind()))?;
+    push_with_number(out, b" ", life.made())?;
+    push_number_or_dash(out, life.maker().map(u64::from))?;
+    push_number_or_dash(out, life.dropped())?;
+    push_callers(out, life.calls())?;
+    out.extend_from_slice(b"\n")
+}
+
+/// Appends a line for each handle of a channel.
+fn push_lives(out: &mut Vec<u8>, channel: u64, lives: &[Life]) -> Result<(), AllocError>
+    ensures { OnOk result (out.new.items ≡ out.old.items ++ life_lines channel lives.now (length lives.now)) }
+{
+    'each_handle: for handle in 0..lives.len() {
+        push_life(out, channel, handle as u64, &lives[handle])?;
+    }
+    Ok(())
+}
+
+/// Appends the lives of the handles of a channel.
+fn push_channel(
+    alloc: Global,
+    out: &mut Vec<u8>,
+    run: &Run<u64>,
+    channel: u32,
+) -> Result<(), NoMemory>
+    ensures { OnOk result (Appended out.old.items out.new.items (IsLifeText run.now channel)) }
+{
+    let lives = lives_of(alloc, run, channel)?;
+    push_lives(out, u64::from(channel), &lives)?;
+    Ok(())
+}
+
+/// Appends the lives of the handles of all channels.
+fn push_channels(alloc: Global, out: &mut Vec<u8>, run: &Run<u64>) -> Result<(), NoMemory>
+    ensures { OnOk result (Appended out.old.items out.new.items (AreLifeTexts run.now (length run.now.specs))) }
+{
+    'each_channel: for channel in 0..run.specs().len() {
+        push_channel(alloc, out, run, channel as u32)?;
+    }
+    Ok(())
+}
+
+/// Returns a line for each handle of a run, or its journal text's first fault.
+pub fn lives_page(alloc: Global, journal: &[u8]) -> Result<Vec<u8>, NoMemory>
+    ensures { IfOk result (λ text. IsLifePage journal.now text.items) }
+{
+    let run = match rw_text::read::<u64>(alloc, journal) {
+        Ok(run) => run,
+        Err(TextFault::NoMemory) => return Err(NoMemory),
+        Err(fault) => return fault_page(alloc, fault),
+    };
+    let mut text = Vec::new(alloc);
+    push_channels(alloc, &mut text, &run)?;
+    Ok(text)
+}

@@ -1,0 +1,96 @@
+//! The totals of a run as text.
+
+ghost use Rattle.std.specs.Prelude.{◌≡◌, ◌++◌, IfOk, OnOk};
+ghost use Rattle.std.specs.List.{flat_map};
+ghost use Rattle.rw_page.specs.TotalLines.{IsTotalPage, broadcast_line, receiver_words, totals_line, watch_line};
+
+use crate::lines::{push_number_or_dash, push_with_number};
+use crate::pages::fault_page;
+use rw_findings::{BroadcastCounts, Counts, Totals, WatchCounts, totals_of};
+use rw_law::NoMemory;
+use rw_text::TextFault;
+use std::alloc::{AllocError, Global};
+
+/// Appends a receiver, with the kind of its channel.
+fn push_receiver(
+    out: &mut Vec<u8>,
+    kind: &[u8],
+    channel: u32,
+    receiver: u32,
+) -> Result<(), AllocError>
+    ensures { OnOk result (out.new.items ≡ out.old.items ++ receiver_words kind.now channel receiver) }
+{
+    push_with_number(out, kind, u64::from(channel))?;
+    push_with_number(out, b" ", u64::from(receiver))
+}
+
+/// Appends the line of a broadcast's receiver.
+#[tactic(auto, unfolding(crate::specs::TotalLines::broadcast_line))]
+fn push_broadcast(
+    out: &mut Vec<u8>,
+    channel: u32,
+    receiver: u32,
+    counts: BroadcastCounts,
+) -> Result<(), AllocError>
+    ensures { OnOk result (out.new.items ≡ out.old.items ++ broadcast_line channel receiver counts) }
+{
+    push_receiver(out, b"broadcast ", channel, receiver)?;
+    push_with_number(out, b" ", counts.received)?;
+    push_with_number(out, b" ", counts.told)?;
+    push_with_number(out, b" ", counts.lost)?;
+    push_with_number(out, b" ", counts.worst)?;
+    push_with_number(out, b" ", counts.worst_place)?;
+    push_number_or_dash(out, counts.unread)?;
+    out.extend_from_slice(b"\n")
+}
+
+/// Appends the line of a watch's receiver.
+#[tactic(auto, unfolding(crate::specs::TotalLines::watch_line))]
+fn push_watch(
+    out: &mut Vec<u8>,
+    channel: u32,
+    receiver: u32,
+    counts: WatchCounts,
+) -> Result<(), AllocError>
+    ensures { OnOk result (out.new.items ≡ out.old.items ++ watch_line channel receiver counts) }
+{
+    push_receiver(out, b"watch ", channel, receiver)?;
+    push_with_number(out, b" ", counts.changes)?;
+    push_with_number(out, b" ", counts.missed)?;
+    out.extend_from_slice(b"\n")
+}
+
+/// Appends the line of a receiver.
+fn push_one(out: &mut Vec<u8>, totals: &Totals) -> Result<(), AllocError>
+    ensures { OnOk result (out.new.items ≡ out.old.items ++ totals_line totals.now) }
+{
+    match totals.counts {
+        Counts::Broadcast(counts) => push_broadcast(out, totals.channel, totals.receiver, counts),
+        Counts::Watch(counts) => push_watch(out, totals.channel, totals.receiver, counts),
+    }
+}
+
+/// Appends a line for each receiver.
+fn push_totals(out: &mut Vec<u8>, totals: &[Totals]) -> Result<(), AllocError>
+    ensures { OnOk result (out.new.items ≡ out.old.items ++ flat_map totals_line totals.now) }
+{
+    for one in totals {
+        push_one(out, one)?;
+    }
+    Ok(())
+}
+
+/// Returns a line for each receiver of a run with its totals, or the journal text's first fault.
+pub fn totals_page(alloc: Global, journal: &[u8]) -> Result<Vec<u8>, NoMemory>
+    ensures { IfOk result (λ text. IsTotalPage journal.now text.items) }
+{
+    let run = match rw_text::read::<u64>(alloc, journal) {
+        Ok(run) => run,
+        Err(TextFault::NoMemory) => return Err(NoMemory),
+        Err(fault) => return fault_page(alloc, fault),
+    };
+    let totals = totals_of(alloc, &run)?;
+    let mut text = Vec::new(alloc);
+    push_totals(&mut text, &totals)?;
+    Ok(text)
+}

@@ -1,0 +1,120 @@
+//! The peaks of runs by stretches of places.
+
+use crate::plain::same;
+use crate::texts::rows::{OVERRUN, run_of};
+use rw_findings::{Measure, Stretches, peaks_of};
+use rw_journal::Run;
+use rw_law::NoMemory;
+use std::alloc::Global;
+use std::test::Fail;
+
+/// A run's peaks: what it is about, its script, what is measured in which stretches, and the peaks of receiver 1 of channel 0.
+struct Peaked {
+    name: &'static str,
+    script: &'static [u8],
+    measure: Measure,
+    stretches: Stretches,
+    peaks: &'static [u64],
+}
+
+/// Receiver 1 of the first script lags by 1 at place 3 alone. It has 0, 1, 2, 3, 2, 1, 0 and 0 values to receive at its places.
+static ROWS: [Peaked; 6] = [
+    Peaked {
+        name: "lag_in_halves",
+        script: OVERRUN,
+        measure: Measure::Lag,
+        stretches: Stretches {
+            from: 0,
+            each: 2,
+            count: 4,
+        },
+        peaks: &[0, 1, 0, 0],
+    },
+    Peaked {
+        name: "unread",
+        script: OVERRUN,
+        measure: Measure::Unread,
+        stretches: Stretches {
+            from: 0,
+            each: 2,
+            count: 4,
+        },
+        peaks: &[1, 3, 2, 0],
+    },
+    Peaked {
+        name: "past_the_last_place",
+        script: OVERRUN,
+        measure: Measure::Unread,
+        stretches: Stretches {
+            from: 1,
+            each: 3,
+            count: 4,
+        },
+        peaks: &[3, 2, 0, 0],
+    },
+    Peaked {
+        name: "from_the_last_place",
+        script: OVERRUN,
+        measure: Measure::Lag,
+        stretches: Stretches {
+            from: 8,
+            each: 1,
+            count: 1,
+        },
+        peaks: &[0],
+    },
+    Peaked {
+        name: "dropped_while_it_lags",
+        script: b"broadcast 1\n0 0 send 0 1\n0 0 send 0 2\n0 0 send 0 3\n0 0 drop 1\n",
+        measure: Measure::Lag,
+        stretches: Stretches {
+            from: 0,
+            each: 5,
+            count: 1,
+        },
+        peaks: &[2],
+    },
+    Peaked {
+        name: "unseen",
+        script: b"watch 5\n0 0 send 0 6\n0 0 changed 1\n0 0 send 0 7\n0 0 drop 1\n",
+        measure: Measure::Unseen,
+        stretches: Stretches {
+            from: 0,
+            each: 1,
+            count: 5,
+        },
+        peaks: &[0, 1, 0, 1, 0],
+    },
+];
+
+/// Returns the peaks of receiver 1 of a run's channel 0, with those that are 0. The run is dropped.
+fn found_in<V: Copy>(
+    alloc: Global,
+    run: Run<V>,
+    measure: Measure,
+    stretches: Stretches,
+) -> Result<Vec<u64>, NoMemory> {
+    let peaks = peaks_of(alloc, &run, 0, measure, stretches);
+    drop(run);
+    let peaks = peaks?;
+    let mut found = Vec::new(alloc);
+    for stretch in 0..stretches.count {
+        found.push(*peaks.row(1).get(stretch as usize).unwrap_or(&0))?;
+    }
+    Ok(found)
+}
+
+#[test]
+fn peaks_are_found(rt: HostRuntime) -> Result<(), Fail> {
+    for row in &ROWS {
+        let found = found_in(
+            rt.alloc(),
+            run_of(rt.alloc(), row.script)?,
+            row.measure,
+            row.stretches,
+        )?;
+        same(&rt, &row.name, &found.as_slice(), &row.peaks);
+        drop(found);
+    }
+    Ok(())
+}

@@ -1,0 +1,184 @@
+//! The totals of runs.
+
+use crate::plain::same;
+use crate::texts::rows::{OVERRUN, run_of};
+use rw_findings::{BroadcastCounts, Counts, Totals, WatchCounts, totals_of};
+use rw_journal::Run;
+use rw_law::NoMemory;
+use std::alloc::Global;
+use std::test::Fail;
+
+/// A script for each row: what it is about, its lines, and the totals of its run.
+static ROWS: [(&str, &[u8], &[Totals]); 8] = [
+    (
+        "told_once",
+        OVERRUN,
+        &[Totals {
+            channel: 0,
+            receiver: 1,
+            counts: Counts::Broadcast(BroadcastCounts {
+                received: 2,
+                told: 1,
+                lost: 1,
+                worst: 1,
+                worst_place: 3,
+                unread: Some(0),
+            }),
+        }],
+    ),
+    (
+        "empty_tells_nobody",
+        b"broadcast 4\n0 0 try-recv 1\n0 0 send 0 1\n0 0 send 0 2\n0 0 try-recv 1\n",
+        &[Totals {
+            channel: 0,
+            receiver: 1,
+            counts: Counts::Broadcast(BroadcastCounts {
+                received: 1,
+                told: 0,
+                lost: 0,
+                worst: 0,
+                worst_place: 0,
+                unread: Some(1),
+            }),
+        }],
+    ),
+    (
+        "dropped_while_it_lags",
+        b"broadcast 1\n0 0 send 0 1\n0 0 send 0 2\n0 0 send 0 3\n0 0 drop 1\n0 0 subscribe 0\n",
+        &[
+            Totals {
+                channel: 0,
+                receiver: 1,
+                counts: Counts::Broadcast(BroadcastCounts {
+                    received: 0,
+                    told: 0,
+                    lost: 2,
+                    worst: 2,
+                    worst_place: 3,
+                    unread: None,
+                }),
+            },
+            Totals {
+                channel: 0,
+                receiver: 2,
+                counts: Counts::Broadcast(BroadcastCounts {
+                    received: 0,
+                    told: 0,
+                    lost: 0,
+                    worst: 0,
+                    worst_place: 0,
+                    unread: Some(0),
+                }),
+            },
+        ],
+    ),
+    (
+        "the_first_of_two_equal_lags",
+        b"broadcast 1\n0 0 send 0 1\n0 0 send 0 2\n0 0 try-recv 1\n0 0 send 0 3\n0 0 try-recv 1\n0 0 try-recv 1\n",
+        &[Totals {
+            channel: 0,
+            receiver: 1,
+            counts: Counts::Broadcast(BroadcastCounts {
+                received: 1,
+                told: 2,
+                lost: 2,
+                worst: 1,
+                worst_place: 2,
+                unread: Some(0),
+            }),
+        }],
+    ),
+    (
+        "lags_at_the_end",
+        b"broadcast 2\n0 0 send 0 1\n0 0 send 0 2\n0 0 send 0 3\n0 0 send 0 4\n0 0 send 0 5\n0 0 receiver-len 1\n",
+        &[Totals {
+            channel: 0,
+            receiver: 1,
+            counts: Counts::Broadcast(BroadcastCounts {
+                received: 0,
+                told: 0,
+                lost: 3,
+                worst: 3,
+                worst_place: 5,
+                unread: Some(5),
+            }),
+        }],
+    ),
+    (
+        "changes_between_looks",
+        b"watch 4\n0 0 send 0 5\n0 0 send 0 6\n0 0 changed 1\n0 0 send 0 7\n0 0 update 1\n0 0 send 0 8\n0 0 send 0 9\n",
+        &[Totals {
+            channel: 0,
+            receiver: 1,
+            counts: Counts::Watch(WatchCounts {
+                changes: 1,
+                missed: 3,
+            }),
+        }],
+    ),
+    (
+        "looked_at_twice",
+        b"watch 4\n0 0 send 0 5\n0 0 changed 1\n0 0 mark-changed 1\n0 0 changed 1\n0 0 send 0 6\n0 0 clone-receiver 1\n0 0 drop 1\n0 0 send 0 7\n0 0 send 0 8\n",
+        &[
+            Totals {
+                channel: 0,
+                receiver: 1,
+                counts: Counts::Watch(WatchCounts {
+                    changes: 2,
+                    missed: 1,
+                }),
+            },
+            Totals {
+                channel: 0,
+                receiver: 2,
+                counts: Counts::Watch(WatchCounts {
+                    changes: 0,
+                    missed: 2,
+                }),
+            },
+        ],
+    ),
+    (
+        "two_channels",
+        b"broadcast 1\nwatch 4\n0 1 send 0 5\n0 0 send 0 1\n0 0 send 0 2\n0 1 changed 1\n",
+        &[
+            Totals {
+                channel: 0,
+                receiver: 1,
+                counts: Counts::Broadcast(BroadcastCounts {
+                    received: 0,
+                    told: 0,
+                    lost: 1,
+                    worst: 1,
+                    worst_place: 3,
+                    unread: Some(2),
+                }),
+            },
+            Totals {
+                channel: 1,
+                receiver: 1,
+                counts: Counts::Watch(WatchCounts {
+                    changes: 1,
+                    missed: 0,
+                }),
+            },
+        ],
+    ),
+];
+
+/// Returns the totals of a run, which is dropped.
+fn totals_in<V: Copy>(alloc: Global, run: Run<V>) -> Result<Vec<Totals>, NoMemory> {
+    let totals = totals_of(alloc, &run);
+    drop(run);
+    totals
+}
+
+#[test]
+fn totals_are_counted(rt: HostRuntime) -> Result<(), Fail> {
+    for (name, script, told) in &ROWS {
+        let totals = totals_in(rt.alloc(), run_of(rt.alloc(), script)?)?;
+        same(&rt, name, &totals.as_slice(), told);
+        drop(totals);
+    }
+    Ok(())
+}

@@ -1,0 +1,117 @@
+//! Machines as they are opened, and what is compared of one before and after a refusal.
+
+use rw_broadcast::Broadcast;
+use rw_law::{NoMemory, Reversible};
+use rw_watch::Watch;
+use rw_world::{Chan, Spec, World, open};
+use std::alloc::Global;
+use std::fmt::Debug;
+
+/// The specs of the worlds that are played.
+pub const SPECS: [Spec<u64>; 2] = [Spec::Broadcast(2), Spec::Watch(7)];
+
+/// A machine that can be compared before and after a refusal.
+pub trait Shows: Reversible {
+    type Readings: Copy + PartialEq + Debug;
+
+    /// Opens the machine that is played.
+    fn open(alloc: Global) -> Result<Self, NoMemory>;
+
+    fn readings(&self) -> Self::Readings;
+}
+
+/// What is compared of a channel: its handles, its sends or notified changes, its oldest retained value or its value, and how many values
+/// receiver 1 has yet to receive, or that it has yet to see one.
+#[derive(Clone, Copy, Debug, PartialEq)]
+pub struct ChannelReadings {
+    made: u32,
+    count: u64,
+    value: Option<u64>,
+    unread: Option<u64>,
+}
+
+/// What is compared of a world of two channels.
+pub type WorldReadings = [Option<ChannelReadings>; 2];
+
+/// A broadcast that retains two values.
+impl Shows for Broadcast<u64> {
+    type Readings = ChannelReadings;
+
+    fn open(alloc: Global) -> Result<Broadcast<u64>, NoMemory> {
+        match Broadcast::open(alloc, 2) {
+            Ok(machine) => Ok(machine),
+            Err(_) => Err(NoMemory),
+        }
+    }
+
+    fn readings(&self) -> ChannelReadings {
+        of_broadcast(self)
+    }
+}
+
+/// A watch of 7.
+impl Shows for Watch<u64> {
+    type Readings = ChannelReadings;
+
+    fn open(alloc: Global) -> Result<Watch<u64>, NoMemory> {
+        Watch::open(alloc, 7)
+    }
+
+    fn readings(&self) -> ChannelReadings {
+        of_watch(self)
+    }
+}
+
+/// A world of both.
+impl Shows for World<u64> {
+    type Readings = WorldReadings;
+
+    fn open(alloc: Global) -> Result<World<u64>, NoMemory> {
+        match open(alloc, &SPECS) {
+            Ok(world) => Ok(world),
+            Err(_) => Err(NoMemory),
+        }
+    }
+
+    fn readings(&self) -> WorldReadings {
+        of_world(self)
+    }
+}
+
+fn of_broadcast(machine: &Broadcast<u64>) -> ChannelReadings {
+    ChannelReadings {
+        made: machine.made(),
+        count: machine.sent(),
+        value: machine.window(0),
+        unread: machine.unread(1),
+    }
+}
+
+fn of_watch(machine: &Watch<u64>) -> ChannelReadings {
+    ChannelReadings {
+        made: machine.made(),
+        count: machine.version(),
+        value: Some(machine.value()),
+        unread: machine.is_seen(1).map(|seen| u64::from(!seen)),
+    }
+}
+
+fn of_channel(channel: Option<&Chan<u64>>) -> Option<ChannelReadings> {
+    match channel? {
+        Chan::Broadcast(machine) => Some(of_broadcast(machine)),
+        Chan::Watch(machine) => Some(of_watch(machine)),
+    }
+}
+
+/// Returns what is compared of a world. No bound is on a world here, so that a caller's proof has no instance to put together.
+pub fn of_world(world: &World<u64>) -> WorldReadings {
+    [of_channel(world.channel(0)), of_channel(world.channel(1))]
+}
+
+/// Returns how many handles a channel made, and how many values were sent or changes notified.
+pub fn counted<V: Copy>(channel: &Chan<V>) -> (u32, u64) {
+    match channel {
+        Chan::Broadcast(machine) => (machine.made(), machine.sent()),
+        Chan::Watch(machine) => (machine.made(), machine.version()),
+    }
+}

@@ -1,0 +1,88 @@
+// Moves by losses. Each is a jump, with the loss chosen that it leads to.
+
+export class LossMoves {
+  constructor(walk) {
+    this.walk = walk;
+    this.losses = walk.losses;
+  }
+
+  // To the next place where a loss begins or ends, or to the last one before. From far, it comes near.
+  next(isBack) {
+    const { view, screen, searching } = this.walk;
+    searching.stop();
+    const isFar = view.width === view.lastColumn && !screen.frame.isNear;
+    const place = this.losses.next(isBack);
+    if (place !== null) this.show(this.losses.chosen, place, isFar);
+  }
+
+  // To a place with a loss chosen, whose row scrolls in. `isAll` brings all of it into view.
+  show(loss, place, isAll = false) {
+    const { walk, losses } = this;
+    walk.step(() => {
+      losses.chosen = loss;
+      if (isAll) losses.show(loss, walk.screen.isNarrow);
+      walk.go(place);
+    });
+    this.reveal(loss.channel, loss.receiver);
+  }
+
+  reveal(channel, receiver) {
+    this.walk.screen.reveal(channel, receiver);
+    this.walk.redraw();
+  }
+
+  // The place where a loss ends, or the last one.
+  endOf(loss) {
+    return Math.min(loss.to, this.walk.run.lastPlace);
+  }
+
+  toCause() {
+    const loss = this.losses.current;
+    if (loss) this.show(loss, loss.from);
+  }
+
+  toEnd() {
+    const loss = this.losses.current;
+    if (loss) this.show(loss, this.endOf(loss));
+  }
+
+  // To a place that the card of the loss at this place names.
+  to(place) {
+    this.losses.chosen = this.losses.current;
+    this.walk.jumpTo(place);
+  }
+
+  // To the next receiver that lags at the place.
+  turn() {
+    this.losses.turn();
+    const loss = this.losses.current;
+    if (loss) this.show(loss, this.walk.view.place);
+  }
+
+  // To the worst loss of a receiver, or to its last call if it lost nothing.
+  toReceiver(channel, receiver) {
+    const { walk } = this;
+    const found = walk.table.find(channel, receiver);
+    if (found === undefined) return;
+    const { worst, life } = found;
+    walk.searching.stop();
+    if (worst) return this.show(worst, this.endOf(worst), true);
+    walk.jumpTo(life.last);
+    this.reveal(channel, receiver);
+  }
+
+  // Shows all values of the loss in its card.
+  showAll() {
+    this.losses.isAll = true;
+    this.walk.telling.describe();
+  }
+
+  // Unfolds the table of receivers, or folds it. The strip is lower below it.
+  turnTable() {
+    const { table, screen } = this.walk;
+    table.turn();
+    screen.resize();
+    table.draw();
+    this.walk.show();
+  }
+}

@@ -1,0 +1,121 @@
+// The losses of a run, by receiver and by place.
+
+import { Overlaps } from "./overlaps.js";
+import { countUpTo } from "./values.js";
+
+export class Losses {
+  /** @param {Loss[]} all in the order of the places where they begin */
+  constructor(run, all) {
+    this.run = run;
+    this.all = all;
+    this.overlaps = new Overlaps(all);
+    this.byChannel = sorted(all, run.channels.length);
+    this.byLives = new WeakMap();
+    this.stops = Uint32Array.from(new Set(all.flatMap(({ from, end, to }) => (end === "open" ? [from] : [from, to])))).sort();
+    this.byReceiver = run.channels.map(() => new Map());
+    // How many values each channel's receivers lost, and of how many of them nobody was told.
+    this.sums = run.channels.map(() => ({ lost: 0, untold: 0 }));
+    for (const loss of all) {
+      if (!run.isBeginning) this.count(loss);
+      const those = this.byReceiver[loss.channel].get(loss.receiver);
+      if (those) those.push(loss);
+      else this.byReceiver[loss.channel].set(loss.receiver, [loss]);
+    }
+  }
+
+  count({ channel, lost, end }) {
+    this.sums[channel].lost += lost;
+    if (end !== "told") this.sums[channel].untold += lost;
+  }
+
+  /** @returns {Loss[]} */
+  of(channel, receiver) {
+    return this.byReceiver[channel].get(receiver) ?? [];
+  }
+
+  // All losses of a channel, in the order in which they begin.
+  /** @returns {Loss[]} */
+  on(channel) {
+    return this.byChannel[channel];
+  }
+
+  // All losses of the receivers in a row, in the order in which they begin: the same array each time.
+  /** @returns {Loss[]} */
+  along(channel, lives) {
+    if (!this.byLives.has(lives)) this.byLives.set(lives, lives.flatMap(life => this.of(channel, life.handle)));
+    return this.byLives.get(lives);
+  }
+
+  // The losses that a place is in, or that end there, by channel and receiver.
+  /** @returns {Loss[]} */
+  at(place) {
+    return this.between(place, place).sort((a, b) => a.channel - b.channel || a.receiver - b.receiver);
+  }
+
+  // Of each receiver the last loss that begins up to `last`, if it ends at `first` or later.
+  between(first, last) {
+    return this.overlaps.between(first, last).filter(loss => {
+      const those = this.of(loss.channel, loss.receiver);
+      return those[lastFrom(those, last)] === loss;
+    });
+  }
+
+  // The channels whose receivers lost values.
+  get channels() {
+    return [...this.run.channels.keys()].filter(channel => this.byChannel[channel].length > 0);
+  }
+
+  // Returns the nearest place where a loss begins or ends, after a place or before it, or null.
+  next(place, isBack) {
+    const index = isBack ? countUpTo(this.stops, place - 1) - 1 : countUpTo(this.stops, place);
+    return this.stops[index] ?? null;
+  }
+
+  // The number of the first value that a loss lost, once the channel's values are loaded, as for all that follows: the one that was overwritten
+  // where the loss begins.
+  firstOf({ channel, from }) {
+    return this.run.values.overwrittenUpTo(channel, from) - 1;
+  }
+
+  // How many of a loss's values are overwritten at a place.
+  lostAt(loss, place) {
+    const { channel, lost } = loss;
+    return Math.min(lost, this.run.values.overwrittenUpTo(channel, place) - this.firstOf(loss));
+  }
+
+  // The losses of other receivers that lost some of the same values: they lag where one of these values is overwritten.
+  /** @returns {Loss[]} */
+  sharing(loss) {
+    const last = this.run.values.overwritten(loss.channel)[this.firstOf(loss) + loss.lost - 1];
+    return this.between(loss.from + 1, last).filter(it => it.channel === loss.channel && it.receiver !== loss.receiver);
+  }
+
+  // The texts of this many of a loss's values, with the places where they were sent and overwritten.
+  valuesOf(loss, most) {
+    const { values } = this.run;
+    const first = this.firstOf(loss);
+    return Array.from({ length: Math.min(most, loss.lost) }, (_, i) => ({
+      text: values.text(loss.channel, first + i), sent: values.sendOf(loss.channel, first + i),
+      overwritten: values.overwritten(loss.channel)[first + i],
+    }));
+  }
+}
+
+// Sorts losses by their channels.
+function sorted(losses, count) {
+  const made = Array.from({ length: count }, () => []);
+  for (const loss of losses) made[loss.channel].push(loss);
+  return made;
+}
+
+// The index of the last loss that begins at a place or before it. A receiver's losses don't overlap, but one may begin where another ends.
+function lastFrom(losses, place) {
+  let least = 0;
+  let end = losses.length;
+  while (least < end) {
+    const middle = (least + end) >> 1;
+    if (losses[middle].from <= place) least = middle + 1;
+    else end = middle;
+  }
+  return least - 1;
+}

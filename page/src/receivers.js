@@ -1,0 +1,61 @@
+// What became of each receiver over the whole run: what it received, what it lost, and how it stands at the end.
+
+import { grouped } from "./numbers.js";
+import { visible } from "./text.js";
+import { versionOf } from "./versions.js";
+
+function sumOf(losses) {
+  return losses.reduce((sum, { lost }) => sum + lost, 0);
+}
+
+// Where a receiver was told that its channel is closed, or that it was made after the closing, or null.
+function closedFor(run, channel, life) {
+  const closing = run.closings.places[channel];
+  if (closing === null) return null;
+  if (life.from > closing) return "made after the closing";
+  const told = run.closings.told[channel].get(life.handle);
+  return told === null ? null : `told closed at ${grouped(told)}`;
+}
+
+// How a receiver stands at the end, in few words. `state` is its state there, unless it was dropped.
+function endingOf(run, channel, life, state) {
+  const { waiting } = run.names;
+  const waits = waiting.find(it => it.channel === channel && it.handle === life.handle);
+  if (life.to <= run.lastPlace) return `dropped at ${grouped(life.to)}`;
+  if (waits) return `waits in ${visible(waits.call)} since ${grouped(run.placeOf(waits.since))}`;
+  const closed = closedFor(run, channel, life);
+  if (closed !== null) return closed;
+  if (state.seen !== undefined) return versionOf(run.ending.channels[channel], state);
+  return state.unread > 0 ? "open, behind" : "open";
+}
+
+// What a receiver of a broadcast has to show in numbers. What it can still read aren't the values of a loss that is open.
+function numbersOf(losses, { received, lost, worst, worstPlace, unread }) {
+  const never = sumOf(losses.filter(({ end }) => end !== "told"));
+  const open = sumOf(losses.filter(({ end }) => end === "open"));
+  return {
+    received, lost, told: lost - never, never, greatest: worst, rest: unread === null ? null : unread - open,
+    worst: losses.find(({ from, to }) => from <= worstPlace && worstPlace < to) ?? null,
+  };
+}
+
+// As many that a receiver of a watch doesn't have.
+const NONE = { received: null, lost: null, told: null, never: null, greatest: null, rest: null, worst: null };
+
+function receiverOf(run, { channel, receiver, counts }, state) {
+  const life = run.lifeOf(channel, receiver);
+  return {
+    channel, life, name: run.names.channel(channel),
+    get title() {
+      return run.titleOf(channel, receiver);
+    },
+    ...(counts ? numbersOf(run.losses.of(channel, receiver), counts) : NONE),
+    ending: endingOf(run, channel, life, state),
+  };
+}
+
+// Returns every receiver that the run's channels had, by channel, and then by its number.
+export function receiversOf(run) {
+  const states = run.ending.channels.map(({ receivers }) => new Map(receivers.map(state => [state.handle, state])));
+  return run.totals.map(totals => receiverOf(run, totals, states[totals.channel].get(totals.receiver)));
+}

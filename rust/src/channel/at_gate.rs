@@ -1,0 +1,87 @@
+//! The calls of a channel before the gate of a replay. Without a replay they pass at once.
+
+use super::{CallSite, LockedChannel, RecordedChannel};
+use crate::replay::Coming;
+use crate::replay::{Gate, Permit, Ticket, Word};
+use std::task::{Context, Poll};
+
+impl RecordedChannel {
+    /// Returns the gate before which this call waits, if there is one, with the call as it comes there.
+    fn at_gate(&self, handle: u32, word: Word, called_at: CallSite) -> Option<(&Gate, Coming)> {
+        let replayed = self.replayed.as_ref()?;
+        replayed.at_gate(handle, word, self.recorder.actor(called_at), called_at)
+    }
+
+    /// As [`pass`](RecordedChannel::pass), in a replay.
+    #[cold]
+    fn pass_gate(&self, handle: u32, word: Word, called_at: CallSite) -> Permit<'_> {
+        match self.at_gate(handle, word, called_at) {
+            Some((gate, coming)) => gate.pass(coming),
+            None => Permit::free(),
+        }
+    }
+
+    /// As [`poll_pass`](RecordedChannel::poll_pass), in a replay.
+    #[cold]
+    fn poll_gate(
+        &self,
+        handle: u32,
+        word: Word,
+        called_at: CallSite,
+        ticket: &mut Option<Ticket>,
+        context: &Context<'_>,
+    ) -> Poll<Permit<'_>> {
+        match self.at_gate(handle, word, called_at) {
+            Some((gate, coming)) => gate.poll(coming, ticket, context),
+            None => Poll::Ready(Permit::free()),
+        }
+    }
+
+    /// Blocks until the turn of a call by the handle with this number, which is made here in the source. It is called before any lock is
+    /// acquired, that of a watch's value too.
+    #[inline]
+    pub(crate) fn pass(&self, handle: u32, word: Word, called_at: CallSite) -> Permit<'_> {
+        match self.replayed {
+            Some(_) => self.pass_gate(handle, word, called_at),
+            None => Permit::free(),
+        }
+    }
+
+    /// Blocks until the turn of the first call that a closure which changes a watch makes, or of the change if it makes none. The change itself
+    /// then waits for its own turn.
+    pub(crate) fn pass_to_modify(&self, handle: u32, called_at: CallSite) {
+        if let Some((gate, coming)) = self.at_gate(handle, Word::Modify, called_at) {
+            gate.pass_to_modify(coming);
+        }
+    }
+
+    /// Polls a call that waits: it is pending until its turn. The caller holds the ticket between polls, and leaves by it if there is no further
+    /// one.
+    #[inline]
+    pub(crate) fn poll_pass(
+        &self,
+        handle: u32,
+        word: Word,
+        called_at: CallSite,
+        ticket: &mut Option<Ticket>,
+        context: &Context<'_>,
+    ) -> Poll<Permit<'_>> {
+        match self.replayed {
+            Some(_) => self.poll_gate(handle, word, called_at, ticket, context),
+            None => Poll::Ready(Permit::free()),
+        }
+    }
+
+    /// Leaves the gate, if a future waits there by this ticket.
+    pub(crate) fn leave_gate(&self, ticket: &mut Option<Ticket>) {
+        if let (Some(replayed), Some(ticket)) = (&self.replayed, ticket.take()) {
+            replayed.leave(ticket);
+        }
+    }
+
+    /// Locks the channel for calls that no replay orders, since they leave no entry.
+    #[inline]
+    pub(crate) fn lock_unordered(&self, handle: u32, called_at: CallSite) -> LockedChannel<'_> {
+        self.lock_with(Permit::free(), handle, called_at)
+    }
+}

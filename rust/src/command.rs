@@ -1,0 +1,261 @@
+//! The command `yovanelum`: `why` prints the report on a journal, and `open` writes the page with the run inside.
+//!
+//! It is in the library since it uses parts of it that no other program may.
+
+use crate::findings::{Findings, Loss, LossEnd, TextFault};
+use crate::names::Names;
+use crate::report::{self, Report, page};
+use std::ffi::OsString;
+use std::fmt::Write as _;
+use std::fs::{self, File};
+use std::io::{self, IsTerminal, Read, Write};
+use std::path::{Path, PathBuf};
+
+const USAGE: &str = "\
+Usage: yovanelum why JOURNAL [--json]
+       yovanelum open JOURNAL
+
+why    prints which values were lost in the run of a journal, by whom and where
+       --json   prints the losses as a list of objects
+open   writes the page with the run inside beside the journal, and prints its name
+
+Names are read from the file NAME.names beside NAME.journal.
+";
+
+/// How many bytes a journal has at most, as for `ttd`.
+const MOST_BYTES: u64 = 268_435_456;
+
+/// What the command line asks for.
+enum Verb {
+    Why { as_json: bool },
+    Open,
+    Help,
+}
+
+/// Why the command ends before its work is done. Each is one line.
+enum Fault {
+    /// The journal is refused. The line is on standard output, as that of `ttd check`.
+    Refused(TextFault),
+    Usage(String),
+    Read(String),
+    Write(String),
+}
+
+impl Fault {
+    fn status(&self) -> u8 {
+        match self {
+            Fault::Refused(TextFault::NoMemory) => 5,
+            Fault::Refused(_) => 1,
+            Fault::Usage(_) => 2,
+            Fault::Read(_) | Fault::Write(_) => 4,
+        }
+    }
+}
+
+/// Runs the command with these words, and returns its status. `page` is the page without a run.
+#[doc(hidden)]
+pub fn command(
+    words: impl IntoIterator<Item = OsString>,
+    page: &[u8],
+    out: &mut (impl Write + IsTerminal),
+    told: &mut impl Write,
+) -> u8 {
+    let done = parsed(words).and_then(|(verb, path)| match verb {
+        Verb::Help => write_to(out, USAGE),
+        Verb::Why { as_json: true } => write_to(out, &json(&Journal::read(&path)?)?),
+        Verb::Why { as_json: false } => why(&Journal::read(&path)?, out, told),
+        Verb::Open => open(&Journal::read(&path)?, page, out, told),
+    });
+    let Err(fault) = done else { return 0 };
+    // A fault of a writer leaves no better way to say so than the status.
+    let _ = match &fault {
+        Fault::Refused(TextFault::NoMemory) => writeln!(told, "no memory"),
+        Fault::Refused(fault) => writeln!(out, "{fault}"),
+        Fault::Usage(line) => write!(told, "yovanelum: {line}\n\n{USAGE}"),
+        Fault::Read(line) => writeln!(told, "read fault: {line}"),
+        Fault::Write(line) => writeln!(told, "write fault: {line}"),
+    };
+    fault.status()
+}
+
+/// Reads the command line.
+fn parsed(words: impl IntoIterator<Item = OsString>) -> Result<(Verb, PathBuf), Fault> {
+    let usage = |line: &str| Err(Fault::Usage(line.to_string()));
+    let (mut as_json, mut names) = (false, vec![]);
+    for word in words {
+        match word.to_str() {
+            Some("--help" | "-h") => return Ok((Verb::Help, PathBuf::new())),
+            Some("--json") => as_json = true,
+            Some(flag) if flag.len() > 1 && flag.starts_with('-') => {
+                return usage(&format!("there is no option `{flag}`"));
+            }
+            _ => names.push(word),
+        }
+    }
+    let mut names = names.into_iter();
+    let Some(verb) = names.next() else {
+        return usage("a command is missing");
+    };
+    let verb = match (verb.to_str(), as_json) {
+        (Some("why"), as_json) => Verb::Why { as_json },
+        (Some("open"), false) => Verb::Open,
+        (Some("open"), true) => return usage("`--json` is an option of `why`"),
+        _ => return usage(&format!("there is no command `{}`", verb.to_string_lossy())),
+    };
+    match (names.next(), names.next()) {
+        (Some(path), None) => Ok((verb, path.into())),
+        (None, _) => usage("the journal is missing"),
+        (Some(_), Some(_)) => usage("give one journal"),
+    }
+}
+
+fn write_to(out: &mut impl Write, text: &str) -> Result<(), Fault> {
+    out.write_all(text.as_bytes())
+        .and_then(|()| out.flush())
+        .map_err(|error| Fault::Write(error.to_string()))
+}
+
+/// A journal's file, with the file of names beside it.
+struct Journal {
+    path: PathBuf,
+    text: Vec<u8>,
+    names: io::Result<String>,
+}
+
+impl Journal {
+    fn read(path: &Path) -> Result<Journal, Fault> {
+        let text = read_whole(path)
+            .map_err(|error| Fault::Read(format!("{}: {error}", path.display())))?;
+        Ok(Journal {
+            path: path.to_path_buf(),
+            text,
+            names: fs::read_to_string(path.with_extension("names")),
+        })
+    }
+
+    /// Returns the report. Names that can't be read are left out, and a line says so.
+    fn report(&self, told: &mut impl Write) -> Result<Report, Fault> {
+        let read = match &self.names {
+            Ok(text) => Names::read(text),
+            Err(error) if error.kind() == io::ErrorKind::NotFound => Ok(Names::default()),
+            Err(error) => Err(error.to_string()),
+        };
+        let names = read.unwrap_or_else(|fault| {
+            let path = self.path.with_extension("names");
+            let _ = writeln!(told, "yovanelum: {} is left out: {fault}", path.display());
+            Names::default()
+        });
+        let text = match std::str::from_utf8(&self.text) {
+            Ok(text) => text,
+            // Its fault is found in the bytes.
+            Err(_) => return Err(refusal(&self.text)),
+        };
+        Report::new(text, &names).map_err(Fault::Refused)
+    }
+
+    /// Returns the path of the page.
+    fn page(&self) -> PathBuf {
+        match self.path.extension() {
+            Some(extension) if extension == "journal" => self.path.with_extension("html"),
+            _ => {
+                let mut path = self.path.clone().into_os_string();
+                path.push(".html");
+                path.into()
+            }
+        }
+    }
+}
+
+/// Returns why a text that isn't even UTF-8 is refused.
+fn refusal(text: &[u8]) -> Fault {
+    Fault::Refused(Findings::of(text).err().unwrap_or(TextFault::Truncated))
+}
+
+/// Reads a file, unless it has too many bytes.
+fn read_whole(path: &Path) -> io::Result<Vec<u8>> {
+    let mut text = vec![];
+    let mut file = File::open(path)?.take(MOST_BYTES + 1);
+    match file.read_to_end(&mut text)? as u64 > MOST_BYTES {
+        true => Err(io::Error::other("it has more than 268,435,456 bytes")),
+        false => Ok(text),
+    }
+}
+
+/// Prints the report.
+fn why(
+    journal: &Journal,
+    out: &mut (impl Write + IsTerminal),
+    told: &mut impl Write,
+) -> Result<(), Fault> {
+    let report = journal.report(told)?;
+    let (page, place) = (journal.page(), report.place());
+    let look = match page.is_file() {
+        true => page::address(&absolute(&page), place),
+        false => format!(
+            "`yovanelum open {}`, at place {place}",
+            journal.path.display()
+        ),
+    };
+    let has_colours = report::has_colours(out);
+    write_to(out, &report.text(Some(look), has_colours))
+}
+
+/// Writes the page with the run inside, and prints its name.
+fn open(
+    journal: &Journal,
+    page: &[u8],
+    out: &mut impl Write,
+    told: &mut impl Write,
+) -> Result<(), Fault> {
+    let report = journal.report(told)?;
+    let name = journal.path.file_name().unwrap_or_default();
+    let names = journal.names.as_deref().ok().map(str::as_bytes);
+    let path = journal.page();
+    let written = page::with_run(page, &name.to_string_lossy(), &journal.text, names)
+        .ok_or_else(|| "the page has no place for a run".to_string())
+        .and_then(|page| fs::write(&path, page).map_err(|error| error.to_string()));
+    written.map_err(|fault| Fault::Write(format!("{}: {fault}", path.display())))?;
+    write_to(out, &format!("{}\n", path.display()))?;
+    // Beside the name, which a script may take.
+    let address = page::address(&absolute(&path), report.place());
+    let _ = writeln!(told, "look: {address}");
+    Ok(())
+}
+
+fn absolute(path: &Path) -> PathBuf {
+    std::path::absolute(path).unwrap_or_else(|_| path.to_path_buf())
+}
+
+/// Returns the losses as JSON: a list of objects, one on each line.
+fn json(journal: &Journal) -> Result<String, Fault> {
+    let losses = Findings::of(&journal.text).map_err(Fault::Refused)?.losses;
+    let objects: Vec<_> = losses.iter().map(object).collect();
+    Ok(match objects.is_empty() {
+        true => "[]\n".to_string(),
+        false => format!("[\n  {}\n]\n", objects.join(",\n  ")),
+    })
+}
+
+fn object(loss: &Loss) -> String {
+    let Loss {
+        channel,
+        receiver,
+        from,
+        lost,
+        end,
+    } = loss;
+    let word = match end {
+        LossEnd::Told(_) => "told",
+        LossEnd::Dropped(_) => "dropped",
+        LossEnd::Open => "open",
+    };
+    let to = end
+        .place()
+        .map_or("null".to_string(), |place| place.to_string());
+    let mut object = String::new();
+    let _ = write!(
+        object,
+        "{{\"channel\": {channel}, \"receiver\": {receiver}, \"from\": {from}, \"to\": {to}, \"lost\": {lost}, \"end\": \"{word}\"}}"
+    );
+    object
+}

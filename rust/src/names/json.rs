@@ -1,0 +1,253 @@
+//! A small reader of JSON, for files of names. The crate has no dependencies.
+
+use std::iter::Peekable;
+use std::str::Chars;
+
+/// How deep lists and objects may be nested. Files of names need four.
+const DEEPEST: usize = 32;
+
+/// A JSON value.
+#[derive(Clone, Debug, PartialEq)]
+pub(super) enum Json {
+    Null,
+    Bool(bool),
+    /// A number, as it is written.
+    Number(String),
+    Text(String),
+    List(Vec<Json>),
+    /// The members in the order in which they are written.
+    Object(Vec<(String, Json)>),
+}
+
+/// Reads a document.
+///
+/// # Errors
+///
+/// Returns what is wrong with it, with the line.
+pub(super) fn read(text: &str) -> Result<Json, String> {
+    let mut reader = Reader {
+        chars: text.chars().peekable(),
+        line: 1,
+    };
+    let document = reader.value(0).and_then(|value| {
+        reader.skip_spaces();
+        match reader.chars.peek() {
+            None => Ok(value),
+            Some(_) => Err("something follows the document".to_string()),
+        }
+    });
+    document.map_err(|fault| format!("line {}: {fault}", reader.line))
+}
+
+struct Reader<'a> {
+    chars: Peekable<Chars<'a>>,
+    line: usize,
+}
+
+impl Reader<'_> {
+    fn next(&mut self) -> Result<char, String> {
+        let next = self.chars.next().ok_or("it ends too early")?;
+        self.line += usize::from(next == '\n');
+        Ok(next)
+    }
+
+    fn skip_spaces(&mut self) {
+        while let Some(' ' | '\t' | '\r' | '\n') = self.chars.peek() {
+            let _ = self.next();
+        }
+    }
+
+    /// Reads this character, after spaces. Returns whether it comes next.
+    fn takes(&mut self, wanted: char) -> bool {
+        self.skip_spaces();
+        let comes = self.chars.peek() == Some(&wanted);
+        if comes {
+            self.chars.next();
+        }
+        comes
+    }
+
+    fn expect(&mut self, wanted: char) -> Result<(), String> {
+        match self.takes(wanted) {
+            true => Ok(()),
+            false => Err(format!("`{wanted}` is missing")),
+        }
+    }
+
+    fn value(&mut self, depth: usize) -> Result<Json, String> {
+        if depth > DEEPEST {
+            return Err("it is nested too deep".to_string());
+        }
+        self.skip_spaces();
+        match self.chars.peek().copied() {
+            Some('{') => self.object(depth),
+            Some('[') => self.list(depth),
+            Some('"') => self.text().map(Json::Text),
+            Some('-' | '0'..='9') => Ok(Json::Number(self.word())),
+            Some('a'..='z') => self.constant(),
+            Some(other) => Err(format!("`{other}` is no value")),
+            None => Err("it ends too early".to_string()),
+        }
+    }
+
+    fn object(&mut self, depth: usize) -> Result<Json, String> {
+        self.expect('{')?;
+        let mut members = vec![];
+        if self.takes('}') {
+            return Ok(Json::Object(members));
+        }
+        loop {
+            self.skip_spaces();
+            let key = self.text()?;
+            self.expect(':')?;
+            members.push((key, self.value(depth + 1)?));
+            if !self.takes(',') {
+                self.expect('}')?;
+                return Ok(Json::Object(members));
+            }
+        }
+    }
+
+    fn list(&mut self, depth: usize) -> Result<Json, String> {
+        self.expect('[')?;
+        let mut items = vec![];
+        if self.takes(']') {
+            return Ok(Json::List(items));
+        }
+        loop {
+            items.push(self.value(depth + 1)?);
+            if !self.takes(',') {
+                self.expect(']')?;
+                return Ok(Json::List(items));
+            }
+        }
+    }
+
+    fn text(&mut self) -> Result<String, String> {
+        self.expect('"')?;
+        let mut text = String::new();
+        loop {
+            match self.next()? {
+                '"' => return Ok(text),
+                '\\' => text.push(self.escaped()?),
+                c if c < ' ' => return Err("a text has a control character".to_string()),
+                c => text.push(c),
+            }
+        }
+    }
+
+    /// Reads what follows a backslash.
+    fn escaped(&mut self) -> Result<char, String> {
+        Ok(match self.next()? {
+            'b' => '\u{8}',
+            'f' => '\u{c}',
+            'n' => '\n',
+            'r' => '\r',
+            't' => '\t',
+            'u' => return self.code_point(),
+            c @ ('"' | '\\' | '/') => c,
+            other => return Err(format!("`\\{other}` is no escape")),
+        })
+    }
+
+    /// Reads the digits of an escape, and those of its second half if it is a surrogate.
+    fn code_point(&mut self) -> Result<char, String> {
+        let first = self.code_unit()?;
+        let mut units = vec![first];
+        if (0xD800..0xDC00).contains(&first) && self.next()? == '\\' && self.next()? == 'u' {
+            units.push(self.code_unit()?);
+        }
+        let decoded = char::decode_utf16(units).next();
+        decoded
+            .and_then(Result::ok)
+            .ok_or_else(|| "half a character is escaped".to_string())
+    }
+
+    fn code_unit(&mut self) -> Result<u16, String> {
+        let mut unit = 0;
+        for _ in 0..4 {
+            let digit = self.next()?.to_digit(16);
+            unit = unit * 16 + digit.ok_or("an escape has four digits")?;
+        }
+        Ok(unit as u16)
+    }
+
+    /// Reads a number or a constant, up to a character that neither has.
+    fn word(&mut self) -> String {
+        let mut word = String::new();
+        while let Some(c) = self.chars.peek().filter(|c| is_part_of_word(**c)) {
+            word.push(*c);
+            self.chars.next();
+        }
+        word
+    }
+
+    fn constant(&mut self) -> Result<Json, String> {
+        match self.word().as_str() {
+            "null" => Ok(Json::Null),
+            "true" => Ok(Json::Bool(true)),
+            "false" => Ok(Json::Bool(false)),
+            other => Err(format!("`{other}` is no value")),
+        }
+    }
+}
+
+fn is_part_of_word(c: char) -> bool {
+    c.is_ascii_alphanumeric() || matches!(c, '+' | '-' | '.')
+}
+
+#[cfg(test)]
+mod tests {
+    use super::*;
+
+    fn text(text: &str) -> Json {
+        Json::Text(text.to_string())
+    }
+
+    #[test]
+    fn each_kind_of_value_is_read() {
+        let read = read(" {\"a\": [null, true, false, -1.5e3],\r\n\t\"b\": {}, \"c\": []} ");
+        let numbers = vec![
+            Json::Null,
+            Json::Bool(true),
+            Json::Bool(false),
+            Json::Number("-1.5e3".to_string()),
+        ];
+        let wanted = Json::Object(vec![
+            ("a".to_string(), Json::List(numbers)),
+            ("b".to_string(), Json::Object(vec![])),
+            ("c".to_string(), Json::List(vec![])),
+        ]);
+        assert_eq!(read, Ok(wanted));
+    }
+
+    #[test]
+    fn escapes_are_read() {
+        let read = read(r#""a\"\\\/\b\f\n\r\té\u00e9\ud83d\ude00""#);
+        assert_eq!(read, Ok(text("a\"\\/\u{8}\u{c}\n\r\téé😀")));
+    }
+
+    #[test]
+    fn what_is_wrong_is_said_with_its_line() {
+        for (document, fault) in [
+            ("", "line 1: it ends too early"),
+            ("{\n\"a\" 1}", "line 2: `:` is missing"),
+            ("[1\n2]", "line 2: `]` is missing"),
+            ("{\"a\": 1,}", "line 1: `\"` is missing"),
+            ("\"a\n\"", "line 2: a text has a control character"),
+            (r#""\x""#, "line 1: `\\x` is no escape"),
+            (r#""\u12g4""#, "line 1: an escape has four digits"),
+            (r#""\ud800\u0041""#, "line 1: half a character is escaped"),
+            ("nil", "line 1: `nil` is no value"),
+            ("?", "line 1: `?` is no value"),
+            ("1\n 2", "line 2: something follows the document"),
+        ] {
+            assert_eq!(read(document), Err(fault.to_string()), "{document}");
+        }
+        let deep = "[".repeat(40);
+        assert_eq!(
+            read(&deep),
+            Err("line 1: it is nested too deep".to_string())
+        );
+    }
+}

@@ -1,0 +1,223 @@
+//! Reads a file of names, of any version. What a reader doesn't know is left out.
+
+use super::json::{self, Json};
+use super::{Names, SourceLocation, WaitingCall};
+use std::collections::BTreeMap;
+
+impl Names {
+    /// Reads the text of a file of names. Keys that are not known are left out, and so are keys that are missing.
+    ///
+    /// # Errors
+    ///
+    /// Returns what is wrong with the text.
+    pub(crate) fn read(text: &str) -> Result<Names, String> {
+        let mut names = Names::default();
+        for (key, value) in object(json::read(text)?)? {
+            let read = match key.as_str() {
+                "core" => text_of(value).map(|core| names.core = Some(core)),
+                "actors" => texts(value).map(|actors| names.actors = actors),
+                "channels" => texts(value).map(|channels| names.channels = channels),
+                "values" => by_number(value, texts).map(|values| names.values = values),
+                "handles" => by_number(value, texts).map(|handles| names.handles = handles),
+                "locations" => list(value, location).map(|list| names.locations = list),
+                "made" => by_number(value, indexes).map(|made| names.made = made),
+                "calls" => by_number(value, places).map(|calls| names.calls = calls),
+                "tasks" => indexes(value).map(|tasks| names.tasks = tasks),
+                "waiting" => list(value, waiting).map(|waiting| names.waiting = waiting),
+                other => names.matching.read(other, value),
+            };
+            read.map_err(|fault| format!("its `{key}`: {fault}"))?;
+        }
+        Ok(names)
+    }
+}
+
+fn object(value: Json) -> Result<Vec<(String, Json)>, String> {
+    match value {
+        Json::Object(members) => Ok(members),
+        _ => Err("no object".to_string()),
+    }
+}
+
+fn text_of(value: Json) -> Result<String, String> {
+    match value {
+        Json::Text(text) => Ok(text),
+        _ => Err("no text".to_string()),
+    }
+}
+
+pub(super) fn number<N: TryFrom<u64>>(value: Json) -> Result<N, String> {
+    let number = match value {
+        Json::Number(number) => number.parse().ok(),
+        _ => None,
+    };
+    number
+        .and_then(|number: u64| N::try_from(number).ok())
+        .ok_or_else(|| "no number, or one that is too great".to_string())
+}
+
+pub(super) fn list<T>(
+    value: Json,
+    item: impl Fn(Json) -> Result<T, String>,
+) -> Result<Vec<T>, String> {
+    match value {
+        Json::List(items) => items.into_iter().map(item).collect(),
+        _ => Err("no list".to_string()),
+    }
+}
+
+/// Reads an object whose keys are numbers.
+pub(super) fn by_number<T>(
+    value: Json,
+    item: impl Fn(Json) -> Result<T, String>,
+) -> Result<BTreeMap<u64, T>, String> {
+    let members = object(value)?.into_iter();
+    let numbered = members.map(|(key, value)| {
+        let number = key.parse().map_err(|_| format!("`{key}` is no number"))?;
+        Ok((number, item(value)?))
+    });
+    numbered.collect()
+}
+
+fn texts(value: Json) -> Result<BTreeMap<u64, String>, String> {
+    by_number(value, text_of)
+}
+
+fn indexes(value: Json) -> Result<BTreeMap<u64, usize>, String> {
+    by_number(value, number)
+}
+
+/// Reads a text, or null.
+pub(super) fn optional_text(value: Json) -> Result<Option<String>, String> {
+    match value {
+        Json::Null => Ok(None),
+        value => text_of(value).map(Some),
+    }
+}
+
+fn places(value: Json) -> Result<Vec<Option<usize>>, String> {
+    list(value, optional)
+}
+
+fn optional(value: Json) -> Result<Option<usize>, String> {
+    match value {
+        Json::Null => Ok(None),
+        value => number(value).map(Some),
+    }
+}
+
+/// Reads a location: a list of file, line and column.
+fn location(value: Json) -> Result<SourceLocation, String> {
+    let mut parts = list(value, Ok)?.into_iter();
+    let mut next = || parts.next().unwrap_or(Json::Null);
+    Ok(SourceLocation {
+        file: text_of(next())?,
+        line: number(next())?,
+        column: number(next())?,
+    })
+}
+
+fn waiting(value: Json) -> Result<WaitingCall, String> {
+    let mut members: BTreeMap<_, _> = object(value)?.into_iter().collect();
+    let mut next = |key: &str| members.remove(key).unwrap_or(Json::Null);
+    Ok(WaitingCall {
+        actor: number(next("actor"))?,
+        channel: number(next("channel"))?,
+        handle: number(next("handle"))?,
+        call: text_of(next("call"))?,
+        since: number(next("since"))?,
+        location: optional(next("location"))?,
+    })
+}
+
+#[cfg(test)]
+mod tests {
+    use super::*;
+
+    #[test]
+    fn each_key_is_read() {
+        let names = Names::read(
+            r#"{
+                "version": 2,
+                "core": "plain",
+                "actors": {"0": "ticker", "12": "a \"b\""},
+                "channels": {"0": "prices"},
+                "values": {"0": {"0": "101 EUR", "1": "102 EUR"}},
+                "handles": {"0": {"1": "auditor"}},
+                "locations": [["tests/bus.rs", 15, 9], ["src/worker.rs", 30, 5]],
+                "made": {"0": {"0": 0, "1": 1}},
+                "calls": {"0": [1, null]},
+                "tasks": {"3": 1},
+                "waiting": [{"actor": 3, "channel": 0, "handle": 1, "call": "recv", "since": 12, "location": null}],
+                "later": [{}]
+            }"#,
+        )
+        .unwrap();
+        let location = |file: &str, line, column| SourceLocation {
+            file: file.to_string(),
+            line,
+            column,
+        };
+        let wanted = Names {
+            core: Some("plain".to_string()),
+            actors: BTreeMap::from([(0, "ticker".to_string()), (12, "a \"b\"".to_string())]),
+            channels: BTreeMap::from([(0, "prices".to_string())]),
+            values: BTreeMap::from([(
+                0,
+                BTreeMap::from([(0, "101 EUR".to_string()), (1, "102 EUR".to_string())]),
+            )]),
+            handles: BTreeMap::from([(0, BTreeMap::from([(1, "auditor".to_string())]))]),
+            locations: vec![
+                location("tests/bus.rs", 15, 9),
+                location("src/worker.rs", 30, 5),
+            ],
+            made: BTreeMap::from([(0, BTreeMap::from([(0, 0), (1, 1)]))]),
+            calls: BTreeMap::from([(0, vec![Some(1), None])]),
+            tasks: BTreeMap::from([(3, 1)]),
+            waiting: vec![WaitingCall {
+                actor: 3,
+                channel: 0,
+                handle: 1,
+                call: "recv".to_string(),
+                since: 12,
+                location: None,
+            }],
+            ..Names::default()
+        };
+        assert_eq!(names, wanted);
+    }
+
+    #[test]
+    fn a_file_of_the_first_version_is_read() {
+        let names = Names::read(r#"{"actors": {}, "channels": {"1": "state"}, "values": {}}"#);
+        let wanted = Names {
+            channels: BTreeMap::from([(1, "state".to_string())]),
+            ..Names::default()
+        };
+        assert_eq!(names, Ok(wanted));
+    }
+
+    #[test]
+    fn what_is_wrong_is_said_with_its_key() {
+        for (text, fault) in [
+            ("[]", "no object"),
+            ("{", "line 1: `\"` is missing"),
+            (r#"{"core": 1}"#, "its `core`: no text"),
+            (
+                r#"{"actors": {"x": "a"}}"#,
+                "its `actors`: `x` is no number",
+            ),
+            (
+                r#"{"calls": {"0": [-1]}}"#,
+                "its `calls`: no number, or one that is too great",
+            ),
+            (
+                r#"{"locations": [["a.rs", 1]]}"#,
+                "its `locations`: no number, or one that is too great",
+            ),
+            (r#"{"waiting": {}}"#, "its `waiting`: no list"),
+        ] {
+            assert_eq!(Names::read(text), Err(fault.to_string()), "{text}");
+        }
+    }
+}

@@ -1,0 +1,136 @@
+//! A queue from which items leave at any time.
+
+/// The place of an item in a queue. Of two items, the one that was added first has the lower place.
+pub(crate) type Place = u64;
+
+/// Items in the order in which they were added.
+///
+/// An item is added, found and removed without a look at the others: places rise by one, so an entry's index is known from its place where
+/// no gap was removed, and found by binary search where one was. Half of the entries at most are gaps, so removing them costs each item as
+/// much as one more entry.
+pub(crate) struct Queue<T> {
+    // Greater than each place so far, also of items that are no longer here.
+    next: Place,
+    // In the order of places. An item that was removed leaves a gap.
+    entries: Vec<(Place, Option<T>)>,
+    gaps: usize,
+}
+
+impl<T> Default for Queue<T> {
+    fn default() -> Queue<T> {
+        Queue {
+            next: 0,
+            entries: vec![],
+            gaps: 0,
+        }
+    }
+}
+
+impl<T> Queue<T> {
+    /// Adds an item at the end, and returns its place.
+    pub(crate) fn add(&mut self, item: T) -> Place {
+        let place = self.next;
+        self.entries.push((place, Some(item)));
+        self.next += 1;
+        place
+    }
+
+    /// Returns the index of the entry with this place.
+    fn index_of(&self, place: Place) -> Option<usize> {
+        let (first, _) = self.entries.first()?;
+        let guess = place.checked_sub(*first)? as usize;
+        match self.entries.get(guess) {
+            Some((found, _)) if *found == place => Some(guess),
+            _ => self
+                .entries
+                .binary_search_by_key(&place, |(place, _)| *place)
+                .ok(),
+        }
+    }
+
+    /// Returns the item with this place, if it is here.
+    pub(crate) fn get(&self, place: Place) -> Option<&T> {
+        self.entries[self.index_of(place)?].1.as_ref()
+    }
+
+    /// Returns the item with this place, if it is here.
+    pub(crate) fn get_mut(&mut self, place: Place) -> Option<&mut T> {
+        let index = self.index_of(place)?;
+        self.entries[index].1.as_mut()
+    }
+
+    /// Removes the item with this place, if it is here.
+    pub(crate) fn remove(&mut self, place: Place) -> Option<T> {
+        let index = self.index_of(place)?;
+        let removed = self.entries[index].1.take()?;
+        self.gaps += 1;
+        if self.gaps > self.entries.len() / 2 {
+            self.remove_gaps();
+        }
+        Some(removed)
+    }
+
+    fn remove_gaps(&mut self) {
+        self.entries.retain(|(_, item)| item.is_some());
+        self.gaps = 0;
+        // Where few are left of many, their memory goes too. A queue that is now and then empty keeps a little.
+        self.entries.shrink_to(4 * self.entries.len().max(4));
+    }
+
+    /// Removes all items, and returns the entries, in order and with their gaps.
+    #[inline]
+    pub(crate) fn take(&mut self) -> Vec<(Place, Option<T>)> {
+        self.gaps = 0;
+        std::mem::take(&mut self.entries)
+    }
+
+    /// Returns the items in order.
+    pub(crate) fn items(&self) -> impl Iterator<Item = &T> {
+        self.entries.iter().filter_map(|(_, item)| item.as_ref())
+    }
+}
+
+#[cfg(test)]
+mod tests {
+    use super::*;
+
+    #[test]
+    fn items_that_come_and_go_leave_no_room_behind() {
+        let mut queue = Queue::default();
+        let stays = queue.add(0);
+        let mut last = queue.add(1);
+        // Three are there at most: the first one always, and each other one until the next one is added.
+        for item in 2..10_000 {
+            let next = queue.add(item);
+            assert_eq!(queue.remove(last), Some(item - 1));
+            last = next;
+        }
+        assert!(queue.entries.len() <= 6, "{}", queue.entries.len());
+        assert_eq!(
+            (queue.get(stays), queue.get(last)),
+            (Some(&0), Some(&9_999))
+        );
+        let many: Vec<_> = (0..10_000).map(|item| queue.add(item)).collect();
+        assert!(many.iter().all(|place| queue.remove(*place).is_some()));
+        assert!(queue.entries.capacity() <= 16, "of two that are there");
+        assert!(queue.items().eq(&[0, 9_999]));
+        let entries = queue.take().into_iter();
+        assert!(entries.filter_map(|(_, item)| item).eq([0, 9_999]));
+    }
+
+    #[test]
+    fn an_item_is_removed_once() {
+        let mut queue = Queue::default();
+        let places = [(); 5].map(|()| queue.add(()));
+        assert_eq!(queue.remove(places[1]), Some(()));
+        assert_eq!(queue.remove(places[1]), None);
+        // The gaps are still counted rightly, and the others found.
+        assert_eq!(queue.remove(places[4]), Some(()));
+        assert!(
+            [0, 2, 3]
+                .iter()
+                .all(|index| queue.get(places[*index]).is_some())
+        );
+        assert_eq!((queue.items().count(), queue.gaps), (3, 2));
+    }
+}

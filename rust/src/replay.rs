@@ -1,0 +1,93 @@
+//! Replays: the calls of a run are made again in the order of a journal.
+//!
+//! A recorder knows the whole order of the calls on its channels. In a replay each call waits before the [`Gate`], until all calls that the
+//! journal has before it are made. `plan.rs` has the journal's calls and which of them a call can be, `state.rs` where the replay stands,
+//! `gate.rs` how threads and futures wait, `helper.rs` the thread that wakes futures, and `outcome.rs` how it went, in words.
+
+mod gate;
+mod helper;
+mod opening;
+mod outcome;
+mod permit;
+mod plan;
+mod recorded;
+mod state;
+#[cfg(test)]
+mod tests;
+mod word;
+
+pub(crate) use gate::Gate;
+pub(crate) use opening::{holds, open};
+pub use outcome::Replayed;
+pub(crate) use outcome::{TestEnd, say};
+pub(crate) use permit::Permit;
+pub(crate) use plan::UNNAMED_THREAD;
+pub(crate) use recorded::RecordedCall;
+pub(crate) use state::Ticket;
+pub(crate) use word::Word;
+
+use crate::actors::Identity;
+use crate::channel::CallSite;
+use crate::core::Actor;
+use std::sync::Arc;
+use std::sync::atomic::{AtomicBool, Ordering};
+
+/// A call that comes to a gate: on which channel of the journal, by which handle, what, and who calls.
+#[derive(Clone, Copy)]
+pub(crate) struct Coming {
+    pub(crate) channel: u32,
+    pub(crate) handle: u32,
+    pub(crate) word: Word,
+    pub(crate) actor: Actor,
+    pub(crate) called_at: CallSite,
+}
+
+/// A channel whose calls pass a gate.
+pub(crate) struct ReplayedChannel {
+    gate: Arc<Gate>,
+    /// Its number in the journal.
+    number: u32,
+    /// Whether its recording has ended. Then its calls pass: the journal doesn't have them.
+    is_free: AtomicBool,
+}
+
+impl ReplayedChannel {
+    pub(crate) fn new(gate: Arc<Gate>, number: u32) -> ReplayedChannel {
+        ReplayedChannel {
+            gate,
+            number,
+            is_free: AtomicBool::new(false),
+        }
+    }
+
+    /// Leaves the gate, where a future waits by this ticket.
+    pub(crate) fn leave(&self, ticket: Ticket) {
+        self.gate.leave(ticket);
+    }
+
+    /// Lets all calls of this channel pass.
+    pub(crate) fn set_free(&self) {
+        self.is_free.store(true, Ordering::Relaxed);
+    }
+
+    /// Returns the gate that this call passes, and the call, unless the channel's calls pass by.
+    pub(crate) fn at_gate(
+        &self,
+        handle: u32,
+        word: Word,
+        actor: Actor,
+        called_at: CallSite,
+    ) -> Option<(&Gate, Coming)> {
+        if self.is_free.load(Ordering::Relaxed) {
+            return None;
+        }
+        let coming = Coming {
+            channel: self.number,
+            handle,
+            word,
+            actor,
+            called_at,
+        };
+        Some((&self.gate, coming))
+    }
+}

@@ -1,0 +1,465 @@
+//! The gate, before which each call waits for its turn.
+
+use super::outcome::{self, Replayed, TestEnd};
+use super::permit::Permit;
+use super::plan::Plan;
+use super::state::{Standing, State, Ticket, Waiter, Wakes};
+use super::{Coming, Identity};
+use crate::core::Actor;
+use crate::lock::lock;
+use crate::names::Maker;
+use crate::reentrant::thread_number;
+use std::mem;
+use std::path::{Path, PathBuf};
+use std::sync::atomic::{AtomicBool, Ordering};
+use std::sync::{Condvar, Mutex, MutexGuard, PoisonError};
+use std::task::{Context, Poll};
+use std::thread;
+use std::time::{Duration, Instant};
+
+/// How long a wait goes on without progress where it may be for what the wait itself keeps away.
+pub(super) const SHORT: Duration = Duration::from_millis(250);
+
+/// How long futures wait before they are looked after again.
+pub(super) const BETWEEN_LOOKS: Duration = SHORT.checked_div(16).unwrap();
+
+/// How much longer than threads futures wait: they keep no thread away from the others.
+const PATIENCE_OF_FUTURES: u32 = 5;
+
+/// The gate of a replay. A call passes it before it acquires a lock, and gets a permit when its turn comes.
+///
+/// Nothing panics in it, and nobody waits in it forever: when no call was made for a while, or one comes that isn't in the journal's order, the
+/// replay parts from the journal, and all calls pass.
+pub(crate) struct Gate {
+    /// The journal.
+    path: PathBuf,
+    /// The number of the recorder.
+    pub(super) recorder: u64,
+    pub(super) plan: Plan,
+    pub(super) state: Mutex<State>,
+    is_over: AtomicBool,
+    // Of the threads that wait for a lane, and for an actor.
+    turns_of_lanes: Vec<Condvar>,
+    turns_of_actors: Vec<Condvar>,
+    // Of the threads whose call the journal doesn't have.
+    end: Condvar,
+    pub(super) helper: Condvar,
+    patience: Duration,
+}
+
+/// How a thread waits.
+#[derive(Clone, Copy, PartialEq, Eq)]
+enum Wait {
+    /// For the turn of its call.
+    Call,
+    /// For the turn of what a closure that changes a watch does.
+    Modify,
+}
+
+impl Gate {
+    /// Creates the gate of a plan, of the journal at this path, for the recorder with this number. Threads wait this long without progress.
+    pub(super) fn new(path: &Path, recorder: u64, plan: Plan, patience: Duration) -> Gate {
+        let state = State::new(&plan);
+        let condvars = |count: usize| (0..count).map(|_| Condvar::new()).collect();
+        Gate {
+            path: path.to_path_buf(),
+            recorder,
+            is_over: AtomicBool::new(state.is_over),
+            turns_of_lanes: condvars(plan.first_of_lane.len()),
+            turns_of_actors: condvars(Actor::MOST),
+            end: Condvar::new(),
+            helper: Condvar::new(),
+            state: Mutex::new(state),
+            plan,
+            patience,
+        }
+    }
+
+    /// Whether all calls pass: the journal's end was reached, or the run parted from it.
+    #[inline]
+    pub(super) fn is_over(&self) -> bool {
+        self.is_over.load(Ordering::Acquire)
+    }
+
+    /// Returns the path of the journal.
+    pub(crate) fn path(&self) -> &Path {
+        &self.path
+    }
+
+    /// Returns the channel of the journal that this caller has made after as many others.
+    pub(crate) fn channel_by(&self, maker: &Maker) -> Option<u32> {
+        self.plan.channel_by(maker)
+    }
+
+    /// Returns the names of the journal's actors by number, `None` for those that nobody named.
+    pub(crate) fn actors(&self) -> Vec<Option<String>> {
+        self.plan.actors()
+    }
+
+    /// Blocks until the turn of this call.
+    #[inline]
+    pub(crate) fn pass(&self, coming: Coming) -> Permit<'_> {
+        match self.is_over() {
+            true => Permit::free(),
+            false => self.wait(coming, Wait::Call),
+        }
+    }
+
+    /// Blocks until the turn of what a closure that changes a watch does: of the first call that it makes, or of the change.
+    pub(crate) fn pass_to_modify(&self, coming: Coming) {
+        if !self.is_over() {
+            drop(self.wait(coming, Wait::Modify));
+        }
+    }
+
+    fn wait(&self, coming: Coming, wait: Wait) -> Permit<'_> {
+        let lane = self.plan.lane_of(&coming);
+        let user = Identity::current();
+        let mut state = lock(&self.state);
+        state.see(&self.plan, lane, &coming, &user);
+        let standing = self.standing(&state, lane, &coming, wait);
+        if standing == Standing::Turn && !state.is_over {
+            return self.give(&mut state, wait);
+        }
+        let (mut state, is_turn) = self.block(state, lane, &coming, wait);
+        match is_turn {
+            true => self.give(&mut state, wait),
+            false => Permit::free(),
+        }
+    }
+
+    fn standing(&self, state: &State, lane: Option<u32>, coming: &Coming, wait: Wait) -> Standing {
+        match wait {
+            Wait::Call => state.standing(&self.plan, lane, coming.word),
+            Wait::Modify => state.standing_to_modify(&self.plan, lane),
+        }
+    }
+
+    /// Gives the turn to a call. The closure that changes a watch doesn't take it: its own calls do.
+    fn give(&self, state: &mut State, wait: Wait) -> Permit<'_> {
+        match wait {
+            Wait::Call => {
+                state.is_taken = true;
+                Permit::of(self)
+            }
+            Wait::Modify => Permit::free(),
+        }
+    }
+
+    /// Blocks until it is the call's turn, and returns `true`, or until all calls pass.
+    fn block<'a>(
+        &'a self,
+        mut state: MutexGuard<'a, State>,
+        lane: Option<u32>,
+        coming: &Coming,
+        wait: Wait,
+    ) -> (MutexGuard<'a, State>, bool) {
+        let (began, thread) = (Instant::now(), thread_number());
+        while !state.is_over {
+            let standing = self.standing(&state, lane, coming, wait);
+            match standing {
+                Standing::Turn => return (state, true),
+                Standing::Other(_) => {
+                    let came = outcome::came(&self.plan, coming);
+                    self.part(&mut state, &came);
+                    break;
+                }
+                Standing::Later | Standing::Unknown => (),
+            }
+            let (limit, is_own) = self.limit(&state, coming, thread);
+            if began.max(state.turned_at).elapsed() >= limit {
+                let came = match is_own {
+                    true => outcome::came(&self.plan, coming),
+                    false => outcome::came_in_vain(&self.plan, coming, limit),
+                };
+                self.part(&mut state, &came);
+                break;
+            }
+            state = self.sleep(state, lane.filter(|_| standing == Standing::Later), wait);
+        }
+        (state, false)
+    }
+
+    /// Waits for a change on a condition that the turn of this lane notifies, for a short time.
+    fn sleep<'a>(
+        &'a self,
+        mut state: MutexGuard<'a, State>,
+        lane: Option<u32>,
+        wait: Wait,
+    ) -> MutexGuard<'a, State> {
+        let actor = state.actor_of(&self.plan, lane);
+        let condition = match (lane, wait) {
+            (None, _) => &self.end,
+            (Some(lane), Wait::Call) => {
+                state.lanes[lane as usize].blocked += 1;
+                &self.turns_of_lanes[lane as usize]
+            }
+            (Some(_), Wait::Modify) => {
+                state.actors[actor].blocked += 1;
+                &self.turns_of_actors[actor]
+            }
+        };
+        state.blocked_count += 1;
+        self.keep_awake(&state);
+        let woken = condition.wait_timeout(state, SHORT);
+        let (mut state, _) = woken.unwrap_or_else(PoisonError::into_inner);
+        state.blocked_count -= 1;
+        match (lane, wait) {
+            (None, _) => (),
+            (Some(lane), Wait::Call) => state.lanes[lane as usize].blocked -= 1,
+            (Some(_), Wait::Modify) => state.actors[actor].blocked -= 1,
+        }
+        state
+    }
+
+    /// Returns how long a thread waits without progress, and whether it is its own actor's turn, by another call. The time is short where the
+    /// wait may keep the turn away: it is that of its own actor or thread, or the thread unwinds a panic.
+    fn limit(&self, state: &State, coming: &Coming, thread: usize) -> (Duration, bool) {
+        let Some(step) = self.plan.steps.get(state.position) else {
+            return (SHORT, false);
+        };
+        let is_own = self.plan.is_named(coming.actor) && step.actor == coming.actor.number();
+        let is_here = state.actors[step.actor as usize].thread == thread;
+        let limit = match is_own || is_here || thread::panicking() {
+            true => SHORT.min(self.patience),
+            false => self.patience,
+        };
+        (limit, is_own)
+    }
+
+    /// Polls a call that waits: it is pending until its turn. The ticket is its place before the gate.
+    pub(crate) fn poll(
+        &self,
+        coming: Coming,
+        ticket: &mut Option<Ticket>,
+        context: &Context<'_>,
+    ) -> Poll<Permit<'_>> {
+        if self.is_over() {
+            *ticket = None;
+            return Poll::Ready(Permit::free());
+        }
+        let lane = self.plan.lane_of(&coming);
+        // Wakers run code of the runtime where they are cloned and dropped, so nothing is locked there.
+        let (waker, user) = (context.waker().clone(), Identity::current());
+        let task = user.may_be_any_task().then(|| waker.clone());
+        let mut state = lock(&self.state);
+        let before = ticket.take().and_then(|left| state.waiters.remove(&left));
+        state.see(&self.plan, lane, &coming, &user);
+        let task = task.and_then(|task| state.see_task(&self.plan, lane, &coming, task));
+        let standing = state.standing(&self.plan, lane, coming.word);
+        if standing == Standing::Turn || state.is_over {
+            let is_turn = !state.is_over;
+            state.is_taken |= is_turn;
+            drop(state);
+            drop((before, waker, task));
+            return Poll::Ready(match is_turn {
+                true => Permit::of(self),
+                false => Permit::free(),
+            });
+        }
+        let since = before
+            .as_ref()
+            .map_or_else(Instant::now, |before| before.since);
+        let waiter = Waiter {
+            waker,
+            coming,
+            since,
+        };
+        *ticket = Some(state.add_waiter(lane, waiter));
+        self.keep_awake(&state);
+        drop(state);
+        drop((before, task));
+        Poll::Pending
+    }
+
+    /// Removes a future that no longer waits before the gate.
+    pub(crate) fn leave(&self, ticket: Ticket) {
+        let left = lock(&self.state).waiters.remove(&ticket);
+        drop(left);
+    }
+
+    /// Whether the poll of the future with this name is held back. Then its task is woken later.
+    ///
+    /// It is where another's turn has come and the next call of this future can't be pending: it would block its thread, which may be the one
+    /// that polls the other. `within` is the name of the future that polls this one, if it is one with a name.
+    pub(super) fn holds(&self, name: &str, within: Option<&str>, context: &Context<'_>) -> bool {
+        let Some(actor) = self.plan.actor_named(name).filter(|_| !self.is_over()) else {
+            return false;
+        };
+        let within = within.and_then(|within| self.plan.actor_named(within));
+        let (last, waker) = (context.waker().clone(), context.waker().clone());
+        let mut state = lock(&self.state);
+        if state.is_over {
+            drop(state);
+            return false;
+        }
+        let of = &mut state.actors[actor as usize];
+        of.thread = thread_number();
+        of.within = within.filter(|within| *within != actor);
+        let before = of.waker.replace(last);
+        let is_held = self.is_kept_from(&state, actor);
+        let rest = match is_held {
+            true => state.hold(actor, waker),
+            false => Some(waker),
+        };
+        self.keep_awake(&state);
+        drop(state);
+        drop((before, rest));
+        is_held
+    }
+
+    /// Whether this actor may block where it is polled now, and keep its thread from the actor whose turn has come.
+    fn is_kept_from(&self, state: &State, actor: u32) -> bool {
+        let of = &state.actors[actor as usize];
+        let Some(turn) = self.plan.steps.get(state.position) else {
+            return false;
+        };
+        if of.passes_at == Some(state.position) {
+            return false;
+        }
+        match self.plan.steps.get(of.front as usize) {
+            // The turn is that of its drop, which no poll makes.
+            Some(next) if next.is_cancelled && turn.actor == actor => true,
+            _ if state.is_within(turn.actor, actor) => false,
+            Some(next) => !next.call.word.may_wait(),
+            None => self.plan.outlives[actor as usize],
+        }
+    }
+
+    /// Wakes the helper if it sleeps for good, so that what is added isn't forgotten.
+    fn keep_awake(&self, state: &State) {
+        if state.is_helper_idle {
+            self.helper.notify_one();
+        }
+    }
+
+    /// Goes on to the next call, since the one with the permit is made. `text` is that of the value that it has sent.
+    pub(super) fn made(&self, text: Option<&str>) {
+        let mut state = lock(&self.state);
+        if state.is_over {
+            return;
+        }
+        if let Some(text) = text.filter(|_| state.other_text.is_none()) {
+            state.other_text = outcome::other_text(&self.plan, state.position, text);
+        }
+        let wakes = state.advance(&self.plan);
+        if self.plan.steps.len() == state.position {
+            return self.end(&mut state);
+        }
+        drop(state);
+        self.notify(&wakes);
+    }
+
+    /// Gives the turn back, since the call wasn't made.
+    pub(super) fn give_back(&self) {
+        let mut state = lock(&self.state);
+        state.is_taken = false;
+        let wakes = state.wakes(&self.plan);
+        drop(state);
+        self.notify(&wakes);
+    }
+
+    /// Parts from the journal, since the call whose turn it was would wait.
+    pub(super) fn would_wait(&self) {
+        let mut state = lock(&self.state);
+        if !state.is_over {
+            self.part(&mut state, "came the same call, which had to wait");
+        }
+    }
+
+    fn notify(&self, wakes: &Wakes) {
+        if let Some(lane) = wakes.lane {
+            self.turns_of_lanes[lane as usize].notify_all();
+        }
+        if let Some(actor) = wakes.actor {
+            self.turns_of_actors[actor as usize].notify_all();
+        }
+        if wakes.helper {
+            self.helper.notify_one();
+        }
+    }
+
+    /// Lets all calls pass from now on.
+    pub(super) fn end(&self, state: &mut State) {
+        state.is_over = true;
+        self.is_over.store(true, Ordering::Release);
+        state.release_all();
+        let conditions = self.turns_of_lanes.iter().chain(&self.turns_of_actors);
+        for condition in conditions.chain([&self.end]) {
+            condition.notify_all();
+        }
+        self.helper.notify_one();
+    }
+
+    /// Leaves the journal's order, and says so.
+    pub(super) fn part(&self, state: &mut State, came: &str) {
+        let line = outcome::parted(&self.plan, state.position, came);
+        outcome::say(&format!(
+            "the replay {line}; from here on, calls are in no order"
+        ));
+        state.parted = Some(line);
+        self.end(state);
+    }
+
+    /// Parts from the journal if a future has waited too long, and lets polls go that were held back long enough. Where a thread is blocked
+    /// and nothing was called for a while, all futures are polled.
+    pub(super) fn look_after_futures(&self, state: &mut State) {
+        let turned_at = state.turned_at;
+        let idle = |since: Instant| since.max(turned_at).elapsed();
+        let limit = self.patience * PATIENCE_OF_FUTURES;
+        let mut waiters = state.waiters.values();
+        if let Some(late) = waiters.find(|waiter| idle(waiter.since) >= limit) {
+            let came = outcome::came_in_vain(&self.plan, &late.coming, limit);
+            return self.part(state, &came);
+        }
+        for actor in 0..Actor::MOST {
+            let of = &mut state.actors[actor];
+            if of.held.iter().any(|held| idle(held.since) >= SHORT) {
+                of.passes_at = Some(state.position);
+                state.release(actor as u32);
+            }
+        }
+        // The blocked thread may be the worker that drives its runtime's timers, and the turn that of a task that sleeps. When a task is woken,
+        // another worker gets up, finds nobody at the timers, and drives them.
+        if state.blocked_count > 0 && turned_at.elapsed() >= BETWEEN_LOOKS {
+            state.wake_all();
+        }
+    }
+
+    /// Records who has made a channel under this name, or under none.
+    pub(crate) fn see_maker(&self, name: &Option<String>) {
+        lock(&self.state).see_maker(name, Identity::current());
+    }
+
+    /// Ends the replay, and says on standard error how it went. It says so once, and outside of a test not to who has asked.
+    pub(crate) fn conclude(&self, end: TestEnd) {
+        self.wait_for_the_rest();
+        let mut state = lock(&self.state);
+        self.end(&mut state);
+        let is_asked = state.is_asked && end == TestEnd::Unknown;
+        let is_told = mem::replace(&mut state.is_told, true) || is_asked;
+        let replayed = outcome::replayed(&self.plan, &state);
+        drop(state);
+        if !is_told {
+            let name = self.path.file_name().unwrap_or_default().to_string_lossy();
+            outcome::say(&format!("replay of {name}: {}", replayed.at_end(end)));
+        }
+    }
+
+    /// Waits until the last calls of the journal are made, as long as there is progress.
+    fn wait_for_the_rest(&self) {
+        let began = Instant::now();
+        let mut state = lock(&self.state);
+        while !state.is_over && began.max(state.turned_at).elapsed() < SHORT {
+            let woken = self.end.wait_timeout(state, SHORT / 4);
+            (state, _) = woken.unwrap_or_else(PoisonError::into_inner);
+        }
+    }
+
+    /// Returns how the replay goes so far.
+    pub(crate) fn outcome(&self) -> Replayed {
+        let mut state = lock(&self.state);
+        state.is_asked |= state.is_over;
+        outcome::replayed(&self.plan, &state)
+    }
+}

@@ -1,0 +1,51 @@
+//! The thread that wakes the futures before a gate.
+//!
+//! A task that a worker of a runtime wakes is the next one of that worker, and no other worker takes it. If the worker then blocked before the
+//! gate, that task would never be polled. So futures are woken by a thread of no runtime alone.
+
+use super::gate::{BETWEEN_LOOKS, Gate};
+use crate::lock::lock;
+use std::panic::{self, AssertUnwindSafe};
+use std::sync::{Arc, PoisonError};
+use std::task::Waker;
+use std::time::Instant;
+use std::{io, thread};
+
+/// Starts the thread. It ends when all calls pass.
+pub(super) fn start(gate: &Arc<Gate>) -> io::Result<()> {
+    let gate = gate.clone();
+    let thread = thread::Builder::new().name("yovanelum-replay".to_string());
+    thread.spawn(move || help(&gate)).map(drop)
+}
+
+fn help(gate: &Gate) {
+    let mut state = lock(&gate.state);
+    let mut last_look = Instant::now();
+    loop {
+        let woken = std::mem::take(&mut state.woken);
+        if !woken.is_empty() {
+            drop(state);
+            woken.into_iter().for_each(wake);
+            state = lock(&gate.state);
+        } else if state.is_over {
+            return;
+        } else if !state.is_anyone_waiting() {
+            state.is_helper_idle = true;
+            let woken = gate.helper.wait(state);
+            state = woken.unwrap_or_else(PoisonError::into_inner);
+            state.is_helper_idle = false;
+            last_look = Instant::now();
+        } else if last_look.elapsed() >= BETWEEN_LOOKS {
+            gate.look_after_futures(&mut state);
+            last_look = Instant::now();
+        } else {
+            let woken = gate.helper.wait_timeout(state, BETWEEN_LOOKS);
+            (state, _) = woken.unwrap_or_else(PoisonError::into_inner);
+        }
+    }
+}
+
+/// Wakes a future. A waker that panics leaves the others to be woken.
+fn wake(waker: Waker) {
+    let _ = panic::catch_unwind(AssertUnwindSafe(|| waker.wake()));
+}

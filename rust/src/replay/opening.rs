@@ -1,0 +1,116 @@
+//! The gates that are open, and how one is opened.
+
+use super::gate::Gate;
+use super::helper;
+use super::plan::Plan;
+use super::recorded::calls;
+use crate::actors;
+use crate::lock::lock;
+use crate::names::Names;
+use crate::recorder::Recorder;
+use std::path::Path;
+use std::sync::atomic::{AtomicBool, Ordering};
+use std::sync::{Arc, Mutex, Weak};
+use std::task::Context;
+use std::time::Duration;
+use std::{env, fs, io};
+
+/// The variable that says how many milliseconds a thread waits without progress.
+const PATIENCE: &str = "YOVANELUM_REPLAY_TIMEOUT_MS";
+
+/// How long a thread waits without progress, unless the variable says otherwise.
+const DEFAULT_PATIENCE: Duration = Duration::from_millis(2000);
+
+/// Whether a gate was opened in this process. Named futures ask this at each poll.
+static IS_ANY: AtomicBool = AtomicBool::new(false);
+
+static OPEN: Mutex<Vec<Weak<Gate>>> = Mutex::new(Vec::new());
+
+/// Opens the gate of a journal, for the recorder with this number. The names are read from the file beside the journal, if there is one.
+///
+/// # Errors
+///
+/// Returns an error if a file can't be read, or isn't what it is to be.
+pub(crate) fn open(path: &Path, recorder: u64) -> io::Result<Arc<Gate>> {
+    let patience = patience(env::var(PATIENCE).ok())?;
+    let text = fs::read(path).map_err(|error| of_file(path, &error))?;
+    let calls = calls(&text).map_err(|fault| of_file(path, &fault))?;
+    let beside = path.with_extension("names");
+    let names = match fs::read_to_string(&beside) {
+        Ok(text) => Names::read(&text).map_err(|fault| of_file(&beside, &fault))?,
+        Err(error) if error.kind() == io::ErrorKind::NotFound => Names::default(),
+        Err(error) => return Err(of_file(&beside, &error)),
+    };
+    let gate = Arc::new(Gate::new(
+        path,
+        recorder,
+        Plan::new(&calls, names),
+        patience,
+    ));
+    helper::start(&gate)?;
+    let mut open = lock(&OPEN);
+    open.retain(|gate| gate.upgrade().is_some_and(|gate| !gate.is_over()));
+    open.push(Arc::downgrade(&gate));
+    IS_ANY.store(true, Ordering::Release);
+    Ok(gate)
+}
+
+fn of_file(path: &Path, fault: &dyn std::fmt::Display) -> io::Error {
+    io::Error::other(format!("{}: {fault}", path.display()))
+}
+
+fn patience(text: Option<String>) -> io::Result<Duration> {
+    let Some(text) = text else {
+        return Ok(DEFAULT_PATIENCE);
+    };
+    let milliseconds = text.parse().map(Duration::from_millis);
+    milliseconds.map_err(|_| {
+        io::Error::other(format!(
+            "{PATIENCE} is `{text}`, and no number of milliseconds"
+        ))
+    })
+}
+
+/// Whether the poll of the future with this name is held back by an open gate: that of the recorder whose calls it makes, or of the current one
+/// if that isn't known yet.
+#[inline]
+pub(crate) fn holds(name: &str, recorder: Option<u64>, context: &Context<'_>) -> bool {
+    IS_ANY.load(Ordering::Acquire) && is_held(name, recorder, context)
+}
+
+#[cold]
+fn is_held(name: &str, recorder: Option<u64>, context: &Context<'_>) -> bool {
+    let recorder = recorder.or_else(|| Recorder::current().map(|current| current.0.id));
+    let within = actors::name_of_future();
+    let gate = gate_of(recorder);
+    gate.is_some_and(|gate| gate.holds(name, within.as_deref(), context))
+}
+
+/// Returns the open gate of this recorder. If there is no recorder, that is the gate of a process that has one.
+fn gate_of(recorder: Option<u64>) -> Option<Arc<Gate>> {
+    let open = lock(&OPEN);
+    let mut gates = open.iter().filter_map(Weak::upgrade);
+    match recorder {
+        Some(recorder) => gates.find(|gate| gate.recorder == recorder),
+        None => gates.next().filter(|_| open.len() == 1),
+    }
+}
+
+#[cfg(test)]
+mod tests {
+    use super::*;
+
+    #[test]
+    fn the_patience_is_that_of_the_variable() {
+        assert_eq!(patience(None).unwrap(), Duration::from_secs(2));
+        assert_eq!(
+            patience(Some("75".to_string())).unwrap(),
+            Duration::from_millis(75)
+        );
+        let fault = patience(Some("2s".to_string())).unwrap_err();
+        assert_eq!(
+            fault.to_string(),
+            "YOVANELUM_REPLAY_TIMEOUT_MS is `2s`, and no number of milliseconds"
+        );
+    }
+}

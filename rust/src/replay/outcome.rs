@@ -1,0 +1,272 @@
+//! How a replay went, in words.
+
+use super::Coming;
+use super::plan::{Plan, Step};
+use super::state::State;
+use crate::core::Actor;
+use std::fmt::{self, Write as _};
+use std::io::{self, Write as _};
+use std::time::Duration;
+
+/// How a replay has gone so far, returned by [`Recorder::replayed`](crate::Recorder::replayed).
+///
+/// Its text is one line: that all calls were made in the journal's order, where the run left that order, or which call it ended before.
+///
+/// # Examples
+///
+/// ```
+/// use std::{env, fs, process};
+/// use yovanelum::{Recorder, broadcast};
+///
+/// fn two_prices(recorder: &Recorder) {
+///     let _entered = recorder.enter();
+///     let (prices, mut chart) = broadcast::channel(2);
+///     prices.send(101).unwrap();
+///     assert_eq!(chart.try_recv(), Ok(101));
+/// }
+///
+/// let path = env::temp_dir().join(format!("two_prices-{}.journal", process::id()));
+/// let recorder = Recorder::new();
+/// two_prices(&recorder);
+/// recorder.save(&path)?;
+///
+/// let recorder = Recorder::replay(&path)?;
+/// two_prices(&recorder);
+/// let replayed = recorder.replayed().unwrap();
+/// assert!(replayed.is_in_order());
+/// assert_eq!(replayed.to_string(), "all 4 calls in the recorded order");
+/// # fs::remove_file(path.with_extension("names"))?;
+/// # fs::remove_file(&path)?;
+/// # Ok::<(), std::io::Error>(())
+/// ```
+#[derive(Clone, Debug, PartialEq, Eq)]
+pub struct Replayed {
+    calls: usize,
+    made: usize,
+    parted: Option<String>,
+    next: String,
+    shared: Option<String>,
+    other_text: Option<String>,
+    // The test whose journal it is.
+    has_failed_before: bool,
+}
+
+impl Replayed {
+    /// Returns `true` if all calls of the journal were made in its order, and the callers of each could be told apart.
+    ///
+    /// # Examples
+    ///
+    /// ```
+    /// use std::{env, fs, process};
+    /// use yovanelum::{Recorder, broadcast};
+    ///
+    /// let path = env::temp_dir().join(format!("one_bus-{}.journal", process::id()));
+    /// let recorder = Recorder::new();
+    /// let entered = recorder.enter();
+    /// drop(broadcast::channel::<u32>(2));
+    /// drop(entered);
+    /// recorder.save(&path)?;
+    ///
+    /// let recorder = Recorder::replay(&path)?;
+    /// assert!(!recorder.replayed().unwrap().is_in_order());
+    /// let _entered = recorder.enter();
+    /// drop(broadcast::channel::<u32>(2));
+    /// assert!(recorder.replayed().unwrap().is_in_order());
+    /// # fs::remove_file(path.with_extension("names"))?;
+    /// # fs::remove_file(&path)?;
+    /// # Ok::<(), std::io::Error>(())
+    /// ```
+    pub fn is_in_order(&self) -> bool {
+        self.made == self.calls && self.parted.is_none() && self.shared.is_none()
+    }
+
+    /// Returns how many calls were made in the journal's order.
+    ///
+    /// # Examples
+    ///
+    /// ```
+    /// use std::{env, fs, process};
+    /// use yovanelum::{Recorder, broadcast};
+    ///
+    /// let path = env::temp_dir().join(format!("one_drop-{}.journal", process::id()));
+    /// let recorder = Recorder::new();
+    /// let entered = recorder.enter();
+    /// let bus = broadcast::Sender::<u32>::new(2);
+    /// drop(entered);
+    /// recorder.save(&path)?;
+    ///
+    /// // The journal has the drop of the first receiver.
+    /// let recorder = Recorder::replay(&path)?;
+    /// assert_eq!(recorder.replayed().unwrap().calls_in_order(), 0);
+    /// let _entered = recorder.enter();
+    /// let bus = broadcast::Sender::<u32>::new(2);
+    /// assert_eq!(recorder.replayed().unwrap().calls_in_order(), 1);
+    /// # fs::remove_file(path.with_extension("names"))?;
+    /// # fs::remove_file(&path)?;
+    /// # Ok::<(), std::io::Error>(())
+    /// ```
+    pub fn calls_in_order(&self) -> usize {
+        self.made
+    }
+}
+
+/// How a test has ended whose calls were replayed.
+#[derive(Clone, Copy, PartialEq, Eq)]
+pub(crate) enum TestEnd {
+    Passed,
+    Failed,
+    /// That isn't known here.
+    Unknown,
+}
+
+impl Replayed {
+    /// Returns the line about the replay at the end of the test.
+    pub(super) fn at_end(&self, end: TestEnd) -> String {
+        match end {
+            TestEnd::Passed if self.is_in_order() && self.has_failed_before => format!(
+                "{self}; the order was replayed and the test passed: the failure isn't one of order alone"
+            ),
+            TestEnd::Passed => format!("{self}; the test passed"),
+            TestEnd::Failed => format!("{self}; the test failed"),
+            TestEnd::Unknown => self.to_string(),
+        }
+    }
+}
+
+impl fmt::Display for Replayed {
+    fn fmt(&self, f: &mut fmt::Formatter<'_>) -> fmt::Result {
+        match &self.parted {
+            Some(parted) => f.write_str(parted)?,
+            None if self.made < self.calls => f.write_str(&self.next)?,
+            None => write!(f, "all {} calls in the recorded order", self.calls)?,
+        }
+        if let Some(shared) = &self.shared {
+            write!(
+                f,
+                "; but several callers {shared}, and a replay can't tell them apart: give each a name of its own"
+            )?;
+        }
+        match &self.other_text {
+            Some(other) => write!(f, "; {other}"),
+            None => Ok(()),
+        }
+    }
+}
+
+/// Writes a line to standard error, also for a test that passes. If standard error is closed, nobody reads it.
+pub(crate) fn say(line: &str) {
+    let _ = io::stderr().write_all(format!("yovanelum: {line}\n").as_bytes());
+}
+
+/// Returns how a replay has gone so far.
+pub(super) fn replayed(plan: &Plan, state: &State) -> Replayed {
+    let next = plan.steps.get(state.position);
+    Replayed {
+        calls: plan.steps.len(),
+        made: state.position,
+        parted: state.parted.clone(),
+        next: next.map_or_else(String::new, |step| {
+            format!(
+                "ended before {}: {}",
+                place(plan, state.position),
+                step_in_words(plan, step)
+            )
+        }),
+        shared: state.shared.clone(),
+        other_text: state.other_text.clone(),
+        has_failed_before: plan.names.matching.has_failed,
+    }
+}
+
+/// Returns where a replay has parted, and why.
+pub(super) fn parted(plan: &Plan, position: usize, came: &str) -> String {
+    let expected = plan.steps.get(position);
+    let expected = expected.map_or_else(String::new, |step| step_in_words(plan, step));
+    format!(
+        "parted at {}: expected {expected}, {came}",
+        place(plan, position)
+    )
+}
+
+/// Says which call came in the place of the expected one.
+pub(super) fn came(plan: &Plan, coming: &Coming) -> String {
+    format!("came {}", coming_in_words(plan, coming))
+}
+
+/// Says that a call has waited for so long.
+pub(super) fn came_in_vain(plan: &Plan, coming: &Coming, limit: Duration) -> String {
+    format!(
+        "came nothing for {} ms, while {} waited",
+        limit.as_millis(),
+        coming_in_words(plan, coming)
+    )
+}
+
+/// Says that the value which the step has sent has another text than in the journal, if it has.
+pub(super) fn other_text(plan: &Plan, position: usize, text: &str) -> Option<String> {
+    let call = plan.steps.get(position)?.call;
+    let texts = plan.names.values.get(&call.channel.into())?;
+    let before = texts.get(&call.value?)?;
+    (before != text).then(|| {
+        format!(
+            "{} sent `{text}`, where it had sent `{before}`",
+            place(plan, position)
+        )
+    })
+}
+
+fn place(plan: &Plan, position: usize) -> String {
+    format!("#{} of {}", position + 1, plan.steps.len())
+}
+
+fn step_in_words(plan: &Plan, step: &Step) -> String {
+    let call = &step.call;
+    let mut words = format!("`{} {}` on ", call.word.text(), call.handle);
+    push_channel(&mut words, plan, call.channel);
+    push_actor(&mut words, plan, Actor::of(step.actor as usize));
+    let calls = plan.names.calls.get(&call.channel.into());
+    let location = calls.and_then(|calls| *calls.get(step.index as usize)?);
+    if let Some(at) = location.and_then(|index| plan.names.locations.get(index)) {
+        let _ = write!(words, " at {}:{}", at.file, at.line);
+    }
+    words
+}
+
+fn coming_in_words(plan: &Plan, coming: &Coming) -> String {
+    let mut words = format!("`{} {}` on ", coming.word.text(), coming.handle);
+    push_channel(&mut words, plan, coming.channel);
+    push_actor(&mut words, plan, coming.actor);
+    if let Some(at) = coming.called_at {
+        let _ = write!(words, " at {}:{}", at.file(), at.line());
+    }
+    words
+}
+
+/// Says that several callers use the handle of this call.
+pub(super) fn shared_handle(plan: &Plan, coming: &Coming) -> String {
+    let mut words = format!("use handle {} of ", coming.handle);
+    push_channel(&mut words, plan, coming.channel);
+    words
+}
+
+/// Says that several callers with this name, or with none, make channels.
+pub(super) fn shared_making(name: Option<&str>) -> String {
+    match name {
+        Some(name) => format!("named `{name}` make channels"),
+        None => "without a name make channels".to_string(),
+    }
+}
+
+fn push_channel(words: &mut String, plan: &Plan, channel: u32) {
+    let _ = match plan.names.channels.get(&channel.into()) {
+        Some(name) => write!(words, "`{name}`"),
+        None => write!(words, "channel {channel}"),
+    };
+}
+
+fn push_actor(words: &mut String, plan: &Plan, actor: Actor) {
+    let name = plan.names.actors.get(&actor.number().into());
+    if let Some(name) = name.filter(|_| plan.is_named(actor)) {
+        let _ = write!(words, " by `{name}`");
+    }
+}

@@ -1,0 +1,514 @@
+//! Gates driven by hand: each call is passed and made here, without a channel.
+
+mod tasks;
+
+use super::gate::Gate;
+use super::plan::Plan;
+use super::recorded::{RecordedCall, calls};
+use super::{Coming, TestEnd, Ticket, Word, helper};
+use crate::core::Actor;
+use crate::findings::TextFault;
+use crate::lock::lock;
+use crate::names::{Maker, Names};
+use std::path::Path;
+use std::sync::atomic::{AtomicUsize, Ordering};
+use std::sync::{Arc, Barrier, Mutex, mpsc};
+use std::task::{Context, Poll, Wake, Waker};
+use std::thread;
+use std::time::Duration;
+
+/// Longer than any test takes.
+const PATIENT: Duration = Duration::from_secs(600);
+
+/// Three actors, of which the third has no name, on a broadcast and a watch.
+const JOURNAL: &str = "ttd-journal 2
+broadcast 4
+watch 0
+steps
+1 0 0 send 0 0 = sent 1
+2 1 0 recv 1 = value 0
+3 0 1 modify 0 1 yes = told yes
+4 2 0 send 0 1 = sent 1
+5 1 0 try-recv 1 = value 1
+6 0 0 drop 0 = dropped
+end
+";
+
+const NAMES: &str = r#"{
+    "version": 2,
+    "actors": {"0": "clerk", "1": "audit", "2": "ThreadId(7)"},
+    "channels": {"0": "orders"},
+    "values": {"0": {"0": "order 71", "1": "order 72"}},
+    "locations": [["src/shop.rs", 15, 9], ["src/audit.rs", 30, 5]],
+    "calls": {"0": [0, 1, null, 1, null], "1": [0]},
+    "made_by": {"0": ["the_test", 0], "1": ["the_test", 1]},
+    "unnamed": [2],
+    "failed": true
+}"#;
+
+fn gate_of(journal: &str, names: &str, patience: Duration) -> Arc<Gate> {
+    let plan = Plan::new(
+        &calls(journal.as_bytes()).unwrap(),
+        Names::read(names).unwrap(),
+    );
+    let gate = Arc::new(Gate::new(Path::new("a/test.journal"), 1, plan, patience));
+    helper::start(&gate).unwrap();
+    gate
+}
+
+fn gate() -> Arc<Gate> {
+    gate_of(JOURNAL, NAMES, PATIENT)
+}
+
+fn call(actor: usize, channel: u32, word: Word, handle: u32) -> Coming {
+    Coming {
+        channel,
+        handle,
+        word,
+        actor: Actor::of(actor),
+        called_at: None,
+    }
+}
+
+const CLERK: usize = 0;
+const AUDIT: usize = 1;
+const NOBODY: usize = 2;
+
+fn make(gate: &Gate, coming: Coming) {
+    gate.pass(coming).made(None);
+}
+
+/// Makes the first calls of the journal.
+fn make_first(gate: &Gate, count: usize) {
+    let calls = [
+        call(CLERK, 0, Word::Send, 0),
+        call(AUDIT, 0, Word::Recv, 1),
+        call(CLERK, 1, Word::Modify, 0),
+        call(NOBODY, 0, Word::Send, 0),
+        call(AUDIT, 0, Word::TryRecv, 1),
+        call(CLERK, 0, Word::Drop, 0),
+    ];
+    calls
+        .into_iter()
+        .take(count)
+        .for_each(|coming| make(gate, coming));
+}
+
+/// Waits until this many threads are blocked before the gate.
+fn wait_for_blocked(gate: &Gate, count: u32) {
+    let blocked = || {
+        let state = lock(&gate.state);
+        let of_lanes = state.lanes.iter().map(|lane| lane.blocked);
+        let of_actors = state.actors.iter().map(|actor| actor.blocked);
+        of_lanes.chain(of_actors).sum::<u32>()
+    };
+    while blocked() < count {
+        thread::yield_now();
+    }
+}
+
+/// Counts its wakes, and tells each with the name of the thread that wakes.
+struct Told {
+    wakes: AtomicUsize,
+    by: Mutex<mpsc::Sender<String>>,
+}
+
+impl Wake for Told {
+    fn wake(self: Arc<Self>) {
+        self.wakes.fetch_add(1, Ordering::SeqCst);
+        let by = thread::current().name().unwrap_or_default().to_string();
+        let _ = lock(&self.by).send(by);
+    }
+}
+
+fn told() -> (Arc<Told>, Waker, mpsc::Receiver<String>) {
+    let (by, woken) = mpsc::channel();
+    let told = Arc::new(Told {
+        wakes: AtomicUsize::new(0),
+        by: Mutex::new(by),
+    });
+    (told.clone(), Waker::from(told), woken)
+}
+
+fn poll(gate: &Gate, coming: Coming, ticket: &mut Option<Ticket>, waker: &Waker) -> bool {
+    match gate.poll(coming, ticket, &Context::from_waker(waker)) {
+        Poll::Ready(mut permit) => {
+            permit.made(None);
+            true
+        }
+        Poll::Pending => false,
+    }
+}
+
+#[test]
+fn calls_are_read_actor_by_actor() {
+    let recorded = |place, channel, word, handle, value| RecordedCall {
+        place,
+        channel,
+        handle,
+        word,
+        value,
+    };
+    let wanted = vec![
+        vec![
+            recorded(1, 0, Word::Send, 0, Some(0)),
+            recorded(3, 1, Word::Modify, 0, Some(1)),
+            recorded(6, 0, Word::Drop, 0, None),
+        ],
+        vec![
+            recorded(2, 0, Word::Recv, 1, None),
+            recorded(5, 0, Word::TryRecv, 1, None),
+        ],
+        vec![recorded(4, 0, Word::Send, 0, Some(1))],
+    ];
+    assert_eq!(calls(JOURNAL.as_bytes()), Ok(wanted));
+    let cut = JOURNAL.strip_suffix("end\n").unwrap();
+    assert_eq!(calls(cut.as_bytes()), Err(TextFault::Truncated));
+    let faulty = JOURNAL.replace("try-recv", "peek");
+    assert_eq!(calls(faulty.as_bytes()), Err(TextFault::Malformed(9)));
+    assert_eq!(calls(b"{}\n"), Err(TextFault::Malformed(1)));
+    // Neither a run with a wrong reply, nor one in a wrong order.
+    let wrong = JOURNAL.replace("= value 1", "= value 2");
+    assert_eq!(calls(wrong.as_bytes()), Err(TextFault::WrongReply(9)));
+    let wrong = JOURNAL.replace("5 1 0 try-recv", "3 1 0 try-recv");
+    assert_eq!(calls(wrong.as_bytes()), Err(TextFault::WrongOrder(9)));
+}
+
+#[test]
+fn calls_in_the_order_of_the_journal_pass_at_once() {
+    let gate = gate();
+    make_first(&gate, 6);
+    let replayed = gate.outcome();
+    assert!(replayed.is_in_order() && gate.is_over());
+    assert_eq!(replayed.to_string(), "all 6 calls in the recorded order");
+    // What comes later passes.
+    make(&gate, call(CLERK, 0, Word::Send, 0));
+    assert_eq!(gate.outcome(), replayed);
+}
+
+#[test]
+fn a_thread_blocks_until_its_turn() {
+    let gate = gate();
+    let made = Mutex::new(vec![]);
+    thread::scope(|scope| {
+        let later = scope.spawn(|| {
+            let mut permit = gate.pass(call(NOBODY, 0, Word::Send, 0));
+            lock(&made).push(3);
+            permit.made(None);
+        });
+        wait_for_blocked(&gate, 1);
+        make_first(&gate, 2);
+        let mut permit = gate.pass(call(CLERK, 1, Word::Modify, 0));
+        assert!(lock(&made).is_empty());
+        lock(&made).push(2);
+        permit.made(None);
+        later.join().unwrap();
+    });
+    assert_eq!(*lock(&made), [2, 3]);
+    assert_eq!(gate.outcome().calls_in_order(), 4);
+}
+
+#[test]
+fn a_permit_that_is_not_used_is_given_back() {
+    let gate = gate();
+    drop(gate.pass(call(CLERK, 0, Word::Send, 0)));
+    assert_eq!(gate.outcome().calls_in_order(), 0);
+    make_first(&gate, 6);
+    assert!(gate.outcome().is_in_order());
+}
+
+#[test]
+fn two_callers_of_one_lane_do_not_both_get_the_turn() {
+    let gate = gate();
+    make_first(&gate, 3);
+    let mut permit = gate.pass(call(NOBODY, 0, Word::Send, 0));
+    thread::scope(|scope| {
+        let other = scope.spawn(|| make(&gate, call(NOBODY, 0, Word::Send, 0)));
+        wait_for_blocked(&gate, 1);
+        permit.made(None);
+        make(&gate, call(AUDIT, 0, Word::TryRecv, 1));
+        make(&gate, call(CLERK, 0, Word::Drop, 0));
+        // The journal has one such call. The other one passes at its end.
+        other.join().unwrap();
+    });
+    assert_eq!(gate.outcome().calls_in_order(), 6);
+}
+
+#[test]
+fn a_future_is_pending_until_its_turn_and_woken_by_the_helper() {
+    let gate = gate();
+    let (_, waker, woken) = told();
+    let mut ticket = None;
+    let recv = call(AUDIT, 0, Word::Recv, 1);
+    assert!(!poll(&gate, recv, &mut ticket, &waker));
+    assert!(!poll(&gate, recv, &mut ticket, &waker));
+    assert_eq!(lock(&gate.state).waiters.len(), 1);
+    make_first(&gate, 1);
+    assert_eq!(woken.recv().unwrap(), "yovanelum-replay");
+    assert!(poll(&gate, recv, &mut ticket, &waker));
+    assert_eq!((ticket, gate.outcome().calls_in_order()), (None, 2));
+}
+
+#[test]
+fn a_future_that_is_dropped_leaves_the_gate() {
+    let gate = gate();
+    let (dropped, waker, _woken) = told();
+    let mut ticket = None;
+    let recv = call(AUDIT, 0, Word::Recv, 1);
+    assert!(!poll(&gate, recv, &mut ticket, &waker));
+    gate.leave(ticket.take().unwrap());
+    assert!(lock(&gate.state).waiters.is_empty());
+    make_first(&gate, 6);
+    assert!(gate.outcome().is_in_order());
+    assert_eq!(dropped.wakes.load(Ordering::SeqCst), 0);
+}
+
+#[test]
+fn the_end_wakes_futures_that_the_journal_does_not_have() {
+    let gate = gate();
+    let (_, waker, woken) = told();
+    let mut ticket = None;
+    let recv = call(CLERK, 0, Word::Recv, 5);
+    assert!(!poll(&gate, recv, &mut ticket, &waker));
+    make_first(&gate, 6);
+    assert_eq!(woken.recv().unwrap(), "yovanelum-replay");
+    assert!(poll(&gate, recv, &mut ticket, &waker));
+    assert!(gate.outcome().is_in_order());
+}
+
+#[test]
+fn another_call_parts_at_once() {
+    let gate = gate();
+    // The next call of this receiver is a receive that waits. It isn't the audit's turn, so it would be patient.
+    make(&gate, call(AUDIT, 0, Word::TryRecv, 1));
+    let wanted = "parted at #1 of 6: expected `send 0` on `orders` by `clerk` at src/shop.rs:15, \
+                  came `try-recv 1` on `orders` by `audit`";
+    let replayed = gate.outcome();
+    assert_eq!(replayed.to_string(), wanted);
+    assert!(!replayed.is_in_order() && gate.is_over());
+}
+
+#[test]
+fn another_call_of_the_actor_whose_turn_it_is_parts_soon() {
+    let gate = gate();
+    // The journal has no such handle.
+    let location = std::panic::Location::caller();
+    let subscribe = Coming {
+        called_at: Some(location),
+        ..call(CLERK, 0, Word::Subscribe, 7)
+    };
+    make(&gate, subscribe);
+    let wanted = format!(
+        "parted at #1 of 6: expected `send 0` on `orders` by `clerk` at src/shop.rs:15, \
+         came `subscribe 7` on `orders` by `clerk` at {}:{}",
+        location.file(),
+        location.line()
+    );
+    assert_eq!(gate.outcome().to_string(), wanted);
+}
+
+#[test]
+fn a_call_that_would_wait_at_its_turn_parts() {
+    let gate = gate();
+    make_first(&gate, 1);
+    gate.pass(call(AUDIT, 0, Word::Recv, 1)).would_wait();
+    let wanted = "parted at #2 of 6: expected `recv 1` on `orders` by `audit` at src/audit.rs:30, \
+                  came the same call, which had to wait";
+    assert_eq!(gate.outcome().to_string(), wanted);
+}
+
+#[test]
+fn a_thread_goes_on_where_nothing_comes_for_too_long() {
+    let gate = gate_of(JOURNAL, NAMES, Duration::from_millis(5));
+    make(&gate, call(NOBODY, 0, Word::Send, 0));
+    let wanted = "parted at #1 of 6: expected `send 0` on `orders` by `clerk` at src/shop.rs:15, \
+                  came nothing for 5 ms, while `send 0` on `orders` waited";
+    assert_eq!(gate.outcome().to_string(), wanted);
+}
+
+#[test]
+fn a_future_goes_on_where_nothing_comes_for_too_long() {
+    let gate = gate_of(JOURNAL, NAMES, Duration::from_millis(5));
+    let (_, waker, woken) = told();
+    let mut ticket = None;
+    let recv = call(AUDIT, 0, Word::Recv, 1);
+    assert!(!poll(&gate, recv, &mut ticket, &waker));
+    assert_eq!(woken.recv().unwrap(), "yovanelum-replay");
+    assert!(poll(&gate, recv, &mut ticket, &waker));
+    let wanted = "parted at #1 of 6: expected `send 0` on `orders` by `clerk` at src/shop.rs:15, \
+                  came nothing for 25 ms, while `recv 1` on `orders` by `audit` waited";
+    assert_eq!(gate.outcome().to_string(), wanted);
+}
+
+#[test]
+fn a_closure_that_changes_a_watch_begins_before_its_own_calls() {
+    let journal = "ttd-journal 2\nbroadcast 4\nwatch 0\nsteps\n\
+        1 1 0 try-recv 1 = empty\n2 0 0 send 0 0 = sent 1\n3 0 1 modify 0 1 yes = told yes\nend\n";
+    let gate = gate_of(journal, NAMES, PATIENT);
+    let modify = call(CLERK, 1, Word::Modify, 0);
+    thread::scope(|scope| {
+        let clerk = scope.spawn(|| {
+            gate.pass_to_modify(modify);
+            let begun_at = gate.outcome().calls_in_order();
+            make(&gate, call(CLERK, 0, Word::Send, 0));
+            make(&gate, modify);
+            begun_at
+        });
+        wait_for_blocked(&gate, 1);
+        make(&gate, call(AUDIT, 0, Word::TryRecv, 1));
+        assert_eq!(clerk.join().unwrap(), 1);
+    });
+    assert!(gate.outcome().is_in_order());
+}
+
+#[test]
+fn a_handle_is_dropped_by_whoever_has_it_last() {
+    let gate = gate();
+    make_first(&gate, 5);
+    make(&gate, call(NOBODY, 0, Word::Drop, 0));
+    assert!(gate.outcome().is_in_order());
+}
+
+#[test]
+fn callers_who_share_a_handle_without_a_name_are_not_told_apart() {
+    let journal = "ttd-journal 2\nbroadcast 4\nsteps\n\
+        1 2 0 send 0 0 = sent 1\n2 3 0 send 0 1 = sent 1\nend\n";
+    let gate = gate_of(journal, NAMES, PATIENT);
+    // Both threads live until both have called, so that they are two.
+    let both = Barrier::new(2);
+    thread::scope(|scope| {
+        for _ in 0..2 {
+            scope.spawn(|| {
+                make(&gate, call(NOBODY, 0, Word::Send, 0));
+                both.wait();
+            });
+        }
+    });
+    let replayed = gate.outcome();
+    assert!(!replayed.is_in_order());
+    assert_eq!(
+        replayed.to_string(),
+        "all 2 calls in the recorded order; but several callers use handle 0 of `orders`, \
+         and a replay can't tell them apart: give each a name of its own"
+    );
+}
+
+#[test]
+fn a_poll_is_held_back_until_the_turn_of_its_actor() {
+    let gate = gate();
+    let (_, waker, woken) = told();
+    let context = Context::from_waker(&waker);
+    // The next call of the audit may wait, so its future waits by itself. The clerk's turn has come.
+    assert!(!gate.holds("audit", None, &context) && !gate.holds("clerk", None, &context));
+    assert!(!gate.holds("somebody else", None, &context));
+    make_first(&gate, 1);
+    assert!(gate.holds("clerk", None, &context) && gate.holds("clerk", None, &context));
+    make(&gate, call(AUDIT, 0, Word::Recv, 1));
+    assert_eq!(woken.recv().unwrap(), "yovanelum-replay");
+    assert!(!gate.holds("clerk", None, &context) && gate.holds("audit", None, &context));
+    make(&gate, call(CLERK, 1, Word::Modify, 0));
+    // The turn is that of one without a name, who doesn't come for a while. Then the others are polled.
+    assert_eq!(woken.recv().unwrap(), "yovanelum-replay");
+    assert!(!gate.holds("audit", None, &context));
+}
+
+#[test]
+fn a_future_that_was_dropped_is_not_polled_at_the_turn_of_its_drop() {
+    let names = NAMES.replace("\"failed\"", "\"cancelled\": {\"0\": [4]}, \"failed\"");
+    let gate = gate_of(JOURNAL, &names, PATIENT);
+    let (_, waker, _woken) = told();
+    let context = Context::from_waker(&waker);
+    make_first(&gate, 5);
+    assert!(gate.holds("clerk", None, &context));
+    make(&gate, call(CLERK, 0, Word::Drop, 0));
+    assert!(gate.outcome().is_in_order());
+}
+
+#[test]
+fn a_poll_by_which_that_of_the_turn_is_made_is_not_held_back() {
+    let gate = gate();
+    let (_, waker, _woken) = told();
+    let context = Context::from_waker(&waker);
+    make_first(&gate, 1);
+    // The turn is the audit's, whose future the clerk's polls.
+    assert!(!gate.holds("audit", Some("clerk"), &context));
+    assert!(!gate.holds("clerk", None, &context));
+    assert!(!gate.holds("audit", None, &context));
+    assert!(gate.holds("clerk", None, &context));
+}
+
+#[test]
+fn a_value_with_another_text_is_told() {
+    let gate = gate();
+    gate.pass(call(CLERK, 0, Word::Send, 0))
+        .made(Some("order 71"));
+    make(&gate, call(AUDIT, 0, Word::Recv, 1));
+    make(&gate, call(CLERK, 1, Word::Modify, 0));
+    gate.pass(call(NOBODY, 0, Word::Send, 0))
+        .made(Some("order 73"));
+    make(&gate, call(AUDIT, 0, Word::TryRecv, 1));
+    make(&gate, call(CLERK, 0, Word::Drop, 0));
+    let replayed = gate.outcome();
+    assert!(replayed.is_in_order());
+    assert_eq!(
+        replayed.to_string(),
+        "all 6 calls in the recorded order; #4 of 6 sent `order 73`, where it had sent `order 72`"
+    );
+}
+
+#[test]
+fn a_call_that_waits_has_a_mark() {
+    let journal = "ttd-journal 2\nbroadcast 4\nwatch 0\nsteps\n\
+        1 0 0 receiver-count 0 = count 1\n2 1 0 drop 1 = dropped\n\
+        3 0 0 receiver-count 0 = count 0\n4 1 1 update 1 = value 0\nend\n";
+    let names = r#"{"actors": {"0": "clerk", "1": "audit"}, "waited": {"0": [2], "1": [0]}}"#;
+    let gate = gate_of(journal, names, PATIENT);
+    make(&gate, call(CLERK, 0, Word::ReceiverCount, 0));
+    make(&gate, call(AUDIT, 0, Word::Drop, 1));
+    make(&gate, call(CLERK, 0, Word::NoReceiver, 0));
+    make(&gate, call(AUDIT, 1, Word::WaitFor, 1));
+    assert!(gate.outcome().is_in_order());
+}
+
+#[test]
+fn channels_are_known_by_their_makers() {
+    let gate = gate();
+    let made = |name: Option<&str>, nth| {
+        gate.channel_by(&Maker {
+            name: name.map(str::to_string),
+            nth,
+        })
+    };
+    assert_eq!(made(Some("the_test"), 1), Some(1));
+    assert_eq!(made(Some("the_test"), 2), None);
+    assert_eq!(made(None, 0), None);
+}
+
+#[test]
+fn the_line_at_the_end_says_how_the_test_ended() {
+    let gate = gate();
+    make_first(&gate, 2);
+    let at_end = |end| gate.outcome().at_end(end);
+    let before = "ended before #3 of 6: `modify 0` on channel 1 by `clerk` at src/shop.rs:15";
+    assert_eq!(
+        at_end(TestEnd::Failed),
+        format!("{before}; the test failed")
+    );
+    assert_eq!(
+        at_end(TestEnd::Passed),
+        format!("{before}; the test passed")
+    );
+    make(&gate, call(CLERK, 1, Word::Modify, 0));
+    make(&gate, call(NOBODY, 0, Word::Send, 0));
+    make(&gate, call(AUDIT, 0, Word::TryRecv, 1));
+    make(&gate, call(CLERK, 0, Word::Drop, 0));
+    let all = "all 6 calls in the recorded order";
+    assert_eq!(at_end(TestEnd::Failed), format!("{all}; the test failed"));
+    assert_eq!(at_end(TestEnd::Unknown), all);
+    assert_eq!(
+        at_end(TestEnd::Passed),
+        format!(
+            "{all}; the order was replayed and the test passed: the failure isn't one of order alone"
+        )
+    );
+}

@@ -1,0 +1,297 @@
+//! What a failing test prints and writes. Each test runs this program again for its part, as a process whose output can be read.
+
+mod support;
+
+use std::fs;
+use std::panic::{AssertUnwindSafe, catch_unwind};
+use std::path::Path;
+use std::process::Command;
+use support::parts::{Folder, is_part, line_after, our_lines, play};
+use yovanelum::broadcast::error::TryRecvError;
+use yovanelum::{Recorder, block_on, broadcast, named, watch};
+
+/// Runs the part of this test. Returns whether it succeeds, and the lines of this crate, with `DIR` for the folder of the files. The last one,
+/// which says how to replay the test, is left to `tests/replayed.rs`.
+fn played(test: &str, folder: &Folder) -> (bool, Vec<String>) {
+    let (succeeds, said) = play(test, &folder.0, None);
+    let files = folder.0.join("built/yovanelum").display().to_string();
+    let lines = our_lines(&said).into_iter();
+    let lines = lines.filter(|line| !line.starts_with("replay: "));
+    (
+        succeeds,
+        lines.map(|line| line.replace(&files, "DIR")).collect(),
+    )
+}
+
+/// Asserts that the part of this test fails with these lines, each with the number of a line of this source in place of `NN`.
+fn assert_said(test: &str, at: &[u32], wanted: &str) {
+    let folder = Folder::new(test);
+    let (succeeds, said) = played(test, &folder);
+    let mut at = at.iter();
+    let wanted: Vec<_> = wanted
+        .lines()
+        .map(|line| match line.contains("NN") {
+            true => line.replace("NN", &at.next().unwrap().to_string()),
+            false => line.to_string(),
+        })
+        .collect();
+    assert_eq!((succeeds, said), (false, wanted));
+}
+
+/// The lines of this source at which the calls below are made.
+const SEND: u32 = line!() + 5;
+const RECEIVE: u32 = SEND + 5;
+
+/// Sends a number under this name.
+fn send(by: &str, tx: &broadcast::Sender<u32>, number: u32) {
+    block_on(named(by, async { tx.send(number) })).unwrap();
+}
+
+/// Receives without waiting, under this name.
+fn receive(by: &str, rx: &mut broadcast::Receiver<u32>) -> Result<u32, TryRecvError> {
+    block_on(named(by, async { rx.try_recv() }))
+}
+
+#[test]
+fn a_loss_that_nobody_was_told_of() {
+    if is_part() {
+        let recorder = Recorder::for_test("untold");
+        let (jobs, mut worker) = broadcast::channel(2);
+        let log = jobs.subscribe();
+        recorder.name(&jobs, "jobs").name(&log, "log");
+        send("desk", &jobs, 1);
+        receive("worker", &mut worker).unwrap();
+        for number in 2..=4 {
+            send("desk", &jobs, number);
+        }
+        // The worker is alive where the report is made, and the log is dropped.
+        std::mem::forget(worker);
+        drop(log);
+        panic!("the test fails");
+    }
+    let wanted = "\
+yovanelum: `log` lost 2 of 4 values of `jobs` (capacity 2)
+  step 5   jobs.send(value 2)    desk                            tests/failing.rs:NN   overwrote value 0, which log had not read
+  step 7   dropped: never told   a_loss_that_nobody_was_told_of                        its last receive: none before
+  lost: value 0, value 1
+yovanelum: `worker` lost 1 of 4 values of `jobs` (capacity 2)
+  step 6    jobs.send(value 3)   desk  tests/failing.rs:NN   overwrote value 1, which worker had not read
+  the end   not told                                         its last receive: step 3, value 0
+  lost: value 1
+look: file://DIR/untold.html#place=5
+";
+    assert_said("a_loss_that_nobody_was_told_of", &[SEND, SEND], wanted);
+}
+
+#[test]
+fn three_receivers_of_a_hundred_are_told_of() {
+    if is_part() {
+        let recorder = Recorder::for_test("hundred");
+        // The first receiver is made here.
+        let (orders, first) = broadcast::channel(1);
+        recorder.name(&orders, "orders");
+        // The others are made here.
+        let receivers: Vec<_> = (1..100).map(|_| orders.subscribe()).collect();
+        send("desk", &orders, 1);
+        send("desk", &orders, 2);
+        std::mem::forget((first, receivers));
+        panic!("the test fails");
+    }
+    let wanted = "\
+yovanelum: receiver 1 (made at tests/failing.rs:NN) lost 1 of 2 values of `orders` (capacity 1)
+  step 101   orders.send(value 1)   desk  tests/failing.rs:NN   overwrote value 0, which receiver 1 had not read
+  the end    not told                                           its last receive: none before
+  lost: value 0
+yovanelum: receiver 2 (made at tests/failing.rs:NN) lost 1 of 2 values of `orders` (capacity 1)
+  step 101   orders.send(value 1)   desk  tests/failing.rs:NN   overwrote value 0, which receiver 2 had not read
+  the end    not told                                           its last receive: none before
+  lost: value 0
+yovanelum: receiver 3 (made at tests/failing.rs:NN) lost 1 of 2 values of `orders` (capacity 1)
+  step 101   orders.send(value 1)   desk  tests/failing.rs:NN   overwrote value 0, which receiver 3 had not read
+  the end    not told                                           its last receive: none before
+  lost: value 0
+and 97 more receivers lost 97 values
+look: file://DIR/hundred.html#place=101
+";
+    let source = include_str!("failing.rs");
+    let first = line_after(source, "// The first receiver is made here.");
+    let others = line_after(source, "// The others are made here.");
+    let at = [first, SEND, others, SEND, others, SEND];
+    assert_said("three_receivers_of_a_hundred_are_told_of", &at, wanted);
+}
+
+#[test]
+fn a_close_that_a_receiver_missed() {
+    if is_part() {
+        let recorder = Recorder::for_test("closed");
+        let (orders, mut audit) = broadcast::channel(4);
+        let screen = orders.subscribe();
+        recorder.name(&orders, "orders").name(&screen, "screen");
+        send("desk", &orders, 1);
+        block_on(named("desk", async { drop(orders) }));
+        receive("audit", &mut audit).unwrap();
+        assert_eq!(receive("audit", &mut audit), Err(TryRecvError::Closed));
+        std::mem::forget(screen);
+        panic!("the test fails");
+    }
+    let wanted = "\
+yovanelum: no value was lost; `orders` closed, and 1 of 2 receivers were told
+  step 3   dropped the last sender   desk
+  step 5   told: closed              audit  tests/failing.rs:NN   after 1 more value
+  not told: `screen`
+look: file://DIR/closed.html#place=3
+";
+    assert_said("a_close_that_a_receiver_missed", &[RECEIVE], wanted);
+}
+
+#[test]
+fn a_watch_whose_changes_were_never_looked_at() {
+    if is_part() {
+        let recorder = Recorder::for_test("unseen");
+        let (state, worker) = watch::channel("open");
+        recorder.name(&state, "state").name(&worker, "worker");
+        recorder.show(&state, |state| state.to_string());
+        for text in ["closing", "closed"] {
+            // The state is sent here.
+            block_on(named("desk", async { state.send(text) })).unwrap();
+        }
+        std::mem::forget((state, worker));
+        panic!("the test fails");
+    }
+    let wanted = "\
+yovanelum: no value was lost; `worker` never saw 2 changes of `state`, and was told of 0
+  step 2   state.send(\"closed\")   desk  tests/failing.rs:NN   the last change
+look: file://DIR/unseen.html#place=2
+";
+    let at = line_after(include_str!("failing.rs"), "// The state is sent here.");
+    assert_said("a_watch_whose_changes_were_never_looked_at", &[at], wanted);
+}
+
+#[test]
+fn a_folder_that_cannot_be_written_is_said_in_one_line() {
+    if is_part() {
+        let _recorder = Recorder::for_test("unwritten");
+        let (orders, _audit) = broadcast::channel(4);
+        orders.send(1).unwrap();
+        panic!("the test fails");
+    }
+    let test = "a_folder_that_cannot_be_written_is_said_in_one_line";
+    let folder = Folder::new(test);
+    fs::write(folder.0.join("built"), "a file, and no folder").unwrap();
+    let (succeeds, said) = played(test, &folder);
+    let [report, fault] = &said[..] else {
+        panic!("{said:#?}");
+    };
+    assert!(!succeeds);
+    assert_eq!(
+        report,
+        "yovanelum: no value was lost in 3 calls on 1 channel"
+    );
+    let start = "yovanelum: DIR/unwritten.journal isn't written: ";
+    assert!(fault.starts_with(start), "{fault}");
+}
+
+/// A test that returns an error, if it is to.
+fn result(fails: bool) -> Result<(), TryRecvError> {
+    let recorder = Recorder::for_test("result");
+    let (orders, mut audit) = broadcast::channel(4);
+    if !fails {
+        orders.send(1).unwrap();
+    }
+    recorder.save_on_err(audit.try_recv().map(drop))
+}
+
+#[test]
+fn a_test_that_returns_an_error_is_told_of() {
+    if is_part() {
+        assert_eq!(result(true), Err(TryRecvError::Empty));
+        return;
+    }
+    let test = "a_test_that_returns_an_error_is_told_of";
+    let folder = Folder::new(test);
+    let wanted = [
+        "yovanelum: no value was lost in 3 calls on 1 channel",
+        "look: file://DIR/result.html#place=3",
+    ];
+    assert_eq!(
+        played(test, &folder),
+        (true, wanted.map(String::from).into())
+    );
+    assert!(folder.0.join("built/yovanelum/result.journal").exists());
+}
+
+#[test]
+fn a_test_that_returns_ok_writes_nothing() {
+    if is_part() {
+        assert_eq!(result(false), Ok(()));
+        return;
+    }
+    let test = "a_test_that_returns_ok_writes_nothing";
+    let folder = Folder::new(test);
+    assert_eq!(played(test, &folder), (true, vec![]));
+    assert!(!folder.0.join("built").exists());
+}
+
+/// Its drop runs a test of its own, which panics too and is caught.
+struct TestsItself;
+
+impl Drop for TestsItself {
+    fn drop(&mut self) {
+        let second = || {
+            let _recorder = Recorder::for_test("second");
+            drop(broadcast::Sender::<u32>::new(4));
+            panic!("the second panic");
+        };
+        let _ = catch_unwind(AssertUnwindSafe(second));
+        // This one doesn't panic itself, but it is dropped while the thread does.
+        let _recorder = Recorder::for_test("third");
+        drop(broadcast::Sender::<u32>::new(4));
+    }
+}
+
+#[test]
+fn a_second_panic_while_one_unwinds_writes_nothing() {
+    if is_part() {
+        let _recorder = Recorder::for_test("first");
+        drop(broadcast::Sender::<u32>::new(4));
+        let _tests_itself = TestsItself;
+        panic!("the first panic");
+    }
+    let test = "a_second_panic_while_one_unwinds_writes_nothing";
+    let folder = Folder::new(test);
+    let (succeeds, said) = played(test, &folder);
+    let wanted = [
+        "yovanelum: no value was lost in 2 calls on 1 channel",
+        "look: file://DIR/first.html#place=2",
+    ];
+    assert_eq!((succeeds, said), (false, wanted.map(String::from).into()));
+    let files = fs::read_dir(folder.0.join("built/yovanelum")).unwrap();
+    assert_eq!(files.count(), 3, "journal, names and page of the first");
+}
+
+#[test]
+fn the_page_is_the_one_that_page_open_writes() {
+    if is_part() {
+        let recorder = Recorder::for_test("a/b");
+        let (orders, _audit) = broadcast::channel(4);
+        recorder.name(&orders, "orders");
+        orders.send(1).unwrap();
+        panic!("the test fails");
+    }
+    let open = Path::new(env!("CARGO_MANIFEST_DIR")).join("../page/open");
+    if !open.exists() {
+        return;
+    }
+    let test = "the_page_is_the_one_that_page_open_writes";
+    let folder = Folder::new(test);
+    let (succeeds, said) = played(test, &folder);
+    assert!(
+        !succeeds && said[1] == "look: file://DIR/a_b.html#place=3",
+        "{said:#?}"
+    );
+    let journal = folder.0.join("built/yovanelum/a_b.journal");
+    let opened = Command::new(open).arg(&journal).output().unwrap();
+    assert!(opened.status.success());
+    let wanted = fs::read(journal.with_extension("journal.html")).unwrap();
+    assert!(fs::read(journal.with_extension("html")).unwrap() == wanted);
+}

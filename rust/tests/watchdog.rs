@@ -1,0 +1,167 @@
+//! A watchdog says which calls wait where a test does not end in time, and is silent where it does.
+
+mod support;
+
+use std::fs;
+use std::io::{BufRead, BufReader, Read};
+use std::process::{Child, Stdio};
+use std::thread;
+use std::time::Duration;
+use support::in_time;
+use support::parts::{Folder, is_part, play, started};
+use yovanelum::{Recorder, block_on, broadcast, watch};
+
+/// Longer than any test runs.
+const NEVER: Duration = Duration::from_secs(3600);
+
+/// Waits until the process that has started this part closes the standard input.
+fn wait_for_the_end_of_input() {
+    std::io::stdin().read_to_end(&mut vec![]).unwrap();
+}
+
+/// The line at which the worker of the part below waits.
+const WORKER_WAITS_AT: u32 = line!() + 8;
+
+fn a_worker_that_waits(name: &str) {
+    let recorder = Recorder::for_test(name);
+    let (state, mut rx) = watch::channel("loading");
+    recorder.name(&state, "state");
+    let worker = thread::Builder::new().name("worker".into());
+    let worker = worker.spawn(move || {
+        let ready = rx.wait_for(|state| *state == "ready");
+        assert!(block_on(ready).is_ok());
+    });
+    while recorder.waiting().is_empty() {
+        thread::yield_now();
+    }
+    let _recorder = recorder.watchdog(Duration::from_millis(1));
+    wait_for_the_end_of_input();
+    state.send("ready").unwrap();
+    worker.unwrap().join().unwrap();
+}
+
+/// Reads lines of this crate from the standard error of a process.
+fn read_lines(process: &mut Child, count: usize) -> Vec<String> {
+    let lines = BufReader::new(process.stderr.as_mut().unwrap()).lines();
+    let ours = lines
+        .map(Result::unwrap)
+        .filter(|line| line.starts_with("yovanelum: ") || line.starts_with("look: "));
+    ours.take(count).collect()
+}
+
+#[test]
+fn a_test_that_hangs_says_who_waits_and_goes_on() {
+    if is_part() {
+        return a_worker_that_waits("hangs");
+    }
+    in_time(|| {
+        let folder = Folder::new("hangs");
+        // Its output is captured, as that of tests is.
+        let test = "a_test_that_hangs_says_who_waits_and_goes_on";
+        let mut part = started(test, &folder.0)
+            .stdin(Stdio::piped())
+            .stdout(Stdio::piped())
+            .stderr(Stdio::piped())
+            .spawn()
+            .unwrap();
+        let said = read_lines(&mut part, 3);
+        let path = folder.0.join("built/yovanelum/hangs.journal");
+        let wanted = [
+            format!(
+                "yovanelum: hangs has not ended after 1ms; its calls so far are in {}",
+                path.display()
+            ),
+            format!(
+                "yovanelum: still waiting: worker in `state.wait_for`, {}:{WORKER_WAITS_AT}",
+                file!()
+            ),
+            format!(
+                "look: file://{}#place=1",
+                path.with_extension("html").display()
+            ),
+        ];
+        assert_eq!(said, wanted);
+        let journal = fs::read_to_string(&path).unwrap();
+        assert!(
+            journal.ends_with("steps\n1 0 0 update 1 = value 0\nend\n"),
+            "{journal}"
+        );
+        let names = fs::read_to_string(path.with_extension("names")).unwrap();
+        let waiting = r#""waiting": [{"actor": 0, "channel": 0, "handle": 1, "call": "wait_for", "since": 1, "#;
+        assert!(names.contains(waiting), "{names}");
+        // The test goes on, and passes.
+        drop(part.stdin.take());
+        assert!(part.wait().unwrap().success());
+    });
+}
+
+#[test]
+fn a_test_that_hangs_where_no_call_waits_says_so() {
+    if is_part() {
+        let recorder = Recorder::for_test("computes").watchdog(NEVER);
+        let _channel = broadcast::channel::<u8>(2);
+        // The second call replaces the first.
+        let _recorder = recorder.watchdog(Duration::ZERO);
+        return wait_for_the_end_of_input();
+    }
+    in_time(|| {
+        let folder = Folder::new("computes");
+        let mut part = started("a_test_that_hangs_where_no_call_waits_says_so", &folder.0)
+            .stdin(Stdio::piped())
+            .stdout(Stdio::piped())
+            .stderr(Stdio::piped())
+            .spawn()
+            .unwrap();
+        let said = read_lines(&mut part, 2);
+        assert_eq!(said[1], "yovanelum: no call on its channels waits");
+        drop(part.stdin.take());
+        assert!(part.wait().unwrap().success());
+    });
+}
+
+#[test]
+fn a_test_that_ends_in_time_writes_nothing() {
+    if is_part() {
+        let _recorder = Recorder::for_test("ends").watchdog(NEVER);
+        let (tx, mut rx) = broadcast::channel(2);
+        tx.send(1).unwrap();
+        assert_eq!(rx.try_recv(), Ok(1));
+        return;
+    }
+    let folder = Folder::new("ends");
+    let (succeeds, said) = play("a_test_that_ends_in_time_writes_nothing", &folder.0, None);
+    assert!(succeeds && !said.contains("yovanelum"), "{said}");
+    assert!(!folder.0.join("built").exists());
+}
+
+#[test]
+fn a_test_that_fails_in_time_writes_its_journal_once() {
+    if is_part() {
+        let _recorder = Recorder::for_test("fails").watchdog(NEVER);
+        let (tx, _rx) = broadcast::channel(2);
+        tx.send(1).unwrap();
+        panic!("the test fails");
+    }
+    let folder = Folder::new("fails");
+    let (succeeds, said) = play(
+        "a_test_that_fails_in_time_writes_its_journal_once",
+        &folder.0,
+        None,
+    );
+    assert!(!succeeds && !said.contains("has not ended"), "{said}");
+    assert!(folder.0.join("built/yovanelum/fails.journal").exists());
+}
+
+#[test]
+fn a_watchdog_keeps_no_function_for_texts_alive() {
+    in_time(|| {
+        let recorder = Recorder::for_test("function_beside_a_watchdog").watchdog(NEVER);
+        let (tx, mut rx) = broadcast::channel(2);
+        let held = tx.clone();
+        recorder.show(&tx, move |value: &u8| {
+            format!("{value} {}", held.strong_count())
+        });
+        drop((tx, recorder));
+        assert!(block_on(rx.recv()).is_err());
+    });
+}
