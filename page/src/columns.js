@@ -39,7 +39,7 @@ export function readColumns(bytes, heads, count, lives) {
     columns.actorCount = Math.max(columns.actorCount, actor + 1);
     if (reply === "dropped") lives.end(channel, handle, number, actor);
     else lives.use(channel, handle, actor, number);
-    if (reply === "new") lives.begin(channel, scanner.number(), word, number, actor);
+    if (reply === "new") lives.begin(channel, word, number, actor);
     scanner.goBehind(LINE_END);
   }
   columns.starts[count + 1] = scanner.at;

@@ -5,7 +5,7 @@ import { BAND } from "./layout.js";
 import { stretchOf } from "./loss_band.js";
 import { SMALL, SMALL_BOLD } from "./palette.js";
 import { drawPlainName, drawRowName } from "./row_names.js";
-import { versionOf } from "./versions.js";
+import { standingOf } from "./versions.js";
 
 const EDGE = 8;
 const GAP = 5;
@@ -14,7 +14,7 @@ const RING = 8;
 // The words about a receiver, from right to left, each with its colour and font.
 function wordsOf(channel, receiver, palette) {
   if (channel.kind === "watch") {
-    return [[versionOf(channel, receiver).replace("has ", ""), receiver.seen ? palette.mute : palette["unseen-ink"], SMALL]];
+    return [[standingOf(channel, receiver).replace("has ", ""), receiver.seen ? palette.mute : palette["unseen-ink"], SMALL]];
   }
   const readable = receiver.unread - receiver.lag;
   const words = [[String(readable), readable ? palette["unread-ink"] : palette.mute, SMALL]];

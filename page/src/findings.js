@@ -1,5 +1,5 @@
-// What the debugger finds in a run beside what its commands write: losses, totals, closings, values, levels by stretches of places, and what is
-// left of a journal text that was cut off. It reads them from journal texts.
+// What the debugger finds in a run beside what its commands write: losses, totals, closings, handles, values, levels by stretches of places, and what
+// is left of a journal text that was cut off. It reads them from journal texts.
 
 import { Scanner } from "./scanner.js";
 import { Spans } from "./spans.js";
@@ -41,7 +41,7 @@ export function lossesIn(engine, journal, lastPlace) {
   });
 }
 
-// Returns the totals of each receiver, by channel, and then by its number. Of a receiver of a watch the page shows none.
+// Returns the totals of each receiver, by channel, and then by its number.
 /** @returns {Totals[]} */
 export function totalsIn(engine, journal) {
   const scanner = new Scanner(engine.call("ttd_totals", [journal]));
@@ -50,8 +50,7 @@ export function totalsIn(engine, journal) {
     const isBroadcast = scanner.word() === "broadcast";
     const channel = scanner.number();
     const receiver = scanner.number();
-    totals.push({ channel, receiver, counts: isBroadcast ? countsIn(scanner) : null });
-    scanner.goBehind(LINE_END);
+    totals.push({ channel, receiver, counts: isBroadcast ? countsIn(scanner) : null, missed: isBroadcast ? null : missedIn(scanner) });
   }
   return totals;
 }
@@ -59,9 +58,13 @@ export function totalsIn(engine, journal) {
 /** @returns {Totals["counts"]} */
 function countsIn(scanner) {
   const received = scanner.number();
-  scanner.goBehind(SPACE);
   scanner.skipBehind(SPACE);
   return { received, lost: scanner.number(), worst: scanner.number(), worstPlace: scanner.number(), unread: scanner.numberOrNone() };
+}
+
+function missedIn(scanner) {
+  scanner.skipBehind(SPACE);
+  return scanner.number();
 }
 
 // Returns the place from which on each of so many channels is closed, or null, and where each receiver that was there then was told so, or null.
@@ -78,6 +81,30 @@ export function closingsIn(engine, journal, count) {
     scanner.goBehind(LINE_END);
   }
   return { places, told };
+}
+
+// Returns the handles of so many channels, by channel, and then by their numbers, in which order their lines are.
+/** @returns {Listed[][]} */
+export function livesIn(engine, journal, count, lastPlace) {
+  const scanner = new Scanner(engine.call("ttd_lives", [journal]));
+  const lives = Array.from({ length: count }, () => []);
+  while (scanner.at < scanner.bytes.length) {
+    scanner.skipBehind(SPACE);
+    const channel = scanner.number();
+    scanner.skipBehind(SPACE);
+    lives[channel].push({
+      kind: scanner.word().replace("-", " "), from: scanner.number(), maker: scanner.numberOrNone(), to: scanner.numberOrNone() ?? lastPlace + 1,
+      callers: callersIn(scanner),
+    });
+  }
+  return lives;
+}
+
+// Reads the rest of a handle's line.
+function callersIn(scanner) {
+  const callers = [];
+  while (scanner.bytes[scanner.at - 1] !== LINE_END) callers.push({ actor: scanner.number(), calls: scanner.number() });
+  return callers;
 }
 
 // Returns where each value of a channel was sent and overwritten, by its number.

@@ -45,13 +45,13 @@ export function openRun(engine, ask, places, text) {
   const opening = readState(front.line());
   const states = statesAt(places, front);
   const [ending] = statesAt([lastPlace], front);
-  const lives = new Lives(opening, lastPlace);
+  const lives = new Lives(opening.channels.length, lastPlace);
   const journal = text ?? journalOf(opening, front.rest);
   const columns = readColumns(journal, opening.channels.length, lastPlace, lives);
   return {
     lastPlace, opening, states, ending, journal, columns,
     losses: lossesIn(engine, journal, lastPlace),
-    lives: lives.channels.map(handles => [...handles.values()]),
+    lives: lives.channels,
     heading: waits ? `${first}\n` : "",
     waitingLine: waits && Number(waits[1]),
   };

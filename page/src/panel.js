@@ -3,7 +3,7 @@
 import { element, outside } from "./dom.js";
 import { kindOf } from "./heads.js";
 import { rowName } from "./row_names.js";
-import { versionOf } from "./versions.js";
+import { standingOf } from "./versions.js";
 
 const MOST_HANDLES = 64;
 const FEW_CHANNELS = 4;
@@ -47,7 +47,7 @@ function retained(channel, index, names) {
  */
 function standing(channel, receiver) {
   if (channel.kind === "watch") {
-    const version = versionOf(channel, receiver);
+    const version = standingOf(channel, receiver);
     return receiver.seen ? [`${version}, seen`] : [element("strong", { class: "unseen" }, version)];
   }
   if (receiver.unread === 0) return ["up to date"];

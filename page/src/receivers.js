@@ -1,12 +1,8 @@
 // What became of each receiver over the whole run: what it received, what it lost, and how it stands at the end.
 
-import { grouped } from "./numbers.js";
+import { countOf, grouped } from "./numbers.js";
 import { visible } from "./text.js";
 import { versionOf } from "./versions.js";
-
-function sumOf(losses) {
-  return losses.reduce((sum, { lost }) => sum + lost, 0);
-}
 
 // Where a receiver was told that its channel is closed, or that it was made after the closing, or null.
 function closedFor(run, channel, life) {
@@ -29,12 +25,13 @@ function endingOf(run, channel, life, state) {
   return state.unread > 0 ? "open, behind" : "open";
 }
 
-// What a receiver of a broadcast has to show in numbers. What it can still read aren't the values of a loss that is open.
+// What a receiver of a broadcast has to show in numbers. Of its losses only the last may be one that it was never told of, as one that is open. What
+// that lost can't be read any more.
 function numbersOf(losses, { received, lost, worst, worstPlace, unread }) {
-  const never = sumOf(losses.filter(({ end }) => end !== "told"));
-  const open = sumOf(losses.filter(({ end }) => end === "open"));
+  const last = losses.at(-1) ?? { end: "told", lost: 0 };
+  const never = last.end === "told" ? 0 : last.lost;
   return {
-    received, lost, told: lost - never, never, greatest: worst, rest: unread === null ? null : unread - open,
+    received, lost, told: lost - never, never, greatest: worst, rest: unread === null ? null : unread - never,
     worst: losses.find(({ from, to }) => from <= worstPlace && worstPlace < to) ?? null,
   };
 }
@@ -42,7 +39,7 @@ function numbersOf(losses, { received, lost, worst, worstPlace, unread }) {
 // As many that a receiver of a watch doesn't have.
 const NONE = { received: null, lost: null, told: null, never: null, greatest: null, rest: null, worst: null };
 
-function receiverOf(run, { channel, receiver, counts }, state) {
+function receiverOf(run, { channel, receiver, counts, missed }, state) {
   const life = run.lifeOf(channel, receiver);
   return {
     channel, life, name: run.names.channel(channel),
@@ -50,7 +47,7 @@ function receiverOf(run, { channel, receiver, counts }, state) {
       return run.titleOf(channel, receiver);
     },
     ...(counts ? numbersOf(run.losses.of(channel, receiver), counts) : NONE),
-    ending: endingOf(run, channel, life, state),
+    ending: endingOf(run, channel, life, state) + (missed ? `, never saw ${countOf(missed, "change")}` : ""),
   };
 }
 

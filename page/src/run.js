@@ -35,6 +35,7 @@ export class Run {
     /** @type {Uint8Array} the journal text, whose lines are the entries */
     this.journal = opened.journal;
     this.columns = opened.columns;
+    /** @type {Life[][]} by channel, and then by the handle's number */
     this.lives = opened.lives;
     /** @type {ChannelState[]} */
     this.channels = opened.opening.channels;
@@ -44,7 +45,6 @@ export class Run {
     this.isCut = false;
     // Whether only the first calls are read so far, so that nothing can be counted.
     this.isBeginning = opened.isBeginning ?? false;
-    this.lifeTables = null;
     this.orders = null;
     /** @type {number[][] | null} the places of each channel's calls that are drawn from far too, once they are needed */
     this.rareCalls = null;
@@ -93,8 +93,13 @@ export class Run {
 
   /** @returns {Life} */
   lifeOf(channel, handle) {
-    this.lifeTables ??= this.lives.map(lives => new Map(lives.map(life => [life.handle, life])));
-    return this.lifeTables[channel].get(handle);
+    return this.lives[channel][handle];
+  }
+
+  // Takes over what the debugger lists of each handle. Rows and names have the same handles as before, so nothing is laid out anew.
+  /** @param {Listed[][]} listed */
+  takeLives(listed) {
+    listed.forEach((those, channel) => those.forEach((found, handle) => Object.assign(this.lives[channel][handle], found)));
   }
 
   /** @returns {Entry} */
@@ -161,6 +166,7 @@ export class Run {
   // waits for one of them at most. The values of channels where none was lost aren't needed.
   async *findings() {
     yield this.closings = await this.client.request("closings");
+    yield this.takeLives(await this.client.request("lives"));
     yield this.totals = await this.client.request("totals");
     for (const channel of this.losses.channels) yield this.values.load(channel);
   }

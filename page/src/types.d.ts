@@ -68,27 +68,39 @@ interface RunState {
 }
 
 /** A handle's life: past the last place if it is never dropped. */
-interface Life {
+interface Life extends Partial<Owners> {
   handle: number;
   kind: string;
   from: number;
   to: number;
   /** The actor that used it last, or made it. */
   user: number | null;
-  /** The actor that made it. */
-  maker: number | null;
   /** The place of its last call, or of the one that made it. */
   last: number;
 }
 
+/** Who had a handle: the actor that made it, unless its channel opened with it, and how many calls each made with it. */
+interface Owners {
+  maker: number | null;
+  callers: { actor: number, calls: number }[];
+}
+
+/** What the debugger's list says of a handle. */
+interface Listed extends Owners {
+  kind: string;
+  from: number;
+  to: number;
+}
+
 /**
  * What a receiver of a broadcast received and lost in the whole run, its greatest lag with the first place that has it, and how many values it has
- * yet to receive, the overwritten ones too, unless it was dropped. A receiver of a watch has no counts here.
+ * yet to receive, the overwritten ones too, unless it was dropped. Of a receiver of a watch, how many changes it missed.
  */
 interface Totals {
   channel: number;
   receiver: number;
   counts: { received: number, lost: number, worst: number, worstPlace: number, unread: number | null } | null;
+  missed: number | null;
 }
 
 /** By channel: the place from which on it is closed, and where the receivers that were there then were told so. */

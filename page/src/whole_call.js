@@ -1,11 +1,35 @@
-// A call in whole: who made it on what, its reply, the text of its value uncut, and where it stands in the sources.
+// A call in whole: who made it on what, its reply, the text of its value uncut, where it stands in the sources, and whose its handle was.
 
 import { element, outside } from "./dom.js";
-import { grouped } from "./numbers.js";
+import { countOf, grouped } from "./numbers.js";
 import { callText, replyText, textOf } from "./sentence.js";
+
+const MOST_CALLERS = 4;
 
 function line(...children) {
   return element("p", {}, ...children);
+}
+
+function who(run, actor) {
+  return outside(run.actors.names[actor]);
+}
+
+// Where and by whom a handle was made, and where it was dropped.
+function madeAndDropped(run, { from, to, maker }) {
+  const made = maker === null ? ["there when its channel was opened"] : ["made at place ", grouped(from), " by ", who(run, maker)];
+  return to > run.lastPlace ? made : [...made, ", dropped at ", grouped(to)];
+}
+
+// How many calls each actor made with a handle, those that made most first.
+function callersOf(run, { callers }) {
+  const most = [...callers].sort((a, b) => b.calls - a.calls || a.actor - b.actor);
+  const named = most.slice(0, MOST_CALLERS).flatMap(({ actor, calls }, i) => [i ? ", " : "; ", countOf(calls, "call"), " by ", who(run, actor)]);
+  return most.length > MOST_CALLERS ? [...named, `, and more by ${countOf(most.length - MOST_CALLERS, "other actor")}`] : named;
+}
+
+// Whose a handle was, once that is loaded.
+function ownersOf(run, life) {
+  return life.callers === undefined ? [] : [line(...madeAndDropped(run, life), ...callersOf(run, life))];
 }
 
 export function wholeCall(entry, run) {
@@ -19,6 +43,6 @@ export function wholeCall(entry, run) {
     line(element("code", {}, `${callText(entry)} → `, element("b", { class: entry.reply }, replyText(entry)))),
     ...(text === null ? [] : [line(element("code", { class: "text" }, outside(text)))]),
     ...(called ? [line("called at ", outside(called))] : []),
-    ...(life ? [line(outside(run.titleOf(channel, handle)), ...(made ? [", made at ", outside(made)] : []))] : []),
+    ...(life ? [line(outside(run.titleOf(channel, handle)), ...(made ? [", made at ", outside(made)] : [])), ...ownersOf(run, life)] : []),
   ];
 }

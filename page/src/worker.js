@@ -1,7 +1,7 @@
 // The debugger, in a thread beside the page's own: each request is a message, and gets one message as its reply.
 
 import { Debugger } from "./debugger.js";
-import { closingsIn, levelsIn, salvagedFrom, totalsIn, valuesIn } from "./findings.js";
+import { closingsIn, levelsIn, livesIn, salvagedFrom, totalsIn, valuesIn } from "./findings.js";
 import { inflated } from "./inflating.js";
 import { openRun } from "./opening.js";
 import { isJournal, questions } from "./source.js";
@@ -11,8 +11,9 @@ let starting = null;
 let engine = null;
 let ask = null;
 let heading = "";
-// The opened run as a journal text, also where a script was opened, and its channels at the start.
+// The opened run as a journal text, also where a script was opened, its last place, and its channels at the start.
 let journal = null;
+let lastPlace = 0;
 let channels = [];
 
 const text = bytes => new TextDecoder().decode(bytes);
@@ -29,11 +30,13 @@ const requests = {
     heading = opened.heading;
     channels = opened.opening?.channels ?? [];
     journal = opened.journal;
+    lastPlace = opened.lastPlace;
     // The page has the text that it sent.
     return { ...opened, journal: text ? null : journal };
   },
   totals: () => totalsIn(engine, journal),
   closings: () => closingsIn(engine, journal, channels.length),
+  lives: () => livesIn(engine, journal, channels.length, lastPlace),
   values: channel => valuesIn(engine, journal, channel),
   levels: (wanted, from, each, count) => levelsIn(engine, journal, channels, wanted, from, each, count),
   // What is left of a journal text that was cut off, or null.

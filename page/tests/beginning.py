@@ -21,6 +21,13 @@ WATCH = """new MutationObserver((_, observer) => {
 }).observe(document, { subtree: true, attributes: true, attributeFilter: ['data-place'] })"""
 
 
+# Whether the handles that were found in the first calls are those of the list, as far as these calls go.
+SAME_HANDLES = """lives.opened[0].lives.every((those, channel) => those.length > 1 && those.every(({ kind, from, to }, handle) => {
+    const listed = lives.listed[channel][handle], isAlive = to > lives.opened[0].lastPlace;
+    return kind === listed.kind && from === listed.from && (isAlive ? listed.to >= to : listed.to === to);
+}))"""
+
+
 @functools.cache
 def journal():
     return native.record(runs.large(CALLS))
@@ -46,6 +53,7 @@ def first_calls(tab, folder, journals):
     check_place(tab, ask, 0)
     tab.key("ArrowRight")
     check_place(tab, ask, 1)
+    assert tab.run("lives.opened.length") == 2 and tab.run(SAME_HANDLES), "other handles were found in the first calls"
 
 
 def far_places(tab, folder, journals):

@@ -1,6 +1,7 @@
 """No loss stays hidden: what was lost is in the strip and in the picture at every zoom, comes first above them, and is named where it happens."""
 import json
 
+import bidi
 import found
 import native
 import opening
@@ -130,6 +131,51 @@ def table_of_receivers(tab, folder, journals):
     tab.click("[data-receiver='0 6']")
     opening.settle(tab, worst.to)
     assert tab.run("document.querySelector('#table-rows [aria-current]').dataset.receiver") == "0 6"
+
+
+def last_call_of(ask, channel, handle):
+    calls = [line.split(" ") for line in lines_of(ask, 0)]
+    return max(int(it[0][1:]) for it in calls if it[3] == str(channel) and it[5] == str(handle) and it[4] != "drop")
+
+
+def row_without_loss(tab, folder, journals):
+    """The row of a receiver that lost nothing goes to its last call."""
+    path, ask = page_of(folder, "bus", real_runs.bus())
+    opening.load(tab, path)
+    tab.run("document.querySelector('[data-receiver=\"1 3\"]').scrollIntoView()")
+    tab.click("[data-receiver='1 3']")
+    opening.settle(tab, last_call_of(ask, 1, 3))
+
+
+def whole_table(tab):
+    """All rows of the table. Those that aren't in sight are made when it is scrolled there."""
+    rows = {}
+    for top in range(0, tab.run("document.getElementById('table-box').scrollHeight"), 100):
+        tab.run(f"(box => {{ box.scrollTop = {top}; box.dispatchEvent(new Event('scroll')); }})(document.getElementById('table-box'))")
+        rows |= tab.run(TABLE)
+    return {tuple(map(int, key.split(" "))): row for key, row in rows.items()}
+
+
+def table_of_pool(tab, folder, journals):
+    """In a pool of 20 channels, the table has the sums that follow from the program's list and states, and so have strip and heads by channel."""
+    path, ask = page_of(folder, "pool", real_runs.pool())
+    losses = found.losses_of(ask, real_runs.POOL_MADE)
+    opening.load(tab, path)
+    assert whole_table(tab) == totals_of(ask, real_runs.POOL_MADE, losses)
+    sums = {f"jobs.{channel:02}": [sum(it.lost for it in losses if it.channel == channel and it.end in ends)
+                                   for ends in (("told", "dropped", "open"), ("dropped", "open"))] for channel in range(real_runs.POOL_CHANNELS)}
+    assert beside(tab, "strip", sums, "−") == {name: [f"−{lost:,}"] if lost else [] for name, (lost, _) in sums.items()}
+    heads = beside(tab, "picture", sums, "lost ")
+    assert heads, "no head is in sight"
+    for name, texts in heads.items():
+        lost, untold = sums[name]
+        assert texts == ([f"lost {lost:,}" + (f", {untold:,} untold" if untold else "")] if lost else []), (name, texts, sums[name])
+
+
+def beside(tab, canvas, names, beginning):
+    """The drawn texts that begin so, beside each of these names that is drawn."""
+    texts = drawn(tab, canvas)
+    return {name: [text for text, _, at, _ in texts if at == y and text.startswith(beginning)] for name, _, y, _ in texts if name in names}
 
 
 def table_folds(tab, folder, journals):
@@ -273,11 +319,29 @@ def to_read(tab, folder, journals):
     journal, names = real_runs.bus()
     path, _ = page_of(folder, "bus", (journal, names))
     opening.load(tab, path, 400)
-    for name in ("state", "legend", "losses"):
-        assert "unread" not in tab.text(name), name
+    assert "unread" not in tab.run(bidi.EVERYTHING).lower()
     assert "to read" in tab.text("state") and "to read" in tab.text("legend")
     text = json.loads(names)["values"]["0"]
     assert any(it in tab.text("calls") for it in text.values()), tab.text("calls")
+
+
+# The heights of the boxes with values in the panel, and whether one of them is cut.
+LINES = """(boxes => [boxes.map(it => it.parentElement.getBoundingClientRect().height), boxes.some(it => it.scrollWidth > it.clientWidth)])(
+    [...document.querySelectorAll('#state .box')])"""
+
+
+def texts_of_values(tab, folder, journals):
+    """Sends have the text of their value beside them, and each box of the panel is one line, also where its text is longer."""
+    path, ask = page_of(folder, "bus", real_runs.bus())
+    place = next(int(line[1:].split(" ")[0]) for line in lines_of(ask, 0) if line.startswith("#4") and " 0 send 0 " in line and len(line.split(" ")[0]) == 4)
+    opening.load(tab, path, place)
+    tab.key("+")
+    tab.key("+")
+    opening.settle(tab, place)
+    sends = [text for text, _, _, _ in drawn(tab) if text.startswith("OrderPlaced {")]
+    assert sends, drawn(tab)
+    heights, is_cut = tab.run(LINES)
+    assert len(heights) > 8 and max(heights) < 24 and is_cut, (heights, is_cut)
 
 
 def struck_out(tab, folder, journals):
@@ -341,4 +405,5 @@ def greatest_from_far(tab, folder, journals):
         assert max(amber[:at - 4] + amber[at + 5:]) == 0, name
 
 
-TESTS = [struck_out, greatest_from_far, silent_loss, stops_of_losses, table_of_receivers, table_folds, room_for_the_table, closed_for_receivers, lost_by_name, cause_and_end, whole_calls, to_read]
+TESTS = [struck_out, greatest_from_far, silent_loss, stops_of_losses, table_of_receivers, table_of_pool, row_without_loss, table_folds, room_for_the_table,
+         closed_for_receivers, lost_by_name, cause_and_end, whole_calls, to_read, texts_of_values]

@@ -11,6 +11,7 @@ import dark
 import given
 import hands
 import jumps
+import lives
 import losses
 import moves
 import native
@@ -48,7 +49,7 @@ TESTS = [
     jumps.picture_as_png, jumps.help_of_keys, jumps.zoom_at_pointer, jumps.touch,
     hands.waiting_script, hands.refusals, hands.example, hands.files_that_are_not_there, hands.addresses, shown.large_runs,
     shown.quick_walking, shown.many_handles, weak.weak_senders, weak.weak_rows, texts.large_numbers, texts.long_texts, speed.figures,
-    *losses.TESTS, *sources.TESTS,
+    *losses.TESTS, *lives.TESTS, *sources.TESTS,
     beginning.first_calls, beginning.far_places, beginning.late_faults,
     bare(answers.example_sessions), bare(answers.random_commands), bare(answers.spoiled_texts),
 ]
@@ -66,8 +67,9 @@ def passes(name, run):
 
 
 def in_tab(test, browser, journals):
-    """Runs a test in a tab of its own, in which the page must report no error."""
+    """Runs a test in a tab of its own, in which the page must report no error, and find the handles that the debugger lists."""
     tab = Tab(browser)
+    tab.call("Page.addScriptToEvaluateOnNewDocument", source=lives.WATCH)
     try:
         with tempfile.TemporaryDirectory() as folder:
             test(tab, folder, journals)

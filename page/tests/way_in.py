@@ -20,6 +20,15 @@ HELD = """(() => {
     };
 })()"""
 
+# Until `window.readOn` is called, a file isn't read.
+HELD_FILE = """(() => {
+    const { arrayBuffer } = Blob.prototype;
+    Blob.prototype.arrayBuffer = function () {
+        Blob.prototype.arrayBuffer = arrayBuffer;
+        return new Promise(done => { window.readOn = () => done(arrayBuffer.call(this)); });
+    };
+})()"""
+
 # Whether a sign can be seen: it is shown, and not transparent.
 SEEN = "(name => !document.getElementById(name).hidden && getComputedStyle(document.getElementById(name)).opacity === '1')"
 SCRIPT_SHOWN = "document.getElementById('facts').textContent.includes('4 calls')"
@@ -179,11 +188,12 @@ def cut_journals(tab, folder, journals):
 def signs(tab, folder, journals):
     """There is a sign while a file is read, while a search runs, and while a file is dragged over the window, and it goes away."""
     empty_page(tab)
+    tab.run(HELD_FILE)
     tab.run(HELD)
     tab.drop(opening.put(folder, "large.journal", real_runs.long()[0]))
-    tab.wait(f"{SEEN}('busy')")
-    assert tab.text("busy-text") == "opening large.journal, 3 MB", tab.text("busy-text")
-    tab.run("void goOn()")
+    for sign, then in (("reading large.journal", "readOn"), ("opening large.journal, 3 MB", "goOn")):
+        tab.wait(f"document.getElementById('busy-text').textContent === '{sign}' && {SEEN}('busy')")
+        tab.run(f"void {then}()")
     opening.settle(tab, 0)
     assert tab.run("document.getElementById('busy').hidden")
     tab.run(HELD)
