@@ -258,9 +258,50 @@ def lost_by_name(tab, folder, journals):
     opening.load(tab, path, loss.start)
     assert f"lost 1 of {loss.lost} values so far" in tab.text("state"), tab.text("state")[:300]
     assert f"overwrites {lost[0]}, not read by " in tab.text("sentence"), tab.text("sentence")
-    between = next(int(line[1:].split(" ")[0]) for line in lines_of(ask, 0) if int(line[1:].split(" ")[0]) > loss.start and " 0 try-recv " in line)
-    opening.load(tab, path, between)
-    assert f" has lost {lost[0]}" in tab.text("sentence") or " → value" not in tab.text("sentence"), tab.text("sentence")
+
+
+def few(values):
+    return ", ".join(values[:2]) + (f" and {len(values) - 2} more" if len(values) > 2 else "")
+
+
+def words_of_loss(entry, values, now, loss):
+    """What the sentence of this call says of a loss that has `now` of its values by then, and ends there or later."""
+    if entry[3] != "0":
+        return ""
+    if loss.to == int(entry[0][1:]) and entry[5] == str(loss.receiver):
+        return f": lost {few(values)}" if loss.end == "told" else f" and was never told that it lost {loss.lost}: {few(values)}"
+    return f" overwrites {values[now - 1]}, not read by " if entry[4] == "send" else f" has lost {few(values[:now])}"
+
+
+def lost_everywhere(tab, folder, journals):
+    """At each place where the program's states have a lag, or had one before the call, the card and the sentence of a call on the channel say what was
+    lost by then, by its texts; at all others there is no such card."""
+    journal, names = real_runs.bus()
+    path, ask = page_of(folder, "bus", (journal, names))
+    entries, states = [line.split(" ") for line in lines_of(ask, 0)], found.states(ask, real_runs.BUS_MADE)
+    sends = [json.loads(names)["values"]["0"][it[6]] for it in entries if it[3:6] == ["0", "send", "0"]]
+    losses, seen = found.losses_of(ask, real_runs.BUS_MADE), set()
+    opening.load(tab, path)
+    for place in sorted({*range(1, real_runs.BUS_MADE + 1, 5), *found.stops_of(losses)}):
+        tab.run(f"void (location.hash = '#place={place}')")
+        opening.settle(tab, place)
+        here = {str(it.receiver): it for it in losses if it.start <= place and (it.end == "open" or place <= it.to)}
+        handle, sentence = tab.run("document.querySelector('.loss h3 [data-handle]')?.dataset.handle ?? null"), tab.text("sentence")
+        loss = here.get(handle)
+        assert (loss is None) == (handle is None) == (not here), (place, handle, here)
+        if loss is None:
+            assert "lost" not in sentence and "overwrites" not in sentence, (place, sentence)
+            continue
+        receivers = states[min(place, loss.to - 1) if loss.end != "open" else place]["channels"][0]["receivers"]
+        (position, now), = [(it["position"], it["lag"]) for it in receivers if str(it["handle"]) == handle]
+        values = sends[position:position + loss.lost]
+        assert tab.run(CARD) == values[:6], (place, tab.run(CARD), values)
+        count = f" lost {now} of {loss.lost} values so far " if now < loss.lost else f" lost {loss.lost} value{'s' if now > 1 else ''} "
+        assert count in tab.run("document.querySelector('.loss h3').textContent"), (place, count)
+        said = words_of_loss(entries[place - 1], values, now, loss)
+        assert said in sentence and (said or "lost" not in sentence), (place, sentence, said)
+        seen.add(said[:4])
+    assert len(seen) >= 5, seen
 
 
 def cause_and_end(tab, folder, journals):
@@ -406,4 +447,4 @@ def greatest_from_far(tab, folder, journals):
 
 
 TESTS = [struck_out, greatest_from_far, silent_loss, stops_of_losses, table_of_receivers, table_of_pool, row_without_loss, table_folds, room_for_the_table,
-         closed_for_receivers, lost_by_name, cause_and_end, whole_calls, to_read, texts_of_values]
+         closed_for_receivers, lost_by_name, lost_everywhere, cause_and_end, whole_calls, to_read, texts_of_values]
