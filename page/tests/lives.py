@@ -36,11 +36,11 @@ WATCH = """(() => {
     };
 })()"""
 
-# The request for the list waits until `window.goOn` is called.
+# The requests for the list and for the totals each wait until `window.goOn` is called.
 HELD = """(() => {
     const { postMessage } = Worker.prototype;
     Worker.prototype.postMessage = function (...words) {
-        if (words[0].request === 'lives') window.goOn = () => postMessage.apply(this, words);
+        if (['lives', 'totals'].includes(words[0].request)) window.goOn = () => postMessage.apply(this, words);
         else postMessage.apply(this, words);
     };
 })()"""
@@ -120,9 +120,11 @@ def list_moves_nothing(tab, folder, journals):
         tab.wait("window.goOn && document.getElementById('state').dataset.place === '400'")
         tab.run("ttd.ask('').then(() => ttd.ask(''))")
         before = tab.run(shown), boxes(tab, *parts)
+        tab.run("void (window.first = goOn, goOn())")
+        tab.wait("window.goOn !== window.first")
+        assert (tab.run(shown), boxes(tab, *parts)) == before, width
         tab.run("void goOn()")
         opening.settle(tab, 400)
-        assert (tab.run(shown), boxes(tab, *parts)) == before, width
     tab.resize(1440, 920)
 
 
