@@ -304,6 +304,32 @@ def lost_everywhere(tab, folder, journals):
     assert len(seen) >= 5, seen
 
 
+# What the card says of the reader: where it last received, and the handles of others that lost some of the same values.
+READER = """(it => [it.textContent.match(/last received at ([\\d,]+)/)?.[1] ?? null, [...it.querySelectorAll('[data-handle]')].map(other => other.dataset.handle)])(
+    document.querySelector('.loss dl > div:nth-child(3) dd'))"""
+
+
+def readers_of_losses(tab, folder, journals):
+    """The card says where the receiver last received before the loss, and which others lost some of the same values."""
+    path, ask = page_of(folder, "bus", real_runs.bus())
+    entries, states = [line.split(" ") for line in lines_of(ask, 0)], found.states(ask, real_runs.BUS_MADE)
+    losses = found.losses_of(ask, real_runs.BUS_MADE)
+    first = lambda it: next(receiver["position"] for receiver in states[it.start]["channels"][0]["receivers"] if receiver["handle"] == it.receiver)
+    lost = {(it.start, it.receiver): set(range(first(it), first(it) + it.lost)) for it in losses}
+    shared = set()
+    opening.load(tab, path)
+    for place in sorted({it.start for it in losses}):
+        tab.run(f"void (location.hash = '#place={place}')")
+        opening.settle(tab, place)
+        handle = int(tab.run("document.querySelector('.loss h3 [data-handle]').dataset.handle"))
+        received = [it[0][1:] for it in entries[:place] if it[3] == "0" and it[5] == str(handle) and it[7] == "value"]
+        others = {str(it.receiver) for it in losses if it.receiver != handle and lost[it.start, it.receiver] & lost[place, handle]}
+        where, named = tab.run(READER)
+        assert where == (received or [None])[-1] and set(named) <= others and len(named) == min(4, len(others)), (place, handle, where, named, others)
+        shared.add(len(others))
+    assert len(shared) > 1, shared
+
+
 def cause_and_end(tab, folder, journals):
     """C and E, and the card's buttons, lead to the send that overwrote first and to the end, and N turns through those that lag there."""
     path, ask = page_of(folder, "bus", real_runs.bus())
@@ -447,4 +473,4 @@ def greatest_from_far(tab, folder, journals):
 
 
 TESTS = [struck_out, greatest_from_far, silent_loss, stops_of_losses, table_of_receivers, table_of_pool, row_without_loss, table_folds, room_for_the_table,
-         closed_for_receivers, lost_by_name, lost_everywhere, cause_and_end, whole_calls, to_read, texts_of_values]
+         closed_for_receivers, lost_by_name, lost_everywhere, readers_of_losses, cause_and_end, whole_calls, to_read, texts_of_values]
