@@ -47,7 +47,10 @@ function receiverOf(run, { channel, receiver, counts, missed }, state) {
       return run.titleOf(channel, receiver);
     },
     ...(counts ? numbersOf(run.losses.of(channel, receiver), counts) : NONE),
-    ending: endingOf(run, channel, life, state) + (missed ? `, never saw ${countOf(missed, "change")}` : ""),
+    // Where it was made and dropped is loaded later than its counts.
+    get ending() {
+      return endingOf(run, channel, life, state) + (missed ? `, never saw ${countOf(missed, "change")}` : "");
+    },
   };
 }
 

@@ -166,8 +166,8 @@ export class Run {
   // waits for one of them at most. The values of channels where none was lost aren't needed.
   async *findings() {
     yield this.closings = await this.client.request("closings");
-    yield this.takeLives(await this.client.request("lives"));
     yield this.totals = await this.client.request("totals");
+    yield this.takeLives(await this.client.request("lives"));
     for (const channel of this.losses.channels) yield this.values.load(channel);
   }
 

@@ -36,11 +36,11 @@ WATCH = """(() => {
     };
 })()"""
 
-# The requests for the list and for the totals each wait until `window.goOn` is called.
+# The request for the list waits until `window.goOn` is called.
 HELD = """(() => {
     const { postMessage } = Worker.prototype;
     Worker.prototype.postMessage = function (...words) {
-        if (['lives', 'totals'].includes(words[0].request)) window.goOn = () => postMessage.apply(this, words);
+        if (words[0].request === 'lives') window.goOn = () => postMessage.apply(this, words);
         else postMessage.apply(this, words);
     };
 })()"""
@@ -109,22 +109,21 @@ def last_users(tab, folder, journals):
 
 
 def list_moves_nothing(tab, folder, journals):
-    """Nothing of strip, picture and state moves or looks otherwise when the list comes."""
+    """Nothing moves, looks otherwise or reads otherwise when the list comes, which is after the table."""
     tab.call("Page.addScriptToEvaluateOnNewDocument", source=HELD)
     path, _ = page_of(folder, "bus", real_runs.bus())
     parts = ["#strip-box", ".bar", "#said", "#axis", "#pane", "aside", "#losses"]
-    shown = "['strip', 'picture', 'cursor'].map(name => document.getElementById(name).toDataURL()).concat(document.getElementById('state').textContent)"
+    shown = "[...['strip', 'picture', 'cursor'].map(name => document.getElementById(name).toDataURL()), document.getElementById('walk').textContent]"
     for width, height in SIZES:
         tab.resize(width, height)
         tab.load(path, 400)
         tab.wait("window.goOn && document.getElementById('state').dataset.place === '400'")
-        tab.run("ttd.ask('').then(() => ttd.ask(''))")
+        tab.run("ttd.ask('').then(() => dispatchEvent(new Event('resize')))")
         before = tab.run(shown), boxes(tab, *parts)
-        tab.run("void (window.first = goOn, goOn())")
-        tab.wait("window.goOn !== window.first")
-        assert (tab.run(shown), boxes(tab, *parts)) == before, width
+        assert "lost" in tab.text("loss-line"), tab.text("loss-line")
         tab.run("void goOn()")
         opening.settle(tab, 400)
+        assert (tab.run(shown), boxes(tab, *parts)) == before, width
     tab.resize(1440, 920)
 
 

@@ -273,6 +273,12 @@ def words_of_loss(entry, values, now, loss):
     return f" overwrites {values[now - 1]}, not read by " if entry[4] == "send" else f" has lost {few(values[:now])}"
 
 
+def slide(tab, place):
+    """Goes to a place as the slider does while it is dragged. A browser limits how often the address may change."""
+    tab.run(f"(it => {{ it.value = {place}; it.dispatchEvent(new Event('input')); }})(document.getElementById('slider'))")
+    opening.settle(tab, place)
+
+
 def lost_everywhere(tab, folder, journals):
     """At each place where the program's states have a lag, or had one before the call, the card and the sentence of a call on the channel say what was
     lost by then, by its texts; at all others there is no such card."""
@@ -283,8 +289,7 @@ def lost_everywhere(tab, folder, journals):
     losses, seen = found.losses_of(ask, real_runs.BUS_MADE), set()
     opening.load(tab, path)
     for place in sorted({*range(1, real_runs.BUS_MADE + 1, 5), *found.stops_of(losses)}):
-        tab.run(f"void (location.hash = '#place={place}')")
-        opening.settle(tab, place)
+        slide(tab, place)
         here = {str(it.receiver): it for it in losses if it.start <= place and (it.end == "open" or place <= it.to)}
         handle, sentence = tab.run("document.querySelector('.loss h3 [data-handle]')?.dataset.handle ?? null"), tab.text("sentence")
         loss = here.get(handle)
@@ -319,8 +324,7 @@ def readers_of_losses(tab, folder, journals):
     shared = set()
     opening.load(tab, path)
     for place in sorted({it.start for it in losses}):
-        tab.run(f"void (location.hash = '#place={place}')")
-        opening.settle(tab, place)
+        slide(tab, place)
         handle = int(tab.run("document.querySelector('.loss h3 [data-handle]').dataset.handle"))
         received = [it[0][1:] for it in entries[:place] if it[3] == "0" and it[5] == str(handle) and it[7] == "value"]
         others = {str(it.receiver) for it in losses if it.receiver != handle and lost[it.start, it.receiver] & lost[place, handle]}
