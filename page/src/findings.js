@@ -83,28 +83,9 @@ export function closingsIn(engine, journal, count) {
   return { places, told };
 }
 
-// Returns the handles of so many channels, by channel, and then by their numbers, in which order their lines are.
-/** @returns {Listed[][]} */
-export function livesIn(engine, journal, count, lastPlace) {
-  const scanner = new Scanner(engine.call("ttd_lives", [journal]));
-  const lives = Array.from({ length: count }, () => []);
-  while (scanner.at < scanner.bytes.length) {
-    scanner.skipBehind(SPACE);
-    const channel = scanner.number();
-    scanner.skipBehind(SPACE);
-    lives[channel].push({
-      kind: scanner.word().replace("-", " "), from: scanner.number(), maker: scanner.numberOrNone(), to: scanner.numberOrNone() ?? lastPlace + 1,
-      callers: callersIn(scanner),
-    });
-  }
-  return lives;
-}
-
-// Reads the rest of a handle's line.
-function callersIn(scanner) {
-  const callers = [];
-  while (scanner.bytes[scanner.at - 1] !== LINE_END) callers.push({ actor: scanner.number(), calls: scanner.number() });
-  return callers;
+// Returns the lines of the handles of all channels.
+export function livesIn(engine, journal) {
+  return engine.call("ttd_lives", [journal]);
 }
 
 // Returns where each value of a channel was sent and overwritten, by its number.

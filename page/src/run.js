@@ -2,6 +2,7 @@
 
 import { Actors } from "./actors.js";
 import { readEntry } from "./entries.js";
+import { Listed } from "./listed.js";
 import { Losses } from "./losses.js";
 import { commandsFor, readStates } from "./states.js";
 import { isolated } from "./text.js";
@@ -57,6 +58,8 @@ export class Run {
     this.closings = { places: this.channels.map(() => null), told: this.channels.map(() => new Map()) };
     /** @type {Totals[] | null} */
     this.totals = null;
+    /** @type {Listed | null} */
+    this.listed = null;
     this.receiverCounts = this.lives.map(lives => lives.filter(life => life.kind === "receiver").length);
     this.bindings = {};
     this.actorCount = this.columns.actorCount;
@@ -94,12 +97,6 @@ export class Run {
   /** @returns {Life} */
   lifeOf(channel, handle) {
     return this.lives[channel][handle];
-  }
-
-  // Takes over what the debugger lists of each handle. Rows and names have the same handles as before, so nothing is laid out anew.
-  /** @param {Listed[][]} listed */
-  takeLives(listed) {
-    listed.forEach((those, channel) => those.forEach((found, handle) => Object.assign(this.lives[channel][handle], found)));
   }
 
   /** @returns {Entry} */
@@ -167,7 +164,7 @@ export class Run {
   async *findings() {
     yield this.closings = await this.client.request("closings");
     yield this.totals = await this.client.request("totals");
-    yield this.takeLives(await this.client.request("lives"));
+    yield this.listed = new Listed(await this.client.request("lives"), this.lives, this.lastPlace + 1);
     for (const channel of this.losses.channels) yield this.values.load(channel);
   }
 

@@ -68,7 +68,7 @@ interface RunState {
 }
 
 /** A handle's life: past the last place if it is never dropped. */
-interface Life extends Partial<Owners> {
+interface Life {
   handle: number;
   kind: string;
   from: number;
@@ -77,19 +77,9 @@ interface Life extends Partial<Owners> {
   user: number | null;
   /** The place of its last call, or of the one that made it. */
   last: number;
-}
-
-/** Who had a handle: the actor that made it, unless its channel opened with it, and how many calls each made with it. */
-interface Owners {
-  maker: number | null;
-  callers: { actor: number, calls: number }[];
-}
-
-/** What the debugger's list says of a handle. */
-interface Listed extends Owners {
-  kind: string;
-  from: number;
-  to: number;
+  /** Once they are listed: the actor that made it, unless its channel opened with it, and where in the list those are that called with it. */
+  maker?: number | null;
+  callersAt?: number;
 }
 
 /**

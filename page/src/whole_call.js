@@ -21,15 +21,15 @@ function madeAndDropped(run, { from, to, maker }) {
 }
 
 // How many calls each actor made with a handle, those that made most first.
-function callersOf(run, { callers }) {
-  const most = [...callers].sort((a, b) => b.calls - a.calls || a.actor - b.actor);
+function callersOf(run, life) {
+  const most = run.listed.callersOf(life).sort((a, b) => b.calls - a.calls || a.actor - b.actor);
   const named = most.slice(0, MOST_CALLERS).flatMap(({ actor, calls }, i) => [i ? ", " : "; ", countOf(calls, "call"), " by ", who(run, actor)]);
   return most.length > MOST_CALLERS ? [...named, `, and more by ${countOf(most.length - MOST_CALLERS, "other actor")}`] : named;
 }
 
-// Whose a handle was, once that is loaded.
+// Whose a handle was, once that is listed.
 function ownersOf(run, life) {
-  return life.callers === undefined ? [] : [line(...madeAndDropped(run, life), ...callersOf(run, life))];
+  return run.listed === null ? [] : [line(...madeAndDropped(run, life), ...callersOf(run, life))];
 }
 
 export function wholeCall(entry, run) {

@@ -11,9 +11,8 @@ let starting = null;
 let engine = null;
 let ask = null;
 let heading = "";
-// The opened run as a journal text, also where a script was opened, its last place, and its channels at the start.
+// The opened run as a journal text, also where a script was opened, and its channels at the start.
 let journal = null;
-let lastPlace = 0;
 let channels = [];
 
 const text = bytes => new TextDecoder().decode(bytes);
@@ -30,13 +29,12 @@ const requests = {
     heading = opened.heading;
     channels = opened.opening?.channels ?? [];
     journal = opened.journal;
-    lastPlace = opened.lastPlace;
     // The page has the text that it sent.
     return { ...opened, journal: text ? null : journal };
   },
   totals: () => totalsIn(engine, journal),
   closings: () => closingsIn(engine, journal, channels.length),
-  lives: () => livesIn(engine, journal, channels.length, lastPlace),
+  lives: () => livesIn(engine, journal),
   values: channel => valuesIn(engine, journal, channel),
   levels: (wanted, from, each, count) => levelsIn(engine, journal, channels, wanted, from, each, count),
   // What is left of a journal text that was cut off, or null.

@@ -14,7 +14,17 @@ WATCH = """(() => {
     const { postMessage } = Worker.prototype, requests = new Map();
     const belongs = (user, { maker, callers }) => user === null ? maker === null && callers.length === 0
         : user === maker || callers.some(({ actor }) => actor === user);
-    const compare = (opened, listed) => {
+    const read = bytes => {
+        const listed = [];
+        for (const line of new TextDecoder().decode(bytes).split('\\n').slice(0, -1)) {
+            const [, channel, handle, kind, from, maker, to, ...calls] = line.split(' ');
+            const callers = calls.flatMap((it, i) => i % 2 ? [] : [{ actor: Number(it), calls: Number(calls[i + 1]) }]);
+            (listed[channel] ??= [])[handle] = { kind: kind.replace('-', ' '), from: Number(from), maker: maker === '-' ? null : Number(maker),
+                to: to === '-' ? opened.at(-1).lastPlace + 1 : Number(to), callers };
+        }
+        return listed;
+    };
+    const compare = listed => {
         const { lives } = opened.at(-1);
         window.lives = { opened, found: lives, listed };
         const same = (life, it, handle) => life.handle === handle && ['kind', 'from', 'to'].every(key => life[key] === it[key]) && belongs(life.user, it);
@@ -29,7 +39,7 @@ WATCH = """(() => {
         if (requests.size === 0) this.addEventListener('message', ({ data: { number, answer } }) => {
             const request = requests.get(number);
             if (request === 'open' && answer?.lives) opened.push({ lives: structuredClone(answer.lives), lastPlace: answer.lastPlace });
-            if (request === 'lives' && answer) compare(opened, answer);
+            if (request === 'lives' && answer) compare(read(answer));
         });
         requests.set(message.number, message.request);
         return postMessage.call(this, message, ...more);
