@@ -99,6 +99,21 @@ def few_rows(tab):
     assert heads and len(rows) <= pane / LEAST_ROW + 2 and len(heads) <= pane / HEAD + 2, (pane, len(rows), len(heads))
 
 
+def list_after_losses(tab, folder, journals):
+    """After each L in the pool, in the least of the windows that aren't narrow, sentence, axis and the call in the list are inside the window."""
+    path, ask = page_of(folder, "pool", real_runs.pool())
+    stops = found.stops_of(found.losses_of(ask, real_runs.POOL_MADE))
+    tab.resize(1024, 768)
+    opening.load(tab, path)
+    for place in stops:
+        tab.key("l")
+        opening.settle(tab, place)
+        for left, top, right, bottom in boxes(tab, "#sentence", "#axis", "#calls [aria-current]"):
+            assert 0 <= left < right <= 1024 and 0 <= top < bottom <= 768, (place, left, top, right, bottom)
+    assert len(stops) > 150, len(stops)
+    tab.resize(1440, 920)
+
+
 def look_at_loss(tab, width, height, losses):
     """One of these losses is in sight: its label with the number of lost values in the row that is named after its receiver."""
     loss = max(losses, key=lambda it: it.lost)
