@@ -55,6 +55,17 @@ HELD = """(() => {
     };
 })()"""
 
+# A receiver is made by actor 0, used by 1 and 2, and dropped by 0. The sender that the channel opened with is never dropped.
+HANDED_ON = b"""broadcast 4
+actors 3
+0 0 subscribe 0
+1 0 try-recv 2
+0 0 send 0 9
+2 0 try-recv 2
+1 0 try-recv 2
+0 0 drop 2
+"""
+
 KINDS = (("senders", "sender"), ("weak", "weak sender"), ("receivers", "receiver"))
 
 
@@ -108,14 +119,13 @@ def listed_lives(tab, folder, journals):
 
 def last_users(tab, folder, journals):
     """A row is named after the actor that called last with its handle, other than by dropping it, and else after its maker."""
-    journal, _ = real_runs.bus()
-    ask = opening.asker(journal)
-    opening.load(tab, opening.page_of(folder, "bus.journal", journal))
-    users = tab.run("lives.found.map(those => those.map(({ user }) => user))")
-    for (channel, handle), life in lives_of(ask, real_runs.BUS_MADE).items():
-        callers = life["callers"][:-1] if life["to"] <= real_runs.BUS_MADE else life["callers"]
-        wanted = callers[-1] if callers else life["maker"] if life["maker"] is not None else (life["callers"] or [None])[-1]
-        assert users[channel][handle] == wanted, (channel, handle, users[channel][handle], life)
+    for name, journal, last in (("bus", real_runs.bus()[0], real_runs.BUS_MADE), ("handed", native.record(HANDED_ON), 6)):
+        opening.load(tab, opening.page_of(folder, f"{name}.journal", journal))
+        users = tab.run("lives.found.map(those => those.map(({ user }) => user))")
+        for (channel, handle), life in lives_of(opening.asker(journal), last).items():
+            callers = life["callers"][:-1] if life["to"] <= last else life["callers"]
+            wanted = callers[-1] if callers else life["maker"] if life["maker"] is not None else (life["callers"] or [None])[-1]
+            assert users[channel][handle] == wanted, (name, channel, handle, users[channel][handle], life)
 
 
 def list_moves_nothing(tab, folder, journals):
@@ -135,18 +145,6 @@ def list_moves_nothing(tab, folder, journals):
         opening.settle(tab, 400)
         assert (tab.run(shown), boxes(tab, *parts)) == before, width
     tab.resize(1440, 920)
-
-
-# A receiver is made by actor 0, used by 1 and 2, and dropped by 0. The sender that the channel opened with is never dropped.
-HANDED_ON = b"""broadcast 4
-actors 3
-0 0 subscribe 0
-1 0 try-recv 2
-0 0 send 0 9
-2 0 try-recv 2
-1 0 try-recv 2
-0 0 drop 2
-"""
 
 
 def owners_in_whole(tab, folder, journals):
