@@ -10,3 +10,4 @@ mod settling;
 pub mod shared;
 mod straying;
 mod threads;
+mod waking;

@@ -15,9 +15,11 @@ use std::sync::atomic::{AtomicBool, Ordering};
 use std::test::Fail;
 use std::thread::Threads;
 
-/// Holds actor 0's call 0 until actor 1's call 0 was made. Actor 1 then goes on only once actor 0 has reached its call 1.
+/// Holds actor 0's call 0 until actor 1's call 1 was made. Actor 1 goes on behind its call 0 only once actor 0 has reached that
+/// call, and behind its call 1 only once actor 0 has reached its call 1.
 #[derive(Drop)]
 struct Held {
+    reached: AtomicBool,
     made: AtomicBool,
     next_reached: AtomicBool,
     limit_met: AtomicBool,
@@ -26,6 +28,7 @@ struct Held {
 impl Held {
     fn new() -> Held {
         Held {
+            reached: AtomicBool::new(false),
             made: AtomicBool::new(false),
             next_reached: AtomicBool::new(false),
             limit_met: AtomicBool::new(false),
@@ -43,17 +46,25 @@ impl Held {
 impl Gate for Held {
     fn before(&self, actor: u32, i: u64) {
         match (actor, i) {
-            (0, 0) => self.hold(&self.made),
+            (0, 0) => {
+                self.reached.store(true, Ordering::SeqCst);
+                self.hold(&self.made);
+            }
             (0, 1) => self.next_reached.store(true, Ordering::SeqCst),
             _ => {}
         }
     }
 
     fn after(&self, actor: u32, i: u64) {
-        if (actor, i) == (1, 0) {
-            self.made.store(true, Ordering::SeqCst);
-            // Actor 0's call 0 is made meanwhile. If actor 1's isn't made yet, it comes second.
-            self.hold(&self.next_reached);
+        match (actor, i) {
+            // If actor 0's call 0 is made before its `before`, actor 1's call 1 comes second.
+            (1, 0) => self.hold(&self.reached),
+            (1, 1) => {
+                self.made.store(true, Ordering::SeqCst);
+                // Actor 0's call 0 is made meanwhile. If actor 1's call 1 isn't made yet, it comes second.
+                self.hold(&self.next_reached);
+            }
+            _ => {}
         }
     }
 }
@@ -187,18 +198,20 @@ fn threads_on_two_channels(rt: HostRuntime) -> Result<(), Fail> {
     Ok(())
 }
 
-/// Three sends on one channel, the last by the other actor.
-const TOGETHER: &str = "broadcast 4/actors 2/0 0 send 0 1/0 0 send 0 2/1 0 send 0 3";
+/// Three sends on one channel, the last by the other actor, which first makes a call on another channel.
+const TOGETHER: &str =
+    "broadcast 4/watch 5/actors 2/0 0 send 0 1/0 0 send 0 2/1 1 borrow 0/1 0 send 0 3";
 
-/// Their run where actor 1's call was made before those of actor 0.
+/// Their run where actor 1's calls were made before those of actor 0.
 const TOGETHER_RUN: &str =
-    "1 1 0 send 0 3 = sent 1/2 0 0 send 0 1 = sent 1/3 0 0 send 0 2 = sent 1/";
+    "1 1 1 borrow 0 = value 5/2 1 0 send 0 3 = sent 1/3 0 0 send 0 1 = sent 1/4 0 0 send 0 2 = sent 1/";
 
 #[test]
 fn gate_orders_the_calls_of_two_threads(rt: HostRuntime) -> Result<(), Fail> {
     let held = Held::new();
     plays_to(&rt, rt.alloc(), TOGETHER, &held, TOGETHER_RUN)?;
-    // Actor 0 was held until actor 1's call was made, and actor 1 until actor 0 had reached its call 1.
+    // Actor 0 was held until actor 1's call 1 was made, and actor 1 until actor 0 had reached its call 0, and then its call 1.
+    assert!(rt; held.reached.load(Ordering::SeqCst));
     assert!(rt; held.made.load(Ordering::SeqCst));
     assert!(rt; held.next_reached.load(Ordering::SeqCst));
     assert!(rt; !held.limit_met.load(Ordering::SeqCst));
@@ -225,6 +238,24 @@ static WAITING: [(&str, &str); 3] = [
 fn threads_wait_and_use_names(rt: HostRuntime) -> Result<(), Fail> {
     for (script, want) in &WAITING {
         plays_to(&rt, rt.alloc(), script, &(), want)?;
+    }
+    Ok(())
+}
+
+/// A call of each of eight actors, on eight channels.
+const OF_EIGHT: &str =
+    "watch 0/watch 1/watch 2/watch 3/watch 4/watch 5/watch 6/watch 7/actors 8/0 0 borrow 0/1 1 borrow 0/2 2 borrow 0/3 3 borrow 0/4 4 borrow 0/5 5 borrow 0/6 6 borrow 0/7 7 borrow 0";
+
+/// Their run in every schedule.
+const RUN_OF_EIGHT: &str =
+    "1 0 0 borrow 0 = value 0/1 1 1 borrow 0 = value 1/1 2 2 borrow 0 = value 2/1 3 3 borrow 0 = value 3/1 4 4 borrow 0 = value 4/1 5 5 borrow 0 = value 5/1 6 6 borrow 0 = value 6/1 7 7 borrow 0 = value 7/";
+
+/// Each thread of a script waits until all of them are started. The first of eight mostly sleeps by then, so one of these plays would not
+/// end if those that sleep weren't woken.
+#[test]
+fn eight_threads_begin(rt: HostRuntime) -> Result<(), Fail> {
+    for _ in 0..50 {
+        plays_to(&rt, rt.alloc(), OF_EIGHT, &(), RUN_OF_EIGHT)?;
     }
     Ok(())
 }

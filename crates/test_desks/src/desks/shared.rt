@@ -1,15 +1,15 @@
 //! Desks that threads share, and how tests open desks of two actors and close any.
 
 use super::plain::{
-    b_drop_sender, b_recv, b_send, drop_desk, drop_ends, drop_passes, drop_run, entries,
+    b_drop_sender, b_recv, b_send, call, drop_desk, drop_ends, drop_passes, drop_run, entries,
     is_awaited, open, run_of, w_closed, w_drop_receiver, w_send, w_send_if_modified, w_send_modify,
-    w_wait_for,
+    w_wait_for, wait_call,
 };
 use rw_broadcast::BReply;
 use rw_desk::{BRx, BTx, CloseFault, Desk, DeskFault, Ends, Pass, WRx, WTx};
 use rw_journal::Run;
 use rw_watch::WReply;
-use rw_world::Spec;
+use rw_world::{ChanCall, ChanReply, Spec};
 use std::alloc::{AllocError, Global};
 use std::sync::Wait;
 use std::test::Fail;
@@ -67,6 +67,24 @@ pub fn length_of(run: Run<u64>) -> u64 {
 pub trait Calls {
     /// Whether a thread waits on a channel.
     fn is_awaited<R: Wait>(&self, rt: &R, channel: u32) -> bool;
+
+    /// Makes a call.
+    fn call<R: Wait>(
+        &self,
+        rt: &R,
+        pass: &mut Pass<u64>,
+        channel: u32,
+        asked: ChanCall<u64>,
+    ) -> Result<ChanReply<u64>, DeskFault>;
+
+    /// Makes a call, and waits if it has to.
+    fn wait_call<R: Wait>(
+        &self,
+        rt: &R,
+        pass: &mut Pass<u64>,
+        channel: u32,
+        asked: ChanCall<u64>,
+    ) -> Result<ChanReply<u64>, DeskFault>;
 
     /// Sends a value on a broadcast channel.
     fn b_send<R: Wait>(
@@ -152,6 +170,26 @@ pub trait Calls {
 impl Calls for Desk<u64> {
     fn is_awaited<R: Wait>(&self, rt: &R, channel: u32) -> bool {
         is_awaited(self, rt, channel) == Some(true)
+    }
+
+    fn call<R: Wait>(
+        &self,
+        rt: &R,
+        pass: &mut Pass<u64>,
+        channel: u32,
+        asked: ChanCall<u64>,
+    ) -> Result<ChanReply<u64>, DeskFault> {
+        call(self, rt, pass, channel, asked)
+    }
+
+    fn wait_call<R: Wait>(
+        &self,
+        rt: &R,
+        pass: &mut Pass<u64>,
+        channel: u32,
+        asked: ChanCall<u64>,
+    ) -> Result<ChanReply<u64>, DeskFault> {
+        wait_call(self, rt, pass, channel, asked)
     }
 
     fn b_send<R: Wait>(
