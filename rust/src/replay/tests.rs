@@ -258,9 +258,11 @@ fn a_future_that_is_dropped_leaves_the_gate() {
     assert!(!poll(&gate, recv, &mut ticket, &waker));
     gate.leave(ticket.take().unwrap());
     assert!(lock(&gate.state).waiters.is_empty());
-    make_first(&gate, 6);
-    assert!(gate.outcome().is_in_order());
+    make_first(&gate, 5);
+    // The end wakes each task that was seen, and this may be one that goes on.
     assert_eq!(dropped.wakes.load(Ordering::SeqCst), 0);
+    make(&gate, call(CLERK, 0, Word::Drop, 0));
+    assert!(gate.outcome().is_in_order());
 }
 
 #[test]
