@@ -1,21 +1,17 @@
 -- The output that a page gets.
-use Rattle.std.specs.Prelude.{◌≡◌, ◌≤◌, ◌<◌, ℕ, List, ◌++◌, Result, Ok, Err, codes, length, take}
+use Rattle.std.specs.Prelude.{◌≡◌, ◌≤◌, ◌<◌, ℕ, List, Result, Ok, Err, length, take}
 use Rattle.rw_console.specs.Report.{commands_report}
 use Rattle.rw_journal.specs.Run.{Run}
 use Rattle.rw_law.specs.Numbers.{numbers}
 use Rattle.rw_navigator.specs.Places.{last_place}
 use Rattle.rw_text.specs.declared.faults.TextFault.{TextFault}
-use Rattle.rw_text.specs.Faults.{fault_text}
+use Rattle.rw_text.specs.Faults.{text_fault_line}
 use Rattle.rw_text.specs.Reading.{reading_of}
-
--- the line of a journal text's first fault
-abbrev pub fault_line : TextFault → List ℕ
-fault_line fault = codes "journal fault " ++ fault_text fault ++ codes "\n"
 
 -- what the commands write over a run, or a journal text's first fault
 abbrev pub page_report : Result (Run ℕ) TextFault → List ℕ → List ℕ
 page_report (Ok run) commands = commands_report run (last_place run) commands
-page_report (Err fault) commands = fault_line fault
+page_report (Err fault) commands = text_fault_line fault
 
 -- what the commands write over the run whose journal text the first bytes are
 abbrev pub page_of : List ℕ → List ℕ → List ℕ

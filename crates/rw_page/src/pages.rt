@@ -2,7 +2,8 @@
 
 ghost use Rattle.std.specs.Prelude.{◌≡◌, ◌≤◌, IfOk};
 ghost use Rattle.rw_console.specs.SessionReport.{report};
-ghost use Rattle.rw_page.specs.Pages.{Holds, Lacks, fault_line, page_of};
+ghost use Rattle.rw_page.specs.Pages.{Holds, Lacks, page_of};
+ghost use Rattle.rw_text.specs.Faults.{text_fault_line};
 
 use rw_console::{SessionFault, debug, session};
 use rw_law::NoMemory;
@@ -11,12 +12,10 @@ use std::alloc::Global;
 
 /// Returns the line of a journal text's first fault.
 pub fn fault_page(alloc: Global, fault: TextFault) -> Result<Vec<u8>, NoMemory>
-    ensures { IfOk result (λ line. line.items ≡ fault_line fault) }
+    ensures { IfOk result (λ line. line.items ≡ text_fault_line fault) }
 {
-    match format!(in alloc; "journal fault {fault}\n") {
-        Ok(line) => Ok(line.into_bytes()),
-        Err(_) => Err(NoMemory),
-    }
+    let line = fault.line(alloc)?;
+    Ok(line.into_bytes())
 }
 
 /// Returns what the commands write over the run of a journal text, or that text's first fault.
