@@ -8,9 +8,10 @@ use Rattle.rw_findings.specs.Closings.{AreClosings}
 use Rattle.rw_findings.specs.declared.closings.closing.Closing.{Closing}
 use Rattle.rw_findings.specs.declared.closings.closing.LateReader.{LateReader}
 use Rattle.rw_text.specs.declared.faults.TextFault.{TextFault}
+use Rattle.rw_text.specs.Faults.{text_fault_line}
 use Rattle.rw_text.specs.Reading.{reading_of}
 use Rattle.rw_page.specs.Lines.{number_or_dash}
-use Rattle.rw_page.specs.Pages.{Holds, Lacks, fault_line}
+use Rattle.rw_page.specs.Pages.{Holds, Lacks}
 
 -- the line of a channel that has no sender any more: its number, and the place where it lost the last one
 unfoldable pub closing_line : Closing → List ℕ
@@ -26,7 +27,7 @@ late_line late =
 abbrev pub IsClosingReport : Result (Run ℕ) TextFault → List ℕ → Type 0
 IsClosingReport (Ok run) text =
     (closings : List Closing) × (readers : List LateReader) × AreClosings run closings readers × (text ≡ flat_map closing_line closings ++ flat_map late_line readers)
-IsClosingReport (Err fault) text = text ≡ fault_line fault
+IsClosingReport (Err fault) text = text ≡ text_fault_line fault
 
 -- the same of the run whose journal text the bytes are
 abbrev pub IsClosingPage : List ℕ → List ℕ → Type 0

@@ -8,9 +8,10 @@ use Rattle.rw_law.specs.Numbers.{numbers}
 use Rattle.rw_console.specs.Texts.{with_number}
 use Rattle.rw_findings.specs.Lives.{AreLives, Life}
 use Rattle.rw_text.specs.declared.faults.TextFault.{TextFault}
+use Rattle.rw_text.specs.Faults.{text_fault_line}
 use Rattle.rw_text.specs.Reading.{reading_of}
 use Rattle.rw_page.specs.Lines.{number_or_dash}
-use Rattle.rw_page.specs.Pages.{Holds, Lacks, fault_line}
+use Rattle.rw_page.specs.Pages.{Holds, Lacks}
 
 abbrev pub kind_word : Kind → List ℕ
 kind_word Sender = codes " sender"
@@ -52,7 +53,7 @@ AreLifeTexts run (suc channel) text = (front : List ℕ) × (last : List ℕ) ×
 -- the text is that of all channels of a run, or of a journal text's first fault
 abbrev pub IsLifeReport : Result (Run ℕ) TextFault → List ℕ → Type 0
 IsLifeReport (Ok run) text = AreLifeTexts run (length run.specs) text
-IsLifeReport (Err fault) text = text ≡ fault_line fault
+IsLifeReport (Err fault) text = text ≡ text_fault_line fault
 
 -- the same of the run whose journal text the bytes are
 abbrev pub IsLifePage : List ℕ → List ℕ → Type 0

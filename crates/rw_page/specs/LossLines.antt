@@ -9,8 +9,9 @@ use Rattle.rw_findings.specs.declared.losses.loss.LossEnd.{LossEnd}
 use Rattle.rw_findings.specs.declared.losses.loss.LossEnd.TheVariants.{Told, Dropped, Open}
 use Rattle.rw_findings.specs.Losses.{AreLosses}
 use Rattle.rw_text.specs.declared.faults.TextFault.{TextFault}
+use Rattle.rw_text.specs.Faults.{text_fault_line}
 use Rattle.rw_text.specs.Reading.{reading_of}
-use Rattle.rw_page.specs.Pages.{Holds, Lacks, fault_line}
+use Rattle.rw_page.specs.Pages.{Holds, Lacks}
 
 -- how a loss ended, and at which place
 abbrev pub end_words : LossEnd → List ℕ
@@ -27,7 +28,7 @@ loss_line loss =
 -- the text is that of a run's losses, a line each, or of a journal text's first fault
 abbrev pub IsLossReport : Result (Run ℕ) TextFault → List ℕ → Type 0
 IsLossReport (Ok run) text = (losses : List Loss) × AreLosses run losses × (text ≡ flat_map loss_line losses)
-IsLossReport (Err fault) text = text ≡ fault_line fault
+IsLossReport (Err fault) text = text ≡ text_fault_line fault
 
 -- the same of the run whose journal text the bytes are
 abbrev pub IsLossPage : List ℕ → List ℕ → Type 0

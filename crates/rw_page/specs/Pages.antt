@@ -1,21 +1,17 @@
 -- The output that a page gets.
-use Rattle.std.specs.Prelude.{◌≡◌, ◌≤◌, ◌<◌, ℕ, List, ◌++◌, Result, Ok, Err, codes, length, take}
+use Rattle.std.specs.Prelude.{◌≡◌, ◌≤◌, ◌<◌, ◌⊎◌, ◌↔◌, ℕ, List, ◌++◌, Result, Ok, Err, length, take}
 use Rattle.rw_console.specs.Report.{commands_report}
 use Rattle.rw_journal.specs.Run.{Run}
 use Rattle.rw_law.specs.Numbers.{numbers}
 use Rattle.rw_navigator.specs.Places.{last_place}
 use Rattle.rw_text.specs.declared.faults.TextFault.{TextFault}
-use Rattle.rw_text.specs.Faults.{fault_text}
+use Rattle.rw_text.specs.Faults.{text_fault_line}
 use Rattle.rw_text.specs.Reading.{reading_of}
-
--- the line of a journal text's first fault
-abbrev pub fault_line : TextFault → List ℕ
-fault_line fault = codes "journal fault " ++ fault_text fault ++ codes "\n"
 
 -- what the commands write over a run, or a journal text's first fault
 abbrev pub page_report : Result (Run ℕ) TextFault → List ℕ → List ℕ
 page_report (Ok run) commands = commands_report run (last_place run) commands
-page_report (Err fault) commands = fault_line fault
+page_report (Err fault) commands = text_fault_line fault
 
 -- what the commands write over the run whose journal text the first bytes are
 abbrev pub page_of : List ℕ → List ℕ → List ℕ
@@ -28,3 +24,19 @@ Holds buffer count text = (count ≤ length buffer) × (take count buffer ≡ te
 -- a buffer is too small for this text, whose length is known
 abbrev pub Lacks : List ℕ → ℕ → List ℕ → Type 0
 Lacks buffer count text = (count ≡ length text) × (length buffer < count)
+
+-- the answer is 0 exactly if a text of this kind fits into a buffer
+abbrev pub Fits : (List ℕ → Type 0) → (answer : ℕ) → List ℕ → Type 0
+Fits Is answer buffer = (text : List ℕ) × Is text × ((answer ≡ 0) ↔ (length text ≤ length buffer))
+
+-- the first of these bytes, no more than the limit, have a report that doesn't change whatever follows them
+pub record IsDecidedBefore (limit : ℕ) (report : List ℕ → List ℕ) (bytes : List ℕ) : Type 0 where
+  pub first : List ℕ
+  pub rest : List ℕ
+  pub parts : bytes ≡ first ++ rest
+  pub few : length first ≤ limit
+  pub decided : (more : List ℕ) → report (first ++ more) ≡ report first
+
+-- these bytes are no more than the limit, or no byte above it has to be read for their report
+abbrev pub IsWithin : (limit : ℕ) → (List ℕ → List ℕ) → List ℕ → Type 0
+IsWithin limit report bytes = (length bytes ≤ limit) ⊎ IsDecidedBefore limit report bytes

@@ -9,8 +9,9 @@ use Rattle.rw_findings.specs.declared.peaks.measure.Measure.{Measure}
 use Rattle.rw_findings.specs.declared.peaks.measure.Measure.TheVariants.{Lag, Unread, Unseen}
 use Rattle.rw_findings.specs.declared.peaks.measure.Stretches.{Stretches}
 use Rattle.rw_text.specs.declared.faults.TextFault.{TextFault}
+use Rattle.rw_text.specs.Faults.{text_fault_line}
 use Rattle.rw_text.specs.Reading.{reading_of}
-use Rattle.rw_page.specs.Pages.{Holds, Lacks, fault_line}
+use Rattle.rw_page.specs.Pages.{Holds, Lacks}
 
 abbrev pub measure_word : Measure → List ℕ
 measure_word Lag = codes "lag "
@@ -55,7 +56,7 @@ AreChannelTexts run stretches (channel ∷ channels) text =
 -- the same, or the text is that of a journal text's first fault
 abbrev pub IsPeakReport : Result (Run ℕ) TextFault → Stretches → List ℕ → List ℕ → Type 0
 IsPeakReport (Ok run) stretches channels text = AreChannelTexts run stretches channels text
-IsPeakReport (Err fault) stretches channels text = text ≡ fault_line fault
+IsPeakReport (Err fault) stretches channels text = text ≡ text_fault_line fault
 
 -- the same of the run whose journal text the bytes are
 abbrev pub IsPeakPage : List ℕ → Stretches → List ℕ → List ℕ → Type 0

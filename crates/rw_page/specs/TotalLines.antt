@@ -11,9 +11,10 @@ use Rattle.rw_findings.specs.declared.totals.total.Counts.{Counts}
 use Rattle.rw_findings.specs.declared.totals.total.Counts.TheVariants.{Broadcast, Watch}
 use Rattle.rw_findings.specs.declared.totals.total.Totals.{Totals}
 use Rattle.rw_text.specs.declared.faults.TextFault.{TextFault}
+use Rattle.rw_text.specs.Faults.{text_fault_line}
 use Rattle.rw_text.specs.Reading.{reading_of}
 use Rattle.rw_page.specs.Lines.{number_or_dash}
-use Rattle.rw_page.specs.Pages.{Holds, Lacks, fault_line}
+use Rattle.rw_page.specs.Pages.{Holds, Lacks}
 
 -- a receiver of a channel of this kind
 abbrev pub receiver_words : List ℕ → (channel receiver : ℕ) → List ℕ
@@ -42,7 +43,7 @@ totals_line totals = counts_line totals.channel totals.receiver totals.counts
 -- the text is that of a run's totals, a line each, or of a journal text's first fault
 abbrev pub IsTotalReport : Result (Run ℕ) TextFault → List ℕ → Type 0
 IsTotalReport (Ok run) text = (totals : List Totals) × AreTotals run totals × (text ≡ flat_map totals_line totals)
-IsTotalReport (Err fault) text = text ≡ fault_line fault
+IsTotalReport (Err fault) text = text ≡ text_fault_line fault
 
 -- the same of the run whose journal text the bytes are
 abbrev pub IsTotalPage : List ℕ → List ℕ → Type 0

@@ -7,9 +7,10 @@ use Rattle.rw_console.specs.Texts.{with_number}
 use Rattle.rw_findings.specs.Values.{AreValues}
 use Rattle.rw_findings.specs.declared.values.value.ChannelValue.{ChannelValue}
 use Rattle.rw_text.specs.declared.faults.TextFault.{TextFault}
+use Rattle.rw_text.specs.Faults.{text_fault_line}
 use Rattle.rw_text.specs.Reading.{reading_of}
 use Rattle.rw_page.specs.Lines.{number_or_dash}
-use Rattle.rw_page.specs.Pages.{Holds, Lacks, fault_line}
+use Rattle.rw_page.specs.Pages.{Holds, Lacks}
 
 -- the line of a value: its channel and number, the value, the place since when it is there, and the place where it was overwritten
 unfoldable pub value_line : (channel number : ℕ) → ChannelValue ℕ → List ℕ
@@ -28,7 +29,7 @@ value_lines channel values count = flat_map (λ number. value_line_at channel nu
 -- the text is that of a channel's values, a line each, or of a journal text's first fault
 abbrev pub IsValueReport : Result (Run ℕ) TextFault → (channel : ℕ) → List ℕ → Type 0
 IsValueReport (Ok run) channel text = (values : List (ChannelValue ℕ)) × AreValues run channel values × (text ≡ value_lines channel values (length values))
-IsValueReport (Err fault) channel text = text ≡ fault_line fault
+IsValueReport (Err fault) channel text = text ≡ text_fault_line fault
 
 -- the same of the run whose journal text the bytes are
 abbrev pub IsValuePage : List ℕ → (channel : ℕ) → List ℕ → Type 0

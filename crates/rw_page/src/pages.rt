@@ -1,27 +1,29 @@
 //! The debugger over bytes in memory.
 
-ghost use Rattle.std.specs.Prelude.{◌≡◌, ◌≤◌, IfOk};
+ghost use Rattle.std.specs.Prelude.{◌≡◌, ◌≤◌, ◌<◌, ◌↔◌, length, IfOk, OnOk, IsErrOf};
 ghost use Rattle.rw_console.specs.SessionReport.{report};
-ghost use Rattle.rw_page.specs.Pages.{Holds, Lacks, fault_line, page_of};
+ghost use Rattle.rw_page.specs.Pages.{Holds, IsWithin, Lacks, page_of};
+ghost use Rattle.rw_text.specs.Faults.{text_fault_line};
 
-use rw_console::{SessionFault, debug, session};
+use rw_console::{MOST_BYTES, SessionFault, debug, session};
 use rw_law::NoMemory;
 use rw_text::TextFault;
 use std::alloc::Global;
 
 /// Returns the line of a journal text's first fault.
 pub fn fault_page(alloc: Global, fault: TextFault) -> Result<Vec<u8>, NoMemory>
-    ensures { IfOk result (λ line. line.items ≡ fault_line fault) }
+    ensures { IfOk result (λ line. line.items ≡ text_fault_line fault) }
 {
-    match format!(in alloc; "journal fault {fault}\n") {
-        Ok(line) => Ok(line.into_bytes()),
-        Err(_) => Err(NoMemory),
-    }
+    let line = fault.line(alloc)?;
+    Ok(line.into_bytes())
 }
 
-/// Returns what the commands write over the run of a journal text, or that text's first fault.
+/// Returns what the commands write over the run of a journal text, or that text's first fault. Only if more than `MOST_BYTES` bytes
+/// of commands would have to be read, it returns `TooMuch`.
 pub fn debug_page(alloc: Global, journal: &[u8], commands: &[u8]) -> Result<Vec<u8>, SessionFault>
-    ensures { IfOk result (λ text. text.items ≡ page_of journal.now commands.now) }
+    ensures text { IfOk result (λ text. text.items ≡ page_of journal.now commands.now) }
+    ensures limit { OnOk result (IsWithin MOST_BYTES (page_of journal.now) commands.now) }
+    ensures above { IsErrOf result SessionFault.TooMuch → MOST_BYTES < length commands.now }
 {
     let run = match rw_text::read(alloc, journal) {
         Ok(run) => run,
@@ -39,9 +41,11 @@ pub fn debug_page(alloc: Global, journal: &[u8], commands: &[u8]) -> Result<Vec<
     Ok(text)
 }
 
-/// Returns what a session writes.
+/// Returns what a session writes. Only if more than `MOST_BYTES` bytes would have to be read, it returns `TooMuch`.
 pub fn session_page(alloc: Global, bytes: &[u8]) -> Result<Vec<u8>, SessionFault>
-    ensures { IfOk result (λ text. text.items ≡ report bytes.now) }
+    ensures text { IfOk result (λ text. text.items ≡ report bytes.now) }
+    ensures limit { OnOk result (IsWithin MOST_BYTES report bytes.now) }
+    ensures above { IsErrOf result SessionFault.TooMuch → MOST_BYTES < length bytes.now }
 {
     let mut text = Vec::new(alloc);
     let mut input = bytes;
@@ -58,11 +62,14 @@ const TOO_SMALL: u8 = 1;
 /// There is no text.
 pub const NO_ANSWER: u8 = 2;
 
-/// Copies a text to the start of a buffer if it fits, and returns `ANSWERED` or `TOO_SMALL`. `count` becomes the text's length.
+/// Copies a text to the start of a buffer if it fits, and returns `ANSWERED`. Otherwise the buffer is unchanged, and it returns
+/// `TOO_SMALL`. `count` becomes the text's length.
 pub fn hand_over(text: &Vec<u8>, out: &mut [u8], count: &mut u64) -> u8
     ensures known { result ≤ 1 }
     ensures answer { result ≡ 0 → Holds out.new count.new text.now.items }
     ensures room { result ≡ 1 → Lacks out.new count.new text.now.items }
+    ensures fits { (result ≡ 0) ↔ (length text.now.items ≤ length out.old) }
+    ensures kept { 0 < result → out.new ≡ out.old }
 {
     let size = text.len();
     *count = size as u64;

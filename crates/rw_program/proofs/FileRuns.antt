@@ -12,12 +12,13 @@ use Rattle.rw_lines.specs.declared.streams.StreamFault.TheVariants.{Write, NoMem
 use Rattle.rw_script.specs.Script.{Script}
 use Rattle.rw_law.specs.Numbers.{numbers}
 use Rattle.rw_text.specs.declared.faults.TextFault.{TextFault}
+use Rattle.rw_text.specs.Faults.{text_fault_line}
 use Rattle.rw_text.specs.Salvaging.{salvage_of}
 use Rattle.rw_text.specs.Texts.{text, text_of}
 use Rattle.rw_program.specs.declared.reading.Refusal.{Refusal}
 use Rattle.rw_program.specs.declared.reading.Refusal.TheVariants as refusal
 use Rattle.rw_program.specs.Contents.{HasNoScript, HasNoText, IsNoScript, IsNoText, ReadsWhole}
-use Rattle.rw_program.specs.Endings.{end_of_record, text_fault_line}
+use Rattle.rw_program.specs.Endings.{end_of_record}
 use Rattle.rw_program.specs.Files.{Closes, ExplainsReading, Fails, OverFile, TellsLine, TellsWhy}
 use Rattle.rw_program.specs.Statuses.{Tells}
 use Rattle.rw_program.specs.Verbs.{Salvages}

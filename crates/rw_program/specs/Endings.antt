@@ -8,7 +8,7 @@ use Rattle.rw_script.specs.Running.{run_of}
 use Rattle.rw_script.specs.Script.{Script, script_in}
 use Rattle.rw_law.specs.Numbers.{numbers}
 use Rattle.rw_text.specs.declared.faults.TextFault.{TextFault}
-use Rattle.rw_text.specs.Faults.{fault_text}
+use Rattle.rw_text.specs.Faults.{text_fault_line}
 use Rattle.rw_text.specs.Reading.{reading_of}
 use Rattle.rw_text.specs.Salvaging.{salvage_of}
 use Rattle.rw_text.specs.Texts.{text}
@@ -23,9 +23,6 @@ pub record Ending : Type 0 where
 -- a script's fault is written to standard error
 abbrev pub refused_script : ScriptFault → Ending
 refused_script fault = record { written = []; told = fault_line fault; status = 1 }
-
-abbrev pub text_fault_line : TextFault → List ℕ
-text_fault_line fault = codes "journal fault " ++ fault_text fault ++ codes "\n"
 
 -- a journal text's fault is written to standard output, where its entries would be counted or shown
 abbrev pub refused_text : TextFault → Ending

@@ -12,9 +12,10 @@ use Rattle.rw_lines.specs.declared.streams.StreamFault.{StreamFault}
 use Rattle.rw_lines.specs.declared.streams.StreamFault.TheVariants.{Read, Write, TooMuch, NoMemory}
 use Rattle.rw_lines.specs.Writing.{WritesPrefix}
 use Rattle.rw_text.specs.declared.faults.TextFault.{TextFault}
+use Rattle.rw_text.specs.Faults.{text_fault_line}
 use Rattle.rw_program.specs.declared.reading.Refusal.{Refusal}
 use Rattle.rw_program.specs.declared.reading.Refusal.TheVariants as refusal
-use Rattle.rw_program.specs.Endings.{Ending, refused_script, refused_text, text_fault_line}
+use Rattle.rw_program.specs.Endings.{Ending, refused_script, refused_text}
 use Rattle.rw_program.specs.Runs.{Runs}
 use Rattle.rw_program.specs.Statuses.{Tells, status_of}
 

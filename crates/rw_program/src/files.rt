@@ -49,7 +49,7 @@ fn tell(alloc: Global, why: Refusal) -> Ended
             Ok(line) => Ended::told_by(line, REFUSED_INPUT),
             Err(_) => Ended::of(Err(SessionFault::NoMemory)),
         },
-        Refusal::Text(fault) => match format!(in alloc; "journal fault {fault}\n") {
+        Refusal::Text(fault) => match fault.line(alloc) {
             Ok(line) => Ended::told_by(line, REFUSED_INPUT),
             Err(_) => Ended::of(Err(SessionFault::NoMemory)),
         },
@@ -62,7 +62,7 @@ pub(crate) fn refuse<W: Write>(alloc: Global, out: &mut W, why: Refusal) -> Ende
 {
     match why {
         Refusal::Stream(_) | Refusal::Script(_) => tell(alloc, why),
-        Refusal::Text(fault) => match format!(in alloc; "journal fault {fault}\n") {
+        Refusal::Text(fault) => match fault.line(alloc) {
             Ok(line) => end_with(out, line.as_str(), REFUSED_INPUT),
             Err(_) => Ended::of(Err(SessionFault::NoMemory)),
         },

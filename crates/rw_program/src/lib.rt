@@ -5,7 +5,8 @@
 //! commands over one, and `ttd salvage FILE` recovers what is left of one that was cut off.
 //! The main contracts are those of `session_on` and of the four functions over files. What they write, their line on standard
 //! error and the exit status are determined by the bytes that they read; with threads, by some run of the script. For a session
-//! `rw_console`'s `specs/SessionReport.antt` defines them, and for a file `specs/Endings.antt` and `specs/Threads.antt`.
+//! `rw_console`'s `specs/SessionReport.antt` defines them, and for a file `specs/Endings.antt` and `specs/Threads.antt`. Where a
+//! fault of a stream, of memory or of threads stops them, they have written a prefix of that, and line and status report the fault.
 //! Start reading at `program.rt`, and continue with `files.rt`.
 #![tactic(auto)]
 

@@ -170,6 +170,13 @@ static TEXTS: [(TextFault, &str); 6] = [
     (TextFault::NoMemory, "no memory"),
 ];
 
+/// Asserts that the fault of a journal text has this line.
+fn reports(rt: &impl Abort, alloc: Global, fault: TextFault, line: &str) {
+    let told = fault.line(alloc).unwrap_or_else(|_| String::new(alloc));
+    same(rt, &"a fault's line", &told.as_str(), &line);
+    drop(told);
+}
+
 const SCRIPT: ScriptFault = ScriptFault {
     line: 2,
     kind: ScriptFaultKind::BadArguments,
@@ -185,4 +192,6 @@ fn faults_of_texts(rt: HostRuntime) {
     say(&rt, alloc, &TEXTS);
     says(&rt, alloc, &SCRIPT, "script fault 2 bad-arguments");
     says(&rt, alloc, &WriteFault(109), "write fault after 109 bytes");
+    let reply = TextFault::WrongReply(7);
+    reports(&rt, alloc, reply, "journal fault wrong-reply 7\n");
 }

@@ -1,5 +1,5 @@
 use Rattle.std.proofs.Common.{rules, ◌≡◌, inr}
-use Rattle.rw_program.specs.Endings.{text_fault_line}
+use Rattle.rw_text.specs.Faults.{text_fault_line}
 use Rattle.rw_program.proofs.FileRuns.{ran_out}
 use Rattle.rw_program.proofs.files.refuse.Goals as goal
 

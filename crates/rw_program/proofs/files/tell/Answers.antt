@@ -1,6 +1,6 @@
 use Rattle.std.proofs.Common.{rules, ◌≡◌, ◌∙◌, inl, inr, string_bytes}
 use Rattle.rw_console.specs.SessionReport.{fault_line}
-use Rattle.rw_program.specs.Endings.{text_fault_line}
+use Rattle.rw_text.specs.Faults.{text_fault_line}
 use Rattle.rw_program.proofs.files.tell.Goals as goal
 
 pub returns-in-Ok : goal.returns-in-Ok
@@ -11,10 +11,10 @@ returns-in-Ok c =
 pub returns-in-Err : goal.returns-in-Err
 returns-in-Err c = rw c.in-Script.is (inr (c.of-in-Err.ensures.line, c.of-in-Err.ensures.status))
 
-pub returns-in-Ok-format : goal.returns-in-Ok-format
-returns-in-Ok-format c =
-    let line : string_bytes c.in-Ok-format.line ≡ text_fault_line c.in-Text.fault = search rules in
-    rw c.in-Text.is (inl (c.told_by-in-Ok-format.ensures.line ∙ line, c.told_by-in-Ok-format.ensures.status))
+pub returns-in-Ok-line : goal.returns-in-Ok-line
+returns-in-Ok-line c =
+    let line : string_bytes c.in-Ok-line.line ≡ text_fault_line c.in-Text.fault = search rules in
+    rw c.in-Text.is (inl (c.told_by-in-Ok-line.ensures.line ∙ line, c.told_by-in-Ok-line.ensures.status))
 
-pub returns-in-Err-format : goal.returns-in-Err-format
-returns-in-Err-format c = rw c.in-Text.is (inr (c.of-in-Err-format.ensures.line, c.of-in-Err-format.ensures.status))
+pub returns-in-Err-line : goal.returns-in-Err-line
+returns-in-Err-line c = rw c.in-Text.is (inr (c.of-in-Err-line.ensures.line, c.of-in-Err-line.ensures.status))
