@@ -1,6 +1,6 @@
 //! Calls on a broadcast of a desk by its handles. Each is made by another actor, whose pass has no room for a receipt yet.
 
-use crate::callers::{ask_all, ask_drop};
+use crate::callers::{ask_all, ask_drop, say};
 use crate::desks::{last_hands, new_desk, say_closed};
 use crate::met::Met;
 use rw_broadcast::BCall;
@@ -12,7 +12,7 @@ use std::sync::Wait;
 use support_desks::Hand;
 
 /// What is called by sender 0.
-const BY_SENDER: [ChanCall<u64>; 7] = [
+static BY_SENDER: [ChanCall<u64>; 7] = [
     ChanCall::B(BCall::Send(0, 4)),
     ChanCall::B(BCall::SenderLen(0)),
     ChanCall::B(BCall::Subscribe(0)),
@@ -23,14 +23,17 @@ const BY_SENDER: [ChanCall<u64>; 7] = [
 ];
 
 /// What is called then by receiver 1.
-const BY_RECEIVER: [ChanCall<u64>; 4] = [
+static BY_RECEIVER: [ChanCall<u64>; 4] = [
     ChanCall::B(BCall::ReceiverLen(1)),
     ChanCall::B(BCall::TryRecv(1)),
     ChanCall::B(BCall::Resubscribe(1)),
     ChanCall::B(BCall::Recv(1)),
 ];
 
-/// How many actors there are: one for each of these calls, and two who drop the handles.
+/// How many actors make one of these calls each.
+const CALLERS: usize = 11;
+
+/// How many actors there are: those, and two who drop the handles.
 const ACTORS: u32 = 13;
 
 /// Drops the two handles, each by a pass of its own.
@@ -47,8 +50,27 @@ fn drop_both<R: Wait + Print>(
     };
     let received = ask_drop(rt, met, desk, first, receiver);
     let sent = ask_drop(rt, met, desk, second, sender);
-    println!(rt; "  {received:?}")?;
-    println!(rt; "  {sent:?}")
+    say(rt, &received).and(say(rt, &sent))
+}
+
+/// Makes all calls by the two handles.
+fn call_each<R: Wait + Print>(
+    rt: &R,
+    met: &mut Met,
+    desk: &Desk<u64>,
+    passes: &mut [Pass<u64>],
+    sender: &Hand,
+    receiver: &Hand,
+) -> io::Result<()> {
+    let (by_sender, by_receiver) = passes.split_at_mut(BY_SENDER.len().min(passes.len()));
+    ask_all(rt, met, desk, by_sender, sender, &BY_SENDER).and(ask_all(
+        rt,
+        met,
+        desk,
+        by_receiver,
+        receiver,
+        &BY_RECEIVER,
+    ))
 }
 
 /// Makes all calls by the two handles, and drops them.
@@ -62,11 +84,9 @@ fn play_handles<R: Wait + Print>(
     let Some((sender, receiver)) = hands else {
         return println!(rt; "  no handles");
     };
-    let (by_sender, rest) = passes.split_at_mut(BY_SENDER.len().min(passes.len()));
-    let (by_receiver, dropping) = rest.split_at_mut(BY_RECEIVER.len().min(rest.len()));
-    ask_all(rt, met, desk, by_sender, &sender, &BY_SENDER)
-        .and(ask_all(rt, met, desk, by_receiver, &receiver, &BY_RECEIVER))
-        .and(drop_both(rt, met, desk, dropping, sender, receiver))
+    let (calling, dropping) = passes.split_at_mut(CALLERS.min(passes.len()));
+    let called = call_each(rt, met, desk, calling, &sender, &receiver);
+    called.and(drop_both(rt, met, desk, dropping, sender, receiver))
 }
 
 /// Plays a broadcast of a desk.

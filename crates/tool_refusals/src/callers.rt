@@ -82,6 +82,24 @@ pub fn ask<C: Caller, R: Wait>(
     Err(DeskFault::NoMemory)
 }
 
+/// Prints the result of a call. Here alone its text is put together, since each function that does it has the instance in its own proof.
+pub fn say(rt: &impl Print, answer: &Result<ChanReply<u64>, DeskFault>) -> io::Result<()> {
+    println!(rt; "  {answer:?}")
+}
+
+/// Makes a call, and prints its result.
+pub fn say_call<C: Caller, R: Wait + Print>(
+    rt: &R,
+    met: &mut Met,
+    desk: &Desk<u64>,
+    pass: &mut Pass<u64>,
+    caller: &C,
+    call: ChanCall<u64>,
+) -> io::Result<()> {
+    let answer = ask(rt, met, desk, pass, caller, call);
+    say(rt, &answer)
+}
+
 /// Makes these calls, each by a pass of its own, and prints their results.
 pub fn ask_all<C: Caller, R: Wait + Print>(
     rt: &R,
@@ -92,8 +110,7 @@ pub fn ask_all<C: Caller, R: Wait + Print>(
     calls: &[ChanCall<u64>],
 ) -> io::Result<()> {
     for (pass, call) in passes.iter_mut().zip(calls.iter()) {
-        let answer = ask(rt, met, desk, pass, caller, *call);
-        println!(rt; "  {answer:?}")?;
+        say_call(rt, met, desk, pass, caller, *call)?;
     }
     Ok(())
 }

@@ -1,11 +1,12 @@
 //! Desks: opened, called by the numbers of channels and handles, and closed.
 
-use crate::callers::{ByNumbers, ask};
+use crate::callers::{ByNumbers, say_call};
 use crate::met::{Met, TRIES};
+use crate::passes::held;
 use crate::readings::SPECS;
+use crate::runs::length_of;
 use rw_broadcast::BCall;
 use rw_desk::{CloseFault, Desk, DeskOpenFault, Ends, Pass};
-use rw_journal::Run;
 use rw_watch::WCall;
 use rw_world::{ChanCall, OpenFault, Spec};
 use std::alloc::Global;
@@ -16,7 +17,21 @@ use support_desks::{Hand, hands_of};
 /// A desk, with a pass for each actor and the handles that each channel has from the beginning.
 pub type Opened = (Desk<u64>, Vec<Pass<u64>>, Vec<Ends>);
 
-/// A desk of so many actors.
+/// What a close returns beside its fault: the desk, and its passes.
+type Back = (CloseFault, Desk<u64>, Vec<Pass<u64>>);
+
+/// Drops a desk. A function that calls `drop` itself has the instance for its type put together in its own proof.
+fn drop_desk(_desk: Desk<u64>) {}
+
+/// Drops passes.
+fn drop_passes(_passes: Vec<Pass<u64>>) {}
+
+/// Opens a desk. So the proof of what retries it doesn't meet its contract.
+fn open(alloc: Global, specs: &[Spec<u64>], actors: u32) -> Result<Opened, DeskOpenFault> {
+    Desk::open(alloc, specs, actors)
+}
+
+/// The same, with retries.
 pub fn new_desk(
     alloc: Global,
     met: &mut Met,
@@ -24,7 +39,7 @@ pub fn new_desk(
     actors: u32,
 ) -> Result<Opened, DeskOpenFault> {
     for _ in 0..TRIES {
-        match Desk::open(alloc, specs, actors) {
+        match open(alloc, specs, actors) {
             Err(DeskOpenFault::World(OpenFault::NoMemory)) => met.refused(true),
             answer => return answer,
         }
@@ -36,33 +51,51 @@ pub fn new_desk(
 fn receipts_in(passes: &[Pass<u64>]) -> usize {
     let mut count: usize = 0;
     for pass in passes {
-        count = count.saturating_add(pass.kept().len());
+        let (receipts, _) = held(pass);
+        count = count.saturating_add(receipts);
     }
     count
 }
 
-/// Closes a desk. At a refusal the desk and the passes are returned, and it is closed again. At another fault they are dropped.
+/// How many passes there are, and how many receipts they have.
+fn counts_of(passes: &[Pass<u64>]) -> (usize, usize) {
+    (passes.len(), receipts_in(passes))
+}
+
+/// Closes a desk, and returns the length of its run.
+fn close_once(alloc: Global, desk: Desk<u64>, passes: Vec<Pass<u64>>) -> Result<u64, Back> {
+    match desk.close(alloc, passes) {
+        Ok(run) => Ok(length_of(run)),
+        Err(back) => Err(back),
+    }
+}
+
+/// The fault of a close, of which the rest is dropped.
+fn fault_of(back: Back) -> CloseFault {
+    let (fault, desk, passes) = back;
+    drop_desk(desk);
+    drop_passes(passes);
+    fault
+}
+
+/// Closes a desk, with one retry. At a refusal the desk and the passes are returned, and it is closed again.
 fn close(
     alloc: Global,
     met: &mut Met,
     desk: Desk<u64>,
     passes: Vec<Pass<u64>>,
-) -> Result<Run<u64>, CloseFault> {
-    let before = (passes.len(), receipts_in(&passes));
-    let closed = match desk.close(alloc, passes) {
+) -> Result<u64, CloseFault> {
+    let before = counts_of(&passes);
+    let closed = match close_once(alloc, desk, passes) {
         Err((CloseFault::NoMemory, desk, passes)) => {
-            met.refused((passes.len(), receipts_in(&passes)) == before);
-            desk.close(alloc, passes)
+            met.refused(counts_of(&passes) == before);
+            close_once(alloc, desk, passes)
         }
         closed => closed,
     };
     match closed {
-        Ok(run) => Ok(run),
-        Err((fault, desk, passes)) => {
-            drop(desk);
-            drop(passes);
-            Err(fault)
-        }
+        Ok(length) => Ok(length),
+        Err(back) => Err(fault_of(back)),
     }
 }
 
@@ -90,16 +123,23 @@ pub fn say_closed(
     passes: Vec<Pass<u64>>,
 ) -> io::Result<()> {
     match close(alloc, met, desk, passes) {
-        Ok(run) => {
-            let length = run.len();
-            drop(run);
-            println!(rt; "  closed with {length} entries")
-        }
+        Ok(length) => println!(rt; "  closed with {length} entries"),
         Err(fault) => println!(rt; "  {fault:?}"),
     }
 }
 
-/// Calls by one pass on the broadcast, those that no handle of a desk makes among them. The last would wait.
+/// What is called by one pass on the broadcast, with calls that no handle of a desk makes among them. The last would wait.
+static ON_BROADCAST: [ChanCall<u64>; 7] = [
+    ChanCall::B(BCall::Downgrade(0)),
+    ChanCall::B(BCall::CloneWeak(2)),
+    ChanCall::B(BCall::Upgrade(3)),
+    ChanCall::B(BCall::Send(4, 5)),
+    ChanCall::B(BCall::TryRecv(1)),
+    ChanCall::B(BCall::DropHandle(4)),
+    ChanCall::B(BCall::Recv(1)),
+];
+
+/// Makes these calls.
 fn call_broadcast<R: Wait + Print>(
     rt: &R,
     met: &mut Met,
@@ -110,22 +150,43 @@ fn call_broadcast<R: Wait + Print>(
         channel: 0,
         may_wait: false,
     };
-    for made in [
-        BCall::Downgrade(0),
-        BCall::CloneWeak(2),
-        BCall::Upgrade(3),
-        BCall::Send(4, 5),
-        BCall::TryRecv(1),
-        BCall::DropHandle(4),
-        BCall::Recv(1),
-    ] {
-        let answer = ask(rt, met, desk, pass, &caller, ChanCall::B(made));
-        println!(rt; "  {answer:?}")?;
+    for made in &ON_BROADCAST {
+        say_call(rt, met, desk, pass, &caller, *made)?;
     }
     Ok(())
 }
 
-/// Calls by one pass on both channels, each of which may wait. There are so many that the pass and both books have to grow.
+/// The calls of a round on both channels, with their channels, by their numbers. The value is sent, received, stored and seen.
+fn on_both(number: u32, value: u64) -> (u32, ChanCall<u64>) {
+    match number {
+        0 => (0, ChanCall::B(BCall::Send(0, value))),
+        1 => (0, ChanCall::B(BCall::Recv(1))),
+        2 => (1, ChanCall::W(WCall::Send(0, value))),
+        3 => (1, ChanCall::W(WCall::Changed(1))),
+        _ => (1, ChanCall::W(WCall::CloneSender(0))),
+    }
+}
+
+/// Makes the five calls of a round, each of which may wait.
+fn call_round<R: Wait + Print>(
+    rt: &R,
+    met: &mut Met,
+    desk: &Desk<u64>,
+    pass: &mut Pass<u64>,
+    value: u64,
+) -> io::Result<()> {
+    for number in 0..5 {
+        let (channel, made) = on_both(number, value);
+        let caller = ByNumbers {
+            channel,
+            may_wait: true,
+        };
+        say_call(rt, met, desk, pass, &caller, made)?;
+    }
+    Ok(())
+}
+
+/// Calls by one pass on both channels. There are so many that the pass and both books have to grow.
 fn call_both<R: Wait + Print>(
     rt: &R,
     met: &mut Met,
@@ -133,20 +194,7 @@ fn call_both<R: Wait + Print>(
     pass: &mut Pass<u64>,
 ) -> io::Result<()> {
     for value in 10..16 {
-        for (channel, made) in [
-            (0, ChanCall::B(BCall::Send(0, value))),
-            (0, ChanCall::B(BCall::Recv(1))),
-            (1, ChanCall::W(WCall::Send(0, value))),
-            (1, ChanCall::W(WCall::Changed(1))),
-            (1, ChanCall::W(WCall::CloneSender(0))),
-        ] {
-            let caller = ByNumbers {
-                channel,
-                may_wait: true,
-            };
-            let answer = ask(rt, met, desk, pass, &caller, made);
-            println!(rt; "  {answer:?}")?;
-        }
+        call_round(rt, met, desk, pass, value)?;
     }
     Ok(())
 }
@@ -168,7 +216,7 @@ fn call_all<R: Wait + Print>(
         channel: 0,
         may_wait: false,
     };
-    println!(rt; "  {:?}", ask(rt, met, desk, second, &caller, astray))
+    say_call(rt, met, desk, second, &caller, astray)
 }
 
 /// Plays a desk of two actors.

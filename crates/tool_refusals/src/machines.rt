@@ -179,34 +179,38 @@ fn play_parts(rt: &impl Print, alloc: Global, met: &mut Met) -> io::Result<()> {
     }
 }
 
+/// What is called on a broadcast.
+static ON_BROADCAST: [BCall<u64>; 8] = [
+    BCall::Send(0, 1),
+    BCall::Subscribe(0),
+    BCall::CloneSender(0),
+    BCall::Send(2, 2),
+    BCall::Send(3, 3),
+    BCall::TryRecv(1),
+    BCall::TryRecv(1),
+    BCall::Downgrade(0),
+];
+
 /// Plays a broadcast.
 fn play_broadcast(rt: &impl Print, alloc: Global, met: &mut Met) -> io::Result<()> {
     println!(rt; "a broadcast")?;
-    let calls = [
-        BCall::Send(0, 1),
-        BCall::Subscribe(0),
-        BCall::CloneSender(0),
-        BCall::Send(2, 2),
-        BCall::Send(3, 3),
-        BCall::TryRecv(1),
-        BCall::TryRecv(1),
-        BCall::Downgrade(0),
-    ];
-    play_machine::<Broadcast<u64>>(rt, alloc, met, &calls)
+    play_machine::<Broadcast<u64>>(rt, alloc, met, &ON_BROADCAST)
 }
+
+/// What is called on a watch.
+static ON_WATCH: [WCall<u64>; 6] = [
+    WCall::Send(0, 8),
+    WCall::Update(1),
+    WCall::Subscribe(0),
+    WCall::CloneReceiver(1),
+    WCall::SendReplace(0, 9),
+    WCall::HasChanged(2),
+];
 
 /// Plays a watch.
 fn play_watch(rt: &impl Print, alloc: Global, met: &mut Met) -> io::Result<()> {
     println!(rt; "a watch")?;
-    let calls = [
-        WCall::Send(0, 8),
-        WCall::Update(1),
-        WCall::Subscribe(0),
-        WCall::CloneReceiver(1),
-        WCall::SendReplace(0, 9),
-        WCall::HasChanged(2),
-    ];
-    play_machine::<Watch<u64>>(rt, alloc, met, &calls)
+    play_machine::<Watch<u64>>(rt, alloc, met, &ON_WATCH)
 }
 
 /// Plays all of these.

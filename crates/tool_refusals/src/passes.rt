@@ -5,7 +5,7 @@ ghost use Rattle.rw_world.specs.Openings.{has_bad_capacity};
 ghost use Rattle.rw_desk.specs.GuardedBook.{IsOpenedFrom};
 
 use crate::met::{Met, TRIES};
-use crate::readings::counted;
+use crate::readings::{SPECS, counted};
 use rw_broadcast::BCall;
 use rw_desk::{DeskFault, Pass};
 use rw_journal::Book;
@@ -21,8 +21,13 @@ use support_desks::StampedCall;
 pub type BookReadings = (u64, (u32, u64));
 
 /// How many receipts a pass has, and its clock.
-pub fn held<V: Copy>(pass: &Pass<V>) -> (usize, u64) {
+fn held_in<V: Copy>(pass: &Pass<V>) -> (usize, u64) {
     (pass.kept().len(), pass.stamp())
+}
+
+/// The same of a pass over numbers.
+pub fn held(pass: &Pass<u64>) -> (usize, u64) {
+    held_in(pass)
 }
 
 /// Returns the pass of actor 0, without receipts. It allocates nothing.
@@ -69,10 +74,10 @@ fn record<V: Copy>(
     book: &mut Book<Chan<V>>,
     call: ChanCall<V>,
 ) -> Result<ChanReply<V>, DeskFault> {
-    let before = (held(pass), readings_of(book));
+    let before = (held_in(pass), readings_of(book));
     for _ in 0..TRIES {
         match pass.record(book, 0, call) {
-            Err(DeskFault::NoMemory) => met.refused((held(pass), readings_of(book)) == before),
+            Err(DeskFault::NoMemory) => met.refused((held_in(pass), readings_of(book)) == before),
             answer => return answer,
         }
     }
@@ -122,7 +127,7 @@ fn say_records<V: Copy + Debug>(
     }
     println!(rt; "  {:?}", record(met, pass, book, last))?;
     let (length, _) = readings_of(book);
-    println!(rt; "  {:?}, {length} entries", held(pass))
+    println!(rt; "  {:?}, {length} entries", held_in(pass))
 }
 
 /// Plays a pass on a book: the calls are as many that both have to grow, and the last one would wait.
@@ -144,14 +149,24 @@ fn play_pass<V: Copy + Debug>(
     said
 }
 
-/// Plays a pass on a book of each kind.
-pub fn play(rt: &impl Print, alloc: Global, met: &mut Met) -> io::Result<()> {
+/// Plays a pass on a book of each of these kinds.
+fn play_both<V: Copy + Debug>(
+    rt: &impl Print,
+    alloc: Global,
+    met: &mut Met,
+    [broadcast, watch]: &[Spec<V>; 2],
+) -> io::Result<()> {
     println!(rt; "a pass on a broadcast")?;
-    let made = ChanCall::B(BCall::<u64>::Subscribe(0));
+    let made = ChanCall::B(BCall::Subscribe(0));
     let waits = ChanCall::B(BCall::Recv(1));
-    play_pass(rt, alloc, met, &Spec::Broadcast(2), made, waits)?;
+    play_pass(rt, alloc, met, broadcast, made, waits)?;
     println!(rt; "a pass on a watch")?;
     let made = ChanCall::W(WCall::CloneReceiver(1));
     let waits = ChanCall::W(WCall::Changed(1));
-    play_pass(rt, alloc, met, &Spec::Watch(7u64), made, waits)
+    play_pass(rt, alloc, met, watch, made, waits)
+}
+
+/// Plays a pass on a book of each kind. What is played has the values as a parameter, so that one function alone names them.
+pub fn play(rt: &impl Print, alloc: Global, met: &mut Met) -> io::Result<()> {
+    play_both(rt, alloc, met, &SPECS)
 }

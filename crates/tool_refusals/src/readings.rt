@@ -1,14 +1,14 @@
 //! Machines as they are opened, and what is compared of one before and after a refusal.
 
 use rw_broadcast::Broadcast;
-use rw_law::{NoMemory, Reversible};
+use rw_law::{NoMemory, Payload, Reversible};
 use rw_watch::Watch;
 use rw_world::{Chan, Spec, World, open};
 use std::alloc::Global;
 use std::fmt::Debug;
 
 /// The specs of the worlds that are played.
-pub const SPECS: [Spec<u64>; 2] = [Spec::Broadcast(2), Spec::Watch(7)];
+pub static SPECS: [Spec<u64>; 2] = [Spec::Broadcast(2), Spec::Watch(7)];
 
 /// A machine that can be compared before and after a refusal.
 pub trait Shows: Reversible {
@@ -20,8 +20,8 @@ pub trait Shows: Reversible {
     fn readings(&self) -> Self::Readings;
 }
 
-/// What is compared of a channel: its handles, its sends or notified changes, its oldest retained value or its value, and how many values
-/// receiver 1 has yet to receive, or that it has yet to see one.
+/// What is compared of a channel: its handles, its sends or notified changes, the word of its oldest retained value or of its value, and
+/// how many values receiver 1 has yet to receive, or that it has yet to see one.
 #[derive(Clone, Copy, Debug, PartialEq)]
 pub struct ChannelReadings {
     made: u32,
@@ -78,25 +78,41 @@ impl Shows for World<u64> {
     }
 }
 
-fn of_broadcast(machine: &Broadcast<u64>) -> ChannelReadings {
+/// The word of a value, if there is one.
+fn word_in<V: Payload>(value: Option<V>) -> Option<u64> {
+    match value {
+        Some(value) => Some(value.word()),
+        None => None,
+    }
+}
+
+/// Whether a receiver has yet to see a value, as a number of values.
+fn unseen(is_seen: Option<bool>) -> Option<u64> {
+    match is_seen {
+        Some(is_seen) => Some(u64::from(!is_seen)),
+        None => None,
+    }
+}
+
+fn of_broadcast<V: Payload>(machine: &Broadcast<V>) -> ChannelReadings {
     ChannelReadings {
         made: machine.made(),
         count: machine.sent(),
-        value: machine.window(0),
+        value: word_in(machine.window(0)),
         unread: machine.unread(1),
     }
 }
 
-fn of_watch(machine: &Watch<u64>) -> ChannelReadings {
+fn of_watch<V: Payload>(machine: &Watch<V>) -> ChannelReadings {
     ChannelReadings {
         made: machine.made(),
         count: machine.version(),
-        value: Some(machine.value()),
-        unread: machine.is_seen(1).map(|seen| u64::from(!seen)),
+        value: word_in(Some(machine.value())),
+        unread: unseen(machine.is_seen(1)),
     }
 }
 
-fn of_channel(channel: Option<&Chan<u64>>) -> Option<ChannelReadings> {
+fn of_channel<V: Payload>(channel: Option<&Chan<V>>) -> Option<ChannelReadings> {
     match channel? {
         Chan::Broadcast(machine) => Some(of_broadcast(machine)),
         Chan::Watch(machine) => Some(of_watch(machine)),
@@ -104,7 +120,7 @@ fn of_channel(channel: Option<&Chan<u64>>) -> Option<ChannelReadings> {
 }
 
 /// Returns what is compared of a world. No bound is on a world here, so that a caller's proof has no instance to put together.
-pub fn of_world(world: &World<u64>) -> WorldReadings {
+pub fn of_world<V: Payload>(world: &World<V>) -> WorldReadings {
     [of_channel(world.channel(0)), of_channel(world.channel(1))]
 }
 

@@ -49,6 +49,13 @@ fn finish<V: Payload>(draft: RunDraft<V>) -> Run<V> {
     draft.finish()
 }
 
+/// How long a run is, which is dropped.
+pub fn length_of<V: Copy>(run: Run<V>) -> u64 {
+    let length = run.len();
+    drop(run);
+    length
+}
+
 /// The world before a run's first entry.
 fn start<V: Copy>(alloc: Global, met: &mut Met, run: &Run<V>) -> Result<World<V>, NoMemory> {
     let length = run.len();
@@ -61,16 +68,19 @@ fn start<V: Copy>(alloc: Global, met: &mut Met, run: &Run<V>) -> Result<World<V>
     Err(NoMemory)
 }
 
-/// Pushes twenty sends, and as many values stored at the same stamps.
-fn push_all(met: &mut Met, draft: &mut RunDraft<u64>) -> Result<(), PushFault> {
+/// Pushes twenty sends of their stamps, and as many values stored at the same stamps.
+fn push_all<V: Payload>(met: &mut Met, draft: &mut RunDraft<V>) -> Result<(), PushFault> {
     for stamp in 1..21 {
+        let Some(value) = V::from_word(stamp) else {
+            return Err(PushFault::Limit);
+        };
         let sent = RowCall {
             channel: 0,
-            call: ChanCall::B(BCall::Send(0, stamp)),
+            call: ChanCall::B(BCall::Send(0, value)),
         };
         let stored = RowCall {
             channel: 1,
-            call: ChanCall::W(WCall::Send(0, stamp)),
+            call: ChanCall::W(WCall::Send(0, value)),
         };
         push(met, draft, 0, stamp, sent, ChanReply::B(BReply::Sent(1)))?;
         push(met, draft, 1, stamp, stored, ChanReply::W(WReply::Stored))?;
@@ -79,8 +89,8 @@ fn push_all(met: &mut Met, draft: &mut RunDraft<u64>) -> Result<(), PushFault> {
 }
 
 /// A run of these.
-pub fn build(alloc: Global, met: &mut Met) -> Option<Run<u64>> {
-    let Ok(mut draft) = new_draft(alloc, met, &SPECS) else {
+pub fn build<V: Payload>(alloc: Global, met: &mut Met, specs: &[Spec<V>]) -> Option<Run<V>> {
+    let Ok(mut draft) = new_draft(alloc, met, specs) else {
         return None;
     };
     if push_all(met, &mut draft).is_err() {
@@ -91,25 +101,40 @@ pub fn build(alloc: Global, met: &mut Met) -> Option<Run<u64>> {
 }
 
 /// What a world shows, which is dropped.
-fn readings_in(world: World<u64>) -> WorldReadings {
+fn readings_in<V: Payload>(world: World<V>) -> WorldReadings {
     of_world(&world)
 }
 
 /// Prints what a run's channels show before its first entry.
-fn say_start(rt: &impl Print, alloc: Global, met: &mut Met, run: &Run<u64>) -> io::Result<()> {
+fn say_start<V: Payload>(
+    rt: &impl Print,
+    alloc: Global,
+    met: &mut Met,
+    run: &Run<V>,
+) -> io::Result<()> {
     match start(alloc, met, run) {
         Ok(world) => println!(rt; "  {:?}", readings_in(world)),
         Err(NoMemory) => println!(rt; "  isn't started"),
     }
 }
 
-/// Plays a run, and prints how long it is and how it starts.
-pub fn play(rt: &impl Print, alloc: Global, met: &mut Met) -> io::Result<()> {
-    let Some(run) = build(alloc, met) else {
+/// Plays a run of these specs, and prints how long it is and how it starts.
+fn play_run<V: Payload>(
+    rt: &impl Print,
+    alloc: Global,
+    met: &mut Met,
+    specs: &[Spec<V>],
+) -> io::Result<()> {
+    let Some(run) = build(alloc, met, specs) else {
         return println!(rt; "a run isn't built");
     };
     let said = println!(rt; "a run of {} entries", run.len());
     let started = say_start(rt, alloc, met, &run);
     drop(run);
     said.and(started)
+}
+
+/// Plays a run. What is played has the values as a parameter, so that one function alone names them.
+pub fn play(rt: &impl Print, alloc: Global, met: &mut Met) -> io::Result<()> {
+    play_run(rt, alloc, met, &SPECS)
 }

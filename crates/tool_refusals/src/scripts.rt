@@ -1,6 +1,7 @@
 //! Scripts: read whole and line by line, played on a book, and run.
 
 use crate::met::{Met, TRIES};
+use crate::runs::length_of;
 use rw_journal::Run;
 use rw_script::{
     MOST_STEPS, Played, RunFault, Script, ScriptFault, ScriptFaultKind, ScriptReader,
@@ -27,7 +28,7 @@ actors 2
 ";
 
 /// Its lines, without their LF.
-const LINES: [&[u8]; 14] = [
+static LINES: [&[u8]; 14] = [
     b"broadcast 2",
     b"watch 5",
     b"actors 2",
@@ -95,40 +96,52 @@ fn finished(reader: ScriptReader) -> Result<Script, ScriptFault> {
     reader.finish()
 }
 
-/// Plays a script on a book.
-fn played(alloc: Global, met: &mut Met, script: &Script) -> Result<Played, RunFault> {
-    let steps = script.steps().len();
-    for _ in 0..TRIES {
-        match play_script(alloc, script) {
-            Err(RunFault::NoMemory) => met.refused(script.steps().len() == steps),
-            answer => return answer,
-        }
-    }
-    Err(RunFault::NoMemory)
-}
-
-/// Runs a script in one thread.
-fn run_script(
-    alloc: Global,
-    met: &mut Met,
-    script: &Script,
-) -> Result<(Run<u64>, Option<u64>), RunFault> {
-    let steps = script.steps().len();
-    for _ in 0..TRIES {
-        match run_one(alloc, script) {
-            Err(RunFault::NoMemory) => met.refused(script.steps().len() == steps),
-            answer => return answer,
-        }
-    }
-    Err(RunFault::NoMemory)
-}
-
 /// How many entries a script that was played has, and which line would wait.
-fn said(played: Result<Played, RunFault>) -> Result<(u64, Option<u64>), RunFault> {
-    let played = played?;
-    let said = (played.book.len(), played.waits);
-    drop(played);
-    Ok(said)
+type Entries = (u64, Option<u64>);
+
+/// Plays a script on a book, whose run is dropped. The run is asked for its length, since a call of a world's book costs its proof
+/// much more.
+fn play_once(alloc: Global, script: &Script) -> Result<Entries, RunFault> {
+    let Played { specs, book, waits } = play_script(alloc, script)?;
+    Ok((length_of(Run::of_book(specs, book)), waits))
+}
+
+/// The same, with retries.
+fn played(alloc: Global, met: &mut Met, script: &Script) -> Result<Entries, RunFault> {
+    let steps = script.steps().len();
+    for _ in 0..TRIES {
+        match play_once(alloc, script) {
+            Err(RunFault::NoMemory) => met.refused(script.steps().len() == steps),
+            answer => return answer,
+        }
+    }
+    Err(RunFault::NoMemory)
+}
+
+/// Runs a script in one thread. The run is dropped.
+fn run_once(alloc: Global, script: &Script) -> Result<Entries, RunFault> {
+    let (run, waits) = run_one(alloc, script)?;
+    Ok((length_of(run), waits))
+}
+
+/// The same, with retries.
+fn run_script(alloc: Global, met: &mut Met, script: &Script) -> Result<Entries, RunFault> {
+    let steps = script.steps().len();
+    for _ in 0..TRIES {
+        match run_once(alloc, script) {
+            Err(RunFault::NoMemory) => met.refused(script.steps().len() == steps),
+            answer => return answer,
+        }
+    }
+    Err(RunFault::NoMemory)
+}
+
+/// Prints how many entries a script has, and which line would wait, or why it isn't played.
+fn say(rt: &impl Print, name: &str, entries: Result<Entries, RunFault>) -> io::Result<()> {
+    match entries {
+        Ok(entries) => println!(rt; "  {name}: {entries:?}"),
+        Err(fault) => println!(rt; "  {fault:?}"),
+    }
 }
 
 /// Plays a script on a book, and runs it.
@@ -138,16 +151,31 @@ fn play_runs(rt: &impl Print, alloc: Global, met: &mut Met, script: &Script) -> 
         script.specs().len(),
         script.steps().len()
     )?;
-    match said(played(alloc, met, script)) {
-        Ok(said) => println!(rt; "  played: {said:?}")?,
-        Err(fault) => println!(rt; "  {fault:?}")?,
-    }
-    match run_script(alloc, met, script) {
-        Ok((run, waits)) => {
-            let length = run.len();
-            drop(run);
-            println!(rt; "  run: {:?}", (length, waits))
-        }
+    say(rt, "played", played(alloc, met, script))?;
+    say(rt, "run", run_script(alloc, met, script))
+}
+
+/// How many steps a script has, which is dropped.
+fn steps_of(script: Script) -> usize {
+    let steps = script.steps().len();
+    drop(script);
+    steps
+}
+
+/// Plays a script that is read whole.
+fn play_whole(rt: &impl Print, alloc: Global, met: &mut Met) -> io::Result<()> {
+    let Some(script) = read_script(alloc, met, SCRIPT) else {
+        return println!(rt; "  isn't read");
+    };
+    let played = play_runs(rt, alloc, met, &script);
+    drop(script);
+    played
+}
+
+/// Reads the lines of the same script one by one.
+fn play_lines(rt: &impl Print, alloc: Global, met: &mut Met) -> io::Result<()> {
+    match finished(read_lines(alloc, met, &LINES)) {
+        Ok(script) => println!(rt; "  read by lines: {} steps", steps_of(script)),
         Err(fault) => println!(rt; "  {fault:?}"),
     }
 }
@@ -155,18 +183,6 @@ fn play_runs(rt: &impl Print, alloc: Global, met: &mut Met, script: &Script) -> 
 /// Plays a script that is read whole, and its lines one by one.
 pub fn play(rt: &impl Print, alloc: Global, met: &mut Met) -> io::Result<()> {
     println!(rt; "a script")?;
-    let Some(script) = read_script(alloc, met, SCRIPT) else {
-        return println!(rt; "  isn't read");
-    };
-    let played = play_runs(rt, alloc, met, &script);
-    drop(script);
-    played?;
-    match finished(read_lines(alloc, met, &LINES)) {
-        Ok(script) => {
-            let steps = script.steps().len();
-            drop(script);
-            println!(rt; "  read by lines: {steps} steps")
-        }
-        Err(fault) => println!(rt; "  {fault:?}"),
-    }
+    play_whole(rt, alloc, met)?;
+    play_lines(rt, alloc, met)
 }

@@ -4,6 +4,7 @@ ghost use Rattle.std.specs.Prelude.{All, IfOk, IfSome};
 
 use crate::met::{Met, TRIES};
 use crate::readings::SPECS;
+use crate::runs::length_of;
 use rw_broadcast::BCall;
 use rw_desk::{CloseFault, DeskFault, DeskOpenFault};
 use rw_law::Payload;
@@ -128,18 +129,14 @@ impl<V: Payload> Seated for SeatDesk<V> {
         ensures { IfErr result (λ e. All (IsSeatOf e.1) e.2.items) }
     {
         match SeatDesk::close(self, rt, alloc, seats) {
-            Ok(run) => {
-                let length = run.len();
-                drop(run);
-                Ok(length)
-            }
+            Ok(run) => Ok(length_of(run)),
             Err(back) => Err(back),
         }
     }
 }
 
 /// What is called by a seat, each time by the channel's number.
-const CALLS: [(u32, ChanCall<u64>); 6] = [
+static CALLS: [(u32, ChanCall<u64>); 6] = [
     (0, ChanCall::B(BCall::Send(0, 4))),
     (0, ChanCall::B(BCall::TryRecv(1))),
     (1, ChanCall::W(WCall::Send(0, 8))),

@@ -1,6 +1,7 @@
 //! Journal texts: read, written, written and read again, and salvaged.
 
 use crate::met::{Met, TRIES};
+use crate::runs::length_of;
 use rw_journal::Run;
 use rw_law::{NoMemory, Payload};
 use rw_text::{TextFault, WriteFault, read, round_trip, salvage, write};
@@ -108,38 +109,66 @@ fn play_run<V: Payload>(
         Err(fault) => println!(rt; "  {fault:?}")?,
     }
     match write_and_read(alloc, met, run) {
-        Ok(again) => {
-            let length = again.len();
-            drop(again);
-            println!(rt; "  read again: {length} entries")
-        }
+        Ok(again) => println!(rt; "  read again: {} entries", length_of(again)),
         Err(NoMemory) => println!(rt; "  isn't read again"),
     }
 }
 
+/// How many entries are salvaged of a text, of how many bytes.
+fn salvaged<V: Payload>(
+    alloc: Global,
+    met: &mut Met,
+    bytes: &[u8],
+) -> Result<(u64, u64), TextFault> {
+    let (run, count): (Run<V>, u64) = salvage_text(alloc, met, bytes)?;
+    Ok((length_of(run), count))
+}
+
 /// Plays what a text that was cut off still holds.
-fn play_cut(rt: &impl Print, alloc: Global, met: &mut Met, cut: &[u8]) -> io::Result<()> {
-    match salvage_text::<u64>(alloc, met, cut) {
-        Ok((run, bytes)) => {
-            let length = run.len();
+fn play_cut<V: Payload>(
+    rt: &impl Print,
+    alloc: Global,
+    met: &mut Met,
+    cut: &[u8],
+) -> io::Result<()> {
+    match salvaged::<V>(alloc, met, cut) {
+        Ok((length, bytes)) => println!(rt; "  salvaged: {length} entries of {bytes} bytes"),
+        Err(fault) => println!(rt; "  {fault:?}"),
+    }
+}
+
+/// Plays a text that is whole.
+fn play_whole<V: Payload>(
+    rt: &impl Print,
+    alloc: Global,
+    met: &mut Met,
+    bytes: &[u8],
+) -> io::Result<()> {
+    let read: Result<Run<V>, TextFault> = read_text(alloc, met, bytes);
+    match read {
+        Ok(run) => {
+            let played = play_run(rt, alloc, met, &run);
             drop(run);
-            println!(rt; "  salvaged: {length} entries of {bytes} bytes")
+            played
         }
         Err(fault) => println!(rt; "  {fault:?}"),
     }
 }
 
-/// Plays a journal text, whole and cut off.
+/// Plays a text of values of any type, whole and cut off.
+fn play_both<V: Payload>(
+    rt: &impl Print,
+    alloc: Global,
+    met: &mut Met,
+    bytes: &[u8],
+) -> io::Result<()> {
+    let (cut, _) = bytes.split_at(CUT.min(bytes.len()));
+    play_whole::<V>(rt, alloc, met, bytes)?;
+    play_cut::<V>(rt, alloc, met, cut)
+}
+
+/// Plays a journal text. What is played has the values as a parameter, so that one function alone names them.
 pub fn play(rt: &impl Print, alloc: Global, met: &mut Met) -> io::Result<()> {
     println!(rt; "a journal text")?;
-    match read_text::<u64>(alloc, met, JOURNAL) {
-        Ok(run) => {
-            let played = play_run(rt, alloc, met, &run);
-            drop(run);
-            played?;
-        }
-        Err(fault) => println!(rt; "  {fault:?}")?,
-    }
-    let (cut, _) = JOURNAL.split_at(CUT.min(JOURNAL.len()));
-    play_cut(rt, alloc, met, cut)
+    play_both::<u64>(rt, alloc, met, JOURNAL)
 }

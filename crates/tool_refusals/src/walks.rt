@@ -1,16 +1,17 @@
 //! Walks over a run: a navigator and a debugger of it, moves, and the index of a condition.
 
 use crate::met::{Met, TRIES};
+use crate::readings::SPECS;
 use crate::runs::build;
 use rw_journal::Run;
 use rw_law::{NoMemory, Payload, Reversible};
 use rw_navigator::{Cond, Debugger, HitIndex, Move, Navigator, OutOfRange, Probe};
-use rw_world::World;
+use rw_world::{Spec, World};
 use std::alloc::Global;
 use std::io;
 
 /// A list of moves, of which the second leaves the run.
-const MOVES: [Move; 4] = [Move::Forward(9), Move::Back(10), Move::End, Move::Back(1)];
+static MOVES: [Move; 4] = [Move::Forward(9), Move::Back(10), Move::End, Move::Back(1)];
 
 /// The hits next to a place, below it and above.
 type Around = (Option<u64>, Option<u64>);
@@ -282,13 +283,23 @@ fn play_run<V: Payload>(
     }
 }
 
-/// Plays walks over a run that is built for them.
-pub fn play(rt: &impl Print, alloc: Global, met: &mut Met) -> io::Result<()> {
-    println!(rt; "walks")?;
-    let Some(run) = build(alloc, met) else {
+/// Plays walks over a run of these specs that is built for them.
+fn play_built<V: Payload>(
+    rt: &impl Print,
+    alloc: Global,
+    met: &mut Met,
+    specs: &[Spec<V>],
+) -> io::Result<()> {
+    let Some(run) = build(alloc, met, specs) else {
         return println!(rt; "  no run");
     };
     let played = play_run(rt, alloc, met, &run);
     drop(run);
     played
+}
+
+/// Plays walks.
+pub fn play(rt: &impl Print, alloc: Global, met: &mut Met) -> io::Result<()> {
+    println!(rt; "walks")?;
+    play_built(rt, alloc, met, &SPECS)
 }

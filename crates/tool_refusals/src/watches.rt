@@ -1,6 +1,6 @@
 //! Calls on a watch of a desk by its handles. Each is made by another actor, whose pass has no room for a receipt yet.
 
-use crate::callers::{ask, ask_all, ask_drop};
+use crate::callers::{ask, ask_all, ask_drop, say};
 use crate::desks::{hands_in, last_hands, new_desk, say_closed};
 use crate::met::{Met, TRIES};
 use crate::passes::held;
@@ -13,7 +13,7 @@ use std::sync::Wait;
 use support_desks::{Hand, wait_until};
 
 /// What is called by sender 0. A value is modified by a closure, which returns nothing or `false`.
-const BY_SENDER: [ChanCall<u64>; 9] = [
+static BY_SENDER: [ChanCall<u64>; 9] = [
     ChanCall::W(WCall::Send(0, 8)),
     ChanCall::W(WCall::Borrow(0)),
     ChanCall::W(WCall::SendReplace(0, 9)),
@@ -34,7 +34,7 @@ const BY_SENDER: [ChanCall<u64>; 9] = [
 ];
 
 /// What is called then by receiver 1.
-const BY_RECEIVER: [ChanCall<u64>; 9] = [
+static BY_RECEIVER: [ChanCall<u64>; 9] = [
     ChanCall::W(WCall::HasChanged(1)),
     ChanCall::W(WCall::Changed(1)),
     ChanCall::W(WCall::HasChanged(1)),
@@ -68,6 +68,11 @@ fn wait_for<R: Wait>(
     Err(DeskFault::NoMemory)
 }
 
+/// Prints what is found by a wait for a value.
+fn say_value(rt: &impl Print, found: &Result<WReply<u64>, DeskFault>) -> io::Result<()> {
+    println!(rt; "  {found:?}")
+}
+
 /// Waits for a value that is there already, and prints what is found.
 fn say_wait<R: Wait + Print>(
     rt: &R,
@@ -77,7 +82,7 @@ fn say_wait<R: Wait + Print>(
     receiver: &Hand,
 ) -> io::Result<()> {
     match passes {
-        [pass] => println!(rt; "  {:?}", wait_for(rt, met, desk, pass, receiver, 11)),
+        [pass] => say_value(rt, &wait_for(rt, met, desk, pass, receiver, 11)),
         _ => println!(rt; "  not one pass is left"),
     }
 }
@@ -114,8 +119,7 @@ fn close_for_sender<R: Wait + Print>(
     let dropped = ask_drop(rt, met, desk, first, receiver);
     let awaited = ChanCall::W(WCall::AwaitClosed(0));
     let closed = ask(rt, met, desk, second, &sender, awaited);
-    println!(rt; "  {dropped:?}")?;
-    println!(rt; "  {closed:?}")
+    say(rt, &dropped).and(say(rt, &closed))
 }
 
 /// Drops the sender of a watch, and waits for a value that never comes then.
@@ -131,8 +135,7 @@ fn close_for_receiver<R: Wait + Print>(
     };
     let dropped = ask_drop(rt, met, desk, third, sender);
     let closed = wait_for(rt, met, desk, fourth, &receiver, 9);
-    println!(rt; "  {dropped:?}")?;
-    println!(rt; "  {closed:?}")
+    say(rt, &dropped).and(say_value(rt, &closed))
 }
 
 /// Plays a watch whose receiver is dropped, and one whose sender is, of one desk.

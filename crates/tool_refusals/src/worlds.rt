@@ -14,21 +14,81 @@ use std::alloc::Global;
 use std::fmt::Debug;
 use std::io;
 
-/// A call of a world's channel 0, the broadcast.
-fn broadcast(call: BCall<u64>) -> RowCall<ChanCall<u64>> {
+/// What is called on a world: on its channel 0, the broadcast, and on its channel 1, the watch.
+static CALLS: [RowCall<ChanCall<u64>>; 6] = [
     RowCall {
         channel: 0,
-        call: ChanCall::B(call),
-    }
-}
-
-/// A call of a world's channel 1, the watch.
-fn watch(call: WCall<u64>) -> RowCall<ChanCall<u64>> {
+        call: ChanCall::B(BCall::Subscribe(0)),
+    },
     RowCall {
         channel: 1,
-        call: ChanCall::W(call),
-    }
-}
+        call: ChanCall::W(WCall::Subscribe(0)),
+    },
+    RowCall {
+        channel: 0,
+        call: ChanCall::B(BCall::Send(0, 4)),
+    },
+    RowCall {
+        channel: 1,
+        call: ChanCall::W(WCall::Send(0, 5)),
+    },
+    RowCall {
+        channel: 0,
+        call: ChanCall::B(BCall::TryRecv(2)),
+    },
+    RowCall {
+        channel: 1,
+        call: ChanCall::W(WCall::Update(2)),
+    },
+];
+
+/// What is called on a book, call by call. The last call names no channel.
+static SINGLE: [RowCall<ChanCall<u64>>; 7] = [
+    RowCall {
+        channel: 0,
+        call: ChanCall::B(BCall::Send(0, 1)),
+    },
+    RowCall {
+        channel: 1,
+        call: ChanCall::W(WCall::Send(0, 8)),
+    },
+    RowCall {
+        channel: 0,
+        call: ChanCall::B(BCall::Recv(1)),
+    },
+    RowCall {
+        channel: 0,
+        call: ChanCall::B(BCall::Recv(1)),
+    },
+    RowCall {
+        channel: 1,
+        call: ChanCall::W(WCall::Subscribe(0)),
+    },
+    RowCall {
+        channel: 0,
+        call: ChanCall::B(BCall::Subscribe(0)),
+    },
+    RowCall {
+        channel: 2,
+        call: ChanCall::B(BCall::Send(0, 1)),
+    },
+];
+
+/// What is called on a book as a list, by the actors 0, 1 and 2.
+static LISTED: [RowCall<ChanCall<u64>>; 3] = [
+    RowCall {
+        channel: 0,
+        call: ChanCall::B(BCall::Send(0, 5)),
+    },
+    RowCall {
+        channel: 1,
+        call: ChanCall::W(WCall::Send(0, 5)),
+    },
+    RowCall {
+        channel: 0,
+        call: ChanCall::B(BCall::CloneSender(0)),
+    },
+];
 
 /// Plays a machine, and then a book of another one. Both are played here, so that one call names the world.
 fn play_both<M: Shows + Drop>(
@@ -51,30 +111,6 @@ where
 
 /// Plays all of these.
 pub fn play(rt: &impl Print, alloc: Global, met: &mut Met) -> io::Result<()> {
-    let calls = [
-        broadcast(BCall::Subscribe(0)),
-        watch(WCall::Subscribe(0)),
-        broadcast(BCall::Send(0, 4)),
-        watch(WCall::Send(0, 5)),
-        broadcast(BCall::TryRecv(2)),
-        watch(WCall::Update(2)),
-    ];
-    let single = [
-        broadcast(BCall::Send(0, 1)),
-        watch(WCall::Send(0, 8)),
-        broadcast(BCall::Recv(1)),
-        broadcast(BCall::Recv(1)),
-        watch(WCall::Subscribe(0)),
-        broadcast(BCall::Subscribe(0)),
-        RowCall {
-            channel: 2,
-            call: ChanCall::B(BCall::Send(0, 1)),
-        },
-    ];
-    let listed = [
-        (0, broadcast(BCall::Send(0, 5))),
-        (1, watch(WCall::Send(0, 5))),
-        (2, broadcast(BCall::CloneSender(0))),
-    ];
-    play_both::<World<u64>>(rt, alloc, met, &calls, &single, &listed)
+    let listed = [(0, LISTED[0]), (1, LISTED[1]), (2, LISTED[2])];
+    play_both::<World<u64>>(rt, alloc, met, &CALLS, &SINGLE, &listed)
 }
