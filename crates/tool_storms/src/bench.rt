@@ -2,14 +2,15 @@
 //!
 //! Start reading at `desks.rt`, which says what is timed. Then read `playing.rt`, which says how calls are made.
 
-ghost use Rattle.std.specs.Prelude.{◌≡◌};
+ghost use Rattle.std.specs.Prelude.{◌≡◌, false};
+ghost use Rattle.rw_world.specs.Openings.{has_bad_capacity};
 
 mod calls;
 mod desks;
 mod playing;
 mod resident;
 
-use crate::desks::{Calls, Seated};
+use crate::desks::{Calls, Seated, Shared};
 use anyhow::Result;
 use calls::pairs;
 use desks::{cost_of_book, cost_of_desk, time_apart, time_beside, time_closing};
@@ -54,90 +55,96 @@ fn per_call(all: Duration, calls: u64) -> f64 {
 }
 
 /// Prints what was done, and to standard error the time of a call.
-fn report(rt: &(impl Print + Eprint), name: &str, time: Duration, calls: u64) -> io::Result<()> {
+fn report(
+    rt: &(impl Print + Eprint),
+    name: &str,
+    time: Result<Duration>,
+    calls: u64,
+) -> Result<()> {
+    let time = time?;
     println!(rt; "{name}: {calls}")?;
-    eprintln!(rt; "{:>7.1}  {name}", per_call(time, calls))
+    eprintln!(rt; "{:>7.1}  {name}", per_call(time, calls))?;
+    Ok(())
 }
 
 /// Prints the same, with the bytes of memory that a call takes.
-fn report_cost(rt: &(impl Print + Eprint), name: &str, cost: Cost, calls: u64) -> io::Result<()> {
-    report(rt, name, cost.time, calls)?;
+fn report_cost(
+    rt: &(impl Print + Eprint),
+    name: &str,
+    cost: Result<Cost>,
+    calls: u64,
+) -> Result<()> {
+    let cost = cost?;
+    report(rt, name, Ok(cost.time), calls)?;
     eprintln!(rt;
         "         {} bytes of memory each",
         cost.bytes / calls.max(1)
-    )
-}
-
-/// Times one thread and two, on broadcasts.
-fn broadcasts<
-    D: Calls + Sync + Drop,
-    R: Clock + Files + AllocGlobal + Threads + Wait + Sync + Print + Eprint,
->(rt: &R, alloc: Global, calls: &[ChanCall<u64>], count: u64) -> Result<()>
-where
-    D::Actor: Send + Drop,
-{
-    let taken = cost_of_book(rt, alloc, BROADCAST, calls)?;
-    report_cost(rt, "broadcast pairs taken into a book", taken, count)?;
-    let made = cost_of_desk::<D>(rt, alloc, BROADCAST, calls)?;
-    report_cost(rt, "broadcast pairs on a desk", made, count)?;
-    let apart = time_apart::<D, R>(rt, alloc, calls)?;
-    report(
-        rt,
-        "broadcast pairs on a desk, two threads on two channels",
-        apart,
-        count.saturating_mul(2),
-    )?;
-    let beside = time_beside::<D, R>(rt, alloc, count / 2)?;
-    report(
-        rt,
-        "sends on a desk, received in another thread",
-        beside,
-        count / 2,
     )?;
     Ok(())
 }
 
-/// Times one seat and two, on broadcasts.
-fn by_seats<
-    D: Seated + Sync + Drop,
-    R: Clock + Files + AllocGlobal + Threads + Wait + Sync + Print + Eprint,
->(rt: &R, alloc: Global, calls: &[ChanCall<u64>], count: u64) -> Result<()>
-where
-    D::Actor: Send + Drop,
-{
-    let made = cost_of_desk::<D>(rt, alloc, BROADCAST, calls)?;
-    report_cost(rt, "broadcast pairs by a seat", made, count)?;
-    let apart = time_apart::<D, R>(rt, alloc, calls)?;
-    report(
-        rt,
-        "broadcast pairs by two seats, two threads on two channels",
-        apart,
-        count.saturating_mul(2),
-    )?;
-    Ok(())
-}
-
-/// Times one thread on a watch.
-fn watches<D: Calls + Drop, R: Clock + Files + AllocGlobal + Wait + Print + Eprint>(
+/// Measures the calls in a book of a channel with this spec.
+fn taken<R: Clock + Files + AllocGlobal + Print + Eprint>(
     rt: &R,
     alloc: Global,
+    name: &str,
+    spec: &Spec<u64>,
     calls: &[ChanCall<u64>],
-    count: u64,
+) -> Result<()>
+    requires { has_bad_capacity spec.now ≡ false }
+{
+    let cost = cost_of_book(rt, alloc, spec, calls);
+    report_cost(rt, name, cost, calls.len() as u64)
+}
+
+/// Measures the calls by one actor of a desk of one channel with this spec.
+fn made<D: Shared + Drop, R: Clock + Files + AllocGlobal + Wait + Print + Eprint>(
+    rt: &R,
+    alloc: Global,
+    name: &str,
+    spec: Spec<u64>,
+    calls: &[ChanCall<u64>],
 ) -> Result<()>
 where
     D::Actor: Drop,
 {
-    let taken = cost_of_book(rt, alloc, WATCH, calls)?;
-    report_cost(rt, "watch pairs taken into a book", taken, count)?;
-    let made = cost_of_desk::<D>(rt, alloc, WATCH, calls)?;
-    report_cost(rt, "watch pairs on a desk", made, count)?;
-    Ok(())
+    let cost = cost_of_desk::<D>(rt, alloc, spec, calls);
+    report_cost(rt, name, cost, calls.len() as u64)
 }
 
-/// Times the close of a desk of 8 channels, after an eighth of the calls on each.
-fn closing<D: Calls + Drop, R: Clock + Wait + Print + Eprint>(
+/// Measures the calls by two actors of a desk, in two threads, each on its own broadcast.
+fn made_apart<D: Shared + Sync + Drop, R: Clock + Threads + Wait + Sync + Print + Eprint>(
     rt: &R,
     alloc: Global,
+    name: &str,
+    calls: &[ChanCall<u64>],
+) -> Result<()>
+where
+    D::Actor: Send + Drop,
+{
+    let time = time_apart::<D, R>(rt, alloc, calls);
+    report(rt, name, time, (calls.len() as u64).saturating_mul(2))
+}
+
+/// Measures this many sends on a desk, which another thread receives.
+fn made_beside<D: Calls + Sync + Drop, R: Clock + Threads + Wait + Sync + Print + Eprint>(
+    rt: &R,
+    alloc: Global,
+    name: &str,
+    count: u64,
+) -> Result<()>
+where
+    D::Actor: Send + Drop,
+{
+    let time = time_beside::<D, R>(rt, alloc, count);
+    report(rt, name, time, count)
+}
+
+/// Measures the close of a desk of 8 channels, after an eighth of the calls on each.
+fn closed<D: Calls + Drop, R: Clock + Wait + Print + Eprint>(
+    rt: &R,
+    alloc: Global,
+    name: &str,
     calls: &[ChanCall<u64>],
 ) -> Result<()>
 where
@@ -145,30 +152,85 @@ where
 {
     let (few, _) = calls.split_at(calls.len() / 8);
     let (time, entries) = time_closing::<D>(rt, alloc, few)?;
-    report(rt, "entries of a closed desk of 8 channels", time, entries)?;
-    Ok(())
+    report(rt, name, Ok(time), entries)
 }
 
-/// Measures these calls, `count` of them on each kind of channel.
-fn measure_all<
+/// Measures these calls on broadcasts: in a book, by a desk's passes, and by its seats.
+fn on_broadcasts<
     P: Calls + Sync + Drop,
     S: Seated + Sync + Drop,
     R: Clock + Files + AllocGlobal + Threads + Wait + Sync + Print + Eprint,
->(
-    rt: &R,
-    alloc: Global,
-    on_broadcast: &[ChanCall<u64>],
-    on_watch: &[ChanCall<u64>],
-    count: u64,
-) -> Result<()>
+>(rt: &R, alloc: Global, calls: &[ChanCall<u64>]) -> Result<()>
 where
     P::Actor: Send + Drop,
     S::Actor: Send + Drop,
 {
-    broadcasts::<P, R>(rt, alloc, on_broadcast, count)?;
-    by_seats::<S, R>(rt, alloc, on_broadcast, count)?;
-    watches::<P, R>(rt, alloc, on_watch, count)?;
-    closing::<P, R>(rt, alloc, on_broadcast)
+    taken(
+        rt,
+        alloc,
+        "broadcast pairs taken into a book",
+        &BROADCAST,
+        calls,
+    )?;
+    made::<P, R>(rt, alloc, "broadcast pairs on a desk", BROADCAST, calls)?;
+    made_apart::<P, R>(
+        rt,
+        alloc,
+        "broadcast pairs on a desk, two threads on two channels",
+        calls,
+    )?;
+    made_beside::<P, R>(
+        rt,
+        alloc,
+        "sends on a desk, received in another thread",
+        calls.len() as u64 / 2,
+    )?;
+    made::<S, R>(rt, alloc, "broadcast pairs by a seat", BROADCAST, calls)?;
+    made_apart::<S, R>(
+        rt,
+        alloc,
+        "broadcast pairs by two seats, two threads on two channels",
+        calls,
+    )
+}
+
+/// Measures these calls on watches: in a book, and by a desk's pass.
+fn on_watches<D: Calls + Drop, R: Clock + Files + AllocGlobal + Wait + Print + Eprint>(
+    rt: &R,
+    alloc: Global,
+    calls: &[ChanCall<u64>],
+) -> Result<()>
+where
+    D::Actor: Drop,
+{
+    taken(rt, alloc, "watch pairs taken into a book", &WATCH, calls)?;
+    made::<D, R>(rt, alloc, "watch pairs on a desk", WATCH, calls)
+}
+
+/// Measures these calls on each kind of channel.
+fn measure_all<
+    P: Calls + Sync + Drop,
+    S: Seated + Sync + Drop,
+    R: Clock + Files + AllocGlobal + Threads + Wait + Sync + Print + Eprint,
+>(rt: &R, alloc: Global, on_broadcast: &[ChanCall<u64>], on_watch: &[ChanCall<u64>]) -> Result<()>
+where
+    P::Actor: Send + Drop,
+    S::Actor: Send + Drop,
+{
+    on_broadcasts::<P, S, R>(rt, alloc, on_broadcast)?;
+    on_watches::<P, R>(rt, alloc, on_watch)?;
+    closed::<P, R>(
+        rt,
+        alloc,
+        "entries of a closed desk of 8 channels",
+        on_broadcast,
+    )
+}
+
+/// Prints to standard error how large entries and receipts are.
+fn report_sizes(rt: &impl Eprint) -> io::Result<()> {
+    let (entry, receipt) = (entry_bytes(), receipt_bytes());
+    eprintln!(rt; "bytes of an entry: {entry}, of a receipt: {receipt}\nnanoseconds each:")
 }
 
 /// Measures `asked` calls of each workload, but at most `MOST_CALLS`.
@@ -181,16 +243,11 @@ where
     P::Actor: Send + Drop,
     S::Actor: Send + Drop,
 {
+    report_sizes(rt)?;
     let count = asked.min(MOST_CALLS);
-    eprintln!(rt;
-        "bytes of an entry: {}, of a receipt: {}",
-        entry_bytes(),
-        receipt_bytes()
-    )?;
-    eprintln!(rt; "nanoseconds each:")?;
     let on_broadcast = pairs(alloc, &BROADCAST, count)?;
     let on_watch = pairs(alloc, &WATCH, count)?;
-    let measured = measure_all::<P, S, R>(rt, alloc, &on_broadcast, &on_watch, count);
+    let measured = measure_all::<P, S, R>(rt, alloc, &on_broadcast, &on_watch);
     drop(on_broadcast);
     drop(on_watch);
     measured

@@ -28,9 +28,9 @@ use std::env::{self, Env};
 use std::rt::Files;
 use std::sync::atomic::{AtomicBool, Ordering};
 use std::sync::{Arc, Wait};
-use std::thread;
 use std::thread::Threads;
 use std::time::{Clock, Duration};
+use std::{io, thread};
 use storm::{PLAYERS, SEATS, WAITERS, play_seats, play_seed};
 
 /// How many seeds are played if no number is given.
@@ -80,6 +80,27 @@ where
     bail!("a wait does not end")
 }
 
+/// Prints that a seed was played on a desk with passes, and to standard error how many calls were recorded.
+fn report_passes(
+    rt: &(impl Print + Eprint),
+    seed: u64,
+    calls: u64,
+    recorded: u64,
+) -> io::Result<()> {
+    eprintln!(rt; "seed {seed}: {recorded} calls recorded")?;
+    println!(rt;
+        "seed {seed}: {calls} calls of {PLAYERS} threads, {WAITERS} others waited and were told, closed, each actor's receipts are its entries"
+    )
+}
+
+/// Prints that a seed was played on a desk with seats, and to standard error how many calls were recorded.
+fn report_seats(rt: &(impl Print + Eprint), seed: u64, recorded: u64) -> io::Result<()> {
+    eprintln!(rt; "seed {seed}: {recorded} calls of seats recorded")?;
+    println!(rt;
+        "seed {seed}: {SEATS} seats in two threads, which met by twos, closed, each seat's receipts are its entries, each front is its entry's place"
+    )
+}
+
 /// Makes `calls` calls for each of `seeds` seeds, on a desk with passes and on one with seats.
 fn storms<
     P: Calls + Sync + Drop + 'static,
@@ -92,57 +113,90 @@ where
 {
     for seed in 0..seeds {
         let recorded = play_in_time::<P, R>(*rt, alloc, seed, calls)?;
-        eprintln!(rt; "seed {seed}: {recorded} calls recorded")?;
-        println!(rt;
-            "seed {seed}: {calls} calls of {PLAYERS} threads, {WAITERS} others waited and were told, closed, each actor's receipts are its entries"
-        )?;
+        report_passes(rt, seed, calls, recorded)?;
         let recorded = play_seats::<S, R>(rt, alloc, seed, calls)?;
-        eprintln!(rt; "seed {seed}: {recorded} calls of seats recorded")?;
-        println!(rt;
-            "seed {seed}: {SEATS} seats in two threads, which met by twos, closed, each seat's receipts are its entries, each front is its entry's place"
-        )?;
+        report_seats(rt, seed, recorded)?;
     }
     Ok(())
 }
 
-/// Does what the command line asks for, on a desk with passes and on one with seats.
+/// The first word of the command line.
+#[derive(Clone, Copy)]
+enum Verb {
+    None,
+    Storm,
+    Bench,
+    Other,
+}
+
+/// The work that the command line asks for.
+#[derive(Clone, Copy)]
+struct Work {
+    /// How many seeds are played, and how many calls are made for each.
+    storms: Option<(u64, u64)>,
+    /// How many calls of each workload are measured.
+    bench: Option<u64>,
+}
+
+/// Returns the first word of the command line.
+fn first_word(rt: &(impl Env + Alloc)) -> Result<Verb> {
+    let Some(word) = env::args(rt)?.nth(1) else {
+        return Ok(Verb::None);
+    };
+    if word.as_str() == "storm" {
+        Ok(Verb::Storm)
+    } else if word.as_str() == "bench" {
+        Ok(Verb::Bench)
+    } else {
+        Ok(Verb::Other)
+    }
+}
+
+/// Returns the work that the command line asks for.
+fn work_asked(rt: &(impl Env + Alloc)) -> Result<Work> {
+    match first_word(rt)? {
+        Verb::None => Ok(Work {
+            storms: Some((DEFAULT_SEEDS, DEFAULT_CALLS)),
+            bench: Some(DEFAULT_COUNT),
+        }),
+        Verb::Storm => {
+            let seeds = asked(rt, 2, DEFAULT_SEEDS)?;
+            let calls = asked(rt, 3, DEFAULT_CALLS)?;
+            Ok(Work {
+                storms: Some((seeds, calls)),
+                bench: None,
+            })
+        }
+        Verb::Bench => Ok(Work {
+            storms: None,
+            bench: Some(asked(rt, 2, DEFAULT_COUNT)?),
+        }),
+        Verb::Other => bail!("the words are: storm SEEDS CALLS, or bench COUNT"),
+    }
+}
+
+/// Does this work, on a desk with passes and on one with seats.
 fn play<
     P: Calls + Sync + Drop + 'static,
     S: Seated + Sync + Drop,
-    R: Env
-        + Alloc
-        + Files
-        + AllocGlobal
-        + Threads
-        + Wait
-        + Clock
-        + Copy
-        + Send
-        + Sync
-        + Print
-        + Eprint
-        + 'static,
->(rt: &R, alloc: Global) -> Result<()>
+    R: Files + AllocGlobal + Threads + Wait + Clock + Copy + Send + Sync + Print + Eprint + 'static,
+>(rt: &R, alloc: Global, work: Work) -> Result<()>
 where
     P::Actor: Send + Drop,
     S::Actor: Send + Drop,
 {
-    let Some(verb) = env::args(rt)?.nth(1) else {
-        storms::<P, S, R>(rt, alloc, DEFAULT_SEEDS, DEFAULT_CALLS)?;
-        return measure::<P, S, R>(rt, alloc, DEFAULT_COUNT);
-    };
-    if verb.as_str() == "storm" {
-        let seeds = asked(rt, 2, DEFAULT_SEEDS)?;
-        storms::<P, S, R>(rt, alloc, seeds, asked(rt, 3, DEFAULT_CALLS)?)
-    } else if verb.as_str() == "bench" {
-        measure::<P, S, R>(rt, alloc, asked(rt, 2, DEFAULT_COUNT)?)
-    } else {
-        bail!("the words are: storm SEEDS CALLS, or bench COUNT")
+    if let Some((seeds, calls)) = work.storms {
+        storms::<P, S, R>(rt, alloc, seeds, calls)?;
     }
+    if let Some(count) = work.bench {
+        measure::<P, S, R>(rt, alloc, count)?;
+    }
+    Ok(())
 }
 
 // Here alone the two kinds of desks are named: each function that does it puts their instances together.
 fn main(rt: HostRuntime) -> Result<()> {
+    let work = work_asked(&rt)?;
     let alloc = rt.alloc();
-    play::<PassDesk, SeatDesk<u64>, HostRuntime>(&rt, alloc)
+    play::<PassDesk, SeatDesk<u64>, HostRuntime>(&rt, alloc, work)
 }

@@ -29,17 +29,31 @@ use std::sync::Wait;
 use std::thread::Threads;
 use waiting::were_told;
 
+/// Returns how many values each actor was notified of.
+fn told_of<P>(alloc: Global, played: &[(P, Option<u64>)]) -> Result<Vec<Option<u64>>, AllocError> {
+    let mut told = Vec::new(alloc);
+    for (_, values) in played {
+        told.push(*values)?;
+    }
+    Ok(told)
+}
+
+/// Returns the pass of each actor.
+fn passes_of<P: Drop>(alloc: Global, played: Vec<(P, Option<u64>)>) -> Result<Vec<P>, AllocError> {
+    let mut passes = Vec::new(alloc);
+    for (pass, _) in played {
+        passes.push(pass)?;
+    }
+    Ok(passes)
+}
+
 /// Splits what was played into the passes, and how many values each actor was notified of.
 fn parts_of<P: Drop>(
     alloc: Global,
-    all: Vec<(P, Option<u64>)>,
+    played: Vec<(P, Option<u64>)>,
 ) -> Result<(Vec<P>, Vec<Option<u64>>), AllocError> {
-    let mut passes = Vec::with_capacity(alloc, all.len())?;
-    let mut told = Vec::with_capacity(alloc, all.len())?;
-    for (pass, values) in all {
-        passes.push(pass)?;
-        told.push(values)?;
-    }
+    let told = told_of(alloc, &played)?;
+    let passes = passes_of(alloc, played)?;
     Ok((passes, told))
 }
 
@@ -55,6 +69,47 @@ fn judged(run: &Run<u64>, receipts: &[Receipts], told: &[Option<u64>]) -> Result
     Ok(run.len())
 }
 
+/// Makes this many calls by all actors of a desk, and returns the passes, with how many values each actor was notified of.
+fn play_all<D: Calls + Sync, R: Threads + Wait + Sync>(
+    rt: &R,
+    alloc: Global,
+    desk: &D,
+    mut passes: Vec<D::Actor>,
+    seed: u64,
+    calls: u64,
+) -> Result<(Vec<D::Actor>, Vec<Option<u64>>)>
+where
+    D::Actor: Send + Drop,
+{
+    let first = passes.first_mut().context("no pass")?;
+    if !prepare(rt, desk, first) {
+        bail!("handles were not made");
+    }
+    let each = calls / u64::from(PLAYERS);
+    let played = act_all(rt, alloc, desk, passes, seed, each)?;
+    Ok(parts_of(alloc, played)?)
+}
+
+/// Closes a desk, and returns how many calls were recorded.
+fn close_and_judge<D: Calls + Drop>(
+    alloc: Global,
+    desk: D,
+    passes: Vec<D::Actor>,
+    told: &[Option<u64>],
+) -> Result<u64>
+where
+    D::Actor: Drop,
+{
+    let receipts = receipts_of::<D>(alloc, &passes)?;
+    let Some(run) = desk.close(alloc, passes) else {
+        bail!("the desk does not close");
+    };
+    let recorded = judged(&run, &receipts, told);
+    drop(run);
+    drop(receipts);
+    recorded
+}
+
 /// Makes this many calls, chosen from a seed. Returns how many were recorded, with those of the actors that wait.
 pub fn play_seed<D: Calls + Sync + Drop, R: Threads + Wait + Sync>(
     rt: &R,
@@ -65,21 +120,9 @@ pub fn play_seed<D: Calls + Sync + Drop, R: Threads + Wait + Sync>(
 where
     D::Actor: Send + Drop,
 {
-    let (desk, mut passes) = D::open(alloc, &SPECS, PLAYERS + WAITERS)?;
-    let first = passes.first_mut().context("no pass")?;
-    if !prepare(rt, &desk, first) {
-        bail!("handles were not made");
-    }
-    let each = calls / u64::from(PLAYERS);
-    let played = act_all(rt, alloc, &desk, passes, seed, each)?;
-    let (passes, told) = parts_of(alloc, played)?;
-    let receipts = receipts_of::<D>(alloc, &passes)?;
-    let Some(run) = desk.close(alloc, passes) else {
-        bail!("the desk does not close");
-    };
-    let recorded = judged(&run, &receipts, &told);
-    drop(run);
-    drop(receipts);
+    let (desk, passes) = D::open(alloc, &SPECS, PLAYERS + WAITERS)?;
+    let (passes, told) = play_all(rt, alloc, &desk, passes, seed, calls)?;
+    let recorded = close_and_judge(alloc, desk, passes, &told);
     drop(told);
     recorded
 }

@@ -1,15 +1,15 @@
 //! What is timed: books, desks, and closing a desk.
 
-ghost use Rattle.std.specs.Prelude.{◌≡◌, false, IfOk};
+ghost use Rattle.std.specs.Prelude.{◌≡◌, ◌≤◌, ◌^◌, false, IfOk};
 ghost use Rattle.rw_world.specs.Openings.{has_bad_capacity};
 
 use super::playing::{make_apart, send_beside};
 use super::resident::{Cost, Start};
 use crate::desks::{Calls, Shared, last_actor};
 use anyhow::{Context, Result, bail};
-use rw_journal::Book;
-use rw_law::{NoMemory, Payload};
-use rw_world::{Chan, ChanCall, Spec, open_channel};
+use rw_journal::{Book, Run};
+use rw_law::{Payload, Reversible};
+use rw_world::{ChanCall, Spec, open_channel};
 use std::alloc::Global;
 use std::rt::Files;
 use std::sync::Wait;
@@ -47,24 +47,32 @@ where
     Ok((desk, first, second))
 }
 
-/// Opens a book of a channel.
-fn book_of<V: Payload>(alloc: Global, spec: &Spec<V>) -> Result<Book<Chan<V>>, NoMemory>
-    requires { has_bad_capacity spec.now ≡ false }
-{
-    let channel = open_channel(alloc, spec)?;
-    Book::open(alloc, channel)
-}
-
-/// Measures the cost of recording the calls in a book.
+/// Measures the cost of recording the calls in a book of a channel.
 pub fn cost_of_book<V: Payload>(
     rt: &(impl Clock + Files + AllocGlobal),
     alloc: Global,
-    spec: Spec<V>,
+    spec: &Spec<V>,
     calls: &[ChanCall<V>],
 ) -> Result<Cost>
-    requires { has_bad_capacity spec ≡ false }
+    requires { has_bad_capacity spec.now ≡ false }
 {
-    let Ok(mut book) = book_of(alloc, &spec) else {
+    let Ok(channel) = open_channel(alloc, spec) else {
+        bail!("no memory for a channel");
+    };
+    cost_on_machine(rt, alloc, channel, calls)
+}
+
+// Over any machine, since no channel has to be looked into for its calls here.
+/// Measures the cost of recording the calls in a book of this machine.
+fn cost_on_machine<M: Reversible + Drop>(
+    rt: &(impl Clock + Files + AllocGlobal),
+    alloc: Global,
+    machine: M,
+    calls: &[M::Call],
+) -> Result<Cost>
+    requires { M.weigh (M.shown machine) ≤ 2 ^ 32 }
+{
+    let Ok(mut book) = Book::open(alloc, machine) else {
         bail!("no memory for a book");
     };
     let cost = cost_of_taking(rt, &mut book, calls);
@@ -73,18 +81,26 @@ pub fn cost_of_book<V: Payload>(
 }
 
 /// Measures the cost of recording the calls in this book.
-fn cost_of_taking<V: Payload>(
+fn cost_of_taking<M: Reversible>(
     rt: &(impl Clock + Files + AllocGlobal),
-    book: &mut Book<Chan<V>>,
-    calls: &[ChanCall<V>],
+    book: &mut Book<M>,
+    calls: &[M::Call],
 ) -> Result<Cost> {
     let start = Start::now(rt)?;
-    for call in calls {
-        if book.take(0, 0, *call).is_err() {
-            bail!("a call was not taken");
-        }
+    if !are_taken(book, calls) {
+        bail!("a call was not taken");
     }
     start.cost(rt)
+}
+
+/// Records the calls in this book. Returns whether all were taken.
+fn are_taken<M: Reversible>(book: &mut Book<M>, calls: &[M::Call]) -> bool {
+    for call in calls {
+        if book.take(0, 0, *call).is_err() {
+            return false;
+        }
+    }
+    true
 }
 
 /// Measures the cost of making the calls in one thread, on a desk of one channel.
@@ -172,12 +188,30 @@ where
     if !make_each(rt, &desk, passes.as_mut_slice(), calls) {
         bail!("a call was not made");
     }
+    time_to_close(rt, alloc, desk, passes)
+}
+
+/// Measures how long this desk takes to close. Returns that, and how many entries it had.
+fn time_to_close<D: Calls + Drop>(
+    rt: &impl Clock,
+    alloc: Global,
+    desk: D,
+    passes: Vec<D::Actor>,
+) -> Result<(Duration, u64)>
+where
+    D::Actor: Drop,
+{
     let begin = Instant::now(rt)?;
-    let Some(run) = desk.close(alloc, passes) else {
-        bail!("the desk does not close");
-    };
+    let run = desk.close(alloc, passes);
     let time = begin.elapsed(rt);
+    let entries = entries_of(run).context("the desk does not close")?;
+    Ok((time?, entries))
+}
+
+/// Returns how many entries a run has, and drops it.
+fn entries_of(run: Option<Run<u64>>) -> Option<u64> {
+    let run = run?;
     let entries = run.len();
     drop(run);
-    Ok((time?, entries))
+    Some(entries)
 }

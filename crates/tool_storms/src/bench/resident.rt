@@ -38,12 +38,16 @@ impl Start {
     }
 }
 
+/// Returns the second number of the counts of pages that the system gives of a process: those in use.
+fn pages_in_use(counts: &str) -> Option<u64> {
+    counts.split(' ').nth(1)?.parse::<u64>().ok()
+}
+
 /// Returns how many bytes of the process's memory are in use. A page that was never touched isn't.
 fn resident_bytes(rt: &(impl Files + AllocGlobal)) -> Result<u64> {
     let counts = fs::read_to_string(rt, "/proc/self/statm")?;
-    let pages = counts
-        .split(' ')
-        .nth(1)
-        .context("the system gives no count of pages in use")?;
-    Ok(pages.parse::<u64>()?.saturating_mul(PAGE))
+    let pages = pages_in_use(&counts);
+    drop(counts);
+    let pages = pages.context("the system gives no count of pages in use")?;
+    Ok(pages.saturating_mul(PAGE))
 }

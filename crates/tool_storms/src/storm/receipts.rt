@@ -15,6 +15,13 @@ pub struct Receipts {
     kept: Vec<Kept<u64>>,
 }
 
+/// Copies the receipts of an actor.
+fn copied<D: Shared>(alloc: Global, actor: &D::Actor) -> Result<Receipts, AllocError> {
+    let (actor, kept) = D::known(actor);
+    let kept = kept.to_vec(alloc)?;
+    Ok(Receipts { actor, kept })
+}
+
 /// Copies the receipts of each actor.
 pub fn receipts_of<D: Shared>(
     alloc: Global,
@@ -22,9 +29,7 @@ pub fn receipts_of<D: Shared>(
 ) -> Result<Vec<Receipts>, AllocError> {
     let mut all = Vec::new(alloc);
     for actor in actors {
-        let (actor, kept) = D::known(actor);
-        let kept = kept.to_vec(alloc)?;
-        all.push(Receipts { actor, kept })?;
+        all.push(copied::<D>(alloc, actor)?)?;
     }
     Ok(all)
 }

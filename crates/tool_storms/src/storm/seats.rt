@@ -301,6 +301,28 @@ fn judged(run: &Run<u64>, receipts: &[Receipts], notes: &[Notes]) -> Result<u64>
     Ok(run.len())
 }
 
+/// Closes a desk, and returns how many calls were recorded.
+fn close_and_judge<D: Seated + Drop, R: Wait>(
+    rt: &R,
+    alloc: Global,
+    desk: D,
+    seats: Vec<D::Actor>,
+    notes: &[Notes],
+) -> Result<u64>
+where
+    D::Actor: Drop,
+    requires { All (D.owns desk) seats.items }
+{
+    let receipts = receipts_of::<D>(alloc, &seats)?;
+    let Some(run) = desk.close(rt, alloc, seats) else {
+        bail!("the desk with seats does not close");
+    };
+    let recorded = judged(&run, &receipts, notes);
+    drop(run);
+    drop(receipts);
+    recorded
+}
+
 /// Makes this many calls, chosen from a seed. Returns how many were recorded.
 pub fn play_seats<D: Seated + Sync + Drop, R: Threads + Wait + Sync>(
     rt: &R,
@@ -313,13 +335,7 @@ where
 {
     let (desk, seats) = D::open(alloc, &SPECS, SEATS)?;
     let (seats, notes) = play_all(rt, alloc, &desk, seats, seed, calls)?;
-    let receipts = receipts_of::<D>(alloc, &seats)?;
-    let Some(run) = desk.close(rt, alloc, seats) else {
-        bail!("the desk with seats does not close");
-    };
-    let recorded = judged(&run, &receipts, &notes);
-    drop(run);
-    drop(receipts);
+    let recorded = close_and_judge(rt, alloc, desk, seats, &notes);
     drop(notes);
     recorded
 }
