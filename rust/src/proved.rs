@@ -103,9 +103,14 @@ impl Answer {
             20 => Reply::JournalFull,
             21 => Reply::NoMemory,
             22 => Reply::NoSender,
-            kind => unreachable!("the core answered {kind}"),
+            kind => no_reply(kind),
         }
     }
+}
+
+#[cold]
+fn no_reply(kind: u32) -> ! {
+    unreachable!("the core answered {kind}")
 }
 
 /// A channel of the core with its journal.
@@ -183,6 +188,7 @@ impl CoreChannel {
     }
 
     /// Whether a receiver of a watch has seen its value.
+    #[inline]
     pub(crate) fn seen(&mut self, receiver: u32) -> bool {
         // SAFETY: a channel is held.
         let found = unsafe { yovanelum_seen(&mut self.0, receiver) };

@@ -77,9 +77,18 @@ impl<T> Queue<T> {
         self.entries.shrink_to(4 * self.entries.len().max(4));
     }
 
+    /// Whether no item is here. Then no gap is here either, since half of the entries at most are gaps.
+    #[inline]
+    pub(crate) fn is_empty(&self) -> bool {
+        self.entries.is_empty()
+    }
+
     /// Removes all items, and returns the entries, in order and with their gaps.
     #[inline]
     pub(crate) fn take(&mut self) -> Vec<(Place, Option<T>)> {
+        if self.is_empty() {
+            return Vec::new();
+        }
         self.gaps = 0;
         std::mem::take(&mut self.entries)
     }

@@ -20,6 +20,7 @@ unsafe impl<T: Send> Sync for Reentrant<T> {}
 struct Turn<'a>(&'a AtomicUsize);
 
 impl Drop for Turn<'_> {
+    #[inline]
     fn drop(&mut self) {
         self.0.store(0, Ordering::Relaxed);
     }
@@ -49,6 +50,7 @@ impl<T> Reentrant<T> {
 }
 
 /// Returns a number that no other live thread has, and that isn't 0.
+#[inline]
 pub(crate) fn thread_number() -> usize {
     thread_local! {
         static MARKER: u8 = const { 0 };

@@ -32,6 +32,12 @@ impl WakerQueue {
         self.0.remove(place.take()?)
     }
 
+    /// Whether no future is in the queue.
+    #[inline]
+    pub(crate) fn is_empty(&self) -> bool {
+        self.0.is_empty()
+    }
+
     /// Removes all futures, and returns their wakers.
     #[inline]
     pub(crate) fn take(&mut self) -> Wakers {

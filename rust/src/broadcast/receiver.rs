@@ -167,7 +167,7 @@ impl<T> Receiver<T> {
     }
 
     /// Returns the value that this receiver has received, not yet cloned.
-    #[inline]
+    #[inline(always)]
     fn take(&self, channel: &mut LockedChannel<'_>, number: u64) -> Value<T> {
         channel.guarded(&self.handle.channel.values).take(number)
     }
@@ -311,11 +311,10 @@ impl<T: Clone> Receiver<T> {
     pub fn try_recv(&mut self) -> Result<T, TryRecvError> {
         let mut channel = self.handle.lock(Word::TryRecv);
         let reply = channel.call(CoreChannel::broadcast_try_recv);
-        let received = reply
-            .received_at_once()
-            .map(|number| self.take(&mut channel, number));
+        let number = reply.received_at_once()?;
+        let value = self.take(&mut channel, number);
         drop(channel);
-        received.map(Value::cloned)
+        Ok(value.cloned())
     }
 
     /// Receives the next value, and blocks the current thread until there is one.

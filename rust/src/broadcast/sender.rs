@@ -95,7 +95,23 @@ impl<T> Sender<T> {
     /// ```
     #[track_caller]
     pub fn send(&self, value: T) -> Result<usize, SendError<T>> {
-        let text = self.handle.channel.text(&value);
+        match self.handle.channel.text(&value) {
+            None => self.send_with(value, None),
+            Some(text) => self.send_with_text(value, text),
+        }
+    }
+
+    /// Sends a value that has a text. It is apart, so that what is sent without one carries nothing of it.
+    #[cold]
+    #[track_caller]
+    fn send_with_text(&self, value: T, text: String) -> Result<usize, SendError<T>> {
+        self.send_with(value, Some(text))
+    }
+
+    /// Sends a value, given its text if it has one.
+    #[inline(always)]
+    #[track_caller]
+    fn send_with(&self, value: T, text: Option<String>) -> Result<usize, SendError<T>> {
         let mut channel = self.handle.lock(Word::Send);
         let (number, reply) = channel.send(text, CoreChannel::broadcast_send);
         let Some(receivers) = reply.sent() else {
@@ -103,9 +119,7 @@ impl<T> Sender<T> {
         };
         let values = channel.guarded(&self.handle.channel.values);
         let overwritten = values.push(number, value, receivers);
-        let wakers = channel.take_wakers(WaitFor::Value);
-        drop(channel);
-        wakers.wake();
+        channel.unlock_and_wake(WaitFor::Value);
         drop(overwritten);
         Ok(receivers as usize)
     }

@@ -67,7 +67,7 @@ impl<T> Values<T> {
     }
 
     /// Stores a value that was sent to this many receivers. Returns the value that it overwrites, to be dropped while no lock is held.
-    #[inline]
+    #[inline(always)]
     pub(super) fn push(&mut self, number: u64, value: T, receivers: u64) -> Option<Value<T>> {
         let value = match receivers {
             1 => Value::Own(value),
@@ -89,7 +89,7 @@ impl<T> Values<T> {
     }
 
     /// Returns the value with this number, for a receiver that has yet to receive it.
-    #[inline]
+    #[inline(always)]
     pub(super) fn take(&mut self, number: u64) -> Value<T> {
         let index = self.index_of(number);
         let value = self.slots[index].take();

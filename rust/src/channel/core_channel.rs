@@ -140,30 +140,31 @@ impl CoreChannel {
     }
 
     /// Makes a call of a sender in all machines, and folds their replies.
-    #[inline]
+    #[inline(always)]
     fn call_all(
         &mut self,
         sender: u32,
         call: impl Fn(&mut core::CoreChannel, u32) -> Reply,
         fold: fn(Reply, Reply) -> Reply,
     ) -> Reply {
-        if self.further.is_empty() {
-            return call(&mut self.first.core, sender);
+        match self.further.is_empty() {
+            true => call(&mut self.first.core, sender),
+            false => self.call_several(sender, call, fold),
         }
-        let (own, number) = parts_of(sender);
-        let reply = call(&mut self.machine(own).core, number);
-        self.call_others(own, reply, call, fold)
     }
 
-    /// Makes a call of a sender in all machines but its own, whose reply is given.
+    /// As [`call_all`](CoreChannel::call_all), where there are several machines. The sender's own is the first. It isn't inlined, so that
+    /// the call of a channel with one machine is.
     #[cold]
-    fn call_others(
+    #[inline(never)]
+    fn call_several(
         &mut self,
-        own: usize,
-        reply: Reply,
+        sender: u32,
         call: impl Fn(&mut core::CoreChannel, u32) -> Reply,
         fold: fn(Reply, Reply) -> Reply,
     ) -> Reply {
+        let (own, number) = parts_of(sender);
+        let reply = call(&mut self.machine(own).core, number);
         let first = iter::once(Some(&mut self.first));
         let all = first.chain(self.further.iter_mut().map(Option::as_mut));
         let others = all.enumerate().filter(|(number, _)| *number != own);

@@ -15,7 +15,8 @@ use std::sync::MutexGuard;
 
 /// A channel whose lock is held, for the calls of one actor by one handle.
 ///
-/// What each recorded call does is inlined into its caller. What only a replay does, or the end of a recording, is in functions of its own.
+/// What each recorded call does is inlined into its caller. What only a replay does, a value with a text, a future that waits, or the end of
+/// a recording is in functions of its own.
 pub(crate) struct LockedChannel<'a> {
     pub(crate) state: MutexGuard<'a, ChannelState>,
     channel: &'a RecordedChannel,
@@ -124,7 +125,7 @@ impl<'a> LockedChannel<'a> {
     }
 
     /// Makes a call that passes a new value to the core, by the value's number, and stores its text. Returns the number with the reply.
-    #[inline]
+    #[inline(always)]
     pub(crate) fn send(
         &mut self,
         text: Option<String>,
@@ -135,8 +136,8 @@ impl<'a> LockedChannel<'a> {
         let reply = self.call_core(text.as_deref(), move |core, caller| {
             call(core, caller, handle, number)
         });
-        if let Some(text) = text.filter(|_| self.state.is_recorded) {
-            self.state.texts.insert(number, text);
+        if let Some(text) = text {
+            self.state.keep_text(number, text);
         }
         (number, reply)
     }
@@ -252,6 +253,21 @@ impl<'a> LockedChannel<'a> {
     #[inline]
     pub(crate) fn guarded<'b, V>(&'b mut self, value: &'b GuardedBy<ChannelState, V>) -> &'b mut V {
         value.borrow_mut(&mut self.state)
+    }
+
+    /// Unlocks the channel, and then wakes the futures that wait for this.
+    #[inline(always)]
+    pub(crate) fn unlock_and_wake(mut self, wait_for: WaitFor) {
+        if !self.state.queue(wait_for).is_empty() {
+            self.unlock_and_wake_each(wait_for);
+        }
+    }
+
+    #[cold]
+    fn unlock_and_wake_each(mut self, wait_for: WaitFor) {
+        let wakers = self.take_wakers(wait_for);
+        drop(self);
+        wakers.wake();
     }
 
     /// Removes the futures that wait for this, and returns their wakers.

@@ -95,6 +95,14 @@ impl ChannelState {
         core.receivers() == 0 && core.senders() == 0 && core.weak_senders() == 0
     }
 
+    /// Stores the text of a value, if its channel is recorded.
+    #[cold]
+    pub(super) fn keep_text(&mut self, number: u64, text: String) {
+        if self.is_recorded {
+            self.texts.insert(number, text);
+        }
+    }
+
     /// Stores the text of the value that the channel was opened with, if no other was passed to the core yet.
     pub(crate) fn keep_first_text(&mut self, text: String) {
         if self.value_count == 1 && self.is_recorded {
