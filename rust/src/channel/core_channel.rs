@@ -147,9 +147,10 @@ impl CoreChannel {
         call: impl Fn(&mut core::CoreChannel, u32) -> Reply,
         fold: fn(Reply, Reply) -> Reply,
     ) -> Reply {
-        match self.further.is_empty() {
-            true => call(&mut self.first.core, sender),
-            false => self.call_several(sender, call, fold),
+        if self.further.is_empty() {
+            call(&mut self.first.core, sender)
+        } else {
+            self.call_several(sender, call, fold)
         }
     }
 
