@@ -1,7 +1,8 @@
 // Draws the place over the picture: its column, the row of its call, and beside each row's name what its receiver has to read or see there.
 
 import { line } from "./canvas.js";
-import { BAND } from "./layout.js";
+import { headY } from "./heads.js";
+import { BAND, HEAD } from "./layout.js";
 import { stretchOf } from "./loss_band.js";
 import { SMALL, SMALL_BOLD } from "./palette.js";
 import { drawPlainName, drawRowName } from "./row_names.js";
@@ -111,10 +112,20 @@ function drawChosen({ pen, view, frame, bands, palette }, loss) {
   pen.strokeRect(x - 0.75, row.lane + 1.25, end - x + 1.5, BAND + 1.5);
 }
 
-// `drawing` is as for the picture. The column isn't drawn if the place is out of view.
-export function drawCursor(drawing) {
+// Keeps what is drawn in the rows from the heads, which may cover some of them.
+/** @param {Drawing} drawing */
+function clipToRows({ pen, frame, bands, top }) {
+  pen.beginPath();
+  for (const band of bands) {
+    const y = headY(band, top) + HEAD;
+    pen.rect(0, y, frame.width, band.y + band.height - y);
+  }
+  pen.clip();
+}
+
+/** @param {Drawing & { loss: Loss | null }} drawing */
+function drawInRows(drawing) {
   const { run, view, loss } = drawing;
-  if (view.place >= view.from && view.place <= view.to) drawColumn(drawing);
   drawRow(drawing);
   for (const band of drawing.bands) if (band.channel !== null) drawSharedNames({ ...drawing, band });
   const state = run.state(view.place);
@@ -122,4 +133,14 @@ export function drawCursor(drawing) {
   if (loss === null) return;
   drawChosen(drawing, loss);
   drawCause(drawing, loss);
+}
+
+// `drawing` is as for the picture. The column isn't drawn if the place is out of view.
+export function drawCursor(drawing) {
+  const { pen, view } = drawing;
+  if (view.place >= view.from && view.place <= view.to) drawColumn(drawing);
+  pen.save();
+  clipToRows(drawing);
+  drawInRows(drawing);
+  pen.restore();
 }

@@ -151,6 +151,26 @@ def rows_in_sight(tab, folder, journals):
     assert all(-40 < y < height + 40 for _, _, y, _ in drawn(tab))
 
 
+# How many pixels of a canvas are drawn in the names' column, over the head that stays on top of the rows.
+OVER_HEAD = """((gutter, head) => {
+    const { data } = document.getElementById('cursor').getContext('2d').getImageData(0, 0, gutter, head);
+    return data.filter((byte, i) => i % 4 === 3 && byte > 0).length;
+})"""
+
+
+def heads_over_rows(tab, folder, journals):
+    """What is drawn about the place stays below the head that covers the rows as they are scrolled."""
+    opening.load(tab, opening.page_of(folder, "wide.journal", wide()), 2_500)
+    tab.key("End")
+    tab.run("ttd.ask('')")
+    covered = 0
+    for top in range(50_000, 50_030, 5):
+        tab.run(f"void (document.getElementById('pane').scrollTop = {top})")
+        covered += sum(0 < y < HEAD for _, _, y, _ in drawn(tab, "cursor"))
+        assert tab.run(f"{OVER_HEAD}({GUTTER}, {HEAD - 1})") == 0, top
+    assert covered > 0, "no row was behind the head"
+
+
 def order_of_rows(tab):
     """The names of the picture's rows and bands, with their heights."""
     return [[text, y] for text, x, y, _ in drawn(tab) if x < GUTTER and "·" in text and "receivers" not in text]
