@@ -1,13 +1,13 @@
 //! Comparing the receipts of all passes with a run, in one walk over its entries.
 
-ghost use Rattle.std.specs.Prelude.{◌≡◌, ◌↔◌, ◌+◌, ◌<◌, ◌≤◌, Some, ℕ, get_or, length, replicate, set, slice_get, IfNone, IfSome, IsTrue, MatchBool};
+ghost use Rattle.std.specs.Prelude.{◌≡◌, ◌↔◌, ◌+◌, ◌<◌, ◌≤◌, Some, ℕ, get_or, length, map, replicate, set, slice_get, IfNone, IfSome, IsTrue, MatchBool};
 ghost use Rattle.rw_law.specs.declared.limits.TheConstants.{MOST_ACTORS};
 ghost use Rattle.rw_desk.specs.Closing.{IsStray, receipts_of};
 ghost use Rattle.rw_desk.specs.Settling.{receipt_of};
 ghost use Rattle.rw_desk.specs.Straying.{AreAllTheirs, AreAt, StraysAt};
 
+use crate::has_pass::HasPass;
 use crate::kept::Kept;
-use crate::pass::Pass;
 use crate::settling::is_next;
 use rw_journal::Run;
 use rw_law::{Entry, MOST_ACTORS, Payload};
@@ -22,8 +22,8 @@ struct FirstStray {
 }
 
 /// Returns the receipts of an actor's first pass, or none if it has no pass.
-fn receipts_of<V: Copy>(passes: &[Pass<V>], actor: u32) -> &[Kept<V>]
-    ensures { result.now ≡ receipts_of actor passes.now }
+fn receipts_of<V: Copy, P: HasPass<V>>(passes: &[P], actor: u32) -> &[Kept<V>]
+    ensures { result.now ≡ receipts_of actor (map P.pass_of passes.now) }
 {
     for pass in passes {
         if pass.actor() == actor {
@@ -34,9 +34,13 @@ fn receipts_of<V: Copy>(passes: &[Pass<V>], actor: u32) -> &[Kept<V>]
 }
 
 /// Advances the number of the next receipt of the entry's actor, if that receipt is the entry's. Returns whether it is.
-fn follow<V: Payload>(passes: &[Pass<V>], numbers: &mut [usize], entry: &Entry<World<V>>) -> bool
+fn follow<V: Payload, P: HasPass<V>>(
+    passes: &[P],
+    numbers: &mut [usize],
+    entry: &Entry<World<V>>,
+) -> bool
     requires { entry.now.actor < length numbers.old }
-    ensures same { IsTrue result ↔ (slice_get (receipts_of entry.now.actor passes.now) (get_or numbers.old entry.now.actor 0) ≡ Some (receipt_of entry.now)) }
+    ensures same { IsTrue result ↔ (slice_get (receipts_of entry.now.actor (map P.pass_of passes.now)) (get_or numbers.old entry.now.actor 0) ≡ Some (receipt_of entry.now)) }
     ensures numbers { MatchBool result (numbers.new ≡ set numbers.old entry.now.actor (get_or numbers.old entry.now.actor 0 + 1)) (numbers.new ≡ numbers.old) }
 {
     let actor = entry.actor as usize;
@@ -49,16 +53,16 @@ fn follow<V: Payload>(passes: &[Pass<V>], numbers: &mut [usize], entry: &Entry<W
 }
 
 /// Follows the receipts of all actors. Once an actor strays, neither it nor any greater one is followed further.
-fn follow_all<V: Payload>(
-    passes: &[Pass<V>],
+fn follow_all<V: Payload, P: HasPass<V>>(
+    passes: &[P],
     entries: &[Entry<World<V>>],
     numbers: &mut [usize],
 ) -> FirstStray
     requires numbers { numbers.old ≡ replicate MOST_ACTORS 0 }
     ensures numbers { length numbers.new ≡ MOST_ACTORS }
     ensures few { result.actor ≤ MOST_ACTORS }
-    ensures at { AreAt passes.now entries.now numbers.new result.actor }
-    ensures strays { StraysAt passes.now entries.now result }
+    ensures at { AreAt (map P.pass_of passes.now) entries.now numbers.new result.actor }
+    ensures strays { StraysAt (map P.pass_of passes.now) entries.now result }
 {
     let mut nearest = FirstStray {
         actor: MOST_ACTORS,
@@ -76,11 +80,11 @@ fn follow_all<V: Payload>(
 }
 
 /// Returns the least actor below a bound that has a receipt of its number, and so receipts left.
-fn first_left<V: Copy>(passes: &[Pass<V>], numbers: &[usize], bound: u32) -> Option<u32>
+fn first_left<V: Copy, P: HasPass<V>>(passes: &[P], numbers: &[usize], bound: u32) -> Option<u32>
     requires { bound ≤ length numbers.now }
-    ensures none { IfNone result ((a : ℕ) → a < bound → length (receipts_of a passes.now) ≤ get_or numbers.now a 0) }
-    ensures some { IfSome result (λ a. (a < bound) × (get_or numbers.now a 0 < length (receipts_of a passes.now))) }
-    ensures least { IfSome result (λ a. (b : ℕ) → b < a → length (receipts_of b passes.now) ≤ get_or numbers.now b 0) }
+    ensures none { IfNone result ((a : ℕ) → a < bound → length (receipts_of a (map P.pass_of passes.now)) ≤ get_or numbers.now a 0) }
+    ensures some { IfSome result (λ a. (a < bound) × (get_or numbers.now a 0 < length (receipts_of a (map P.pass_of passes.now)))) }
+    ensures least { IfSome result (λ a. (b : ℕ) → b < a → length (receipts_of b (map P.pass_of passes.now)) ≤ get_or numbers.now b 0) }
 {
     for actor in 0..bound {
         if numbers[actor as usize] < receipts_of(passes, actor).len() {
@@ -91,12 +95,12 @@ fn first_left<V: Copy>(passes: &[Pass<V>], numbers: &[usize], bound: u32) -> Opt
 }
 
 /// Returns the least actor whose receipts aren't its entries, and the number of the first at which they differ.
-pub(crate) fn strayed<V: Payload>(
+pub(crate) fn strayed<V: Payload, P: HasPass<V>>(
     entries: &[Entry<World<V>>],
-    passes: &[Pass<V>],
+    passes: &[P],
 ) -> Option<(u32, u64)>
-    ensures none { IfNone result (AreAllTheirs passes.now entries.now) }
-    ensures some { IfSome result (λ r. IsStray passes.now entries.now r.0 r.1) }
+    ensures none { IfNone result (AreAllTheirs (map P.pass_of passes.now) entries.now) }
+    ensures some { IfSome result (λ r. IsStray (map P.pass_of passes.now) entries.now r.0 r.1) }
 {
     let mut numbers = [0usize; MOST_ACTORS as usize];
     let nearest = follow_all(passes, entries, &mut numbers);

@@ -10,6 +10,8 @@ use atomic_table::{Seat, Shared};
 use rw_journal::Keeps;
 use std::hint::spin_loop;
 use std::sync::Wait;
+use std::sync::atomic::AtomicU64;
+use std::sync::atomic::Ordering::SeqCst;
 
 /// The word while the book is free: the slot has it.
 pub(crate) const FREE: u64 = 0;
@@ -34,6 +36,7 @@ pub(crate) type SharedTable<B> = Shared<
 /// Acquires the book, and blocks until it is free.
 pub(crate) fn acquire<B: Keeps, R: Wait>(
     table: &SharedTable<B>,
+    sleepers: &AtomicU64,
     rt: &R,
     seat: &mut TableSeat<B>,
 ) -> B
@@ -50,13 +53,13 @@ pub(crate) fn acquire<B: Keeps, R: Wait>(
         if table.compare_exchange::<Acquire<B>>(seat, 0, FREE, ACQUIRED) == FREE {
             return table.exchange(seat, 0, None).unwrap();
         }
-        wait_until_free(table, rt);
+        wait_until_free(table, sleepers, rt);
     }
     unreachable!()
 }
 
 /// Spins up to `LOOKS` times. If the book isn't free by then, it parks until a release. It may also wake without one.
-fn wait_until_free<B: Keeps, R: Wait>(table: &SharedTable<B>, rt: &R)
+fn wait_until_free<B: Keeps, R: Wait>(table: &SharedTable<B>, sleepers: &AtomicU64, rt: &R)
     requires { table.now.table_id.words ≡ 1 }
 {
     for _ in 0..LOOKS {
@@ -65,11 +68,22 @@ fn wait_until_free<B: Keeps, R: Wait>(table: &SharedTable<B>, rt: &R)
         }
         spin_loop();
     }
+    sleepers.fetch_add(1, SeqCst);
     table.park(rt, 0, ACQUIRED as u32);
+    sleepers.fetch_sub(1, SeqCst);
 }
 
-/// Releases the book, and wakes one parked thread.
-pub(crate) fn release<B: Keeps + Drop>(table: &SharedTable<B>, seat: &mut TableSeat<B>, book: B)
+/// Releases the book, and wakes one thread if any is parked or about to park.
+///
+/// No wake is missed. A thread counts itself among the sleepers first, and then parks only if the word isn't `FREE`. All of these
+/// steps, on the word and on the count, have one order. If the count is 0 here, the thread counts itself later, and so after the
+/// word became `FREE`: it doesn't park, unless another seat has acquired the book since. The release by that seat then finds it.
+pub(crate) fn release<B: Keeps + Drop>(
+    table: &SharedTable<B>,
+    sleepers: &AtomicU64,
+    seat: &mut TableSeat<B>,
+    book: B,
+)
     requires one { (table.now.table_id.words ≡ 1) × (table.now.table_id.slots ≡ 1) }
     requires of_table { seat.old.table_id ≡ table.now.table_id }
     requires held { (seat.old.me.0.held ≡ true) × (seat.old.me.1 ≡ (0, None) ∷ []) }
@@ -80,5 +94,7 @@ pub(crate) fn release<B: Keeps + Drop>(table: &SharedTable<B>, seat: &mut TableS
 {
     drop(table.exchange(seat, 0, Some(book)));
     table.store::<Release<B>>(seat, 0, FREE);
-    table.wake_one(0);
+    if sleepers.load(SeqCst) > 0 {
+        table.wake_one(0);
+    }
 }

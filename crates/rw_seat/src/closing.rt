@@ -58,7 +58,11 @@ impl<B: Keeps + Drop> HandOff<B> {
             self.table.shared.join_seat::<Meet>(&mut all, seat);
         }
         seats.destroy_empty();
-        let HandOff { table, seats: _ } = self;
+        let HandOff {
+            table,
+            seats: _,
+            sleepers: _,
+        } = self;
         let mut closed = table.close_with(all);
         let book = closed.take(0).unwrap();
         closed.free();

@@ -7,7 +7,7 @@ ghost use Rattle.rw_desk.specs.Passes.{IsPass, fresh_pass};
 ghost use Rattle.rw_seat.specs.DeskSeats.{IsDeskSeat, with_hand_seat};
 
 use crate::hand_off::HandSeat;
-use rw_desk::{Kept, Pass};
+use rw_desk::{HasPass, Kept, Pass};
 use rw_journal::Book;
 use rw_law::{NoMemory, Payload};
 use rw_world::Chan;
@@ -119,5 +119,17 @@ impl<V: Payload> DeskSeat<V> {
     {
         hand_seats.insert(at, hand_seat).unwrap();
         DeskSeat { pass, hand_seats }
+    }
+}
+
+impl<V: Payload> HasPass<V> for DeskSeat<V> {
+    ghost pass_of = { λ seat. seat.pass };
+
+    fn actor(&self) -> u32 {
+        DeskSeat::actor(self)
+    }
+
+    fn kept(&self) -> &[Kept<V>] {
+        DeskSeat::kept(self)
     }
 }

@@ -16,12 +16,15 @@ use std::alloc::Global;
 use std::marker::Model;
 use std::snapshot::Snapshot;
 use std::sync::Wait;
+use std::sync::atomic::AtomicU64;
 
 /// A book that seats acquire in turn, and the number of seats.
 #[derive(Drop)]
 pub struct HandOff<B: Keeps + Drop> {
     pub(crate) table: Table<Option<B>, View<B::Entry, B::Start>, Opening<B>, OneBook<B>, Global>,
     pub(crate) seats: u32,
+    // How many threads are parked until the book is free, or are about to park.
+    pub(crate) sleepers: AtomicU64,
 }
 
 impl<B: Keeps + Drop> Model for HandOff<B> {
@@ -85,7 +88,11 @@ impl<B: Keeps + Drop> HandOff<B> {
         slots.push_reserved(Some(book));
         match Table::new(alloc, &[FREE], slots, &key) {
             Ok((table, seat)) => {
-                let all = HandOff { table, seats };
+                let all = HandOff {
+                    table,
+                    seats,
+                    sleepers: AtomicU64::new(0),
+                };
                 all.deal(seat, &mut hand_seats);
                 Ok((all, hand_seats))
             }
@@ -124,7 +131,7 @@ impl<B: Keeps + Drop> HandOff<B> {
         ensures book { IsQuiet B.author (seat.number ∷ []) seat.front (B.journal result.book) }
     {
         let HandSeat { number, mut seat } = seat;
-        let book = acquire(&self.table.shared, rt, &mut seat);
+        let book = acquire(&self.table.shared, &self.sleepers, rt, &mut seat);
         Lent {
             from: self,
             number,
@@ -159,8 +166,8 @@ impl<B: Keeps + Drop> HandOff<B> {
         } = two;
         let table = &self.table.shared;
         table.join_seat::<Meet>(&mut seat, other);
-        let book = acquire(table, rt, &mut seat);
-        release(table, &mut seat, book);
+        let book = acquire(table, &self.sleepers, rt, &mut seat);
+        release(table, &self.sleepers, &mut seat, book);
         let other = table.split_seat::<Deal>(&mut seat);
         let one = HandSeat {
             number: first,

@@ -35,7 +35,7 @@ impl<'a, B: Keeps + Drop> Lent<'a, B> {
             mut seat,
             book,
         } = self;
-        release(&from.table.shared, &mut seat, book);
+        release(&from.table.shared, &from.sleepers, &mut seat, book);
         HandSeat { number, seat }
     }
 }

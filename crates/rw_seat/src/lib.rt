@@ -15,7 +15,6 @@ mod hand_off;
 mod lent;
 mod lent_book;
 mod opening;
-mod receipts;
 mod rule;
 mod seat_desk;
 mod view;

@@ -1,11 +1,11 @@
-use Rattle.std.proofs.Common.{◌≡◌, ◌≤◌, ℕ, get_or, length, ap, inl, inr, subst, arith}
+use Rattle.std.proofs.Common.{◌≡◌, ◌≤◌, ℕ, get_or, length, map, ap, inl, inr, subst, arith}
 use Rattle.std.proofs.lemmas.Bool.{cases_lt}
 use Rattle.rw_desk.specs.Closing.{receipts_of}
 use Rattle.rw_desk.proofs.straying.first_left.Goals as goal
 
 pub loop-actor-preserved : goal.loop-actor-preserved
 loop-actor-preserved g c a below =
-    let IsNone : ℕ → Type 0 = λ b. length (receipts_of b c.args.passes.now) ≤ get_or c.args.numbers.now b 0 in
+    let IsNone : ℕ → Type 0 = λ b. length (receipts_of b (map g.P.HasPass.pass_of c.args.passes.now)) ≤ get_or c.args.numbers.now b 0 in
     elim (cases_lt a c.loop-actor.actor) [
       | inl lt ↦ c.loop-actor.invariant a lt
       | inr le ↦ let last : c.loop-actor.actor ≡ a = omega arith in subst IsNone last (omega (arith, c.if-numbers-actor.false, ap length c.receipts_of.ensures))

@@ -1,4 +1,4 @@
-use Rattle.std.proofs.Common.{◌≡◌, ◌≢◌, ◌<◌, ℕ, false, true, Some, get_or, length, [], ◌+◌, ◌∙◌, refl, sym, subst, arith}
+use Rattle.std.proofs.Common.{◌≡◌, ◌≢◌, ◌<◌, ℕ, false, true, Some, get_or, length, map, [], ◌+◌, ◌∙◌, refl, sym, subst, arith}
 use Rattle.std.specs.Prelude.{slice_get}
 use Rattle.std.proofs.lemmas.List.{take_all, length-set, length-replicate, get_or-replicate}
 use Rattle.rw_desk.specs.Closing.{receipts_of}
@@ -10,7 +10,7 @@ use Rattle.rw_desk.proofs.straying.follow_all.Goals.{then-entry-nearest+then-not
 
 pub loop-entry-init : goal.loop-entry-init
 loop-entry-init g c =
-    let IsStart : ℕ → ℕ → Type 0 = λ a number. IsAt {V = g.row.V.Denot} c.args.passes.now [] a number in
+    let IsStart : ℕ → ℕ → Type 0 = λ a number. IsAt {V = g.row.V.Denot} (map g.P.HasPass.pass_of c.args.passes.now) [] a number in
     rw c.requires.numbers (
       length-replicate {A = ℕ} 64 0,
       omega arith,
@@ -21,7 +21,7 @@ loop-entry-init g c =
 pub loop-entry-preserved : goal.loop-entry-preserved
 loop-entry-preserved g c =
     let es = c.args.entries.now in
-    let ps = c.args.passes.now in
+    let ps = map g.P.HasPass.pass_of c.args.passes.now in
     let e = c.entry-item.result in
     let i = c.loop-entry.entry-index in
     let numbers = c.loop-entry.numbers in
@@ -51,4 +51,4 @@ loop-entry-preserved g c =
 
 pub returns-clause-at : goal.returns-clause-at
 returns-clause-at g c =
-    subst (λ es. AreAt c.args.passes.now es c.loop-entry.numbers c.loop-entry.nearest.actor) (take_all c.loop-entry.entry-index c.args.entries.now (omega arith)) c.loop-entry.invariant.2
+    subst (λ es. AreAt (map g.P.HasPass.pass_of c.args.passes.now) es c.loop-entry.numbers c.loop-entry.nearest.actor) (take_all c.loop-entry.entry-index c.args.entries.now (omega arith)) c.loop-entry.invariant.2
