@@ -1,6 +1,6 @@
 -- The closings of a run: its entries, and what is documented at its places.
 use Rattle.std.proofs.Common.{◌≡◌, ℕ, ◌+◌, ◌<◌, ◌≤◌, true, cond, List, [], length, get_or, refl, ap, sym, ◌∙◌, subst, arith}
-use Rattle.std.specs.Prelude.{Option, Some, None, slice_get, unwrap_or, nat_le}
+use Rattle.std.specs.Prelude.{IfOk, Option, Some, None, Result, Ok, Err, slice_get, unwrap_or, nat_le}
 use Rattle.std.proofs.lemmas.Bool.Decides.{nat_tests}
 use Rattle.rw_navigator.specs.Moves.{landing}
 use Rattle.rw_navigator.specs.declared.moves.Move.TheVariants.{Goto}
@@ -19,6 +19,11 @@ use Rattle.rw_findings.specs.LateReaders.{ClosedChannel, with_entry, with_closin
 use Rattle.rw_findings.proofs.LossRuns.{at_place, allowed_at}
 use Rattle.rw_findings.proofs.TotalsOfRuns.{same_channels}
 use Rattle.rw_findings.proofs.ClosingRuns.{AreKept, kept_on, all_closings}
+
+-- what follows of a value from two facts on it
+pub from_both : {X Y : Type 0} (r : Result X Y) (P Q R : X → Type 0) → ((x : X) → P x → Q x → R x) → IfOk r P → IfOk r Q → IfOk r R
+from_both (Ok x) P Q R follows one other = follows x one other
+from_both (Err y) P Q R follows one other = tt
 
 -- going to a place that is there leads to it
 pub goes : (last from to : ℕ) → to ≤ last → landing last from (Goto to) ≡ to

@@ -15,7 +15,9 @@ use Rattle.rw_world.specs.declared.channels.ChanReply.{ChanReply}
 use Rattle.rw_world.specs.declared.channels.ChanReply.TheVariants as reply_of
 use Rattle.rw_world.specs.declared.opening.Spec.{Spec}
 use Rattle.rw_world.specs.declared.opening.Spec.TheVariants.{Broadcast}
-use Rattle.rw_findings.specs.LossTracks.{Track, with_call, with_call_on}
+use Rattle.rw_world.proofs.Modifying.{length-modified}
+use Rattle.rw_world.specs.Specified.{WorldEntry}
+use Rattle.rw_findings.specs.LossTracks.{Track, with_call, with_call_on, with_entry}
 
 pub set_at : {X : Type 0} (f : X → X) (xs : List X) (i : ℕ) (d y : X) → i < length xs → y ≡ f (get_or xs i d) → set xs i y ≡ map_at f xs i
 set_at f [] i d y within is = refl
@@ -41,6 +43,14 @@ module _ {V : Type 0} where
   not_taken ts c call reply b r place call_is reply_is past =
       past_at (option_map (λ t. with_call t b r place)) ts c past
       ∙ ap (λ k. with_call_on ts c k (reply_of.B r) place) (sym call_is) ∙ ap (λ k. with_call_on ts c call k place) (sym reply_is)
+
+  -- there are as many tracks after an entry
+  pub length_taken : (ts : List (Option Track)) (e : WorldEntry V) (place : ℕ) → length (with_entry ts e place) ≡ length ts
+  length_taken ts e place = on e.call.channel e.call.call e.reply where
+    on : (c : ℕ) (call : ChanCall V) (reply : ChanReply V) → length (with_call_on ts c call reply place) ≡ length ts
+    on c (call_of.B call) (reply_of.B reply) = length-modified (option_map (λ t. with_call t call reply place)) ts c
+    on c (call_of.B call) _ = refl
+    on c (call_of.W call) _ = refl
 
   -- a capacity that isn't bad is one that a broadcast can have
   pub good_capacity : (spec : Spec V) (capacity : ℕ) → spec ≡ Broadcast capacity → has_bad_capacity spec ≡ false → (0 < capacity) × (capacity ≤ MOST_CAPACITY)

@@ -1,6 +1,6 @@
 //! The pass over a run that finds its closings.
 
-ghost use Rattle.std.specs.Prelude.{◌≡◌, ◌≤◌, ◌<◌, IfOk, OnOk, Option, length};
+ghost use Rattle.std.specs.Prelude.{◌≡◌, ◌≤◌, ◌<◌, [], IfOk, OnOk, Option, length};
 ghost use Rattle.rw_handles.specs.declared.table.TheConstants.{MOST_HANDLES};
 ghost use Rattle.rw_world.specs.declared.opening.TheConstants.{MOST_CHANNELS};
 ghost use Rattle.rw_findings.specs.Closings.{AreClosings, got_by, told_by};
@@ -24,19 +24,16 @@ pub fn closings_of<V: Copy>(alloc: Global, run: &Run<V>) -> Result<Closings, NoM
 {
     machines::<V>();
     documented::<V>();
-    let mut debugger = Debugger::open(alloc, run)?;
     let mut closed = all_open(alloc, run.specs())?;
+    let mut debugger = Debugger::open(alloc, run)?;
     let mut place = 0;
     for entry in run.entries() {
         place += 1;
         let _moved = debugger.step(Move::Goto(place));
         take(alloc, &mut closed, entry, debugger.state(), place)?;
     }
-    let mut channels = Vec::new(alloc);
-    push_closings(&closed, &mut channels)?;
-    let mut readers = Vec::new(alloc);
-    push_readers(&closed, &mut readers)?;
-    Ok(Closings { channels, readers })
+    drop(debugger);
+    listed(alloc, &closed)
 }
 
 /// Returns what is kept of channels at their opening.
@@ -124,6 +121,20 @@ fn take_on<V: Copy>(
         }
     }
     Ok(())
+}
+
+/// Lists the closings of all channels, and the receivers that were there.
+fn listed(alloc: Global, closed: &[Option<ClosedChannel>]) -> Result<Closings, NoMemory>
+    requires few { length closed.now ≤ MOST_CHANNELS }
+    requires small { HaveFewHandles closed.now }
+    ensures channels { IfOk result (λ closings. closings.channels.items ≡ with_closings [] closed.now (length closed.now)) }
+    ensures readers { IfOk result (λ closings. closings.readers.items ≡ with_all_readers [] closed.now (length closed.now)) }
+{
+    let mut channels = Vec::new(alloc);
+    push_closings(closed, &mut channels)?;
+    let mut readers = Vec::new(alloc);
+    push_readers(closed, &mut readers)?;
+    Ok(Closings { channels, readers })
 }
 
 /// Appends the closings of all channels.

@@ -1,6 +1,6 @@
 //! The pass over a run that finds the lives of a channel's handles.
 
-ghost use Rattle.std.specs.Prelude.{◌≡◌, ◌+◌, ◌<◌, ◌^◌, [], ◌∷◌, ◌++◌, None, IfOk, OnOk, slice_get, slice_index_or};
+ghost use Rattle.std.specs.Prelude.{◌≡◌, ◌+◌, ◌<◌, ◌^◌, [], ◌∷◌, ◌++◌, None, IfOk, OnOk, length, slice_get, slice_index_or};
 ghost use Rattle.rw_findings.specs.Following.{Stands};
 ghost use Rattle.rw_findings.specs.Lives.{AreLives, AreLivesTo, Life as Seen, TookCall, TookMade, born};
 ghost use Rattle.rw_navigator.specs.Places.{last_place};
@@ -26,12 +26,43 @@ pub fn lives_of<V: Copy>(alloc: Global, run: &Run<V>, channel: u32) -> Result<Ve
     if run.specs().len() <= channel as usize {
         return Ok(lives);
     }
-    let mut machine = opened(alloc, run, channel)?;
-    open_lives(alloc, &mut lives)?;
-    'each_place: for place in 0..run.len() {
-        follow(alloc, run, channel, place, &mut machine, &mut lives)?;
-    }
+    follow_run(alloc, run, channel, &mut lives)?;
     Ok(lives)
+}
+
+/// Finds the lives of a channel's handles, with its machine.
+fn follow_run<V: Copy>(
+    alloc: Global,
+    run: &Run<V>,
+    channel: u32,
+    lives: &mut Vec<Life>,
+) -> Result<(), NoMemory>
+    requires inside { channel < length run.now.specs }
+    requires empty { lives.old.items ≡ [] }
+    ensures { OnOk result (AreLives run.now channel lives.new.items) }
+{
+    documented::<V>();
+    open_lives(alloc, lives)?;
+    let mut machine = opened(alloc, run, channel)?;
+    follow_all(alloc, run, channel, &mut machine, lives)
+}
+
+/// Takes in all entries. The machine is at place 0.
+fn follow_all<V: Copy>(
+    alloc: Global,
+    run: &Run<V>,
+    channel: u32,
+    machine: &mut Chan<V>,
+    lives: &mut Vec<Life>,
+) -> Result<(), NoMemory>
+    requires here { Stands run.now channel machine.old 0 }
+    requires lives { AreLivesTo run.now channel 0 lives.old.items }
+    ensures { OnOk result (AreLives run.now channel lives.new.items) }
+{
+    'each_place: for place in 0..run.len() {
+        follow(alloc, run, channel, place, machine, lives)?;
+    }
+    Ok(())
 }
 
 /// Appends the lives of the handles that a channel opens with: a sender and a receiver.

@@ -1,12 +1,12 @@
 //! The pass over a run that finds its losses.
 
-ghost use Rattle.std.specs.Prelude.{◌≡◌, ◌≤◌, ◌+◌, IfOk, OnOk, None, length, option_map};
+ghost use Rattle.std.specs.Prelude.{◌≡◌, ◌≤◌, ◌+◌, IfOk, OnOk, None, false, length, option_map};
 ghost use Rattle.rw_handles.specs.declared.table.TheConstants.{MOST_HANDLES};
 ghost use Rattle.rw_world.specs.Lists.{Each};
-ghost use Rattle.rw_world.specs.Openings.{refusal};
+ghost use Rattle.rw_world.specs.Openings.{has_bad_capacity, refusal};
 ghost use Rattle.rw_world.specs.declared.opening.TheConstants.{MOST_CHANNELS};
 ghost use Rattle.rw_findings.specs.Losses.{AreLosses};
-ghost use Rattle.rw_findings.specs.LossTracks.{HasFewHandles, loss_of_entry, opened_tracks, with_call, with_entry, with_loss, with_open, with_open_of};
+ghost use Rattle.rw_findings.specs.LossTracks.{HasFewHandles, loss_of_entry, opened_tracks, track_of, with_call, with_entry, with_loss, with_open, with_open_of};
 
 use super::loss::{Loss, LossEnd};
 use super::track::Track;
@@ -46,13 +46,21 @@ fn open_tracks<V: Copy>(alloc: Global, specs: &[Spec<V>]) -> Result<Vec<Option<T
     let _refusal = refusal_of(specs);
     let mut tracks = Vec::with_capacity(alloc, specs.len())?;
     for spec in specs {
-        let track = match *spec {
-            Spec::Broadcast(capacity) => Some(Track::open(alloc, capacity)?),
-            Spec::Watch(_) => None,
-        };
+        let track = track_of(alloc, spec)?;
         tracks.push_reserved(track);
     }
     Ok(tracks)
+}
+
+/// Returns the track of a channel at its opening, if it is a broadcast.
+fn track_of<V: Copy>(alloc: Global, spec: &Spec<V>) -> Result<Option<Track>, NoMemory>
+    requires { has_bad_capacity spec.now ≡ false }
+    ensures { IfOk result (λ track. track ≡ track_of spec.now) }
+{
+    match *spec {
+        Spec::Broadcast(capacity) => Ok(Some(Track::open(alloc, capacity)?)),
+        Spec::Watch(_) => Ok(None),
+    }
 }
 
 /// Returns the loss that ends by an entry, which leads to this place.

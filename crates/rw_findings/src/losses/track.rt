@@ -1,6 +1,6 @@
 //! What is kept of a broadcast while its entries are passed.
 
-ghost use Rattle.std.specs.Prelude.{◌≡◌, ◌≤◌, ◌<◌, IfOk, OnOk, length, None, slice_index_or};
+ghost use Rattle.std.specs.Prelude.{◌≡◌, ◌≤◌, ◌<◌, [], ◌∷◌, ◌++◌, IfOk, OnOk, length, None, slice_index_or};
 ghost use Rattle.rw_broadcast.specs.Arithmetic.{retained_capacity};
 ghost use Rattle.rw_ring.specs.declared.ring.TheConstants.{MOST_CAPACITY};
 ghost use Rattle.rw_findings.specs.LossTracks.{first_position, lag_in, loss_by, loss_in, next_position, opened_track, oldest_in, subject, with_call, with_position};
@@ -160,6 +160,22 @@ impl Track {
         }
     }
 
+    /// Takes in a send, which leads to this place.
+    fn send(&mut self, place: u64) -> Result<(), NoMemory>
+        ensures { OnOk result (self.new ≡ record self.old { sends = self.old.sends ++ place ∷ [] }) }
+    {
+        self.sends.push(place)?;
+        Ok(())
+    }
+
+    /// Adds a handle that starts at this position, if it is a receiver.
+    fn add(&mut self, position: Option<u64>) -> Result<(), NoMemory>
+        ensures { OnOk result (self.new ≡ record self.old { positions = self.old.positions ++ position ∷ [] }) }
+    {
+        self.positions.push(position)?;
+        Ok(())
+    }
+
     /// Takes in a call with this reply, which leads to this place.
     pub(super) fn take<V: Copy>(
         &mut self,
@@ -171,10 +187,10 @@ impl Track {
     {
         let handle = subject(call);
         match *reply {
-            BReply::Sent(_) => self.sends.push(place)?,
+            BReply::Sent(_) => return self.send(place),
             BReply::New(_) => {
                 let first = self.first_position(call);
-                self.positions.push(first)?;
+                return self.add(first);
             }
             BReply::Value(_) => {
                 let next = match handle {

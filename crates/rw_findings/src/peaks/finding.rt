@@ -3,7 +3,7 @@
 //! From one place to the next, the measure of a receiver falls only by a call that names it. So within a stretch the greatest
 //! is reached before such a call, or at the last place.
 
-ghost use Rattle.std.specs.Prelude.{◌≡◌, ◌≢◌, ℕ, ◌+◌, ◌-◌, ◌^◌, ◌<◌, ◌≤◌, min, IfOk, OnOk};
+ghost use Rattle.std.specs.Prelude.{◌≡◌, ◌≢◌, ℕ, ◌+◌, ◌-◌, ◌^◌, ◌<◌, ◌≤◌, min, IfOk, OnOk, length};
 ghost use Rattle.rw_findings.specs.Following.{Stands};
 ghost use Rattle.rw_findings.specs.Peaks.{ArePeaks, IsGreatest, Raised, measured_at, measured_of, named_level, peak_in};
 ghost use Rattle.rw_navigator.specs.Places.{last_place};
@@ -48,17 +48,28 @@ pub fn peaks_of<V: Copy>(
     if run.len() < stretches.from {
         return Ok(peaks);
     }
-    let mut machine = opened(alloc, run, channel)?;
-    advance_to(&mut machine, run, channel, stretches.from);
-    follow_all(
-        alloc,
-        Asked { channel, measure },
-        run,
-        &mut machine,
-        stretches,
-        &mut peaks,
-    )?;
+    let asked = Asked { channel, measure };
+    follow_run(alloc, asked, run, stretches, &mut peaks)?;
     Ok(peaks)
+}
+
+/// Raises the peaks in each stretch, with a machine of the channel.
+fn follow_run<V: Copy>(
+    alloc: Global,
+    asked: Asked,
+    run: &Run<V>,
+    stretches: Stretches,
+    peaks: &mut Peaks,
+) -> Result<(), NoMemory>
+    requires channel { asked.channel < length run.now.specs }
+    requires inside { stretches.from ≤ last_place run.now }
+    requires some { 0 < stretches.each }
+    requires fresh { (receiver stretch : ℕ) → peak_in peaks.old receiver stretch ≡ 0 }
+    ensures { OnOk result (ArePeaks run.now asked.channel asked.measure stretches peaks.new) }
+{
+    let mut machine = opened(alloc, run, asked.channel)?;
+    advance_to(&mut machine, run, asked.channel, stretches.from);
+    follow_all(alloc, asked, run, &mut machine, stretches, peaks)
 }
 
 /// Raises the peaks in each stretch. The machine is at the place where the first begins.

@@ -1,11 +1,11 @@
 //! The pass over a run that counts for each receiver.
 
-ghost use Rattle.std.specs.Prelude.{◌≡◌, ◌≤◌, IfOk, OnOk, None, Option, length};
+ghost use Rattle.std.specs.Prelude.{◌≡◌, ◌≤◌, IfOk, OnOk, None, Option, false, length};
 ghost use Rattle.rw_handles.specs.declared.table.TheConstants.{MOST_HANDLES};
-ghost use Rattle.rw_world.specs.Openings.{refusal};
+ghost use Rattle.rw_world.specs.Openings.{has_bad_capacity, refusal};
 ghost use Rattle.rw_world.specs.declared.opening.TheConstants.{MOST_CHANNELS};
 ghost use Rattle.rw_findings.specs.Totals.{AreTotals};
-ghost use Rattle.rw_findings.specs.Tallies.{HasRoom, HaveFewHandles, HaveRoom, made_in, opened_tallies, with_channels, with_entry, with_receivers, with_totals};
+ghost use Rattle.rw_findings.specs.Tallies.{HasRoom, HaveFewHandles, HaveRoom, made_in, opened_tallies, tally_of, with_channels, with_entry, with_receivers, with_totals};
 
 use super::broadcast::BroadcastTally;
 use super::tally::Tally;
@@ -45,13 +45,21 @@ fn open_tallies<V: Copy>(alloc: Global, specs: &[Spec<V>]) -> Result<Vec<Tally>,
     let _refusal = refusal_of(specs);
     let mut tallies = Vec::with_capacity(alloc, specs.len())?;
     for spec in specs {
-        let tally = match *spec {
-            Spec::Broadcast(capacity) => Tally::Broadcast(BroadcastTally::open(alloc, capacity)?),
-            Spec::Watch(_) => Tally::Watch(WatchTally::open(alloc)?),
-        };
+        let tally = tally_of(alloc, spec)?;
         tallies.push_reserved(tally);
     }
     Ok(tallies)
+}
+
+/// Returns the tally of a channel at its opening.
+fn tally_of<V: Copy>(alloc: Global, spec: &Spec<V>) -> Result<Tally, NoMemory>
+    requires { has_bad_capacity spec.now ≡ false }
+    ensures { IfOk result (λ tally. tally ≡ tally_of spec.now) }
+{
+    match *spec {
+        Spec::Broadcast(capacity) => Ok(Tally::Broadcast(BroadcastTally::open(alloc, capacity)?)),
+        Spec::Watch(_) => Ok(Tally::Watch(WatchTally::open(alloc)?)),
+    }
 }
 
 /// Takes an entry, which leads to this place, into the tally of its channel.

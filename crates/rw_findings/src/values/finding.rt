@@ -1,6 +1,6 @@
 //! The pass over a run that finds the values of a channel.
 
-ghost use Rattle.std.specs.Prelude.{◌≡◌, ◌+◌, ◌<◌, IfOk, OnOk};
+ghost use Rattle.std.specs.Prelude.{◌≡◌, ◌+◌, ◌<◌, [], IfOk, OnOk, length};
 ghost use Rattle.rw_findings.specs.Following.{Stands};
 ghost use Rattle.rw_findings.specs.Values.{AreValues, AreValuesTo, TookState, gone, has_had, oldest_in, value_in};
 ghost use Rattle.rw_navigator.specs.Places.{last_place};
@@ -29,12 +29,42 @@ pub fn values_of<V: Copy>(
     if run.specs().len() <= channel as usize {
         return Ok(values);
     }
-    let mut machine = opened(alloc, run, channel)?;
-    take(&mut values, &machine, 0)?;
-    'each_place: for place in 0..run.len() {
-        follow(run, channel, place, &mut machine, &mut values)?;
-    }
+    follow_run(alloc, run, channel, &mut values)?;
     Ok(values)
+}
+
+/// Finds the values of a channel, with its machine.
+fn follow_run<V: Copy>(
+    alloc: Global,
+    run: &Run<V>,
+    channel: u32,
+    values: &mut Vec<ChannelValue<V>>,
+) -> Result<(), NoMemory>
+    requires inside { channel < length run.now.specs }
+    requires empty { values.old.items ≡ [] }
+    ensures { OnOk result (AreValues run.now channel values.new.items) }
+{
+    let mut machine = opened(alloc, run, channel)?;
+    follow_all(run, channel, &mut machine, values)
+}
+
+/// Takes in all places. The machine is at the first, place 0.
+fn follow_all<V: Copy>(
+    run: &Run<V>,
+    channel: u32,
+    machine: &mut Chan<V>,
+    values: &mut Vec<ChannelValue<V>>,
+) -> Result<(), NoMemory>
+    requires here { Stands run.now channel machine.old 0 }
+    requires empty { values.old.items ≡ [] }
+    ensures { OnOk result (AreValues run.now channel values.new.items) }
+{
+    documented::<V>();
+    take(values, machine, 0)?;
+    'each_place: for place in 0..run.len() {
+        follow(run, channel, place, machine, values)?;
+    }
+    Ok(())
 }
 
 /// Takes in the entry that leads on from a place, and makes its call if it is on the channel.

@@ -20,3 +20,6 @@ returns g c =
     stands_first c.documented.ensures.places c.args.run.now c.args.channel spec c.ready.new.self c.requires (c.index-specs-channel.is ∙ ap (λ ss. get_or ss c.args.channel spec) c.specs-specs.ensures.specs)
     (c.in_ok-ready.ensures.view ∙ c.in_ok-machine.ensures)
     (omega (arith, c.in_ok-ready.ensures.room, ap (λ x. (of_chan {V = g.row.V.Denot}).weigh x) c.in_ok-ready.ensures.view, ap length c.entries-entries.ensures.entries))
+
+pub bounds-specs-channel : goal.bounds-specs-channel
+bounds-specs-channel g c = subst (λ ss. c.args.channel < length ss) (sym c.specs-specs.ensures.specs) c.requires

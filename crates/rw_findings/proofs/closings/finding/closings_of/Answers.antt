@@ -4,11 +4,14 @@ use Rattle.rw_world.specs.declared.opening.TheConstants.{MOST_CHANNELS}
 use Rattle.rw_navigator.specs.Debugger.{StandsAt, WentBy}
 use Rattle.rw_navigator.specs.declared.moves.Move.TheVariants.{Goto}
 use Rattle.rw_navigator.specs.Places.{last_place, shown_at}
-use Rattle.rw_findings.specs.LateReaders.{opened, with_entry, with_closings, with_all_readers, HaveRoom, HaveFewHandles}
+use Rattle.rw_world.proofs.Modifying.{length-modified}
+use Rattle.rw_findings.specs.LateReaders.{after_entry, opened, with_entry, with_closings, with_all_readers, HaveRoom, HaveFewHandles}
 use Rattle.rw_findings.proofs.LossCode.{written}
 use Rattle.rw_findings.proofs.LossRuns.{at_place, length_at, few_specs}
 use Rattle.rw_findings.proofs.ClosingRuns.{AreKept, first_kept, have_room, few_handles, few_channels}
-use Rattle.rw_findings.proofs.ClosingsOfRuns.{goes, kept_entry, are_closings}
+use Rattle.rw_findings.specs.Closings.{AreClosings}
+use Rattle.rw_findings.specs.declared.closings.closing.Closings.{Closings}
+use Rattle.rw_findings.proofs.ClosingsOfRuns.{goes, kept_entry, are_closings, from_both}
 use Rattle.rw_findings.proofs.closings.finding.closings_of.Goals as goal
 
 pub loop-entry-init : goal.loop-entry-init
@@ -31,7 +34,7 @@ loop-entry-preserved g c =
     let e = c.entry-item.result in
     let entries = c.loop-entry.invariant.entries in
     let xs = of_world.shown c.state.result.now in
-    let place : c.loop-entry.place + 1 ≡ n + 1 = search rules in
+    let place : c.loop-entry.place + 1 ≡ n + 1 = ap (λ k. k + 1) c.loop-entry.invariant.place in
     let within : n < length run.entries = subst (λ es. n < length es) entries c.loop-entry-test.true in
     let moved : WentBy c.loop-entry.debugger c.step-moved.new.self (Goto (c.loop-entry.place + 1)) = c.step-moved.ensures.moved in
     let run_then : c.step-moved.new.self.run ≡ run = moved.run ∙ c.loop-entry.invariant.run in
@@ -40,9 +43,10 @@ loop-entry-preserved g c =
     moved.place ∙ goes (last_place c.loop-entry.debugger.run) c.loop-entry.debugger.place (c.loop-entry.place + 1) (omega (arith, place, within, last)) in
     let shown : xs ≡ shown_at run (c.loop-entry.place + 1) =
     c.state.ensures.documented ∙ ap (λ r. shown_at r c.step-moved.new.self.place) run_then ∙ ap (λ p. shown_at run p) place_then in
-    let taken : c.take.new.closed ≡ with_entry xs c.deref_mut.result.now e (c.loop-entry.place + 1) = search rules in
+    let taken : c.take.new.closed ≡ with_entry xs c.deref_mut.result.now e (c.loop-entry.place + 1) = c.in_ok-take.ensures in
     let closed_are : take c.loop-entry.closed.len (c.take.new.closed ++ drop (length c.take.new.closed) ks) ≡ with_entry xs ks e (c.loop-entry.place + 1) =
-    written c.loop-entry.closed.len c.take.new.closed ks (search rules) (search rules)
+    written c.loop-entry.closed.len c.take.new.closed ks
+    (ap length taken ∙ length-modified (after_entry xs e (c.loop-entry.place + 1)) c.deref_mut.result.now e.call.channel ∙ ap length c.deref_mut.ensures.value ∙ sym c.loop-entry.closed.ok.0) (sym c.loop-entry.closed.ok.0)
     ∙ taken ∙ ap (λ us. with_entry xs us e (c.loop-entry.place + 1)) c.deref_mut.ensures.value in
     let read : e ≡ get_or run.entries n e = c.entry-item.is ∙ ap (λ es. get_or es n e) entries in
     record {
@@ -60,36 +64,31 @@ take-requires g c =
     let few : n < 2 ^ 60 = omega arith in
     subst (λ us. HaveRoom us) (sym c.deref_mut.ensures.value) (have_room (at_place run) run.entries n c.loop-entry.closed.items few c.loop-entry.invariant.kept)
 
-pub push_closings-requires : goal.push_closings-requires
-push_closings-requires g c =
+pub listed-requires-clause-few : goal.listed-requires-clause-few
+listed-requires-clause-few g c =
     let run = c.args.run.now in
-    let last : c.loop-entry.entry-index ≡ last_place run = search rules in
+    let last : c.loop-entry.entry-index ≡ last_place run = omega (arith, ap length c.loop-entry.invariant.entries, c.loop-entry-test.false) in
     let kept = subst (λ n. AreKept (at_place run) run.entries n c.loop-entry.closed.items) last c.loop-entry.invariant.kept in
     let channels : length (at_place run (last_place run)) ≤ MOST_CHANNELS = omega (arith, length_at run (last_place run), few_specs run.specs c.entries-entry-items.ensures.run.opens) in
     subst (λ us. length us ≤ MOST_CHANNELS) (sym c.deref.ensures.value) (few_channels (at_place run) run.entries (last_place run) c.loop-entry.closed.items channels kept)
 
-pub push_readers-requires-clause-few : goal.push_readers-requires-clause-few
-push_readers-requires-clause-few g c =
+pub listed-requires-clause-small : goal.listed-requires-clause-small
+listed-requires-clause-small g c =
     let run = c.args.run.now in
-    let last : c.loop-entry.entry-index ≡ last_place run = search rules in
+    let last : c.loop-entry.entry-index ≡ last_place run = omega (arith, ap length c.loop-entry.invariant.entries, c.loop-entry-test.false) in
     let kept = subst (λ n. AreKept (at_place run) run.entries n c.loop-entry.closed.items) last c.loop-entry.invariant.kept in
-    let channels : length (at_place run (last_place run)) ≤ MOST_CHANNELS = omega (arith, length_at run (last_place run), few_specs run.specs c.entries-entry-items.ensures.run.opens) in
-    subst (λ us. length us ≤ MOST_CHANNELS) (sym c.deref-2.ensures.value) (few_channels (at_place run) run.entries (last_place run) c.loop-entry.closed.items channels kept)
-
-pub push_readers-requires-clause-small : goal.push_readers-requires-clause-small
-push_readers-requires-clause-small g c =
-    let run = c.args.run.now in
-    let last : c.loop-entry.entry-index ≡ last_place run = search rules in
-    let kept = subst (λ n. AreKept (at_place run) run.entries n c.loop-entry.closed.items) last c.loop-entry.invariant.kept in
-    subst (λ us. HaveFewHandles us) (sym c.deref-2.ensures.value) (few_handles (at_place run) run.entries (last_place run) c.loop-entry.closed.items kept)
+    subst (λ us. HaveFewHandles us) (sym c.deref.ensures.value) (few_handles (at_place run) run.entries (last_place run) c.loop-entry.closed.items kept)
 
 pub returns : goal.returns
 returns g c =
     let run = c.args.run.now in
     let ks = c.loop-entry.closed.items in
-    let last : c.loop-entry.entry-index ≡ last_place run = search rules in
+    let us = c.deref.result.now in
+    let last : c.loop-entry.entry-index ≡ last_place run = omega (arith, ap length c.loop-entry.invariant.entries, c.loop-entry-test.false) in
     let kept = subst (λ n. AreKept (at_place run) run.entries n ks) last c.loop-entry.invariant.kept in
-    let closings : c.push_closings.new.closings.items ≡ with_closings [] c.deref.result.now (length c.deref.result.now) = search rules in
-    let readers : c.push_readers.new.readers.items ≡ with_all_readers [] c.deref-2.result.now (length c.deref-2.result.now) = search rules in
-    are_closings c.documented.ensures.places run ks c.push_closings.new.closings.items c.push_readers.new.readers.items kept
-    (closings ∙ ap (λ us. with_closings [] us (length us)) c.deref.ensures.value) (readers ∙ ap (λ us. with_all_readers [] us (length us)) c.deref-2.ensures.value)
+    from_both c.listed.result (λ (found : Closings). found.channels.items ≡ with_closings [] us (length us)) (λ (found : Closings). found.readers.items ≡ with_all_readers [] us (length us))
+    (λ (found : Closings). AreClosings run found.channels.items found.readers.items)
+    (λ found closings readers.
+    are_closings c.documented.ensures.places run ks found.channels.items found.readers.items kept
+    (closings ∙ ap (λ vs. with_closings [] vs (length vs)) c.deref.ensures.value) (readers ∙ ap (λ vs. with_all_readers [] vs (length vs)) c.deref.ensures.value))
+    c.listed.ensures.channels c.listed.ensures.readers

@@ -1,4 +1,4 @@
-use Rattle.std.proofs.Common.{◌≡◌, ◌∙◌, ◌+◌, ap, arith, get_or, length, subst, sym}
+use Rattle.std.proofs.Common.{◌≡◌, ◌<◌, ◌∙◌, ◌+◌, ap, arith, get_or, length, subst, sym}
 use Rattle.rw_world.specs.Machines.{of_chan}
 use Rattle.rw_findings.specs.Lives.{TookCall, TookMade, kind_in}
 use Rattle.rw_findings.specs.Subjects.{handle_in}
@@ -41,3 +41,18 @@ returns-clause-lives g c =
     let made : TookMade mid c.take_made.new.lives.items y (p + 1) e.actor = subst (λ z. TookMade mid c.take_made.new.lives.items z (p + 1) e.actor) y_is c.in_ok-take_made.ensures in
     lives_here run c.args.channel c.documented.ensures.places p e c.requires.more read x c.args.lives.now.items mid c.take_made.new.lives.items c.requires.here.shows c.if-entry-channel.false c.requires.lives
     (subst (λ k. TookCall c.args.lives.now.items mid k e.actor (kind_in y k) (p + 1)) c.handle_in-handle.ensures called) made
+
+pub bounds-entries-place : goal.bounds-entries-place
+bounds-entries-place g c = subst (λ es. c.args.place < length es) (sym c.entries.ensures.entries) c.requires.more
+
+pub advance-requires-clause-here : goal.advance-requires-clause-here
+advance-requires-clause-here g c = c.requires.here
+
+pub advance-requires-clause-more : goal.advance-requires-clause-more
+advance-requires-clause-more g c = c.requires.more
+
+pub returns-then-entry-channel-clause-here : goal.returns-then-entry-channel-clause-here
+returns-then-entry-channel-clause-here g c = c.advance.ensures
+
+pub returns-clause-here : goal.returns-clause-here
+returns-clause-here g c = c.advance.ensures

@@ -1,10 +1,7 @@
-use Rattle.std.proofs.Common.{◌∙◌, [], ◌∷◌, ◌++◌, ap, arith, length, subst, sym}
-use Rattle.std.specs.Prelude.{None}
-use Rattle.rw_handles.specs.declared.kinds.Kind.TheVariants.{Sender, Receiver}
-use Rattle.rw_world.specs.Machines.{of_chan}
-use Rattle.rw_findings.specs.Lives.{AreLivesTo, born}
+use Rattle.std.proofs.Common.{ap, arith, length, subst, sym}
+use Rattle.rw_findings.specs.Lives.{AreLivesTo}
 use Rattle.rw_navigator.specs.Places.{last_place}
-use Rattle.rw_findings.proofs.LifePlaces.{lives_first, no_lives}
+use Rattle.rw_findings.proofs.LifePlaces.{no_lives}
 use Rattle.rw_findings.proofs.PeakPlaces.{no_such_channel}
 use Rattle.rw_findings.proofs.lives.finding.lives_of.Goals as goal
 
@@ -15,12 +12,11 @@ returns-then-specs-channel g c =
     subst (λ lives. AreLivesTo run c.args.channel (last_place run) lives) (sym c.new-lives.ensures.items)
     (no_lives run c.args.channel shows (no_such_channel shows run c.args.channel (last_place run) (omega (arith, c.if-specs-channel.true, ap length c.specs.ensures.specs))))
 
-pub each_place-init : goal.each_place-init
-each_place-init g c =
-    let run = c.args.run.now in
-    let opened = c.in_ok-open_lives.ensures ∙ ap (λ lives. lives ++ born Sender 0 None ∷ born Receiver 0 None ∷ []) c.new-lives.ensures.items in
-    record {
-      stands = c.in_ok-machine.ensures;
-      lives = subst (λ lives. AreLivesTo run c.args.channel 0 lives) (sym opened)
-          (lives_first run c.args.channel c.documented.ensures.places ((of_chan {V = g.row.V.Denot}).shown c.in_ok-machine.machine) c.in_ok-machine.ensures.shows);
-    }
+pub follow_run-requires-clause-inside : goal.follow_run-requires-clause-inside
+follow_run-requires-clause-inside g c = omega (arith, c.if-specs-channel.false, ap length c.specs.ensures.specs)
+
+pub follow_run-requires-clause-empty : goal.follow_run-requires-clause-empty
+follow_run-requires-clause-empty g c = c.new-lives.ensures.items
+
+pub returns : goal.returns
+returns g c = c.in_ok-follow_run.ensures

@@ -9,13 +9,13 @@ use Rattle.rw_findings.specs.Losses.{order_of}
 use Rattle.rw_findings.specs.LossTracks.{HasFewHandles, opened_tracks, with_entry, loss_of_entry, with_loss, with_open}
 use Rattle.rw_findings.proofs.LossEntries.{IsPassed}
 use Rattle.rw_findings.proofs.LossRuns.{at_place, passed_first, passed_entry, few_tracks, few_handles, are_losses}
-use Rattle.rw_findings.proofs.LossCode.{written}
+use Rattle.rw_findings.proofs.LossCode.{length_taken, written}
 use Rattle.rw_findings.proofs.losses.finding.losses_of.Goals as goal
 
 pub loop-entry-init : goal.loop-entry-init
 loop-entry-init g c =
     let run = c.args.run.now in
-    let opened : c.in_ok-tracks.tracks.items ≡ opened_tracks c.specs.result.now = search rules in
+    let opened : c.in_ok-tracks.tracks.items ≡ opened_tracks c.specs.result.now = c.in_ok-tracks.ensures in
     record {
       place = refl;
       entries = c.entries-entry-items.ensures.entries;
@@ -31,12 +31,13 @@ loop-entry-preserved g c =
     let losses = c.loop-entry.losses.items in
     let e = c.entry-item.result in
     let entries = c.loop-entry.invariant.entries in
-    let place : c.loop-entry.place + 1 ≡ n + 1 = search rules in
-    let taken : c.take.new.tracks ≡ with_entry c.deref_mut.result.now e (c.loop-entry.place + 1) = search rules in
-    let pushed : c.push.new.losses.items ≡ with_loss losses c.loss_of_entry.result = search rules in
-    let lost : c.loss_of_entry.result ≡ loss_of_entry c.deref.result.now e (c.loop-entry.place + 1) = search rules in
+    let place : c.loop-entry.place + 1 ≡ n + 1 = ap (λ k. k + 1) c.loop-entry.invariant.place in
+    let taken : c.take.new.tracks ≡ with_entry c.deref_mut.result.now e (c.loop-entry.place + 1) = c.in_ok-take.ensures in
+    let pushed : c.push.new.losses.items ≡ with_loss losses c.loss_of_entry.result = c.in_ok-push.ensures in
+    let lost : c.loss_of_entry.result ≡ loss_of_entry c.deref.result.now e (c.loop-entry.place + 1) = c.loss_of_entry.ensures in
     let tracks_are : take c.loop-entry.tracks.len (c.take.new.tracks ++ drop (length c.take.new.tracks) ts) ≡ with_entry ts e (n + 1) =
-    written c.loop-entry.tracks.len c.take.new.tracks ts (search rules) (search rules)
+    written c.loop-entry.tracks.len c.take.new.tracks ts
+    (ap length taken ∙ length_taken c.deref_mut.result.now e (c.loop-entry.place + 1) ∙ ap length c.deref_mut.ensures.value ∙ sym c.loop-entry.tracks.ok.0) (sym c.loop-entry.tracks.ok.0)
     ∙ taken ∙ ap (λ us. with_entry us e (c.loop-entry.place + 1)) c.deref_mut.ensures.value ∙ ap (with_entry ts e) place in
     let losses_are : c.push.new.losses.items ≡ with_loss losses (loss_of_entry ts e (n + 1)) =
     pushed ∙ ap (with_loss losses) (lost ∙ ap (λ us. loss_of_entry us e (c.loop-entry.place + 1)) c.deref.ensures.value ∙ ap (loss_of_entry ts e) place) in

@@ -1,14 +1,35 @@
-use Rattle.std.proofs.Common.{ap, ◌∙◌}
+use Rattle.std.proofs.Common.{◌≡◌, ◌≤◌, ◌∙◌, ◌++◌, ◌∷◌, [], ap, arith, get_or, length, sym, take}
+use Rattle.std.proofs.lemmas.List.{length-map, length-take-le, map_more, take_all}
 use Rattle.rw_world.specs.Openings.{has_bad_capacity}
-use Rattle.rw_findings.proofs.LossCode.{good_capacity, is_none_from}
+use Rattle.rw_findings.specs.LossTracks.{opened_tracks, track_of}
+use Rattle.rw_findings.proofs.LossCode.{is_none_from}
 use Rattle.rw_findings.proofs.losses.finding.open_tracks.Goals as goal
 
-pub open-requires-clause-some : goal.open-requires-clause-some
-open-requires-clause-some g c =
+pub track_of-requires : goal.track_of-requires
+track_of-requires g c =
     let good = c.refusal_of-refusal.ensures.good (is_none_from _ (c.refusal_of-refusal.ensures.refusal ∙ c.requires)) c.loop-spec.spec-index c.spec-item.result c.loop-spec-test.true in
-    (good_capacity c.spec-item.result c.in-Broadcast.capacity c.in-Broadcast.is (ap has_bad_capacity c.spec-item.is ∙ good)).0
+    ap has_bad_capacity c.spec-item.is ∙ good
 
-pub open-requires-clause-small : goal.open-requires-clause-small
-open-requires-clause-small g c =
-    let good = c.refusal_of-refusal.ensures.good (is_none_from _ (c.refusal_of-refusal.ensures.refusal ∙ c.requires)) c.loop-spec.spec-index c.spec-item.result c.loop-spec-test.true in
-    (good_capacity c.spec-item.result c.in-Broadcast.capacity c.in-Broadcast.is (ap has_bad_capacity c.spec-item.is ∙ good)).1
+pub push_reserved-requires : goal.push_reserved-requires
+push_reserved-requires g c =
+    let i = c.loop-spec.spec-index in
+    let specs = c.args.specs.now in
+    let within : i ≤ length specs = omega (arith, c.loop-spec-test.true) in
+    let many : length c.loop-spec.tracks.items ≡ i = ap length c.loop-spec.invariant.tracks ∙ length-map (take i specs) track_of ∙ length-take-le i specs within in
+    omega (arith, many, c.loop-spec.tracks.ok.0, c.loop-spec.invariant.room, c.loop-spec-test.true)
+
+pub loop-spec-preserved : goal.loop-spec-preserved
+loop-spec-preserved g c =
+    let i = c.loop-spec.spec-index in
+    let specs = c.args.specs.now in
+    let spec = c.spec-item.result in
+    let made = c.in_ok-track.track in
+    let is : made ≡ track_of (get_or specs i spec) = c.in_ok-track.ensures ∙ ap track_of c.spec-item.is in
+    record {
+      tracks = c.push_reserved.ensures.items ∙ ap (λ ts. ts ++ made ∷ []) c.loop-spec.invariant.tracks
+          ∙ ap (λ t. opened_tracks (take i specs) ++ t ∷ []) is ∙ sym (map_more track_of specs i spec c.loop-spec-test.true);
+      room = c.push_reserved.ensures.capacity ∙ c.loop-spec.invariant.room;
+    }
+
+pub returns : goal.returns
+returns g c = c.loop-spec.invariant.tracks ∙ ap opened_tracks (take_all c.loop-spec.spec-index c.args.specs.now c.loop-spec-test.false)

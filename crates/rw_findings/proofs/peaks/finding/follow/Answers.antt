@@ -1,9 +1,10 @@
-use Rattle.std.proofs.Common.{◌≡◌, ◌<◌, ◌+◌, ◌∙◌, ap, arith, get_or, inl, inr, length, max, subst, sym}
+use Rattle.std.proofs.Common.{◌≡◌, ◌<◌, ◌+◌, ◌-◌, ◌∙◌, ap, arith, get_or, inl, inr, length, max, refl, subst, sym}
 use Rattle.rw_world.specs.Machines.{of_chan}
-use Rattle.rw_findings.specs.Peaks.{IsGreatest, measured_at, named_level, peak_in}
+use Rattle.rw_findings.specs.Following.{Stands}
+use Rattle.rw_findings.specs.Peaks.{IsGreatest, IsSoFar, measured_at, named_level, peak_in}
 use Rattle.rw_navigator.specs.Places.{last_place, shown_at}
 use Rattle.rw_findings.proofs.PeakPlaces.{measured_is, named_or_not, rises}
-use Rattle.rw_findings.proofs.PeakSums.{greatest_is, raised_here, raised_there, so_far_on}
+use Rattle.rw_findings.proofs.PeakSums.{greatest_is, raised_here, raised_there, so_far_first, so_far_on}
 use Rattle.rw_findings.proofs.peaks.finding.follow.Goals as goal
 
 pub each_place-preserved : goal.each_place-preserved
@@ -48,3 +49,34 @@ returns-clause-peaks g c =
     subst (λ to. IsGreatest at (last_place run) c.args.from to after) last
     (greatest_is at (last_place run) c.args.from p before after c.each_place.auto.place (omega (arith, last, c.requires.inside)) (c.each_place.invariant.so_far receiver)
     (c.in_ok-raise_all.ensures receiver c.args.stretch ∙ raised_here c.args.stretch before _ ∙ ap (max before) (sym (measured_is measure (shown_at run p) channel receiver x stands.shows))))
+
+pub bounds-entries-place : goal.bounds-entries-place
+bounds-entries-place g c =
+    let within : c.each_place.place < last_place c.args.run.now = omega (arith, c.each_place-test.true, c.requires.inside) in
+    subst (λ es. c.each_place.place < length es) (sym c.entries.ensures.entries) within
+
+pub advance-requires-clause-here : goal.advance-requires-clause-here
+advance-requires-clause-here g c = c.each_place.invariant.stands
+
+pub advance-requires-clause-more : goal.advance-requires-clause-more
+advance-requires-clause-more g c = omega (arith, c.each_place-test.true, c.requires.inside)
+
+pub each_place-init : goal.each_place-init
+each_place-init g c = record {
+  stands = c.requires.here;
+  so_far = λ receiver.
+      let at = measured_at c.args.asked.measure c.args.run.now c.args.asked.channel receiver in
+      subst (λ n. IsSoFar at c.args.from c.args.from n) (sym (c.requires.fresh receiver)) (so_far_first at c.args.from);
+  others = λ receiver other apart. refl;
+}
+
+pub returns-clause-stands : goal.returns-clause-stands
+returns-clause-stands g c =
+    let last : c.each_place.place ≡ c.args.to - 1 = omega (arith, c.each_place-test.false, c.each_place.auto.place-end, c.each_place.auto.place, c.requires.some) in
+    subst (λ p. Stands c.args.run.now c.args.asked.channel c.each_place.machine p) last c.each_place.invariant.stands
+
+pub returns-clause-others : goal.returns-clause-others
+returns-clause-others g c =
+    let x = (of_chan {V = g.row.V.Denot}).shown c.each_place.machine in
+    λ receiver other apart.
+    c.in_ok-raise_all.ensures receiver other ∙ raised_there c.args.stretch other (peak_in c.each_place.peaks receiver other) _ apart ∙ c.each_place.invariant.others receiver other apart
