@@ -4,6 +4,7 @@ use crate::desks::{Calls, Shared};
 use rw_broadcast::{BCall, BReply};
 use rw_desk::{Desk, DeskFault, DeskOpenFault, Ends, Kept, Pass, WRx, WTx};
 use rw_journal::Run;
+use rw_law::Payload;
 use rw_watch::{WCall, WReply};
 use rw_world::{ChanCall, ChanReply, Spec};
 use std::alloc::Global;
@@ -73,29 +74,7 @@ impl Calls for PassDesk {
         call: ChanCall<u64>,
         waits: bool,
     ) -> Result<ChanReply<u64>, DeskFault> {
-        match self.ends.get(channel as usize) {
-            Some(Ends::Broadcast(sender, receiver)) => match call {
-                ChanCall::B(BCall::Send(0, value)) => {
-                    of_broadcast(self.desk.b_send(rt, pass, sender, value))
-                }
-                ChanCall::B(BCall::Recv(1)) if waits => {
-                    of_broadcast(self.desk.b_recv(rt, pass, receiver))
-                }
-                call => by_numbers(rt, &self.desk, pass, channel, call, waits),
-            },
-            Some(Ends::Watch(sender, receiver)) => {
-                on_watch(
-                    rt,
-                    &self.desk,
-                    pass,
-                    (sender, receiver),
-                    channel,
-                    call,
-                    waits,
-                )
-            }
-            None => by_numbers(rt, &self.desk, pass, channel, call, waits),
-        }
+        made(rt, &self.desk, &self.ends, pass, channel, call, waits)
     }
 
     fn close(self, alloc: Global, passes: Vec<Pass<u64>>) -> Option<Run<u64>> {
@@ -106,8 +85,34 @@ impl Calls for PassDesk {
     }
 }
 
+// Over any values, since a function that names the numbers puts an instance together for each call of a desk in it.
+/// Makes a call. Some calls by a channel's first handles are made by the methods for handles.
+fn made<V: Payload, R: Wait>(
+    rt: &R,
+    desk: &Desk<V>,
+    ends: &[Ends],
+    pass: &mut Pass<V>,
+    channel: u32,
+    call: ChanCall<V>,
+    waits: bool,
+) -> Result<ChanReply<V>, DeskFault> {
+    match ends.get(channel as usize) {
+        Some(Ends::Broadcast(sender, receiver)) => match call {
+            ChanCall::B(BCall::Send(0, value)) => of_broadcast(desk.b_send(
+                rt, pass, sender, value,
+            )),
+            ChanCall::B(BCall::Recv(1)) if waits => of_broadcast(desk.b_recv(rt, pass, receiver)),
+            call => by_numbers(rt, desk, pass, channel, call, waits),
+        },
+        Some(Ends::Watch(sender, receiver)) => {
+            on_watch(rt, desk, pass, (sender, receiver), channel, call, waits)
+        }
+        None => by_numbers(rt, desk, pass, channel, call, waits),
+    }
+}
+
 /// Returns a reply of a broadcast as one of any channel.
-fn of_broadcast(reply: Result<BReply<u64>, DeskFault>) -> Result<ChanReply<u64>, DeskFault> {
+fn of_broadcast<V>(reply: Result<BReply<V>, DeskFault>) -> Result<ChanReply<V>, DeskFault> {
     match reply {
         Ok(reply) => Ok(ChanReply::B(reply)),
         Err(fault) => Err(fault),
@@ -115,7 +120,7 @@ fn of_broadcast(reply: Result<BReply<u64>, DeskFault>) -> Result<ChanReply<u64>,
 }
 
 /// Returns a reply of a watch as one of any channel.
-fn of_watch(reply: Result<WReply<u64>, DeskFault>) -> Result<ChanReply<u64>, DeskFault> {
+fn of_watch<V>(reply: Result<WReply<V>, DeskFault>) -> Result<ChanReply<V>, DeskFault> {
     match reply {
         Ok(reply) => Ok(ChanReply::W(reply)),
         Err(fault) => Err(fault),
@@ -123,14 +128,14 @@ fn of_watch(reply: Result<WReply<u64>, DeskFault>) -> Result<ChanReply<u64>, Des
 }
 
 /// Makes a call by the numbers of its channel and its handle.
-fn by_numbers<R: Wait>(
+fn by_numbers<V: Payload, R: Wait>(
     rt: &R,
-    desk: &Desk<u64>,
-    pass: &mut Pass<u64>,
+    desk: &Desk<V>,
+    pass: &mut Pass<V>,
     channel: u32,
-    call: ChanCall<u64>,
+    call: ChanCall<V>,
     waits: bool,
-) -> Result<ChanReply<u64>, DeskFault> {
+) -> Result<ChanReply<V>, DeskFault> {
     if waits {
         desk.wait_call(rt, pass, channel, call)
     } else {
@@ -140,15 +145,15 @@ fn by_numbers<R: Wait>(
 
 /// Makes a call on a watch. A change by a closure, a wait for a change and one for the close are made by these handles if the call
 /// names them.
-fn on_watch<R: Wait>(
+fn on_watch<V: Payload, R: Wait>(
     rt: &R,
-    desk: &Desk<u64>,
-    pass: &mut Pass<u64>,
+    desk: &Desk<V>,
+    pass: &mut Pass<V>,
     (sender, receiver): (&WTx, &WRx),
     channel: u32,
-    call: ChanCall<u64>,
+    call: ChanCall<V>,
     waits: bool,
-) -> Result<ChanReply<u64>, DeskFault> {
+) -> Result<ChanReply<V>, DeskFault> {
     match call {
         ChanCall::W(
             WCall::Modify {
@@ -166,16 +171,24 @@ fn on_watch<R: Wait>(
     }
 }
 
+/// The value of the next word, or the same value where that word has none.
+fn next<V: Payload>(value: V) -> V {
+    match V::from_word(value.word().wrapping_add(1)) {
+        Some(next) => next,
+        None => value,
+    }
+}
+
 /// Modifies the value of a watch under its lock.
-fn modify<R: Wait>(
+fn modify<V: Payload, R: Wait>(
     rt: &R,
-    desk: &Desk<u64>,
-    pass: &mut Pass<u64>,
+    desk: &Desk<V>,
+    pass: &mut Pass<V>,
     sender: &WTx,
     told: bool,
-) -> Result<WReply<u64>, DeskFault> {
+) -> Result<WReply<V>, DeskFault> {
     desk.w_send_if_modified(rt, pass, sender, |value| {
-        *value = value.wrapping_add(1);
+        *value = next(*value);
         told
     })
 }

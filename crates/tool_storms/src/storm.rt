@@ -57,16 +57,15 @@ fn parts_of<P: Drop>(
     Ok((passes, told))
 }
 
-/// Returns how many calls were recorded. It fails if the receipts aren't the run's entries, a call wasn't made, or a value was
-/// missed.
-fn judged(run: &Run<u64>, receipts: &[Receipts], told: &[Option<u64>]) -> Result<u64> {
+/// What is wrong with a run: the receipts aren't its entries, a call wasn't made, or a value was missed.
+fn fault_in(run: &Run<u64>, receipts: &[Receipts], told: &[Option<u64>]) -> Option<&'static str> {
     if !agree(run, receipts) {
-        bail!("receipts are not the entries");
+        Some("receipts are not the entries")
+    } else if !were_told(run, told) {
+        Some("an actor's calls were not all made, or a value was missed")
+    } else {
+        None
     }
-    if !were_told(run, told) {
-        bail!("an actor's calls were not all made, or a value was missed");
-    }
-    Ok(run.len())
 }
 
 /// Makes this many calls by all actors of a desk, and returns the passes, with how many values each actor was notified of.
@@ -90,6 +89,33 @@ where
     Ok(parts_of(alloc, played)?)
 }
 
+/// Returns how many calls were recorded in the run of a closed desk, or what is wrong with it.
+fn judged(
+    closed: Option<Run<u64>>,
+    receipts: &[Receipts],
+    told: &[Option<u64>],
+) -> Result<u64, &'static str> {
+    match closed {
+        Some(run) => {
+            let (length, fault) = (run.len(), fault_in(&run, receipts, told));
+            drop(run);
+            match fault {
+                Some(fault) => Err(fault),
+                None => Ok(length),
+            }
+        }
+        None => Err("the desk does not close"),
+    }
+}
+
+/// Returns how many calls were recorded, or the error of what is wrong.
+pub fn recorded(judged: Result<u64, &'static str>) -> Result<u64> {
+    match judged {
+        Ok(recorded) => Ok(recorded),
+        Err(fault) => bail!("{fault}"),
+    }
+}
+
 /// Closes a desk, and returns how many calls were recorded.
 fn close_and_judge<D: Calls + Drop>(
     alloc: Global,
@@ -101,13 +127,9 @@ where
     D::Actor: Drop,
 {
     let receipts = receipts_of::<D>(alloc, &passes)?;
-    let Some(run) = desk.close(alloc, passes) else {
-        bail!("the desk does not close");
-    };
-    let recorded = judged(&run, &receipts, told);
-    drop(run);
+    let judged = judged(desk.close(alloc, passes), &receipts, told);
     drop(receipts);
-    recorded
+    recorded(judged)
 }
 
 /// Makes this many calls, chosen from a seed. Returns how many were recorded, with those of the actors that wait.

@@ -6,6 +6,7 @@ ghost use Rattle.std.specs.Prelude.{All, IfOk, IfSome};
 use super::channels::{OWN_HANDLES, SECOND_HANDLES, SPECS};
 use super::notes::{Notes, SEATS, are_places};
 use super::receipts::{Receipts, agree, receipts_of};
+use super::recorded;
 use crate::desks::{Seated, Shared, last_actor};
 use anyhow::{Result, bail};
 use rw_journal::Run;
@@ -290,15 +291,34 @@ where
     Ok((seats, notes))
 }
 
-/// Returns how many calls were recorded. It fails if the receipts aren't the run's entries, or a front isn't its entry's place.
-fn judged(run: &Run<u64>, receipts: &[Receipts], notes: &[Notes]) -> Result<u64> {
+/// What is wrong with a run: the receipts aren't its entries, or a front isn't its entry's place.
+fn fault_in(run: &Run<u64>, receipts: &[Receipts], notes: &[Notes]) -> Option<&'static str> {
     if !agree(run, receipts) {
-        bail!("receipts of seats are not the entries");
+        Some("receipts of seats are not the entries")
+    } else if !are_places(run, notes) {
+        Some("a front is not its entry's place, or fell")
+    } else {
+        None
     }
-    if !are_places(run, notes) {
-        bail!("a front is not its entry's place, or fell");
+}
+
+/// Returns how many calls were recorded in the run of a closed desk, or what is wrong with it.
+fn judged(
+    closed: Option<Run<u64>>,
+    receipts: &[Receipts],
+    notes: &[Notes],
+) -> Result<u64, &'static str> {
+    match closed {
+        Some(run) => {
+            let (length, fault) = (run.len(), fault_in(&run, receipts, notes));
+            drop(run);
+            match fault {
+                Some(fault) => Err(fault),
+                None => Ok(length),
+            }
+        }
+        None => Err("the desk with seats does not close"),
     }
-    Ok(run.len())
 }
 
 /// Closes a desk, and returns how many calls were recorded.
@@ -314,13 +334,9 @@ where
     requires { All (D.owns desk) seats.items }
 {
     let receipts = receipts_of::<D>(alloc, &seats)?;
-    let Some(run) = desk.close(rt, alloc, seats) else {
-        bail!("the desk with seats does not close");
-    };
-    let recorded = judged(&run, &receipts, notes);
-    drop(run);
+    let judged = judged(desk.close(rt, alloc, seats), &receipts, notes);
     drop(receipts);
-    recorded
+    recorded(judged)
 }
 
 /// Makes this many calls, chosen from a seed. Returns how many were recorded.
