@@ -1,15 +1,14 @@
 //! Calls on a broadcast of a desk by its handles. Each is made by another actor, whose pass has no room for a receipt yet.
 
-use crate::callers::{ask_all, ask_drop, say};
+use crate::callers::{ask_all, ask_drop, say_reply};
+use crate::calls::Calls;
 use crate::desks::{last_hands, new_desk, say_closed};
 use crate::met::Met;
 use rw_broadcast::BCall;
-use rw_desk::{Desk, Pass};
 use rw_world::{ChanCall, Spec};
 use std::alloc::Global;
 use std::io;
 use std::sync::Wait;
-use support_desks::Hand;
 
 /// What is called by sender 0.
 static BY_SENDER: [ChanCall<u64>; 7] = [
@@ -37,30 +36,33 @@ const CALLERS: usize = 11;
 const ACTORS: u32 = 13;
 
 /// Drops the two handles, each by a pass of its own.
-fn drop_both<R: Wait + Print>(
+fn drop_both<D: Calls, R: Wait + Print>(
     rt: &R,
     met: &mut Met,
-    desk: &Desk<u64>,
-    passes: &mut [Pass<u64>],
-    sender: Hand,
-    receiver: Hand,
-) -> io::Result<()> {
+    desk: &D,
+    passes: &mut [D::Pass],
+    sender: D::Hand,
+    receiver: D::Hand,
+) -> io::Result<()>
+where
+    D::Hand: Drop,
+{
     let [first, second] = passes else {
         return println!(rt; "  not two passes are left");
     };
     let received = ask_drop(rt, met, desk, first, receiver);
     let sent = ask_drop(rt, met, desk, second, sender);
-    say(rt, &received).and(say(rt, &sent))
+    say_reply(rt, &received).and(say_reply(rt, &sent))
 }
 
 /// Makes all calls by the two handles.
-fn call_each<R: Wait + Print>(
+fn call_each<D: Calls, R: Wait + Print>(
     rt: &R,
     met: &mut Met,
-    desk: &Desk<u64>,
-    passes: &mut [Pass<u64>],
-    sender: &Hand,
-    receiver: &Hand,
+    desk: &D,
+    passes: &mut [D::Pass],
+    sender: &D::Hand,
+    receiver: &D::Hand,
 ) -> io::Result<()> {
     let (by_sender, by_receiver) = passes.split_at_mut(BY_SENDER.len().min(passes.len()));
     ask_all(rt, met, desk, by_sender, sender, &BY_SENDER).and(ask_all(
@@ -74,13 +76,16 @@ fn call_each<R: Wait + Print>(
 }
 
 /// Makes all calls by the two handles, and drops them.
-fn play_handles<R: Wait + Print>(
+fn play_handles<D: Calls, R: Wait + Print>(
     rt: &R,
     met: &mut Met,
-    desk: &Desk<u64>,
-    passes: &mut [Pass<u64>],
-    hands: Option<(Hand, Hand)>,
-) -> io::Result<()> {
+    desk: &D,
+    passes: &mut [D::Pass],
+    hands: Option<(D::Hand, D::Hand)>,
+) -> io::Result<()>
+where
+    D::Hand: Drop,
+{
     let Some((sender, receiver)) = hands else {
         return println!(rt; "  no handles");
     };
@@ -89,13 +94,36 @@ fn play_handles<R: Wait + Print>(
     called.and(drop_both(rt, met, desk, dropping, sender, receiver))
 }
 
-/// Plays a broadcast of a desk.
-pub fn play<R: Wait + Print>(rt: &R, alloc: Global, met: &mut Met) -> io::Result<()> {
-    println!(rt; "a broadcast of a desk, by its handles")?;
+/// Opens a desk of one broadcast, and plays that.
+fn play_desk<D: Calls + Drop, R: Wait + Print>(
+    rt: &R,
+    alloc: Global,
+    met: &mut Met,
+) -> io::Result<()>
+where
+    D::Pass: Drop,
+    D::Hand: Drop,
+    D::Ends: Drop,
+{
     let specs = [Spec::Broadcast(2)];
-    let Ok((desk, mut passes, ends)) = new_desk(alloc, met, &specs, ACTORS) else {
+    let Ok((desk, mut passes, ends)) = new_desk::<D>(alloc, met, &specs, ACTORS) else {
         return println!(rt; "  no desk");
     };
-    let played = play_handles(rt, met, &desk, &mut passes, last_hands(ends));
+    let played = play_handles(rt, met, &desk, &mut passes, last_hands::<D>(ends));
     played.and(say_closed(rt, alloc, met, desk, passes))
+}
+
+/// Plays a broadcast of a desk.
+pub fn play<D: Calls + Drop, R: Wait + Print>(
+    rt: &R,
+    alloc: Global,
+    met: &mut Met,
+) -> io::Result<()>
+where
+    D::Pass: Drop,
+    D::Hand: Drop,
+    D::Ends: Drop,
+{
+    println!(rt; "a broadcast of a desk, by its handles")?;
+    play_desk::<D, R>(rt, alloc, met)
 }

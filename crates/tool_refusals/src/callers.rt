@@ -1,141 +1,106 @@
-//! Calls at a desk, retried: by a handle, or by the numbers of a channel and a handle.
+//! Calls at a desk, each with one retry.
 
-use crate::met::{Met, TRIES};
-use crate::passes::held;
-use rw_desk::{Desk, DeskFault, Pass};
+use crate::calls::{At, Calls};
+use crate::met::Met;
+use rw_desk::DeskFault;
 use rw_world::{ChanCall, ChanReply};
 use std::io;
 use std::sync::Wait;
-use support_desks::{Hand, call_by, drop_hand};
 
-/// The result of a call, and whether a closure was called for it.
-pub type Made = (Result<ChanReply<u64>, DeskFault>, bool);
-
-/// Who makes calls.
-pub trait Caller {
-    /// Makes a call. One that this caller can't make is refused with `NoChannel`.
-    fn make<R: Wait>(
-        &self,
-        rt: &R,
-        desk: &Desk<u64>,
-        pass: &mut Pass<u64>,
-        call: ChanCall<u64>,
-    ) -> Made;
-}
-
-/// Makes calls on the channel of this number, which name their handles by number.
-#[derive(Drop)]
-pub struct ByNumbers {
-    pub channel: u32,
-    /// Whether a call may wait.
-    pub may_wait: bool,
-}
-
-impl Caller for ByNumbers {
-    fn make<R: Wait>(
-        &self,
-        rt: &R,
-        desk: &Desk<u64>,
-        pass: &mut Pass<u64>,
-        call: ChanCall<u64>,
-    ) -> Made {
-        if self.may_wait {
-            (desk.wait_call(rt, pass, self.channel, call), false)
-        } else {
-            (desk.call(rt, pass, self.channel, call), false)
-        }
-    }
-}
-
-/// Makes calls by a handle. A handle that a call makes is forgotten, and stays alive in its channel.
-impl Caller for Hand {
-    fn make<R: Wait>(
-        &self,
-        rt: &R,
-        desk: &Desk<u64>,
-        pass: &mut Pass<u64>,
-        call: ChanCall<u64>,
-    ) -> Made {
-        let called = call_by(rt, desk, pass, self, call);
-        (called.reply, called.was_called)
-    }
-}
-
-/// Makes a call. At a refusal the pass is as before, and no closure was called.
-pub fn ask<C: Caller, R: Wait>(
+/// Makes a call by a handle. At a refusal the pass is as before, and no closure was called.
+pub fn ask<D: Calls, R: Wait>(
     rt: &R,
     met: &mut Met,
-    desk: &Desk<u64>,
-    pass: &mut Pass<u64>,
-    caller: &C,
+    desk: &D,
+    pass: &mut D::Pass,
+    hand: &D::Hand,
     call: ChanCall<u64>,
 ) -> Result<ChanReply<u64>, DeskFault> {
-    let before = held(pass);
-    for _ in 0..TRIES {
-        match caller.make(rt, desk, pass, call) {
-            (Err(DeskFault::NoMemory), was_called) => {
-                met.refused(held(pass) == before && !was_called);
-            }
-            (answer, _) => return answer,
+    let before = D::held(pass);
+    match desk.call_by(rt, pass, hand, call) {
+        (Err(DeskFault::NoMemory), was_called) => {
+            met.refused(D::held(pass) == before && !was_called);
+            let (answer, _) = desk.call_by(rt, pass, hand, call);
+            answer
         }
+        (answer, _) => answer,
     }
-    Err(DeskFault::NoMemory)
+}
+
+/// Makes a call that names its handle by number. At a refusal the pass is as before.
+fn ask_at<D: Calls, R: Wait>(
+    rt: &R,
+    met: &mut Met,
+    desk: &D,
+    pass: &mut D::Pass,
+    at: At,
+    call: ChanCall<u64>,
+) -> Result<ChanReply<u64>, DeskFault> {
+    let before = D::held(pass);
+    match desk.call_at(rt, pass, at, call) {
+        Err(DeskFault::NoMemory) => {
+            met.refused(D::held(pass) == before);
+            desk.call_at(rt, pass, at, call)
+        }
+        answer => answer,
+    }
 }
 
 /// Prints the result of a call. Here alone its text is put together, since each function that does it has the instance in its own proof.
-pub fn say(rt: &impl Print, answer: &Result<ChanReply<u64>, DeskFault>) -> io::Result<()> {
+pub fn say_reply(rt: &impl Print, answer: &Result<ChanReply<u64>, DeskFault>) -> io::Result<()> {
     println!(rt; "  {answer:?}")
 }
 
-/// Makes a call, and prints its result.
-pub fn say_call<C: Caller, R: Wait + Print>(
+/// Makes a call that names its handle by number, and prints its result.
+pub fn say_call<D: Calls, R: Wait + Print>(
     rt: &R,
     met: &mut Met,
-    desk: &Desk<u64>,
-    pass: &mut Pass<u64>,
-    caller: &C,
+    desk: &D,
+    pass: &mut D::Pass,
+    at: At,
     call: ChanCall<u64>,
 ) -> io::Result<()> {
-    let answer = ask(rt, met, desk, pass, caller, call);
-    say(rt, &answer)
+    let answer = ask_at(rt, met, desk, pass, at, call);
+    say_reply(rt, &answer)
 }
 
-/// Makes these calls, each by a pass of its own, and prints their results.
-pub fn ask_all<C: Caller, R: Wait + Print>(
+/// Makes these calls by a handle, each with a pass of its own, and prints their results.
+pub fn ask_all<D: Calls, R: Wait + Print>(
     rt: &R,
     met: &mut Met,
-    desk: &Desk<u64>,
-    passes: &mut [Pass<u64>],
-    caller: &C,
+    desk: &D,
+    passes: &mut [D::Pass],
+    hand: &D::Hand,
     calls: &[ChanCall<u64>],
 ) -> io::Result<()> {
     for (pass, call) in passes.iter_mut().zip(calls.iter()) {
-        say_call(rt, met, desk, pass, caller, *call)?;
+        let answer = ask(rt, met, desk, pass, hand, *call);
+        say_reply(rt, &answer)?;
     }
     Ok(())
 }
 
 /// Drops a handle. At a refusal it comes back, and is dropped the next time.
-pub fn ask_drop<R: Wait>(
+pub fn ask_drop<D: Calls, R: Wait>(
     rt: &R,
     met: &mut Met,
-    desk: &Desk<u64>,
-    pass: &mut Pass<u64>,
-    hand: Hand,
-) -> Result<ChanReply<u64>, DeskFault> {
-    let (before, number) = (held(pass), hand.number());
-    let dropped = match drop_hand(rt, desk, pass, hand) {
+    desk: &D,
+    pass: &mut D::Pass,
+    hand: D::Hand,
+) -> Result<ChanReply<u64>, DeskFault>
+where
+    D::Hand: Drop,
+{
+    let (before, number) = (D::held(pass), D::number(&hand));
+    let dropped = match desk.drop_hand(rt, pass, hand) {
         Err((DeskFault::NoMemory, hand)) => {
-            met.refused(held(pass) == before && hand.number() == number);
-            drop_hand(rt, desk, pass, hand)
+            met.refused(D::held(pass) == before && D::number(&hand) == number);
+            desk.drop_hand(rt, pass, hand)
         }
         dropped => dropped,
     };
     match dropped {
         Ok(reply) => Ok(reply),
-        Err((fault, hand)) => {
-            drop(hand);
-            Err(fault)
-        }
+        Err((fault, _)) => Err(fault),
     }
 }

@@ -254,11 +254,9 @@ fn sent<B: Recorded + Drop, R: Wait>(
 pub fn play<R: Wait + Print>(rt: &R, alloc: Global, met: &mut Met) -> io::Result<()> {
     println!(rt; "a hand-off")?;
     match sent::<Book<Chan<u64>>, _>(rt, alloc, met, 7) {
-        Ok((last, length, at_end)) => {
-            println!(rt; "  {last:?}, then {length} entries")?;
-            println!(rt; "  not closed without a seat")?;
-            println!(rt; "  closed with {at_end} entries")
-        }
+        Ok((last, length, at_end)) => println!(rt;
+            "  {last:?}, then {length} entries\n  not closed without a seat\n  closed with {at_end} entries"
+        ),
         Err(fault) => println!(rt; "  {fault}"),
     }
 }

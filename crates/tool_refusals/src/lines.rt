@@ -7,7 +7,7 @@ use std::io;
 use support_devices::FailingReader;
 
 /// A line that is longer than the room that is taken first, and what follows it.
-const BYTES: &[u8] = b"a line of more than sixteen bytes\nand what follows\n";
+static BYTES: &[u8] = b"a line of more than sixteen bytes\nand what follows\n";
 
 /// The first line of these bytes. At a refusal a part of it came, and that is no more than was read.
 fn first_line(alloc: Global, met: &mut Met, bytes: &[u8]) -> Result<(Next, Vec<u8>), StreamFault> {

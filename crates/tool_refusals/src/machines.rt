@@ -1,6 +1,6 @@
 //! Tables, rings and channels: opened, made ready, and called.
 
-use crate::met::{Met, TRIES};
+use crate::met::{Met, TRIES, say};
 use crate::readings::Shows;
 use rw_broadcast::{BCall, Broadcast};
 use rw_handles::{Kind, Table};
@@ -53,7 +53,7 @@ where
     M::Reply: Debug,
 {
     for call in calls {
-        println!(rt; "  {:?}", make(met, machine, call))?;
+        say(rt, &make(met, machine, call))?;
     }
     Ok(())
 }
@@ -135,14 +135,30 @@ fn ready_table(met: &mut Met, table: &mut Table<u64>, handles: u64) -> Result<()
     Err(NoMemory)
 }
 
+/// Makes a handle where a table has room for it, and prints its number.
+fn make_handle(rt: &impl Print, table: &mut Table<u64>) -> io::Result<()> {
+    if table.room() == 0 || table.made() >= 10 {
+        return Ok(());
+    }
+    say(rt, &table.make(Kind::Receiver, 5))
+}
+
+/// Makes room in a table for so many handles, and prints how many it has made.
+fn say_ready(
+    rt: &impl Print,
+    met: &mut Met,
+    table: &mut Table<u64>,
+    handles: u64,
+) -> io::Result<()> {
+    let readied = ready_table(met, table, handles);
+    println!(rt; "a table for {handles}: {readied:?}, made {}", table.made())
+}
+
 /// Makes room in a table for more and more handles, and makes one each time.
 fn fill_table(rt: &impl Print, met: &mut Met, table: &mut Table<u64>) -> io::Result<()> {
     for handles in [4, 40] {
-        let readied = ready_table(met, table, handles);
-        println!(rt; "a table for {handles}: {readied:?}, made {}", table.made())?;
-        if table.room() > 0 && table.made() < 10 {
-            println!(rt; "  {}", table.make(Kind::Receiver, 5))?;
-        }
+        say_ready(rt, met, table, handles)?;
+        make_handle(rt, table)?;
     }
     Ok(())
 }
@@ -167,12 +183,16 @@ fn capacity_of_ring(alloc: Global, met: &mut Met) -> Result<u64, NoMemory> {
     Ok(new_ring(alloc, met)?.capacity())
 }
 
-/// Plays a table of two and a ring.
-fn play_parts(rt: &impl Print, alloc: Global, met: &mut Met) -> io::Result<()> {
+/// Plays a table of two.
+fn play_two(rt: &impl Print, alloc: Global, met: &mut Met) -> io::Result<()> {
     match made_by_two(alloc, met) {
-        Ok(made) => println!(rt; "a table of two: made {made}")?,
-        Err(NoMemory) => println!(rt; "no table of two")?,
+        Ok(made) => println!(rt; "a table of two: made {made}"),
+        Err(NoMemory) => println!(rt; "no table of two"),
     }
+}
+
+/// Plays a ring.
+fn play_ring(rt: &impl Print, alloc: Global, met: &mut Met) -> io::Result<()> {
     match capacity_of_ring(alloc, met) {
         Ok(capacity) => println!(rt; "a ring of {capacity}"),
         Err(NoMemory) => println!(rt; "no ring"),
@@ -216,7 +236,8 @@ fn play_watch(rt: &impl Print, alloc: Global, met: &mut Met) -> io::Result<()> {
 /// Plays all of these.
 pub fn play(rt: &impl Print, alloc: Global, met: &mut Met) -> io::Result<()> {
     play_table(rt, alloc, met)?;
-    play_parts(rt, alloc, met)?;
+    play_two(rt, alloc, met)?;
+    play_ring(rt, alloc, met)?;
     play_broadcast(rt, alloc, met)?;
     play_watch(rt, alloc, met)
 }

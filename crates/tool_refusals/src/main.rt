@@ -10,6 +10,7 @@ ghost use Rattle.std.specs.Prelude.{◌≡◌};
 mod books;
 mod broadcasts;
 mod callers;
+mod calls;
 mod desks;
 mod hand_offs;
 mod journals;
@@ -28,7 +29,9 @@ mod watches;
 mod worlds;
 
 use anyhow::{Result, bail};
+use calls::Calls;
 use met::Met;
+use rw_desk::Desk;
 use std::alloc::Global;
 use std::io;
 use std::sync::Wait;
@@ -43,11 +46,25 @@ fn play_runs(rt: &impl Print, alloc: Global, met: &mut Met) -> io::Result<()> {
     passes::play(rt, alloc, met)
 }
 
+/// Plays desks with passes.
+fn play_passes<D: Calls + Drop, R: Wait + Print>(
+    rt: &R,
+    alloc: Global,
+    met: &mut Met,
+) -> io::Result<()>
+where
+    D::Pass: Drop,
+    D::Hand: Drop,
+    D::Ends: Drop,
+{
+    desks::play::<D, R>(rt, alloc, met)?;
+    broadcasts::play::<D, R>(rt, alloc, met)?;
+    watches::play::<D, R>(rt, alloc, met)
+}
+
 /// Plays what threads share.
 fn play_desks<R: Wait + Print>(rt: &R, alloc: Global, met: &mut Met) -> io::Result<()> {
-    desks::play(rt, alloc, met)?;
-    broadcasts::play(rt, alloc, met)?;
-    watches::play(rt, alloc, met)?;
+    play_passes::<Desk<u64>, R>(rt, alloc, met)?;
     hand_offs::play(rt, alloc, met)?;
     seats::play(rt, alloc, met)
 }

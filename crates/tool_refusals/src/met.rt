@@ -1,4 +1,7 @@
-//! What is kept of the refusals that were met.
+//! What is kept of the refusals that were met, and how results are printed.
+
+use std::fmt::Debug;
+use std::io;
 
 /// How often a call is asked for. It is answered at the second time where one request is refused.
 pub const TRIES: u32 = 3;
@@ -36,4 +39,10 @@ impl Met {
             self.lost = self.lost.saturating_add(1);
         }
     }
+}
+
+/// Prints a result on a line of its own. Here alone its text is put together, since each function that does it has the instance in its
+/// own proof.
+pub fn say<T: Debug>(rt: &impl Print, answer: &T) -> io::Result<()> {
+    println!(rt; "  {answer:?}")
 }

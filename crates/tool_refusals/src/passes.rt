@@ -4,7 +4,7 @@ ghost use Rattle.std.specs.Prelude.{◌≡◌, false, IfOk};
 ghost use Rattle.rw_world.specs.Openings.{has_bad_capacity};
 ghost use Rattle.rw_desk.specs.GuardedBook.{IsOpenedFrom};
 
-use crate::met::{Met, TRIES};
+use crate::met::{Met, TRIES, say};
 use crate::readings::{SPECS, counted};
 use rw_broadcast::BCall;
 use rw_desk::{DeskFault, Pass};
@@ -20,19 +20,40 @@ use support_desks::StampedCall;
 /// What is compared of a book of a channel: its length, its handles, and its sends or notified changes.
 pub type BookReadings = (u64, (u32, u64));
 
-/// How many receipts a pass has, and its clock.
-fn held_in<V: Copy>(pass: &Pass<V>) -> (usize, u64) {
-    (pass.kept().len(), pass.stamp())
+/// A pass, and a book that it records calls on. What is played has it as a parameter, so that no proof but those of its one `impl` looks
+/// into a pass or a book.
+trait Records {
+    /// What the calls carry.
+    type Value: Copy;
+
+    /// What is compared of it: how many receipts the pass has, its clock, and what the book shows.
+    fn shown(&self) -> (usize, u64, BookReadings);
+
+    /// Makes a call on the book, and keeps its receipt under channel 0.
+    fn record(&mut self, call: ChanCall<Self::Value>) -> Result<ChanReply<Self::Value>, DeskFault>;
 }
 
-/// The same of a pass over numbers.
-pub fn held(pass: &Pass<u64>) -> (usize, u64) {
-    held_in(pass)
+/// The pass of actor 0, and a book of a channel.
+#[derive(Drop)]
+struct Recording<V: Copy> {
+    pass: Pass<V>,
+    book: Book<Chan<V>>,
 }
 
-/// Returns the pass of actor 0, without receipts. It allocates nothing.
-pub fn new_pass<V: Copy>(alloc: Global) -> Pass<V> {
-    Pass::new(alloc, 0)
+impl<V: Copy> Records for Recording<V> {
+    type Value = V;
+
+    fn shown(&self) -> (usize, u64, BookReadings) {
+        (
+            self.pass.kept().len(),
+            self.pass.stamp(),
+            readings_of(&self.book),
+        )
+    }
+
+    fn record(&mut self, call: ChanCall<V>) -> Result<ChanReply<V>, DeskFault> {
+        self.pass.record(&mut self.book, 0, call)
+    }
 }
 
 /// A book of a channel that is opened from this spec.
@@ -67,67 +88,91 @@ pub fn readings_of<V: Copy>(book: &Book<Chan<V>>) -> BookReadings {
     (book.len(), counted(book.machine()))
 }
 
-/// Makes a call on a book, and keeps its receipt under channel 0.
-fn record<V: Copy>(
+/// A pass without receipts, and a new book of a channel.
+fn new_recording<V: Copy>(
+    alloc: Global,
     met: &mut Met,
-    pass: &mut Pass<V>,
-    book: &mut Book<Chan<V>>,
-    call: ChanCall<V>,
-) -> Result<ChanReply<V>, DeskFault> {
-    let before = (held_in(pass), readings_of(book));
-    for _ in 0..TRIES {
-        match pass.record(book, 0, call) {
-            Err(DeskFault::NoMemory) => met.refused((held_in(pass), readings_of(book)) == before),
-            answer => return answer,
-        }
-    }
-    Err(DeskFault::NoMemory)
+    spec: &Spec<V>,
+) -> Result<Recording<V>, NoMemory> {
+    let book = new_book(alloc, met, spec)?;
+    Ok(Recording {
+        pass: Pass::new(alloc, 0),
+        book,
+    })
 }
 
-/// Makes these calls on a book.
-fn record_each<V: Copy>(
+/// Makes a call, with one retry.
+fn record<B: Records>(
     met: &mut Met,
-    pass: &mut Pass<V>,
-    book: &mut Book<Chan<V>>,
-    calls: &[StampedCall<V>],
+    both: &mut B,
+    call: ChanCall<B::Value>,
+) -> Result<ChanReply<B::Value>, DeskFault> {
+    let before = both.shown();
+    match both.record(call) {
+        Err(DeskFault::NoMemory) => {
+            met.refused(both.shown() == before);
+            both.record(call)
+        }
+        answer => answer,
+    }
+}
+
+/// Makes these calls.
+fn record_each<B: Records>(
+    met: &mut Met,
+    both: &mut B,
+    calls: &[StampedCall<B::Value>],
 ) -> Result<(), NoMemory> {
     for (_, _, call) in calls {
-        if let Err(DeskFault::NoMemory) = record(met, pass, book, *call) {
+        if let Err(DeskFault::NoMemory) = record(met, both, *call) {
             return Err(NoMemory);
         }
     }
     Ok(())
 }
 
-/// Makes these calls on a new book of a channel.
+/// Makes these calls on a new book of a channel, which is dropped, and returns the pass of actor 0 that made them.
 pub fn record_all<V: Copy>(
     alloc: Global,
     met: &mut Met,
-    pass: &mut Pass<V>,
     spec: &Spec<V>,
     calls: &[StampedCall<V>],
-) -> Result<(), NoMemory> {
-    let mut book = new_book(alloc, met, spec)?;
-    let recorded = record_each(met, pass, &mut book, calls);
+) -> Result<Pass<V>, NoMemory> {
+    let mut both = new_recording(alloc, met, spec)?;
+    let recorded = record_each(met, &mut both, calls);
+    let Recording { pass, book } = both;
     drop(book);
-    recorded
+    match recorded {
+        Ok(()) => Ok(pass),
+        Err(NoMemory) => {
+            drop(pass);
+            Err(NoMemory)
+        }
+    }
 }
 
-/// Makes a call on a book twenty times, and another one, and prints what is answered.
-fn say_records<V: Copy + Debug>(
+/// Prints what a pass has and how long the book is.
+fn say_shown<B: Records>(rt: &impl Print, both: &B) -> io::Result<()> {
+    let (receipts, clock, (length, _)) = both.shown();
+    println!(rt; "  ({receipts}, {clock}), {length} entries")
+}
+
+/// Makes a call twenty times, and another one, and prints what is answered.
+fn say_records<B: Records>(
     rt: &impl Print,
     met: &mut Met,
-    pass: &mut Pass<V>,
-    book: &mut Book<Chan<V>>,
-    call: ChanCall<V>,
-    last: ChanCall<V>,
-) -> io::Result<()> {
+    both: &mut B,
+    call: ChanCall<B::Value>,
+    last: ChanCall<B::Value>,
+) -> io::Result<()>
+where
+    B::Value: Debug,
+{
     for _ in 0..20 {
-        println!(rt; "  {:?}", record(met, pass, book, call))?;
+        say(rt, &record(met, both, call))?;
     }
-    println!(rt; "  {:?}", record(met, pass, book, last))?;
-    let (length, _) = readings_of(book);
-    println!(rt; "  {:?}, {length} entries", held_in(pass))
+    say(rt, &record(met, both, last))?;
+    say_shown(rt, both)
 }
 
 /// Plays a pass on a book: the calls are as many that both have to grow, and the last one would wait.
@@ -139,13 +184,11 @@ fn play_pass<V: Copy + Debug>(
     call: ChanCall<V>,
     last: ChanCall<V>,
 ) -> io::Result<()> {
-    let Ok(mut book) = new_book(alloc, met, spec) else {
+    let Ok(mut both) = new_recording(alloc, met, spec) else {
         return println!(rt; "  no book");
     };
-    let mut pass = new_pass(alloc);
-    let said = say_records(rt, met, &mut pass, &mut book, call, last);
-    drop(pass);
-    drop(book);
+    let said = say_records(rt, met, &mut both, call, last);
+    drop(both);
     said
 }
 

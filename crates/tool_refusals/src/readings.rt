@@ -5,19 +5,17 @@ use rw_law::{NoMemory, Payload, Reversible};
 use rw_watch::Watch;
 use rw_world::{Chan, Spec, World, open};
 use std::alloc::Global;
-use std::fmt::Debug;
 
 /// The specs of the worlds that are played.
 pub static SPECS: [Spec<u64>; 2] = [Spec::Broadcast(2), Spec::Watch(7)];
 
 /// A machine that can be compared before and after a refusal.
 pub trait Shows: Reversible {
-    type Readings: Copy + PartialEq + Debug;
-
     /// Opens the machine that is played.
     fn open(alloc: Global) -> Result<Self, NoMemory>;
 
-    fn readings(&self) -> Self::Readings;
+    /// Returns what is compared. A machine of one channel shows it first.
+    fn readings(&self) -> Readings;
 }
 
 /// What is compared of a channel: its handles, its sends or notified changes, the word of its oldest retained value or of its value, and
@@ -30,13 +28,11 @@ pub struct ChannelReadings {
     unread: Option<u64>,
 }
 
-/// What is compared of a world of two channels.
-pub type WorldReadings = [Option<ChannelReadings>; 2];
+/// What is compared of two channels.
+pub type Readings = [Option<ChannelReadings>; 2];
 
 /// A broadcast that retains two values.
 impl Shows for Broadcast<u64> {
-    type Readings = ChannelReadings;
-
     fn open(alloc: Global) -> Result<Broadcast<u64>, NoMemory> {
         match Broadcast::open(alloc, 2) {
             Ok(machine) => Ok(machine),
@@ -44,28 +40,24 @@ impl Shows for Broadcast<u64> {
         }
     }
 
-    fn readings(&self) -> ChannelReadings {
-        of_broadcast(self)
+    fn readings(&self) -> Readings {
+        [Some(of_broadcast(self)), None]
     }
 }
 
 /// A watch of 7.
 impl Shows for Watch<u64> {
-    type Readings = ChannelReadings;
-
     fn open(alloc: Global) -> Result<Watch<u64>, NoMemory> {
         Watch::open(alloc, 7)
     }
 
-    fn readings(&self) -> ChannelReadings {
-        of_watch(self)
+    fn readings(&self) -> Readings {
+        [Some(of_watch(self)), None]
     }
 }
 
 /// A world of both.
 impl Shows for World<u64> {
-    type Readings = WorldReadings;
-
     fn open(alloc: Global) -> Result<World<u64>, NoMemory> {
         match open(alloc, &SPECS) {
             Ok(world) => Ok(world),
@@ -73,7 +65,7 @@ impl Shows for World<u64> {
         }
     }
 
-    fn readings(&self) -> WorldReadings {
+    fn readings(&self) -> Readings {
         of_world(self)
     }
 }
@@ -120,7 +112,7 @@ fn of_channel<V: Payload>(channel: Option<&Chan<V>>) -> Option<ChannelReadings> 
 }
 
 /// Returns what is compared of a world. No bound is on a world here, so that a caller's proof has no instance to put together.
-pub fn of_world<V: Payload>(world: &World<V>) -> WorldReadings {
+pub fn of_world<V: Payload>(world: &World<V>) -> Readings {
     [of_channel(world.channel(0)), of_channel(world.channel(1))]
 }
 

@@ -1,7 +1,7 @@
 //! Runs: built entry by entry, and opened again at their start.
 
 use crate::met::{Met, TRIES};
-use crate::readings::{SPECS, WorldReadings, of_world};
+use crate::readings::{Readings, SPECS, of_world};
 use rw_broadcast::{BCall, BReply};
 use rw_journal::{PushFault, Run, RunDraft};
 use rw_law::{NoMemory, Payload};
@@ -101,7 +101,7 @@ pub fn build<V: Payload>(alloc: Global, met: &mut Met, specs: &[Spec<V>]) -> Opt
 }
 
 /// What a world shows, which is dropped.
-fn readings_in<V: Payload>(world: World<V>) -> WorldReadings {
+fn readings_in<V: Payload>(world: World<V>) -> Readings {
     of_world(&world)
 }
 

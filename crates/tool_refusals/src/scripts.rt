@@ -11,7 +11,7 @@ use std::alloc::Global;
 use std::io;
 
 /// A script with names, whose last call would wait.
-const SCRIPT: &[u8] = b"broadcast 2
+static SCRIPT: &[u8] = b"broadcast 2
 watch 5
 actors 2
 0 0 subscribe 0 as slow

@@ -2,7 +2,8 @@
 
 ghost use Rattle.std.specs.Prelude.{All, IfOk, IfSome};
 
-use crate::met::{Met, TRIES};
+use crate::desks::{ended, say_end};
+use crate::met::{Met, say};
 use crate::readings::SPECS;
 use crate::runs::length_of;
 use rw_broadcast::BCall;
@@ -156,13 +157,13 @@ where
     D::Seat: Drop,
     ensures { IfOk result (λ r. All (D.owns r.0) r.1.items) }
 {
-    for _ in 0..TRIES {
-        match D::open(alloc, specs, actors) {
-            Err(DeskOpenFault::World(OpenFault::NoMemory)) => met.refused(true),
-            answer => return answer,
+    match D::open(alloc, specs, actors) {
+        Err(DeskOpenFault::World(OpenFault::NoMemory)) => {
+            met.refused(true);
+            D::open(alloc, specs, actors)
         }
+        answer => answer,
     }
-    Err(DeskOpenFault::World(OpenFault::NoMemory))
 }
 
 /// The last of a desk's seats, taken off.
@@ -212,26 +213,26 @@ fn ask<D: Seated, R: Wait>(
     }
 }
 
-/// Makes calls by a seat, and prints the result of each.
+/// Makes calls by a seat, and prints the result of each. The seat comes back even where nothing is printed.
 fn call_all<D: Seated, R: Wait + Print>(
     rt: &R,
     met: &mut Met,
     desk: &D,
     mut seat: D::Seat,
     calls: &[(u32, ChanCall<D::Value>)],
-) -> io::Result<D::Seat>
+) -> (D::Seat, io::Result<()>)
 where
-    D::Seat: Drop,
     D::Value: Debug,
     requires { D.owns desk.now seat }
-    ensures { IfOk result (D.owns desk.now) }
+    ensures { D.owns desk.now result.0 }
 {
+    let mut said = Ok(());
     for (channel, made) in calls {
         let (back, answer) = ask(rt, met, desk, seat, *channel, *made);
         seat = back;
-        println!(rt; "  {answer:?}")?;
+        said = said.and(say(rt, &answer));
     }
-    Ok(seat)
+    (seat, said)
 }
 
 /// Makes them so many times.
@@ -242,27 +243,29 @@ fn call_again<D: Seated, R: Wait + Print>(
     mut seat: D::Seat,
     calls: &[(u32, ChanCall<D::Value>)],
     rounds: u32,
-) -> io::Result<D::Seat>
+) -> (D::Seat, io::Result<()>)
 where
-    D::Seat: Drop,
     D::Value: Debug,
     requires { D.owns desk.now seat }
-    ensures { IfOk result (D.owns desk.now) }
+    ensures { D.owns desk.now result.0 }
 {
+    let mut said = Ok(());
     for _round in 0..rounds {
-        seat = call_all(rt, met, desk, seat, calls)?;
+        let (back, called) = call_all(rt, met, desk, seat, calls);
+        seat = back;
+        said = said.and(called);
     }
-    Ok(seat)
+    (seat, said)
 }
 
-/// How many receipts these seats have.
-fn receipts_in<D: Seated>(seats: &[D::Seat]) -> usize {
+/// How many seats there are, and how many receipts they have.
+fn counts_of<D: Seated>(seats: &[D::Seat]) -> (usize, usize) {
     let mut count: usize = 0;
     for seat in seats {
         let (receipts, _) = D::held(seat);
         count = count.saturating_add(receipts);
     }
-    count
+    (seats.len(), count)
 }
 
 /// Closes a desk, and returns the length of its run. At a refusal the desk and the seats are returned, and it is closed again.
@@ -277,17 +280,13 @@ where
     D::Seat: Drop,
     requires { All (D.owns desk) seats.items }
 {
-    let before = (seats.len(), receipts_in::<D>(&seats));
+    let before = counts_of::<D>(&seats);
     match desk.close(rt, alloc, seats) {
-        Ok(length) => Ok(length),
         Err((CloseFault::NoMemory, desk, seats)) => {
-            met.refused((seats.len(), receipts_in::<D>(&seats)) == before);
-            match desk.close(rt, alloc, seats) {
-                Ok(length) => Ok(length),
-                Err((fault, _, _)) => Err(fault),
-            }
+            met.refused(counts_of::<D>(&seats) == before);
+            ended(desk.close(rt, alloc, seats))
         }
-        Err((fault, _, _)) => Err(fault),
+        closed => ended(closed),
     }
 }
 
@@ -313,10 +312,7 @@ where
     let Ok(seats) = with_seat(&desk, seats, two) else {
         return println!(rt; "  no room for a seat");
     };
-    match ask_close(rt, alloc, met, desk, seats) {
-        Ok(length) => println!(rt; "  closed with {length} entries"),
-        Err(fault) => println!(rt; "  {fault:?}"),
-    }
+    say_end(rt, ask_close(rt, alloc, met, desk, seats))
 }
 
 /// Makes calls by the two seats of a new desk, which meet then, and closes the desk.
@@ -340,11 +336,11 @@ where
     let Some(one) = last_seat(&desk, &mut seats) else {
         return println!(rt; "  no first seat");
     };
-    let one = call_all(rt, met, &desk, one, calls)?;
-    let two = call_again(rt, met, &desk, two, calls, 6)?;
+    let (one, called) = call_all(rt, met, &desk, one, calls);
+    let (two, again) = call_again(rt, met, &desk, two, calls, 6);
     let (one, two, met_at) = desk.meet(rt, one, two, 0);
-    println!(rt; "  {met_at:?}")?;
-    close_with(rt, alloc, met, desk, seats, one, two)
+    let said = called.and(again).and(say(rt, &met_at));
+    said.and(close_with(rt, alloc, met, desk, seats, one, two))
 }
 
 /// Plays a desk of two seats.

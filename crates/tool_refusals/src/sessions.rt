@@ -10,7 +10,7 @@ use std::str::from_utf8;
 use support_devices::{FailingReader, FailingWriter};
 
 /// A script whose last call would wait, and commands.
-const SESSION: &[u8] = b"broadcast 2
+static SESSION: &[u8] = b"broadcast 2
 watch 5
 actors 2
 0 0 downgrade 0 as weak
@@ -32,13 +32,13 @@ quit
 ";
 
 /// A script that is refused.
-const REFUSED: &[u8] = b"broadcast 2
+static REFUSED: &[u8] = b"broadcast 2
 0 0 send 0 1
 0 0 shout 0
 ";
 
 /// Commands over a run. Without memory for the index of a search, the results are the same.
-const COMMANDS: &[u8] = b"list
+static COMMANDS: &[u8] = b"list
 state
 state json
 start

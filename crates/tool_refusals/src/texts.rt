@@ -9,7 +9,7 @@ use std::alloc::Global;
 use std::io;
 
 /// The text of a journal of both channels.
-pub const JOURNAL: &[u8] = b"ttd-journal 2
+pub static JOURNAL: &[u8] = b"ttd-journal 2
 broadcast 2
 watch 5
 steps
@@ -92,6 +92,31 @@ fn write_text<V: Payload>(
     Err(WriteFault(0))
 }
 
+/// Prints how many bytes were written, and whether they are the text that was read.
+fn say_written(rt: &impl Print, written: Result<Vec<u8>, WriteFault>) -> io::Result<()> {
+    match written {
+        Ok(bytes) => {
+            let (length, is_same) = (bytes.len(), bytes.as_slice() == JOURNAL);
+            drop(bytes);
+            println!(rt; "  written: {length} bytes, as before: {is_same}")
+        }
+        Err(fault) => println!(rt; "  {fault:?}"),
+    }
+}
+
+/// Plays a run that is written and read again.
+fn play_again<V: Payload>(
+    rt: &impl Print,
+    alloc: Global,
+    met: &mut Met,
+    run: &Run<V>,
+) -> io::Result<()> {
+    match write_and_read(alloc, met, run) {
+        Ok(again) => println!(rt; "  read again: {} entries", length_of(again)),
+        Err(NoMemory) => println!(rt; "  isn't read again"),
+    }
+}
+
 /// Plays a run of a text.
 fn play_run<V: Payload>(
     rt: &impl Print,
@@ -100,18 +125,8 @@ fn play_run<V: Payload>(
     run: &Run<V>,
 ) -> io::Result<()> {
     println!(rt; "  read: {} entries", run.len())?;
-    match write_text(alloc, met, run, JOURNAL) {
-        Ok(bytes) => {
-            let (length, is_same) = (bytes.len(), bytes.as_slice() == JOURNAL);
-            drop(bytes);
-            println!(rt; "  written: {length} bytes, as before: {is_same}")?;
-        }
-        Err(fault) => println!(rt; "  {fault:?}")?,
-    }
-    match write_and_read(alloc, met, run) {
-        Ok(again) => println!(rt; "  read again: {} entries", length_of(again)),
-        Err(NoMemory) => println!(rt; "  isn't read again"),
-    }
+    say_written(rt, write_text(alloc, met, run, JOURNAL))?;
+    play_again(rt, alloc, met, run)
 }
 
 /// How many entries are salvaged of a text, of how many bytes.

@@ -1,10 +1,14 @@
 //! Walks over a run: a navigator and a debugger of it, moves, and the index of a condition.
 
+ghost use Rattle.std.specs.Prelude.{◌≤◌, ◌^◌, length};
+ghost use Rattle.rw_law.specs.Journal.{IsLegal};
+ghost use Rattle.rw_navigator.specs.declared.places.TheConstants.{MOST_PLACES};
+
 use crate::met::{Met, TRIES};
 use crate::readings::SPECS;
 use crate::runs::build;
 use rw_journal::Run;
-use rw_law::{NoMemory, Payload, Reversible};
+use rw_law::{Entry, NoMemory, Payload, Reversible};
 use rw_navigator::{Cond, Debugger, HitIndex, Move, Navigator, OutOfRange, Probe};
 use rw_world::{Spec, World};
 use std::alloc::Global;
@@ -62,12 +66,12 @@ impl<R: Reversible, P: Probe<R>> Walker for Searching<R, P> {
 
 /// A debugger, and a condition.
 #[derive(Drop)]
-struct Debugging<V: Copy> {
+struct Debugging<V: Copy, P> {
     debugger: Debugger<V>,
-    cond: Cond,
+    cond: P,
 }
 
-impl<V: Payload> Walker for Debugging<V> {
+impl<V: Payload, P: Probe<World<V>>> Walker for Debugging<V, P> {
     fn stands(&self) -> (u64, u64) {
         (self.debugger.place(), self.debugger.turns())
     }
@@ -81,7 +85,7 @@ impl<V: Payload> Walker for Debugging<V> {
     }
 
     fn around(&self, alloc: Global, place: u64) -> Result<Around, NoMemory> {
-        if !<Cond as Probe<World<V>>>::on_step(&self.cond) {
+        if !self.cond.on_step() {
             return Err(NoMemory);
         }
         looked_up(self.debugger.hit_index(alloc, &self.cond), place)
@@ -99,55 +103,51 @@ fn looked_up<R: Reversible, P: Probe<R>>(
     Ok(around)
 }
 
-/// A navigator of a run at place 0. Where memory is refused for it, the world of its start is dropped.
-fn open_navigator<V: Copy>(alloc: Global, run: &Run<V>) -> Result<Navigator<World<V>>, NoMemory> {
-    Navigator::open(alloc, run.start(alloc)?, run.entries())
+/// A navigator at place 0, over a copy of these entries. Where it copies them itself, that is over its own list, and else over the
+/// list that is handed to it. Where memory is refused, the machine is dropped.
+fn opened<R: Reversible + Drop>(
+    alloc: Global,
+    start: R,
+    entries: &[Entry<R>],
+    copies: bool,
+) -> Result<Navigator<R>, NoMemory>
+    requires weight { R.weigh (R.shown start) ≤ 2 ^ 32 }
+    requires few { length entries.now ≤ MOST_PLACES }
+    requires legal { IsLegal R.Reversible (R.shown start) entries.now }
+{
+    if copies {
+        return Navigator::open(alloc, start, entries);
+    }
+    match entries.to_vec(alloc) {
+        Ok(entries) => Navigator::over(start, entries),
+        Err(_) => Err(NoMemory),
+    }
 }
 
-/// The same, with retries.
+/// The same of a run.
+fn open_navigator<V: Copy>(
+    alloc: Global,
+    run: &Run<V>,
+    copies: bool,
+) -> Result<Navigator<World<V>>, NoMemory> {
+    opened(alloc, run.start(alloc)?, run.entries(), copies)
+}
+
+/// The same, with one retry.
 fn new_navigator<V: Copy>(
     alloc: Global,
     met: &mut Met,
     run: &Run<V>,
+    copies: bool,
 ) -> Result<Navigator<World<V>>, NoMemory> {
     let length = run.len();
-    for _ in 0..TRIES {
-        match open_navigator(alloc, run) {
-            Ok(navigator) => return Ok(navigator),
-            Err(NoMemory) => met.refused(run.len() == length),
-        }
-    }
-    Err(NoMemory)
-}
-
-/// A navigator over a copy of the entries that is handed to it. At a refusal world and copy are dropped.
-fn open_over<V: Copy>(alloc: Global, run: &Run<V>) -> Result<Navigator<World<V>>, NoMemory> {
-    let Ok(entries) = run.entries().to_vec(alloc) else {
-        return Err(NoMemory);
-    };
-    match run.start(alloc) {
-        Ok(start) => Navigator::over(start, entries),
+    match open_navigator(alloc, run, copies) {
+        Ok(navigator) => Ok(navigator),
         Err(NoMemory) => {
-            drop(entries);
-            Err(NoMemory)
+            met.refused(run.len() == length);
+            open_navigator(alloc, run, copies)
         }
     }
-}
-
-/// The same, with retries.
-fn new_over<V: Copy>(
-    alloc: Global,
-    met: &mut Met,
-    run: &Run<V>,
-) -> Result<Navigator<World<V>>, NoMemory> {
-    let length = run.len();
-    for _ in 0..TRIES {
-        match open_over(alloc, run) {
-            Ok(navigator) => return Ok(navigator),
-            Err(NoMemory) => met.refused(run.len() == length),
-        }
-    }
-    Err(NoMemory)
 }
 
 /// A debugger of a run at place 0.
@@ -157,13 +157,13 @@ fn new_debugger<V: Copy>(
     run: &Run<V>,
 ) -> Result<Debugger<V>, NoMemory> {
     let length = run.len();
-    for _ in 0..TRIES {
-        match Debugger::open(alloc, run) {
-            Ok(debugger) => return Ok(debugger),
-            Err(NoMemory) => met.refused(run.len() == length),
+    match Debugger::open(alloc, run) {
+        Ok(debugger) => Ok(debugger),
+        Err(NoMemory) => {
+            met.refused(run.len() == length);
+            Debugger::open(alloc, run)
         }
     }
-    Err(NoMemory)
 }
 
 /// Makes the moves, with retries.
@@ -261,26 +261,45 @@ fn play_navigator<R: Reversible + Drop, P: Probe<R> + Copy>(
     }
 }
 
-/// Plays a navigator of a run and an index of the entries by actor 1, a navigator over entries of its own, and a debugger of the run
-/// and an index of its entries on channel 0.
+/// Plays a navigator of a run, and an index of the entries by actor 1 if that is looked up too. It is over its own copy of the entries, or
+/// over one that is handed to it.
+fn play_navigator_of<V: Payload>(
+    rt: &impl Print,
+    alloc: Global,
+    met: &mut Met,
+    run: &Run<V>,
+    copies: bool,
+) -> io::Result<()> {
+    let navigator = new_navigator(alloc, met, run, copies);
+    play_navigator(rt, alloc, met, navigator, Cond::Actor(1), copies)
+}
+
+/// Plays a debugger of a run, and an index of its entries on channel 0.
+fn play_debugger_of<V: Payload>(
+    rt: &impl Print,
+    alloc: Global,
+    met: &mut Met,
+    run: &Run<V>,
+) -> io::Result<()> {
+    match new_debugger(alloc, met, run) {
+        Ok(debugger) => {
+            let cond = Cond::Channel(0);
+            play_walker(rt, alloc, met, Debugging { debugger, cond }, true)
+        }
+        Err(NoMemory) => println!(rt; "  isn't opened"),
+    }
+}
+
+/// Plays a navigator of a run with an index, a navigator over entries of its own, and a debugger of the run with an index.
 fn play_run<V: Payload>(
     rt: &impl Print,
     alloc: Global,
     met: &mut Met,
     run: &Run<V>,
 ) -> io::Result<()> {
-    let (by_actor, on_channel) = (Cond::Actor(1), Cond::Channel(0));
-    let navigator = new_navigator(alloc, met, run);
-    play_navigator(rt, alloc, met, navigator, by_actor, true)?;
-    let over = new_over(alloc, met, run);
-    play_navigator(rt, alloc, met, over, by_actor, false)?;
-    match new_debugger(alloc, met, run) {
-        Ok(debugger) => {
-            let cond = on_channel;
-            play_walker(rt, alloc, met, Debugging { debugger, cond }, true)
-        }
-        Err(NoMemory) => println!(rt; "  isn't opened"),
-    }
+    play_navigator_of(rt, alloc, met, run, true)?;
+    play_navigator_of(rt, alloc, met, run, false)?;
+    play_debugger_of(rt, alloc, met, run)
 }
 
 /// Plays walks over a run of these specs that is built for them.

@@ -1,16 +1,15 @@
 //! Calls on a watch of a desk by its handles. Each is made by another actor, whose pass has no room for a receipt yet.
 
-use crate::callers::{ask, ask_all, ask_drop, say};
+use crate::callers::{ask, ask_all, ask_drop, say_reply};
+use crate::calls::Calls;
 use crate::desks::{hands_in, last_hands, new_desk, say_closed};
-use crate::met::{Met, TRIES};
-use crate::passes::held;
-use rw_desk::{Desk, DeskFault, Pass};
+use crate::met::Met;
+use rw_desk::DeskFault;
 use rw_watch::{WCall, WReply};
 use rw_world::{ChanCall, Spec};
 use std::alloc::Global;
 use std::io;
 use std::sync::Wait;
-use support_desks::{Hand, wait_until};
 
 /// What is called by sender 0. A value is modified by a closure, which returns nothing or `false`.
 static BY_SENDER: [ChanCall<u64>; 9] = [
@@ -50,22 +49,23 @@ static BY_RECEIVER: [ChanCall<u64>; 9] = [
 const ACTORS: u32 = 19;
 
 /// Waits for a value that is at least this. Values that were read before a refusal stay recorded, and are read again.
-fn wait_for<R: Wait>(
+fn wait_for<D: Calls, R: Wait>(
     rt: &R,
     met: &mut Met,
-    desk: &Desk<u64>,
-    pass: &mut Pass<u64>,
-    receiver: &Hand,
+    desk: &D,
+    pass: &mut D::Pass,
+    receiver: &D::Hand,
     least: u64,
 ) -> Result<WReply<u64>, DeskFault> {
-    let (receipts, _) = held(pass);
-    for _ in 0..TRIES {
-        match wait_until(rt, desk, pass, receiver, least) {
-            Err(DeskFault::NoMemory) => met.refused(held(pass).0 >= receipts),
-            answer => return answer,
+    let (receipts, _) = D::held(pass);
+    match desk.wait_until(rt, pass, receiver, least) {
+        Err(DeskFault::NoMemory) => {
+            let (more, _) = D::held(pass);
+            met.refused(more >= receipts);
+            desk.wait_until(rt, pass, receiver, least)
         }
+        answer => answer,
     }
-    Err(DeskFault::NoMemory)
 }
 
 /// Prints what is found by a wait for a value.
@@ -74,12 +74,12 @@ fn say_value(rt: &impl Print, found: &Result<WReply<u64>, DeskFault>) -> io::Res
 }
 
 /// Waits for a value that is there already, and prints what is found.
-fn say_wait<R: Wait + Print>(
+fn say_wait<D: Calls, R: Wait + Print>(
     rt: &R,
     met: &mut Met,
-    desk: &Desk<u64>,
-    passes: &mut [Pass<u64>],
-    receiver: &Hand,
+    desk: &D,
+    passes: &mut [D::Pass],
+    receiver: &D::Hand,
 ) -> io::Result<()> {
     match passes {
         [pass] => say_value(rt, &wait_for(rt, met, desk, pass, receiver, 11)),
@@ -88,13 +88,16 @@ fn say_wait<R: Wait + Print>(
 }
 
 /// Makes all calls by the two handles, and waits for a value that is there already. The handles are forgotten then.
-fn play_handles<R: Wait + Print>(
+fn play_handles<D: Calls, R: Wait + Print>(
     rt: &R,
     met: &mut Met,
-    desk: &Desk<u64>,
-    passes: &mut [Pass<u64>],
-    hands: Option<(Hand, Hand)>,
-) -> io::Result<()> {
+    desk: &D,
+    passes: &mut [D::Pass],
+    hands: Option<(D::Hand, D::Hand)>,
+) -> io::Result<()>
+where
+    D::Hand: Drop,
+{
     let Some((sender, receiver)) = hands else {
         return println!(rt; "  no handles");
     };
@@ -106,67 +109,113 @@ fn play_handles<R: Wait + Print>(
 }
 
 /// Drops the receiver of a watch, which is closed then.
-fn close_for_sender<R: Wait + Print>(
+fn close_for_sender<D: Calls, R: Wait + Print>(
     rt: &R,
     met: &mut Met,
-    desk: &Desk<u64>,
-    passes: &mut [Pass<u64>],
-    hands: Option<(Hand, Hand)>,
-) -> io::Result<()> {
+    desk: &D,
+    passes: &mut [D::Pass],
+    hands: Option<(D::Hand, D::Hand)>,
+) -> io::Result<()>
+where
+    D::Hand: Drop,
+{
     let (Some((sender, receiver)), [first, second, ..]) = (hands, passes) else {
         return println!(rt; "  no handles or passes");
     };
     let dropped = ask_drop(rt, met, desk, first, receiver);
     let awaited = ChanCall::W(WCall::AwaitClosed(0));
     let closed = ask(rt, met, desk, second, &sender, awaited);
-    say(rt, &dropped).and(say(rt, &closed))
+    say_reply(rt, &dropped).and(say_reply(rt, &closed))
 }
 
 /// Drops the sender of a watch, and waits for a value that never comes then.
-fn close_for_receiver<R: Wait + Print>(
+fn close_for_receiver<D: Calls, R: Wait + Print>(
     rt: &R,
     met: &mut Met,
-    desk: &Desk<u64>,
-    passes: &mut [Pass<u64>],
-    hands: Option<(Hand, Hand)>,
-) -> io::Result<()> {
+    desk: &D,
+    passes: &mut [D::Pass],
+    hands: Option<(D::Hand, D::Hand)>,
+) -> io::Result<()>
+where
+    D::Hand: Drop,
+{
     let (Some((sender, receiver)), [.., third, fourth]) = (hands, passes) else {
         return println!(rt; "  no handles or passes");
     };
     let dropped = ask_drop(rt, met, desk, third, sender);
     let closed = wait_for(rt, met, desk, fourth, &receiver, 9);
-    say(rt, &dropped).and(say_value(rt, &closed))
+    say_reply(rt, &dropped).and(say_value(rt, &closed))
+}
+
+/// Closes a desk's first watch for its sender, and the second for its receiver.
+fn close_both<D: Calls, R: Wait + Print>(
+    rt: &R,
+    met: &mut Met,
+    desk: &D,
+    passes: &mut [D::Pass],
+    mut ends: Vec<D::Ends>,
+) -> io::Result<()>
+where
+    D::Hand: Drop,
+    D::Ends: Drop,
+{
+    let second = hands_in::<D>(ends.pop());
+    let first = last_hands::<D>(ends);
+    let for_sender = close_for_sender(rt, met, desk, passes, first);
+    for_sender.and(close_for_receiver(rt, met, desk, passes, second))
 }
 
 /// Plays a watch whose receiver is dropped, and one whose sender is, of one desk.
-fn play_closed<R: Wait + Print>(rt: &R, alloc: Global, met: &mut Met) -> io::Result<()> {
-    println!(rt; "watches of a desk that close")?;
+fn play_closed<D: Calls + Drop, R: Wait + Print>(
+    rt: &R,
+    alloc: Global,
+    met: &mut Met,
+) -> io::Result<()>
+where
+    D::Pass: Drop,
+    D::Hand: Drop,
+    D::Ends: Drop,
+{
     let specs = [Spec::Watch(7), Spec::Watch(8)];
-    let Ok((desk, mut passes, mut ends)) = new_desk(alloc, met, &specs, 4) else {
+    let Ok((desk, mut passes, ends)) = new_desk::<D>(alloc, met, &specs, 4) else {
         return println!(rt; "  no desk");
     };
-    let second = hands_in(ends.pop());
-    let first = last_hands(ends);
-    let for_sender = close_for_sender(rt, met, &desk, &mut passes, first);
-    let for_receiver = close_for_receiver(rt, met, &desk, &mut passes, second);
-    for_sender
-        .and(for_receiver)
-        .and(say_closed(rt, alloc, met, desk, passes))
+    let closed = close_both(rt, met, &desk, &mut passes, ends);
+    closed.and(say_closed(rt, alloc, met, desk, passes))
 }
 
 /// Plays a watch of a desk, by its handles.
-fn play_open<R: Wait + Print>(rt: &R, alloc: Global, met: &mut Met) -> io::Result<()> {
-    println!(rt; "a watch of a desk, by its handles")?;
+fn play_open<D: Calls + Drop, R: Wait + Print>(
+    rt: &R,
+    alloc: Global,
+    met: &mut Met,
+) -> io::Result<()>
+where
+    D::Pass: Drop,
+    D::Hand: Drop,
+    D::Ends: Drop,
+{
     let specs = [Spec::Watch(7)];
-    let Ok((desk, mut passes, ends)) = new_desk(alloc, met, &specs, ACTORS) else {
+    let Ok((desk, mut passes, ends)) = new_desk::<D>(alloc, met, &specs, ACTORS) else {
         return println!(rt; "  no desk");
     };
-    let played = play_handles(rt, met, &desk, &mut passes, last_hands(ends));
+    let played = play_handles(rt, met, &desk, &mut passes, last_hands::<D>(ends));
     played.and(say_closed(rt, alloc, met, desk, passes))
 }
 
 /// Plays watches of desks.
-pub fn play<R: Wait + Print>(rt: &R, alloc: Global, met: &mut Met) -> io::Result<()> {
-    play_open(rt, alloc, met)?;
-    play_closed(rt, alloc, met)
+pub fn play<D: Calls + Drop, R: Wait + Print>(
+    rt: &R,
+    alloc: Global,
+    met: &mut Met,
+) -> io::Result<()>
+where
+    D::Pass: Drop,
+    D::Hand: Drop,
+    D::Ends: Drop,
+{
+    println!(rt; "a watch of a desk, by its handles")?;
+    play_open::<D, R>(rt, alloc, met)?;
+    println!(rt; "watches of a desk that close")?;
+    play_closed::<D, R>(rt, alloc, met)
 }

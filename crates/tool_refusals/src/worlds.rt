@@ -8,6 +8,7 @@ use crate::machines::play_machine;
 use crate::met::Met;
 use crate::readings::Shows;
 use rw_broadcast::BCall;
+use rw_journal::Book;
 use rw_watch::WCall;
 use rw_world::{ChanCall, RowCall, World};
 use std::alloc::Global;
@@ -106,7 +107,7 @@ where
     println!(rt; "a world")?;
     play_machine::<M>(rt, alloc, met, calls)?;
     println!(rt; "a book")?;
-    play_book::<M>(rt, alloc, met, single, listed)
+    play_book::<Book<M>>(rt, alloc, met, single, listed)
 }
 
 /// Plays all of these.
