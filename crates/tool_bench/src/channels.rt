@@ -1,6 +1,10 @@
 //! Lists of calls measured on each kind of machine.
 
 ghost use Rattle.std.specs.Prelude.{◌≡◌, ◌≤◌, ◌∷◌, [], ◌^◌, length, IfOk};
+ghost use Rattle.rw_broadcast.specs.Record.{opening_record as opening_broadcast};
+ghost use Rattle.rw_broadcast.specs.Shown.{shown as broadcast_shown};
+ghost use Rattle.rw_watch.specs.Record.{opening_record as opening_watch};
+ghost use Rattle.rw_watch.specs.Shown.{shown as watch_shown};
 ghost use Rattle.rw_world.specs.Openings.{opening_row};
 
 use crate::measure::{Measured, measure};
@@ -22,15 +26,9 @@ pub fn on_broadcast(
     requires { length calls.now ≤ 2 ^ 32 }
     ensures { IfOk result (λ measured. measured.steps ≡ length calls.now) }
 {
-    let Ok(played) = Broadcast::open(alloc, capacity) else {
-        bail!("the channel is not opened");
-    };
-    let Ok(recorded) = Broadcast::open(alloc, capacity) else {
-        bail!("the channel is not opened");
-    };
-    let Ok(walked) = Broadcast::open(alloc, capacity) else {
-        bail!("the channel is not opened");
-    };
+    let played = broadcast_of(alloc, capacity)?;
+    let recorded = broadcast_of(alloc, capacity)?;
+    let walked = broadcast_of(alloc, capacity)?;
     measure(clock, alloc, played, recorded, walked, calls)
 }
 
@@ -43,15 +41,9 @@ pub fn on_watch(
     requires { length calls.now ≤ 2 ^ 32 }
     ensures { IfOk result (λ measured. measured.steps ≡ length calls.now) }
 {
-    let Ok(played) = Watch::open(alloc, 0) else {
-        bail!("the channel is not opened");
-    };
-    let Ok(recorded) = Watch::open(alloc, 0) else {
-        bail!("the channel is not opened");
-    };
-    let Ok(walked) = Watch::open(alloc, 0) else {
-        bail!("the channel is not opened");
-    };
+    let played = watch_of(alloc)?;
+    let recorded = watch_of(alloc)?;
+    let walked = watch_of(alloc)?;
     measure(clock, alloc, played, recorded, walked, calls)
 }
 
@@ -69,6 +61,26 @@ pub fn on_world(
     let recorded = world_of(alloc, spec)?;
     let walked = world_of(alloc, spec)?;
     measure(clock, alloc, played, recorded, walked, calls)
+}
+
+/// Opens a broadcast channel of this capacity.
+fn broadcast_of(alloc: Global, capacity: u32) -> Result<Broadcast<u64>>
+    ensures { IfOk result (λ channel. channel.shown ≡ broadcast_shown (opening_broadcast capacity)) }
+{
+    match Broadcast::open(alloc, capacity) {
+        Ok(channel) => Ok(channel),
+        Err(_) => bail!("the channel is not opened"),
+    }
+}
+
+/// Opens a watch channel.
+fn watch_of(alloc: Global) -> Result<Watch<u64>>
+    ensures { IfOk result (λ channel. channel.shown ≡ watch_shown (opening_watch 0)) }
+{
+    match Watch::open(alloc, 0) {
+        Ok(channel) => Ok(channel),
+        Err(_) => bail!("the channel is not opened"),
+    }
 }
 
 /// Opens a world of one channel.

@@ -8,7 +8,7 @@
 //! which says what memory is counted.
 #![tactic(auto)]
 
-ghost use Rattle.std.specs.Prelude.{◌≡◌};
+ghost use Rattle.std.specs.Prelude.{◌≡◌, ◌≤◌, ◌^◌, length};
 
 mod channels;
 mod measure;
@@ -20,8 +20,10 @@ use anyhow::{Context, Result};
 use channels::{on_broadcast, on_watch, on_world};
 use measure::Measured;
 use memory::report_memory;
+use rw_broadcast::BCall;
 use rw_law::Entry;
-use rw_world::{Spec, World};
+use rw_watch::WCall;
+use rw_world::{ChanCall, RowCall, Spec, World};
 use std::alloc::Global;
 use std::env::{self, Env};
 use std::fmt::Debug;
@@ -73,6 +75,22 @@ fn report<R: Debug>(
     )
 }
 
+/// Measures calls to a world of one channel.
+fn in_world(
+    rt: &(impl Clock + Print + Eprint),
+    alloc: Global,
+    spec: Spec<u64>,
+    calls: &[RowCall<ChanCall<u64>>],
+    name: &str,
+) -> Result<()>
+    requires { length calls.now ≤ 2 ^ 32 }
+{
+    let measured = on_world(rt, alloc, spec, calls)?;
+    let name = format!(in alloc; "world, {name}")?;
+    report(rt, &name, &measured)?;
+    Ok(())
+}
+
 /// Measures work on a broadcast channel of this capacity, alone and in a world.
 fn broadcast(
     rt: &(impl Clock + Print + Eprint),
@@ -83,11 +101,23 @@ fn broadcast(
 ) -> Result<()> {
     let calls = work.calls(alloc, work.steps(asked))?;
     let name = format!(in alloc; "broadcast of {capacity}, {work}")?;
-    report(rt, &name, &on_broadcast(rt, alloc, capacity, &calls)?)?;
+    broadcast_alone(rt, alloc, capacity, &calls, &name)?;
     let calls = to_broadcast(alloc, &calls)?;
-    let name = format!(in alloc; "world, {name}")?;
-    let spec = Spec::Broadcast(capacity);
-    report(rt, &name, &on_world(rt, alloc, spec, &calls)?)?;
+    in_world(rt, alloc, Spec::Broadcast(capacity), &calls, &name)
+}
+
+/// Measures calls to a broadcast channel of this capacity.
+fn broadcast_alone(
+    rt: &(impl Clock + Print + Eprint),
+    alloc: Global,
+    capacity: u32,
+    calls: &[BCall<u64>],
+    name: &str,
+) -> Result<()>
+    requires { length calls.now ≤ 2 ^ 32 }
+{
+    let measured = on_broadcast(rt, alloc, capacity, calls)?;
+    report(rt, name, &measured)?;
     Ok(())
 }
 
@@ -100,12 +130,41 @@ fn watch(
 ) -> Result<()> {
     let calls = work.calls(alloc, asked.min(MOST_STEPS))?;
     let name = format!(in alloc; "watch, {work}")?;
-    report(rt, &name, &on_watch(rt, alloc, &calls)?)?;
+    watch_alone(rt, alloc, &calls, &name)?;
     let calls = to_watch(alloc, &calls)?;
-    let name = format!(in alloc; "world, {name}")?;
-    report(rt, &name, &on_world(rt, alloc, Spec::Watch(0), &calls)?)?;
+    in_world(rt, alloc, Spec::Watch(0), &calls, &name)
+}
+
+/// Measures calls to a watch channel.
+fn watch_alone(
+    rt: &(impl Clock + Print + Eprint),
+    alloc: Global,
+    calls: &[WCall<u64>],
+    name: &str,
+) -> Result<()>
+    requires { length calls.now ≤ 2 ^ 32 }
+{
+    let measured = on_watch(rt, alloc, calls)?;
+    report(rt, name, &measured)?;
     Ok(())
 }
+
+/// Capacities of broadcast channels, and the work on each.
+static BROADCASTS: [(u32, BroadcastWork); 6] = [
+    (1_024, BroadcastWork::SendAndReceive(1)),
+    (1_024, BroadcastWork::SendAndReceive(8)),
+    (2, BroadcastWork::Send),
+    (65_536, BroadcastWork::Send),
+    (1_024, BroadcastWork::Receive),
+    (1_024, BroadcastWork::SubscribeAndDrop),
+];
+
+/// The work on watch channels.
+static WATCHES: [WatchWork; 3] = [
+    WatchWork::SendAndUpdate(1),
+    WatchWork::SendAndUpdate(8),
+    WatchWork::HasChanged,
+];
 
 fn main(rt: HostRuntime) -> Result<()> {
     let alloc = rt.alloc();
@@ -114,22 +173,11 @@ fn main(rt: HostRuntime) -> Result<()> {
     eprintln!(rt; "bytes of an entry: {}", entry_bytes())?;
     eprintln!(rt; "nanoseconds a step:")?;
     eprintln!(rt; "  apply    take    redo    undo")?;
-    for (capacity, work) in [
-        (1_024, BroadcastWork::SendAndReceive(1)),
-        (1_024, BroadcastWork::SendAndReceive(8)),
-        (2, BroadcastWork::Send),
-        (65_536, BroadcastWork::Send),
-        (1_024, BroadcastWork::Receive),
-        (1_024, BroadcastWork::SubscribeAndDrop),
-    ] {
-        broadcast(&rt, alloc, capacity, work, asked)?;
+    for (capacity, work) in &BROADCASTS {
+        broadcast(&rt, alloc, *capacity, *work, asked)?;
     }
-    for work in [
-        WatchWork::SendAndUpdate(1),
-        WatchWork::SendAndUpdate(8),
-        WatchWork::HasChanged,
-    ] {
-        watch(&rt, alloc, work, asked)?;
+    for work in &WATCHES {
+        watch(&rt, alloc, *work, asked)?;
     }
     Ok(())
 }

@@ -47,27 +47,16 @@ pub fn measure<M: Reversible + Drop>(
     ensures { IfOk result (λ measured. measured.steps ≡ length calls.now) }
 {
     let apply = time_playing(clock, played, calls)?;
-    let Ok(mut book) = Book::open(alloc, recorded) else {
-        bail!("no memory for a book");
-    };
-    let begin = Instant::now(clock)?;
-    if record(&mut book, calls).is_err() {
-        bail!("a call was not taken");
-    }
-    let take = begin.elapsed(clock)?;
-    let Ok(mut navigator) = Navigator::open(alloc, walked, book.entries()) else {
-        bail!("no memory for a walk");
-    };
-    let redo = time_move(clock, &mut navigator, Move::End)?;
-    let undo = time_move(clock, &mut navigator, Move::Start)?;
+    let (take, book) = time_recording(clock, alloc, recorded, calls)?;
+    let walks = time_walks(clock, alloc, walked, &book)?;
     Ok(Measured {
         apply,
         take,
-        redo,
-        undo,
+        redo: walks.redo,
+        undo: walks.undo,
         steps: calls.len() as u64,
         last: book.entries().last().map(|entry| entry.reply),
-        turns: navigator.turns(),
+        turns: walks.turns,
     })
 }
 
@@ -88,6 +77,73 @@ fn time_playing<M: Reversible + Drop>(
     let begin = Instant::now(clock)?;
     let _last = play(&mut machine, calls);
     Ok(begin.elapsed(clock)?)
+}
+
+/// Records the calls in a book, and measures how long that takes. Returns the book too.
+fn time_recording<M: Reversible + Drop>(
+    clock: &impl Clock,
+    alloc: Global,
+    machine: M,
+    calls: &[M::Call],
+) -> Result<(Duration, Book<M>)>
+    requires light { M.weigh (M.shown machine) ≤ 2 ^ 32 }
+    ensures { IfOk result (λ recorded. recorded.1.opening ≡ machine) }
+{
+    let Ok(mut book) = Book::open(alloc, machine) else {
+        bail!("no memory for a book");
+    };
+    let take = time_calls(clock, &mut book, calls)?;
+    Ok((take, book))
+}
+
+/// Measures how long a book takes to record the calls.
+fn time_calls<M: Reversible>(
+    clock: &impl Clock,
+    book: &mut Book<M>,
+    calls: &[M::Call],
+) -> Result<Duration>
+    ensures { book.new.opening ≡ book.old.opening }
+{
+    let begin = Instant::now(clock)?;
+    if record(book, calls).is_err() {
+        bail!("a call was not taken");
+    }
+    Ok(begin.elapsed(clock)?)
+}
+
+/// What was measured of both walks over a journal.
+#[derive(Clone, Copy)]
+struct Walks {
+    redo: Duration,
+    undo: Duration,
+    turns: u64,
+}
+
+/// Measures how long the walks over a book's journal take, with a machine that shows what the book's one showed at its opening.
+fn time_walks<M: Reversible + Drop>(
+    clock: &impl Clock,
+    alloc: Global,
+    machine: M,
+    book: &Book<M>,
+) -> Result<Walks>
+    requires same { M.shown machine ≡ opening_of M.Reversible book.now }
+    requires light { M.weigh (M.shown machine) ≤ 2 ^ 32 }
+{
+    let Ok(mut navigator) = Navigator::open(alloc, machine, book.entries()) else {
+        bail!("no memory for a walk");
+    };
+    time_both(clock, &mut navigator)
+}
+
+/// Measures how long a navigator takes to the end, and back to the start.
+fn time_both<M: Reversible>(clock: &impl Clock, navigator: &mut Navigator<M>) -> Result<Walks> {
+    let redo = time_move(clock, navigator, Move::End)?;
+    let undo = time_move(clock, navigator, Move::Start)?;
+    Ok(Walks {
+        redo,
+        undo,
+        turns: navigator.turns(),
+    })
 }
 
 /// Measures how long a move takes.

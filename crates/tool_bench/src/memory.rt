@@ -1,11 +1,14 @@
 //! How much memory handles, retained values and channels take: by how many bytes the process grows for many of them.
 
+ghost use Rattle.std.specs.Prelude.{◌<◌};
+
 use anyhow::{Context, Result, bail};
 use rw_broadcast::Broadcast;
 use rw_handles::{MOST_HANDLES, Slot, Table};
 use rw_law::Reversible;
 use rw_ring::{MOST_CAPACITY, Ring};
 use rw_world::{Chan, MOST_CHANNELS, Spec, World, open};
+use std::alloc::Global;
 use std::rt::Files;
 use std::{fs, io};
 
@@ -28,54 +31,94 @@ fn process_bytes(rt: &(impl Files + AllocGlobal)) -> Result<u64> {
     Ok(pages.parse::<u64>()?.saturating_mul(PAGE))
 }
 
+/// Returns how many bytes each of these parts takes, if they were made since the process had so many bytes.
+fn bytes_each(rt: &(impl Files + AllocGlobal), before: u64, parts: u64) -> Result<u64>
+    requires { 0 < parts }
+{
+    Ok(process_bytes(rt)?.saturating_sub(before) / parts)
+}
+
+/// Makes tables with room for as many handles as a channel makes.
+fn tables(alloc: Global) -> Result<Vec<Table<u64>>> {
+    let mut tables = Vec::new(alloc);
+    for _ in 0..MADE {
+        tables.push(ready_table(alloc)?)?;
+    }
+    Ok(tables)
+}
+
+/// Makes one of them.
+fn ready_table(alloc: Global) -> Result<Table<u64>> {
+    let mut table: Table<u64> = Table::new(alloc)?;
+    table.ready(MOST_HANDLES as u64)?;
+    Ok(table)
+}
+
 /// Measures how many bytes a handle takes, in tables with room for as many as a channel makes.
 fn handle_bytes(rt: &(impl Files + AllocGlobal)) -> Result<u64> {
-    let mut tables = Vec::new(rt.alloc());
     let before = process_bytes(rt)?;
+    let _tables = tables(rt.alloc())?;
+    bytes_each(rt, before, MADE * MOST_HANDLES as u64)
+}
+
+/// Opens broadcasts that are ready for as many calls as make handles.
+fn broadcasts(alloc: Global) -> Result<Vec<Broadcast<u64>>> {
+    let mut channels = Vec::new(alloc);
     for _ in 0..MADE {
-        let mut table: Table<u64> = Table::new(rt.alloc())?;
-        table.ready(MOST_HANDLES as u64)?;
-        tables.push(table)?;
+        channels.push(ready_broadcast(alloc)?)?;
     }
-    Ok(process_bytes(rt)?.saturating_sub(before) / (MADE * MOST_HANDLES as u64))
+    Ok(channels)
+}
+
+/// Opens one of them. Two handles come with the channel.
+fn ready_broadcast(alloc: Global) -> Result<Broadcast<u64>> {
+    let Ok(mut channel) = Broadcast::open(alloc, 1) else {
+        bail!("the channel is not opened");
+    };
+    channel.ready(MOST_HANDLES as u64 - 2)?;
+    Ok(channel)
 }
 
 /// Measures how many bytes a handle takes, in broadcasts that are ready for as many calls as make handles.
 fn broadcast_handle_bytes(rt: &(impl Files + AllocGlobal)) -> Result<u64> {
-    let mut channels = Vec::new(rt.alloc());
     let before = process_bytes(rt)?;
+    let _channels = broadcasts(rt.alloc())?;
+    bytes_each(rt, before, MADE * MOST_HANDLES as u64)
+}
+
+/// Makes rings of the greatest capacity.
+fn rings(alloc: Global) -> Result<Vec<Ring<u64>>> {
+    let mut rings = Vec::new(alloc);
     for _ in 0..MADE {
-        let Ok(mut channel) = Broadcast::<u64>::open(rt.alloc(), 1) else {
-            bail!("the channel is not opened");
-        };
-        // Two handles come with the channel.
-        channel.ready(MOST_HANDLES as u64 - 2)?;
-        channels.push(channel)?;
+        rings.push(Ring::new(alloc, u64::from(MOST_CAPACITY))?)?;
     }
-    Ok(process_bytes(rt)?.saturating_sub(before) / (MADE * MOST_HANDLES as u64))
+    Ok(rings)
 }
 
 /// Measures how many bytes a retained value takes, in rings of the greatest capacity.
 fn value_bytes(rt: &(impl Files + AllocGlobal)) -> Result<u64> {
-    let mut rings = Vec::new(rt.alloc());
     let before = process_bytes(rt)?;
-    for _ in 0..MADE {
-        let ring: Ring<u64> = Ring::new(rt.alloc(), u64::from(MOST_CAPACITY))?;
-        rings.push(ring)?;
-    }
-    Ok(process_bytes(rt)?.saturating_sub(before) / (MADE * u64::from(MOST_CAPACITY)))
+    let _rings = rings(rt.alloc())?;
+    bytes_each(rt, before, MADE * u64::from(MOST_CAPACITY))
 }
+
+/// Opens worlds of these channels.
+fn worlds(alloc: Global, specs: &[Spec<u64>]) -> Result<Vec<World<u64>>> {
+    let mut worlds = Vec::new(alloc);
+    for _ in 0..WORLDS {
+        worlds.push(open(alloc, specs)?)?;
+    }
+    Ok(worlds)
+}
+
+/// Watches, as many as a world has.
+static WATCHES: [Spec<u64>; MOST_CHANNELS] = [Spec::Watch(0); MOST_CHANNELS];
 
 /// Measures how many bytes a watch takes, in worlds of as many channels as a world has.
 fn channel_bytes(rt: &(impl Files + AllocGlobal)) -> Result<u64> {
-    let specs = vec![in rt.alloc(); Spec::Watch(0); MOST_CHANNELS]?;
-    let mut worlds = Vec::new(rt.alloc());
     let before = process_bytes(rt)?;
-    for _ in 0..WORLDS {
-        let world: World<u64> = open(rt.alloc(), &specs)?;
-        worlds.push(world)?;
-    }
-    Ok(process_bytes(rt)?.saturating_sub(before) / (WORLDS * MOST_CHANNELS as u64))
+    let _worlds = worlds(rt.alloc(), &WATCHES)?;
+    bytes_each(rt, before, WORLDS * MOST_CHANNELS as u64)
 }
 
 /// Prints to standard error how many bytes were asked for, and how many were used.
