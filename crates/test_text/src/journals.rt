@@ -9,4 +9,5 @@ mod losses;
 mod peaks;
 mod totals;
 mod values;
+mod walks;
 mod worlds;

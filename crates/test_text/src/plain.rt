@@ -94,6 +94,17 @@ pub fn entries_of<V: Copy>(run: &Run<V>) -> &[Entry<World<V>>] {
     run.entries()
 }
 
+/// Returns how many channels and how many entries a run has.
+pub fn counts_of<V: Copy>(run: &Run<V>) -> (usize, usize) {
+    (run.specs().len(), run.entries().len())
+}
+
+/// Returns the actor and the stamp of a run's entry.
+pub fn step_of<V: Copy>(run: &Run<V>, i: usize) -> Option<(u32, u64)> {
+    let entry = run.entries().get(i)?;
+    Some((entry.actor, entry.stamp))
+}
+
 /// Returns how many entries a run has, and drops the run.
 pub fn length<V: Copy>(run: Run<V>) -> usize {
     let length = run.entries().len();
@@ -115,16 +126,6 @@ pub fn navigator_of<V: Copy>(alloc: Global, run: &Run<V>) -> Result<Navigator<Wo
 pub fn step<R: Reversible>(navigator: &mut Navigator<R>, to: Move) -> Result<u64, OutOfRange> {
     navigator.step(to)?;
     Ok(navigator.place())
-}
-
-/// Returns a navigator's place after a move to the end, and after one to the start. Drops the navigator.
-pub fn ends<R: Reversible + Drop>(mut navigator: Navigator<R>) -> [Result<u64, OutOfRange>; 2] {
-    let places = [
-        step(&mut navigator, Move::End),
-        step(&mut navigator, Move::Start),
-    ];
-    drop(navigator);
-    places
 }
 
 /// Makes moves.

@@ -13,10 +13,10 @@ const LAST_LINES: &[u8] =
 
 /// Returns a script of 64 channels and 64 actors. What comes after the mark isn't checked.
 fn limits(alloc: Global) -> Result<Vec<u8>, AllocError> {
-    let mut script = b"watch 18446744073709551615\n".repeat(alloc, 63)?;
-    script.extend_from_slice(LAST_LINES)?;
-    script.extend_from_slice(&[b'x'; 300])?;
-    Ok(script)
+    let watches = b"watch 18446744073709551615\n".repeat(alloc, 63)?;
+    let script = [watches.as_slice(), LAST_LINES, &[b'x'; 300]].concat(alloc);
+    drop(watches);
+    script
 }
 
 /// A step's line, actor, channel and target, and whether it binds a name.
@@ -48,14 +48,19 @@ fn has_limits(rt: &impl Abort, script: &Script) -> Result<(), Fail> {
     Ok(())
 }
 
+/// Reads that script.
+fn read_limits(alloc: Global) -> Result<Script, Fail> {
+    let script = limits(alloc)?;
+    let read = Script::read(alloc, &script);
+    drop(script);
+    Ok(read?)
+}
+
 #[test]
 fn takes_limits(rt: HostRuntime) -> Result<(), Fail> {
-    let script = limits(rt.alloc())?;
-    let read = Script::read(rt.alloc(), &script);
+    let script = read_limits(rt.alloc())?;
+    let found = has_limits(&rt, &script);
     drop(script);
-    let read = read?;
-    let found = has_limits(&rt, &read);
-    drop(read);
     found
 }
 

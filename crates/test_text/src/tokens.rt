@@ -3,6 +3,7 @@
 use crate::plain::same;
 use rw_lines::{cut, is_name, is_skipped, is_word, numeral, push_number};
 use std::alloc::{AllocError, Global};
+use std::process::Abort;
 use std::test::Fail;
 
 /// Tokens, and the numbers whose numerals they are.
@@ -26,13 +27,21 @@ fn numeral_of(alloc: Global, n: u64) -> Result<Vec<u8>, AllocError> {
     Ok(out)
 }
 
+/// Asserts that a number is written as this token.
+fn is_written(rt: &impl Abort, alloc: Global, n: u64, token: &[u8]) -> Result<(), AllocError> {
+    let text = numeral_of(alloc, n)?;
+    same(rt, &n, &text.as_slice(), &token);
+    drop(text);
+    Ok(())
+}
+
 #[test]
 fn reads_numerals_and_writes_them(rt: HostRuntime) -> Result<(), Fail> {
     for (token, want) in &NUMERALS {
         let found = numeral(token);
         same(&rt, &"number", &found, want);
         if let Some(n) = found {
-            same(&rt, &n, &numeral_of(rt.alloc(), n)?.as_slice(), token);
+            is_written(&rt, rt.alloc(), n, token)?;
         }
     }
     Ok(())
@@ -66,16 +75,31 @@ static CUTS: [Cut; 3] = [
     (b"0", None),
 ];
 
+/// Asserts that each token is a word or a name as is told.
+fn tell_tokens(rt: &impl Abort) {
+    for told in &TOKENS {
+        let token = told.0;
+        same(rt, &"token", &(token, is_word(token), is_name(token)), told);
+    }
+}
+
+/// Asserts that each line is skipped as is told.
+fn tell_lines(rt: &impl Abort) {
+    for told in &LINES {
+        same(rt, &"line", &(told.0, is_skipped(told.0)), told);
+    }
+}
+
+/// Asserts that each text is cut as is told.
+fn tell_cuts(rt: &impl Abort) {
+    for (text, parts) in &CUTS {
+        same(rt, &"cut", &cut(text, b' '), parts);
+    }
+}
+
 #[test]
 fn tells_tokens_apart(rt: HostRuntime) {
-    for (token, word, name) in &TOKENS {
-        let found = (*token, is_word(token), is_name(token));
-        same(&rt, &"token", &found, &(*token, *word, *name));
-    }
-    for (line, skipped) in &LINES {
-        same(&rt, &"line", &(*line, is_skipped(line)), &(*line, *skipped));
-    }
-    for (text, parts) in &CUTS {
-        same(&rt, &"cut", &cut(text, b' '), parts);
-    }
+    tell_tokens(&rt);
+    tell_lines(&rt);
+    tell_cuts(&rt);
 }

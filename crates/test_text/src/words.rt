@@ -125,7 +125,6 @@ fn line_of<'o, V: Payload>(entry: &Entry<World<V>>, out: &'o mut [u8; 256]) -> O
 fn is_written<V: Payload>(rt: &impl Abort, entry: Entry<World<V>>, want: &[u8]) {
     let mut out = [0u8; 256];
     let line = line_of(&entry, &mut out);
-    drop(entry);
     same(rt, &"a line", &line, &Some(want));
 }
 

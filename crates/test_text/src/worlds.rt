@@ -28,9 +28,7 @@ fn made_twice<M: Reversible>(
 /// Returns how many channels a world of these specs has, or why it isn't opened.
 fn opened<V: Copy>(alloc: Global, specs: &[Spec<V>]) -> Result<usize, OpenFault> {
     let world = open(alloc, specs)?;
-    let length = world.len();
-    drop(world);
-    Ok(length)
+    Ok(world.len())
 }
 
 static MANY: [Spec<u64>; 65] = [Spec::Watch(1); 65];
@@ -53,6 +51,21 @@ fn refuses_specs(rt: HostRuntime) {
     }
 }
 
+/// Asserts that a call on a machine gets this reply, twice.
+fn replies_twice<M: Reversible>(
+    rt: &impl Abort,
+    machine: &mut M,
+    call: &M::Call,
+    reply: M::Reply,
+) -> Result<(), Fail>
+where
+    M::Reply: PartialEq + Debug,
+{
+    let found = made_twice(machine, call)?;
+    same(rt, &"a reply", &found, &(reply, reply));
+    Ok(())
+}
+
 /// Asserts that calls on a world's channels get these replies, twice each.
 fn replies<V: Copy + PartialEq + Debug>(
     rt: &impl Abort,
@@ -61,8 +74,7 @@ fn replies<V: Copy + PartialEq + Debug>(
 ) -> Result<(), Fail> {
     for (channel, call, reply) in table {
         let (channel, call) = (*channel, *call);
-        let found = made_twice(world, &RowCall { channel, call })?;
-        same(rt, &channel, &found, &(*reply, *reply));
+        replies_twice(rt, world, &RowCall { channel, call }, *reply)?;
     }
     Ok(())
 }
@@ -84,10 +96,10 @@ fn value_after<V: Copy + PartialEq + Debug>(
 ) -> Result<Option<V>, Fail> {
     let mut world = open(alloc, specs)?;
     let replied = replies(rt, &mut world, table);
-    let value = value_of(&world);
-    drop(world);
-    replied?;
-    Ok(value)
+    match replied {
+        Ok(()) => Ok(value_of(&world)),
+        Err(fail) => Err(fail),
+    }
 }
 
 /// Channels, calls on them, and their replies.

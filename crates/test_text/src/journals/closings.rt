@@ -6,10 +6,18 @@ use rw_findings::{Closing, Closings, LateReader, closings_of};
 use rw_journal::Run;
 use rw_law::NoMemory;
 use std::alloc::Global;
+use std::process::Abort;
 use std::test::Fail;
 
-/// A script for each row: what it is about, its lines, the closings of its run, and the receivers that were there then.
-static ROWS: [(&str, &[u8], &[Closing], &[LateReader]); 6] = [
+/// What a script is about, its lines, the closings of its run, and the receivers that were there then.
+type Row = (
+    &'static str,
+    &'static [u8],
+    &'static [Closing],
+    &'static [LateReader],
+);
+
+static ROWS: [Row; 6] = [
     (
         "open_at_the_end",
         b"broadcast 2\n0 0 clone-sender 0\n0 0 drop 0\n0 0 send 2 1\n",
@@ -109,13 +117,23 @@ fn closings_in<V: Copy>(alloc: Global, run: Run<V>) -> Result<Closings, NoMemory
     closings
 }
 
+/// Asserts that the run of a script has these closings.
+fn are_found(
+    rt: &impl Abort,
+    alloc: Global,
+    (name, script, channels, readers): &Row,
+) -> Result<(), Fail> {
+    let closings = closings_in(alloc, run_of(alloc, script)?)?;
+    same(rt, name, &closings.channels.as_slice(), channels);
+    same(rt, name, &closings.readers.as_slice(), readers);
+    drop(closings);
+    Ok(())
+}
+
 #[test]
 fn closings_are_found(rt: HostRuntime) -> Result<(), Fail> {
-    for (name, script, channels, readers) in &ROWS {
-        let closings = closings_in(rt.alloc(), run_of(rt.alloc(), script)?)?;
-        same(&rt, name, &closings.channels.as_slice(), channels);
-        same(&rt, name, &closings.readers.as_slice(), readers);
-        drop(closings);
+    for row in &ROWS {
+        are_found(&rt, rt.alloc(), row)?;
     }
     Ok(())
 }

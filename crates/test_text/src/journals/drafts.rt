@@ -1,10 +1,10 @@
 //! Drafts of runs.
 
-use crate::plain::{draft_of, ends, entries_of, finish, navigator_of, push, same, specs_of};
+use super::walks::{ENDS, walked};
+use crate::plain::{counts_of, draft_of, finish, push, same, step_of};
 use rw_broadcast::{BCall, BReply};
 use rw_journal::{PushFault, Run, RunDraft};
-use rw_law::{NoMemory, Payload};
-use rw_navigator::OutOfRange;
+use rw_law::Payload;
 use rw_watch::{WCall, WReply};
 use rw_world::{ChanCall, ChanReply, OpenFault, Spec};
 use std::alloc::Global;
@@ -32,13 +32,10 @@ fn answers<V: Payload>(rt: &impl Abort, draft: &mut RunDraft<V>, pushes: &[Push<
     }
 }
 
-/// Asserts that a run has this many channels, and entries of these actors at these stamps.
-fn has_steps<V: Copy>(rt: &impl Abort, run: &Run<V>, channels: usize, steps: &[(u32, u64)]) {
-    let entries = entries_of(run);
-    let counts = (specs_of(run).len(), entries.len());
-    same(rt, &"counts", &counts, &(channels, steps.len()));
-    for (entry, step) in entries.iter().zip(steps) {
-        same(rt, &"a step", &(entry.actor, entry.stamp), step);
+/// Asserts that a run has entries of these actors at these stamps.
+fn has_steps<V: Copy>(rt: &impl Abort, run: &Run<V>, steps: &[(u32, u64)]) {
+    for (i, step) in steps.iter().enumerate() {
+        same(rt, &"a step", &step_of(run, i), &Some(*step));
     }
 }
 
@@ -99,7 +96,8 @@ fn pushes_what_comes_next(rt: HostRuntime) -> Result<(), Fail> {
     let mut draft = draft_of(rt.alloc(), &[Spec::Broadcast(2), Spec::Watch(5u64)])?;
     answers(&rt, &mut draft, &PUSHES);
     let run = finish(draft);
-    has_steps(&rt, &run, 2, &PUSHED);
+    same(&rt, &"counts", &counts_of(&run), &(2, PUSHED.len()));
+    has_steps(&rt, &run, &PUSHED);
     drop(run);
     Ok(())
 }
@@ -123,15 +121,6 @@ fn filled<V: Payload>(
     (all, last)
 }
 
-/// Returns how many entries a run has, and its navigator's place after a move to the end and after one to the start.
-fn ends_of<V: Copy>(
-    alloc: Global,
-    run: &Run<V>,
-) -> Result<(usize, [Result<u64, OutOfRange>; 2]), NoMemory> {
-    let places = ends(navigator_of(alloc, run)?);
-    Ok((entries_of(run).len(), places))
-}
-
 #[test]
 fn a_channel_is_full(rt: HostRuntime) -> Result<(), Fail> {
     let mut draft = draft_of::<u64>(rt.alloc(), &[Spec::Broadcast(1), Spec::Broadcast(1)])?;
@@ -139,15 +128,13 @@ fn a_channel_is_full(rt: HostRuntime) -> Result<(), Fail> {
     let one = ChanReply::B(BReply::Count(1));
     let answers = filled(&mut draft, count, one, 1_048_576);
     let run = finish(draft);
-    let ends = ends_of(rt.alloc(), &run);
+    let counts = counts_of(&run);
+    let found = walked(&rt, rt.alloc(), &run, &ENDS);
     drop(run);
     same(&rt, &"pushes", &answers, &(true, [LIMIT, Ok(())]));
-    same(
-        &rt,
-        &"ends",
-        &ends,
-        &Ok((1_048_577, [Ok(1_048_577), Ok(0)])),
-    );
+    same(&rt, &"counts", &counts, &(2, 1_048_577));
+    let (_, _, [(end, _), (start, _), _, _]) = found?;
+    same(&rt, &"ends", &[end, start], &[Ok(1_048_577), Ok(0)]);
     Ok(())
 }
 

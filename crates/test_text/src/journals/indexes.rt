@@ -15,52 +15,11 @@ fn replies_with(rt: &impl Abort, word: &[u8]) -> Cond {
     Cond::ReplyKind(ReplyWord::of(word).expect(rt, "a reply has this word"))
 }
 
-/// Returns what the index of a condition finds below and above each of four places of a navigator. Drops the navigator.
-fn found_in<R: Reversible + Drop, P: Probe<R>>(
-    alloc: Global,
-    navigator: Navigator<R>,
-    condition: &P,
-    [first, second, third, last]: [u64; 4],
-) -> Result<[(Option<u64>, Option<u64>); 4], Fail> {
-    let built = index_of(alloc, &navigator, condition);
-    drop(navigator);
-    let index = built?.ok_or("a condition on states")?;
-    let found = [
-        looked_up(&index, first),
-        looked_up(&index, second),
-        looked_up(&index, third),
-        looked_up(&index, last),
-    ];
-    drop(index);
-    Ok(found)
-}
+/// What an index finds below a place, and above it.
+type Hits = (Option<u64>, Option<u64>);
 
-/// Returns what the index of a condition finds in a run, below and above each of four places.
-fn found_at<V: Payload>(
-    alloc: Global,
-    run: Run<V>,
-    condition: &Cond,
-    places: [u64; 4],
-) -> Result<[(Option<u64>, Option<u64>); 4], Fail> {
-    let opened = navigator_of(alloc, &run);
-    drop(run);
-    found_in(alloc, opened?, condition, places)
-}
-
-#[test]
-fn an_index_has_the_hits_below_and_above_a_place(rt: HostRuntime) -> Result<(), Fail> {
-    let condition = replies_with(&rt, b"value");
-    let run = run_of(rt.alloc(), OVERRUN)?;
-    let found = found_at(rt.alloc(), run, &condition, [0, 5, 6, 7])?;
-    let told = [
-        (None, Some(5)),
-        (None, Some(6)),
-        (Some(5), None),
-        (Some(6), None),
-    ];
-    same(&rt, &"hits", &found, &told);
-    Ok(())
-}
+/// What an index finds at four places, and whether it has a hit and finds what searches find, at each place up to the end.
+type Found = ([Hits; 4], bool);
 
 /// Whether the condition has a hit, and its index finds what searches find, at each place up to the end.
 fn agrees<R: Reversible, P: Probe<R>>(
@@ -78,39 +37,86 @@ fn agrees<R: Reversible, P: Probe<R>>(
     agrees
 }
 
-/// Whether the index of a condition finds what the searches of a navigator find. Drops the navigator.
-fn finds_all<R: Reversible + Drop, P: Probe<R>>(
+/// Returns what the index of a condition finds in a navigator's journal. The navigator is lent.
+fn found_by<R: Reversible, P: Probe<R>>(
+    navigator: &mut Navigator<R>,
+    index: &HitIndex<R, P>,
+    condition: &P,
+    [first, second, third, last]: [u64; 4],
+    end: u64,
+) -> Found {
+    let hits = [
+        looked_up(index, first),
+        looked_up(index, second),
+        looked_up(index, third),
+        looked_up(index, last),
+    ];
+    (hits, agrees(navigator, index, condition, end))
+}
+
+/// Builds the index of a condition, and returns what it finds, or nothing for a condition on states. Drops the navigator.
+fn found_in<R: Reversible + Drop, P: Probe<R>>(
     alloc: Global,
     mut navigator: Navigator<R>,
     condition: &P,
+    places: [u64; 4],
     end: u64,
-) -> bool {
+) -> Option<Found> {
     let found = match index_of(alloc, &navigator, condition) {
         Ok(Some(index)) => {
-            let found = agrees(&mut navigator, &index, condition, end);
+            let found = found_by(&mut navigator, &index, condition, places, end);
             drop(index);
-            found
+            Some(found)
         }
-        Ok(None) | Err(_) => false,
+        Ok(None) | Err(_) => None,
     };
     drop(navigator);
     found
 }
 
-/// Whether the index of a condition finds in a run what searches find.
-fn finds_as_searches<V: Payload>(
+/// Returns what the index of a condition finds in a run.
+fn found_at<V: Payload>(
     alloc: Global,
-    run: Run<V>,
+    run: &Run<V>,
     condition: &Cond,
-) -> Result<bool, NoMemory> {
+    places: [u64; 4],
+) -> Result<Option<Found>, NoMemory> {
     let end = run.len().saturating_add(1);
-    let opened = navigator_of(alloc, &run);
-    drop(run);
-    Ok(finds_all(alloc, opened?, condition, end))
+    let navigator = navigator_of(alloc, run)?;
+    Ok(found_in(alloc, navigator, condition, places, end))
 }
 
-/// Scripts, conditions on actors and channels, and words that a reply begins with.
-static SEARCHES: [(&[u8], &[Cond], &[&[u8]]); 3] = [
+/// Returns what the index of a condition finds in the run of a script.
+fn found(
+    alloc: Global,
+    script: &[u8],
+    condition: &Cond,
+    places: [u64; 4],
+) -> Result<Option<Found>, Fail> {
+    let run = run_of(alloc, script)?;
+    let found = found_at(alloc, &run, condition, places);
+    drop(run);
+    Ok(found?)
+}
+
+#[test]
+fn an_index_has_the_hits_below_and_above_a_place(rt: HostRuntime) -> Result<(), Fail> {
+    let condition = replies_with(&rt, b"value");
+    let hits = found(rt.alloc(), OVERRUN, &condition, [0, 5, 6, 7])?;
+    let told = [
+        (None, Some(5)),
+        (None, Some(6)),
+        (Some(5), None),
+        (Some(6), None),
+    ];
+    same(&rt, &"hits", &hits, &Some((told, true)));
+    Ok(())
+}
+
+/// A script, conditions on actors and channels, and words that a reply begins with.
+type Search = (&'static [u8], &'static [Cond], &'static [&'static [u8]]);
+
+static SEARCHES: [Search; 3] = [
     (
         OVERRUN,
         &[Cond::Actor(0), Cond::Channel(0)],
@@ -135,21 +141,33 @@ static SEARCHES: [(&[u8], &[Cond], &[&[u8]]); 3] = [
 
 /// Asserts that the index of a condition finds in the run of a script what searches find.
 fn is_found(rt: &impl Abort, alloc: Global, script: &[u8], condition: &Cond) -> Result<(), Fail> {
-    let run = run_of(alloc, script)?;
-    let found = finds_as_searches(alloc, run, condition)?;
-    assert!(rt; found, "{condition:?}");
+    let agrees = match found(alloc, script, condition, [0; 4])? {
+        Some((_, agrees)) => agrees,
+        None => false,
+    };
+    assert!(rt; agrees, "{condition:?}");
+    Ok(())
+}
+
+/// Asserts so for each of these conditions on the run of a script.
+fn are_found(
+    rt: &impl Abort,
+    alloc: Global,
+    (script, conditions, words): &Search,
+) -> Result<(), Fail> {
+    for condition in *conditions {
+        is_found(rt, alloc, script, condition)?;
+    }
+    for word in *words {
+        is_found(rt, alloc, script, &replies_with(rt, word))?;
+    }
     Ok(())
 }
 
 #[test]
 fn an_index_finds_what_searches_find(rt: HostRuntime) -> Result<(), Fail> {
-    for (script, conditions, words) in &SEARCHES {
-        for condition in *conditions {
-            is_found(&rt, rt.alloc(), script, condition)?;
-        }
-        for word in *words {
-            is_found(&rt, rt.alloc(), script, &replies_with(&rt, word))?;
-        }
+    for search in &SEARCHES {
+        are_found(&rt, rt.alloc(), search)?;
     }
     Ok(())
 }

@@ -2,11 +2,12 @@
 
 use crate::plain::same;
 use crate::texts::rows::run_of;
-use rw_findings::lives_of;
+use rw_findings::{Life, lives_of};
 use rw_handles::Kind;
 use rw_journal::Run;
 use rw_law::NoMemory;
 use std::alloc::Global;
+use std::process::Abort;
 use std::test::Fail;
 
 /// Actor 0 makes receiver 2, which actor 1 receives with. Then actor 0 drops it, and calls with it once more.
@@ -23,28 +24,37 @@ static LIVES: [Lived; 3] = [
 ];
 
 /// Returns the lives of the handles of a run's channel 0. The run is dropped.
-fn found_in<V: Copy>(alloc: Global, run: Run<V>) -> Result<Vec<Lived>, NoMemory> {
+fn found_in<V: Copy>(alloc: Global, run: Run<V>) -> Result<Vec<Life>, NoMemory> {
     let lives = lives_of(alloc, &run, 0);
     drop(run);
-    let mut found = Vec::new(alloc);
-    for life in &lives? {
-        let calls = life.calls();
-        found.push((
-            life.kind(),
-            life.made(),
-            life.maker(),
-            life.dropped(),
-            *calls.get(0).unwrap_or(&0),
-            *calls.get(1).unwrap_or(&0),
-        ))?;
+    lives
+}
+
+/// Returns what a life shows.
+fn lived(life: &Life) -> Lived {
+    let calls = life.calls();
+    (
+        life.kind(),
+        life.made(),
+        life.maker(),
+        life.dropped(),
+        *calls.get(0).unwrap_or(&0),
+        *calls.get(1).unwrap_or(&0),
+    )
+}
+
+/// Asserts that these are the lives.
+fn are_lived(rt: &impl Abort, lives: &[Life], told: &[Lived]) {
+    same(rt, &"handles", &lives.len(), &told.len());
+    for (life, told) in lives.iter().zip(told) {
+        same(rt, &"a life", &lived(life), told);
     }
-    Ok(found)
 }
 
 #[test]
 fn lives_are_found(rt: HostRuntime) -> Result<(), Fail> {
-    let found = found_in(rt.alloc(), run_of(rt.alloc(), SCRIPT)?)?;
-    same(&rt, &"lives", &found.as_slice(), &LIVES.as_slice());
-    drop(found);
+    let lives = found_in(rt.alloc(), run_of(rt.alloc(), SCRIPT)?)?;
+    are_lived(&rt, &lives, &LIVES);
+    drop(lives);
     Ok(())
 }

@@ -6,10 +6,13 @@ use rw_findings::{Loss, LossEnd, losses_of};
 use rw_journal::Run;
 use rw_law::NoMemory;
 use std::alloc::Global;
+use std::process::Abort;
 use std::test::Fail;
 
-/// A script for each row: what it is about, its lines, and the losses of its run.
-static ROWS: [(&str, &[u8], &[Loss]); 8] = [
+/// What a script is about, its lines, and the losses of its run.
+type Row = (&'static str, &'static [u8], &'static [Loss]);
+
+static ROWS: [Row; 8] = [
     (
         "told",
         OVERRUN,
@@ -133,12 +136,18 @@ fn found_in<V: Copy>(alloc: Global, run: Run<V>) -> Result<Vec<Loss>, NoMemory> 
     losses
 }
 
+/// Asserts that the run of a script has these losses.
+fn is_found(rt: &impl Abort, alloc: Global, (name, script, told): &Row) -> Result<(), Fail> {
+    let losses = found_in(alloc, run_of(alloc, script)?)?;
+    same(rt, name, &losses.as_slice(), told);
+    drop(losses);
+    Ok(())
+}
+
 #[test]
 fn losses_are_found(rt: HostRuntime) -> Result<(), Fail> {
-    for (name, script, told) in &ROWS {
-        let losses = found_in(rt.alloc(), run_of(rt.alloc(), script)?)?;
-        same(&rt, name, &losses.as_slice(), told);
-        drop(losses);
+    for row in &ROWS {
+        is_found(&rt, rt.alloc(), row)?;
     }
     Ok(())
 }

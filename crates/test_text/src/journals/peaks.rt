@@ -2,10 +2,11 @@
 
 use crate::plain::same;
 use crate::texts::rows::{OVERRUN, run_of};
-use rw_findings::{Measure, Stretches, peaks_of};
+use rw_findings::{Measure, Peaks, Stretches, peaks_of};
 use rw_journal::Run;
 use rw_law::NoMemory;
 use std::alloc::Global;
+use std::process::Abort;
 use std::test::Fail;
 
 /// A run's peaks: what it is about, its script, what is measured in which stretches, and the peaks of receiver 1 of channel 0.
@@ -87,34 +88,45 @@ static ROWS: [Peaked; 6] = [
     },
 ];
 
-/// Returns the peaks of receiver 1 of a run's channel 0, with those that are 0. The run is dropped.
+/// Returns the peaks of a run's channel 0. The run is dropped.
 fn found_in<V: Copy>(
     alloc: Global,
     run: Run<V>,
     measure: Measure,
     stretches: Stretches,
-) -> Result<Vec<u64>, NoMemory> {
+) -> Result<Peaks, NoMemory> {
     let peaks = peaks_of(alloc, &run, 0, measure, stretches);
     drop(run);
-    let peaks = peaks?;
-    let mut found = Vec::new(alloc);
-    for stretch in 0..stretches.count {
-        found.push(*peaks.row(1).get(stretch as usize).unwrap_or(&0))?;
+    peaks
+}
+
+/// Returns the peak of receiver 1 in a stretch, or 0.
+fn peak_in(peaks: &Peaks, stretch: usize) -> u64 {
+    *peaks.row(1).get(stretch).unwrap_or(&0)
+}
+
+/// Asserts that receiver 1 has the peaks of a row, with those that are 0.
+fn has_peaks(rt: &impl Abort, peaks: &Peaks, row: &Peaked) {
+    let count = row.peaks.len() as u64;
+    same(rt, &row.name, &row.stretches.count, &count);
+    for (i, peak) in row.peaks.iter().enumerate() {
+        same(rt, &row.name, &peak_in(peaks, i), peak);
     }
-    Ok(found)
+}
+
+/// Asserts that the run of a row's script has its peaks.
+fn are_found(rt: &impl Abort, alloc: Global, row: &Peaked) -> Result<(), Fail> {
+    let run = run_of(alloc, row.script)?;
+    let peaks = found_in(alloc, run, row.measure, row.stretches)?;
+    has_peaks(rt, &peaks, row);
+    drop(peaks);
+    Ok(())
 }
 
 #[test]
 fn peaks_are_found(rt: HostRuntime) -> Result<(), Fail> {
     for row in &ROWS {
-        let found = found_in(
-            rt.alloc(),
-            run_of(rt.alloc(), row.script)?,
-            row.measure,
-            row.stretches,
-        )?;
-        same(&rt, &row.name, &found.as_slice(), &row.peaks);
-        drop(found);
+        are_found(&rt, rt.alloc(), row)?;
     }
     Ok(())
 }

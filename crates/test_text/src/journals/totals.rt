@@ -6,10 +6,13 @@ use rw_findings::{BroadcastCounts, Counts, Totals, WatchCounts, totals_of};
 use rw_journal::Run;
 use rw_law::NoMemory;
 use std::alloc::Global;
+use std::process::Abort;
 use std::test::Fail;
 
-/// A script for each row: what it is about, its lines, and the totals of its run.
-static ROWS: [(&str, &[u8], &[Totals]); 8] = [
+/// What a script is about, its lines, and the totals of its run.
+type Row = (&'static str, &'static [u8], &'static [Totals]);
+
+static ROWS: [Row; 8] = [
     (
         "told_once",
         OVERRUN,
@@ -173,12 +176,18 @@ fn totals_in<V: Copy>(alloc: Global, run: Run<V>) -> Result<Vec<Totals>, NoMemor
     totals
 }
 
+/// Asserts that the run of a script has these totals.
+fn are_counted(rt: &impl Abort, alloc: Global, (name, script, told): &Row) -> Result<(), Fail> {
+    let totals = totals_in(alloc, run_of(alloc, script)?)?;
+    same(rt, name, &totals.as_slice(), told);
+    drop(totals);
+    Ok(())
+}
+
 #[test]
 fn totals_are_counted(rt: HostRuntime) -> Result<(), Fail> {
-    for (name, script, told) in &ROWS {
-        let totals = totals_in(rt.alloc(), run_of(rt.alloc(), script)?)?;
-        same(&rt, name, &totals.as_slice(), told);
-        drop(totals);
+    for row in &ROWS {
+        are_counted(&rt, rt.alloc(), row)?;
     }
     Ok(())
 }

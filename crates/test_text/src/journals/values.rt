@@ -2,17 +2,20 @@
 
 use crate::plain::same;
 use crate::texts::rows::run_of;
-use rw_findings::values_of;
+use rw_findings::{ChannelValue, values_of};
 use rw_journal::Run;
 use rw_law::NoMemory;
 use std::alloc::Global;
+use std::process::Abort;
 use std::test::Fail;
 
 /// A value, since when it is there, and where it was overwritten.
 type Had = (u64, u64, Option<u64>);
 
-/// A script for each row: what it is about, its lines, and the values of its channel 0.
-static ROWS: [(&str, &[u8], &[Had]); 5] = [
+/// What a script is about, its lines, and the values of its channel 0.
+type Row = (&'static str, &'static [u8], &'static [Had]);
+
+static ROWS: [Row; 5] = [
     (
         "the_third_send_overwrites_the_first",
         b"broadcast 2\n0 0 send 0 7\n0 0 send 0 8\n0 0 try-recv 1\n0 0 send 0 9\n",
@@ -47,22 +50,32 @@ static ROWS: [(&str, &[u8], &[Had]); 5] = [
 ];
 
 /// Returns the values of a run's channel 0. The run is dropped.
-fn found_in(alloc: Global, run: Run<u64>) -> Result<Vec<Had>, NoMemory> {
+fn found_in<V: Copy>(alloc: Global, run: Run<V>) -> Result<Vec<ChannelValue<V>>, NoMemory> {
     let values = values_of(alloc, &run, 0);
     drop(run);
-    let mut found = Vec::new(alloc);
-    for it in &values? {
-        found.push((it.value, it.since, it.overwritten))?;
+    values
+}
+
+/// Asserts that these are the values.
+fn are_had(rt: &impl Abort, name: &str, values: &[ChannelValue<u64>], told: &[Had]) {
+    same(rt, &name, &values.len(), &told.len());
+    for (it, had) in values.iter().zip(told) {
+        same(rt, &name, &(it.value, it.since, it.overwritten), had);
     }
-    Ok(found)
+}
+
+/// Asserts that channel 0 of the run of a script has these values.
+fn are_found(rt: &impl Abort, alloc: Global, (name, script, told): &Row) -> Result<(), Fail> {
+    let values = found_in(alloc, run_of(alloc, script)?)?;
+    are_had(rt, name, &values, told);
+    drop(values);
+    Ok(())
 }
 
 #[test]
 fn values_are_found(rt: HostRuntime) -> Result<(), Fail> {
-    for (name, script, values) in &ROWS {
-        let found = found_in(rt.alloc(), run_of(rt.alloc(), script)?)?;
-        same(&rt, name, &found.as_slice(), values);
-        drop(found);
+    for row in &ROWS {
+        are_found(&rt, rt.alloc(), row)?;
     }
     Ok(())
 }

@@ -6,7 +6,7 @@ use crate::plain::same;
 use rw_program::{
     Asked, Ended, Verb, over_opened, read_words, refuse_words, run_session, threads_over_opened,
 };
-use std::alloc::Global;
+use std::alloc::{AllocError, Global};
 use std::io::{Read, Write};
 use std::process::Abort;
 use std::sync::Wait;
@@ -14,11 +14,18 @@ use std::test::Fail;
 use std::thread::Threads;
 use support_devices::{FailingReader, FailingWriter};
 
-fn words_of(alloc: Global, texts: &[&str]) -> Result<Vec<String>, Fail> {
-    let mut words = Vec::new(alloc);
+/// Appends words.
+fn push_words(words: &mut Vec<String>, alloc: Global, texts: &[&str]) -> Result<(), AllocError> {
     for text in texts {
         words.push(String::from_str(alloc, text)?)?;
     }
+    Ok(())
+}
+
+/// Returns these words.
+fn words_of(alloc: Global, texts: &[&str]) -> Result<Vec<String>, AllocError> {
+    let mut words = Vec::new(alloc);
+    push_words(&mut words, alloc, texts)?;
     Ok(words)
 }
 

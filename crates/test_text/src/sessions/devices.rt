@@ -3,6 +3,7 @@
 use crate::plain::same;
 use crate::streams::session_of;
 use rw_console::{Outcome, SessionFault};
+use std::alloc::Global;
 use std::process::Abort;
 use support_devices::{FailingReader, FailingWriter};
 
@@ -30,28 +31,36 @@ fn is_whole(
     is_whole
 }
 
+/// Whether a session is complete whose reader fails after this many calls.
+fn is_read(rt: &impl Abort, alloc: Global, calls: u64, done: bool) -> bool {
+    let mut reader = FailingReader::new(INPUT, 1, Some(calls));
+    let mut writer = FailingWriter::new(alloc, 4096, None);
+    let ended = session_of(alloc, &mut reader, &mut writer);
+    is_whole(rt, calls, done, (ended, SessionFault::Read), &writer)
+}
+
 #[test]
 fn each_read_fails(rt: HostRuntime) {
     let mut done = false;
-    for k in 0..200u64 {
-        let mut reader = FailingReader::new(INPUT, 1, Some(k));
-        let mut writer = FailingWriter::new(rt.alloc(), 4096, None);
-        let ended = session_of(rt.alloc(), &mut reader, &mut writer);
-        done = is_whole(&rt, k, done, (ended, SessionFault::Read), &writer);
-        drop(writer);
+    for calls in 0..200u64 {
+        done = is_read(&rt, rt.alloc(), calls, done);
     }
     assert!(rt; done);
+}
+
+/// Whether a session is complete whose writer fails after this many calls.
+fn is_written(rt: &impl Abort, alloc: Global, calls: u64, done: bool) -> bool {
+    let mut reader = FailingReader::new(INPUT, 64, None);
+    let mut writer = FailingWriter::new(alloc, 5, Some(calls));
+    let ended = session_of(alloc, &mut reader, &mut writer);
+    is_whole(rt, calls, done, (ended, SessionFault::Write), &writer)
 }
 
 #[test]
 fn each_write_fails(rt: HostRuntime) {
     let mut done = false;
-    for k in 0..200u64 {
-        let mut reader = FailingReader::new(INPUT, 64, None);
-        let mut writer = FailingWriter::new(rt.alloc(), 5, Some(k));
-        let ended = session_of(rt.alloc(), &mut reader, &mut writer);
-        done = is_whole(&rt, k, done, (ended, SessionFault::Write), &writer);
-        drop(writer);
+    for calls in 0..200u64 {
+        done = is_written(&rt, rt.alloc(), calls, done);
     }
     assert!(rt; done);
 }

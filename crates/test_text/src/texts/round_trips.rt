@@ -4,6 +4,8 @@ use crate::plain::{length, run_again, run_in, same};
 use rw_journal::Run;
 use rw_law::Payload;
 use std::alloc::Global;
+use std::fmt;
+use std::fmt::Write;
 use std::test::Fail;
 
 /// Reads a run, writes it and reads it back. Returns how many entries it then has.
@@ -32,22 +34,27 @@ fn a_run_is_read_back(rt: HostRuntime) -> Result<(), Fail> {
     Ok(())
 }
 
-/// The text of a run of this many calls on a watch.
-fn text_of_calls(alloc: Global, calls: u64) -> Result<Vec<u8>, Fail> {
-    let mut text = Vec::new(alloc);
-    text.extend_from_slice(b"ttd-journal 2\nwatch 7\nsteps\n")?;
+/// Appends the text of a run of this many calls on a watch.
+fn push_calls(text: &mut String, calls: u64) -> fmt::Result {
+    text.write_str("ttd-journal 2\nwatch 7\nsteps\n")?;
     for stamp in 1..=calls {
-        let line = format!(in alloc; "{stamp} 0 0 send 0 {stamp} = stored\n")?;
-        text.extend_from_slice(line.as_bytes())?;
+        writeln!(text, "{stamp} 0 0 send 0 {stamp} = stored")?;
     }
-    text.extend_from_slice(b"end\n")?;
+    text.write_str("end\n")
+}
+
+/// Returns that text.
+fn text_of_calls(alloc: Global, calls: u64) -> Result<String, Fail> {
+    let mut text = String::new(alloc);
+    push_calls(&mut text, calls)?;
     Ok(text)
 }
 
 #[test]
 fn a_run_of_100_000_entries_is_read_back(rt: HostRuntime) -> Result<(), Fail> {
     let text = text_of_calls(rt.alloc(), 100_000)?;
-    let found = entries_read_back::<u64>(rt.alloc(), &text)?;
-    same(&rt, &"entries", &found, &100_000);
+    let found = entries_read_back::<u64>(rt.alloc(), text.as_bytes());
+    drop(text);
+    same(&rt, &"entries", &found?, &100_000);
     Ok(())
 }

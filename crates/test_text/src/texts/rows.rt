@@ -1,11 +1,11 @@
 //! The runs of scripts, which stay the same when they are written as text and read again.
 
-use crate::plain::{entries_of, run_in, same, specs_of, written};
+use crate::plain::{counts_of, entries_of, run_in, same, specs_of, written};
 use rw_journal::Run;
 use rw_law::{Entry, Payload};
 use rw_script::{Script, run_one};
 use rw_world::World;
-use std::alloc::Global;
+use std::alloc::{AllocError, Global};
 use std::fmt::Debug;
 use std::process::Abort;
 use std::test::Fail;
@@ -111,13 +111,16 @@ pub static SCRIPTS: [(&str, &[u8], u64); 20] = [
 ];
 
 /// Returns a script that makes all the senders that a channel makes, and two that it doesn't, with a drop in between.
-pub fn handle_limit(alloc: Global) -> Result<Vec<u8>, Fail> {
-    let mut script = Vec::from_slice(alloc, b"broadcast 1\n")?;
-    for _ in 0..65_535u32 {
-        script.extend_from_slice(b"0 0 clone-sender 0\n")?;
-    }
-    script.extend_from_slice(b"0 0 drop 2\n0 0 clone-sender 0\n")?;
-    Ok(script)
+pub fn handle_limit(alloc: Global) -> Result<Vec<u8>, AllocError> {
+    let lines = b"0 0 clone-sender 0\n".repeat(alloc, 65_535)?;
+    let script = [
+        b"broadcast 1\n".as_slice(),
+        lines.as_slice(),
+        b"0 0 drop 2\n0 0 clone-sender 0\n".as_slice(),
+    ]
+    .concat(alloc);
+    drop(lines);
+    script
 }
 
 /// Returns the run of a script. It has no contract, so that the tests' proofs stay short.
@@ -137,16 +140,27 @@ fn is_same<V: Copy + PartialEq + Debug>(
     same(
         rt,
         &name,
-        &(one.actor, one.stamp),
-        &(other.actor, other.stamp),
+        &(one.actor, one.stamp, one.call, one.reply, one.patch),
+        &(
+            other.actor,
+            other.stamp,
+            other.call,
+            other.reply,
+            other.patch,
+        ),
     );
-    same(rt, &name, &one.call, &other.call);
-    same(
-        rt,
-        &name,
-        &(one.reply, one.patch),
-        &(other.reply, other.patch),
-    );
+}
+
+/// Asserts that the entries of two runs are the same.
+fn are_same<V: Copy + PartialEq + Debug>(
+    rt: &impl Abort,
+    name: &str,
+    entries: &[Entry<World<V>>],
+    again: &[Entry<World<V>>],
+) {
+    for (entry, again) in entries.iter().zip(again) {
+        is_same(rt, name, again, entry);
+    }
 }
 
 /// Asserts that two runs are the same in all that they have, and that they have this many entries.
@@ -157,12 +171,36 @@ fn compare<V: Copy + PartialEq + Debug>(
     again: &Run<V>,
     entries: usize,
 ) {
-    let counts = (entries_of(run).len(), entries_of(again).len());
-    same(rt, &name, &counts, &(entries, entries));
-    assert!(rt; specs_of(run) == specs_of(again), "{name}");
-    for (entry, again) in entries_of(run).iter().zip(entries_of(again)) {
-        is_same(rt, name, again, entry);
-    }
+    let channels = specs_of(run).len();
+    let counts = (counts_of(run), counts_of(again));
+    same(
+        rt,
+        &name,
+        &counts,
+        &((channels, entries), (channels, entries)),
+    );
+    let has_specs = specs_of(run) == specs_of(again);
+    same(rt, &name, &has_specs, &true);
+    are_same(rt, name, entries_of(run), entries_of(again));
+}
+
+/// Reads a text, and compares its run with another. Returns whether the text is written for it again.
+fn read_and_write<V: Payload + PartialEq + Debug>(
+    rt: &impl Abort,
+    alloc: Global,
+    name: &str,
+    run: &Run<V>,
+    entries: usize,
+    text: &[u8],
+) -> Result<bool, Fail> {
+    let again = run_in(alloc, text)?;
+    compare(rt, name, run, &again, entries);
+    let second = written(alloc, &again, 4096, None);
+    drop(again);
+    let (second, text_again) = second?;
+    let is_kept = second.is_ok() && text_again.as_slice() == text;
+    drop(text_again);
+    Ok(is_kept)
 }
 
 /// Writes a run, reads it again, and writes what was read. Asserts that run and text are the same.
@@ -174,15 +212,9 @@ fn write_and_read<V: Payload + PartialEq + Debug>(
     entries: usize,
 ) -> Result<(), Fail> {
     let (first, text) = written(alloc, run, 4096, None)?;
-    let again = run_in(alloc, &text)?;
-    compare(rt, name, run, &again, entries);
-    let second = written(alloc, &again, 4096, None);
-    drop(again);
-    let (second, text_again) = second?;
-    let is_kept = first.is_ok() && second.is_ok() && text_again == text;
+    let kept = read_and_write(rt, alloc, name, run, entries, &text);
     drop(text);
-    drop(text_again);
-    assert!(rt; is_kept, "{name}");
+    same(rt, &name, &(first.is_ok(), kept?), &(true, true));
     Ok(())
 }
 

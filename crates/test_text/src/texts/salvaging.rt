@@ -7,6 +7,8 @@ use rw_journal::Run;
 use rw_law::Payload;
 use rw_text::TextFault;
 use std::alloc::{AllocError, Global};
+use std::fmt;
+use std::fmt::Write;
 use std::process::Abort;
 use std::test::Fail;
 
@@ -91,42 +93,60 @@ fn held_and_read(alloc: Global, text: &[u8]) -> Held {
     (held::<u64>(alloc, text), read_whole::<u64>(alloc, text))
 }
 
+/// Damages the small text, as `damaged` does, and returns what is found.
+fn found_in_damaged(
+    alloc: Global,
+    n: usize,
+    from: &str,
+    to: &str,
+    letters: usize,
+) -> Result<Held, AllocError> {
+    let text = damaged(alloc, n, from, to, letters)?;
+    let found = held_and_read(alloc, &text);
+    drop(text);
+    Ok(found)
+}
+
 #[test]
 fn other_damage_is_answered_as_where_it_is_read(rt: HostRuntime) -> Result<(), Fail> {
-    let long = damaged(rt.alloc(), 83, "#", "", 256)?;
-    let found = held_and_read(rt.alloc(), &long);
-    drop(long);
-    same(
-        &rt,
-        &"a long line",
-        &found,
-        &(Ok((2, 83)), Err(TextFault::Truncated)),
-    );
+    let long = found_in_damaged(rt.alloc(), 83, "#", "", 256)?;
+    let told = (Ok((2, 83)), Err(TextFault::Truncated));
+    same(&rt, &"a long line", &long, &told);
     for (n, from, to, letters, fault) in &DAMAGES {
-        let text = damaged(rt.alloc(), *n, from, to, *letters)?;
-        let found = held_and_read(rt.alloc(), &text);
-        drop(text);
+        let found = found_in_damaged(rt.alloc(), *n, from, to, *letters)?;
         same(&rt, to, &found, &(Err(*fault), Err(*fault)));
     }
     Ok(())
 }
 
-/// Returns a script of 200 calls on three channels.
-fn long_script(alloc: Global) -> Result<Vec<u8>, Fail> {
-    let mut script = Vec::from_slice(alloc, b"broadcast 4\nwatch 5\nbroadcast 2\n")?;
+/// Appends 200 calls on three channels.
+fn push_calls(script: &mut String) -> fmt::Result {
+    script.write_str("broadcast 4\nwatch 5\nbroadcast 2\n")?;
     for i in 0..50u64 {
-        let lines = format!(in alloc;
+        write!(
+            script,
             "0 0 send 0 {i}\n0 1 send 0 {i}\n0 2 send 0 {i}\n0 0 try-recv 1\n"
         )?;
-        script.extend_from_slice(lines.as_bytes())?;
     }
+    Ok(())
+}
+
+/// Returns a script of these calls.
+fn long_script(alloc: Global) -> Result<String, Fail> {
+    let mut script = String::new(alloc);
+    push_calls(&mut script)?;
     Ok(script)
 }
 
 /// Returns how many whole lines these bytes have, and those lines.
 fn lines_of(bytes: &[u8]) -> (usize, &[u8]) {
-    let count = bytes.iter().filter(|b| **b == b'\n').count();
-    let length = bytes.iter().rposition(|b| *b == b'\n').map_or(0, |i| i + 1);
+    let (mut count, mut length) = (0usize, 0usize);
+    for (i, byte) in bytes.iter().enumerate() {
+        if *byte == b'\n' {
+            count = count.saturating_add(1);
+            length = i.saturating_add(1);
+        }
+    }
     (count, bytes.get(..length).unwrap_or(bytes))
 }
 
@@ -145,30 +165,40 @@ fn text_of<V: Payload>(alloc: Global, run: &Run<V>) -> Result<Vec<u8>, Fail> {
     Ok(text)
 }
 
+/// Asserts that a prefix of a long text that has these whole lines is salvaged with their entries.
+fn is_kept(
+    rt: &impl Abort,
+    alloc: Global,
+    text: &[u8],
+    lines: &[u8],
+    entries: usize,
+) -> Result<(), Fail> {
+    let (written, kept) = written_of::<u64>(alloc, text)?;
+    let read = read_whole::<u64>(alloc, &written);
+    let found = (kept, written.strip_suffix(b"end\n"), read);
+    let told = (lines.len() as u64, Some(lines), Ok(entries));
+    same(rt, &entries, &found, &told);
+    drop(written);
+    Ok(())
+}
+
 /// Asserts that a prefix of a long text has the entries of its whole lines, after the lines of its opening.
 fn is_read_back(rt: &impl Abort, alloc: Global, text: &[u8], opening: usize) -> Result<(), Fail> {
     let (count, lines) = lines_of(text);
-    if count < opening {
-        same(
-            rt,
-            &count,
-            &held::<u64>(alloc, text),
-            &Err(TextFault::Truncated),
-        );
-        return Ok(());
+    if count >= opening {
+        return is_kept(rt, alloc, text, lines, count - opening);
     }
-    let (written, kept) = written_of::<u64>(alloc, text)?;
-    let entries = read_whole::<u64>(alloc, &written);
-    let found = (kept, written.strip_suffix(b"end\n"), entries);
-    let told = (lines.len() as u64, Some(lines), Ok(count - opening));
-    same(rt, &count, &found, &told);
-    drop(written);
+    let found = held::<u64>(alloc, text);
+    same(rt, &count, &found, &Err(TextFault::Truncated));
     Ok(())
 }
 
 /// Returns the text of the run of a long script.
 fn long_text(alloc: Global) -> Result<Vec<u8>, Fail> {
-    let run = run_of(alloc, &long_script(alloc)?)?;
+    let script = long_script(alloc)?;
+    let run = run_of(alloc, script.as_bytes());
+    drop(script);
+    let run = run?;
     let text = text_of(alloc, &run);
     drop(run);
     text
