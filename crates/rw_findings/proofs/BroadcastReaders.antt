@@ -1,10 +1,10 @@
 -- One receiver of a broadcast from one place to the next, and what is kept of it.
-use Rattle.std.proofs.Common.{◌≡◌, ℕ, ◌+◌, ◌-◌, ◌<◌, ◌≤◌, ◌⊎◌, Bool, true, false, cond, inl, inr, refl, ap, sym, ◌∙◌, subst, arith}
+use Rattle.std.proofs.Common.{◌≡◌, ℕ, ◌+◌, ◌-◌, ◌≤◌, Bool, true, false, cond, inl, inr, refl, ap, sym, ◌∙◌, subst, arith}
 use Rattle.std.specs.Prelude.{Option, Some, None, IsSome, unwrap_or, option_map, nat_lt}
 use Rattle.std.proofs.lemmas.Bool.{cases_lt}
 use Rattle.rw_findings.specs.declared.totals.broadcast.Reader.{Reader}
 use Rattle.rw_findings.specs.BroadcastTallies.{BroadcastTally, new_reader, oldest_of, lag_from, lag_of_reader, settled, after_value, after_lag, after_drop}
-use Rattle.rw_findings.proofs.Greatest.{lt_is, Stands, stands_first, stays, grows, falls}
+use Rattle.rw_findings.proofs.Greatest.{Stands, stands_first, stays, grows, falls}
 
 -- the tallies have the same numbers
 pub record IsSameOf (t u : BroadcastTally) : Type 0 where

@@ -1,20 +1,20 @@
 -- One call of a broadcast, and what is kept of all its receivers.
 use Rattle.std.proofs.Common.{◌≡◌, ◌≢◌, ℕ, zero, suc, ◌+◌, ◌-◌, ◌<◌, ◌≤◌, ◌⊎◌, Bool, true, false, cond, List, [], ◌∷◌, ◌++◌, length, map, get_or, set, inl, inr, refl, ap, sym, ◌∙◌, subst, arith}
 use Rattle.std.specs.Prelude.{Option, Some, None, unwrap_or, slice_get, option_map, option_and_then, nat_eq, nat_lt}
-use Rattle.std.proofs.lemmas.Bool.{cases_order, cases_lt}
+use Rattle.std.proofs.lemmas.Bool.{cases_order}
 use Rattle.std.proofs.lemmas.Bool.Decides.{nat_tests}
 use Rattle.std.proofs.lemmas.List.{length-map, map-append, map-set, get_or_append_left}
 use Rattle.std.proofs.lemmas.Option.{slice_get_within}
 use Rattle.std.proofs.Math.Seq.{get_or-append_seam}
 use Rattle.rw_handles.specs.declared.kinds.Kind.{Kind}
-use Rattle.rw_handles.specs.declared.kinds.Kind.TheVariants.{Sender, Receiver, Weak}
+use Rattle.rw_handles.specs.declared.kinds.Kind.TheVariants.{Receiver}
 use Rattle.rw_handles.specs.declared.kinds.Slot.{Slot}
 use Rattle.rw_handles.specs.declared.kinds.Slot.TheVariants.{Live, Spent}
 use Rattle.rw_broadcast.specs.declared.calls.BCall.{BCall}
 use Rattle.rw_broadcast.specs.declared.calls.BReply.{BReply}
 use Rattle.rw_broadcast.specs.declared.calls.BReply.TheVariants.{Sent, NoReceivers, Value, Lagged, Empty, Closed, Waits, New, Count, Unknown, Gone, WrongKind, TooManyHandles, NoSender}
 use Rattle.rw_broadcast.specs.declared.calls.BReply.TheVariants as reply
-use Rattle.rw_broadcast.specs.Channel.{Change, Keep, Append, Make, Move, Leave, oldest}
+use Rattle.rw_broadcast.specs.Channel.{Change, Append, Make, Move, Leave, oldest}
 use Rattle.rw_broadcast.specs.Machine.{position_at}
 use Rattle.rw_broadcast.specs.Shown.{Shown, channel_of, with_change}
 use Rattle.rw_world.specs.declared.channels.ChanCall.TheVariants as call_of
@@ -23,7 +23,7 @@ use Rattle.rw_findings.specs.LossTracks.{subject}
 use Rattle.rw_findings.specs.Totals.{receiver_in, receives, is_told}
 use Rattle.rw_navigator.specs.Conditions.{has}
 use Rattle.rw_findings.specs.declared.totals.broadcast.Reader.{Reader}
-use Rattle.rw_findings.specs.BroadcastTallies.{BroadcastTally, new_reader, oldest_of, after_value, after_lag, after_drop, reader_in, reader_of, made_reader, with_reader, with_call}
+use Rattle.rw_findings.specs.BroadcastTallies.{BroadcastTally, new_reader, oldest_of, after_value, after_lag, after_drop, reader_in, made_reader, with_reader, with_call}
 use Rattle.rw_findings.proofs.LossSteps.{position_of, position, lag as lag_at_position, positions_at}
 use Rattle.rw_findings.proofs.Greatest.{lt_is}
 use Rattle.rw_findings.proofs.BroadcastSteps.{IsQuiet, IsOf, StepsTo, keeps, sends, makes_receiver, makes_other, reads, tells, leaves}

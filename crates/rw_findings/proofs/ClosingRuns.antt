@@ -1,5 +1,5 @@
 -- The search for closings over a run: its beginning, its entries and its lists.
-use Rattle.std.proofs.Common.{◌≡◌, ◌≢◌, ℕ, zero, suc, ◌+◌, ◌-◌, ◌<◌, ◌≤◌, ◌^◌, ◌⊎◌, Bool, true, false, cond, List, [], ◌∷◌, ◌++◌, length, get_or, set, length-set, take, drop, inl, inr, refl, ap, sym, ◌∙◌, subst, arith}
+use Rattle.std.proofs.Common.{◌≡◌, ◌≢◌, ℕ, zero, suc, ◌+◌, ◌-◌, ◌<◌, ◌≤◌, ◌^◌, ◌⊎◌, Bool, true, false, cond, List, [], ◌∷◌, ◌++◌, length, get_or, set, length-set, take, inl, inr, refl, ap, sym, ◌∙◌, subst, arith}
 use Rattle.std.specs.Prelude.{Option, Some, None, MatchOption, is_some, is_none, slice_get, option_map, option_and_then, nat_eq, ◌&&◌, ◌||◌}
 use Rattle.std.specs.List.{Contains}
 use Rattle.std.proofs.lemmas.Bool.{cases_lt, cases_order}
@@ -12,7 +12,6 @@ use Rattle.rw_handles.specs.declared.table.TheConstants.{MOST_HANDLES}
 use Rattle.rw_broadcast.specs.Machine.{position_at}
 use Rattle.rw_watch.specs.Machine.{is_seen_at}
 use Rattle.rw_world.specs.Kinds.{broadcast_shown, watch_shown}
-use Rattle.rw_world.specs.Lists.{map_at}
 use Rattle.rw_world.specs.Machines.{ChanShown, of_chan, of_world}
 use Rattle.rw_world.specs.Specified.{WorldEntry}
 use Rattle.rw_world.specs.Openings.{opening_row, opened_channel}

@@ -1,6 +1,6 @@
 -- The closings of a run: its entries, and what is documented at its places.
-use Rattle.std.proofs.Common.{◌≡◌, ℕ, ◌+◌, ◌<◌, ◌≤◌, true, cond, List, [], length, get_or, refl, ap, sym, ◌∙◌, subst, arith}
-use Rattle.std.specs.Prelude.{IfOk, Option, Some, None, Result, Ok, Err, slice_get, unwrap_or, nat_le}
+use Rattle.std.proofs.Common.{◌≡◌, ℕ, ◌+◌, ◌<◌, ◌≤◌, true, cond, List, [], length, get_or, ap, sym, ◌∙◌, subst, arith}
+use Rattle.std.specs.Prelude.{IfOk, Option, Some, None, Result, Ok, Err, unwrap_or, nat_le}
 use Rattle.std.proofs.lemmas.Bool.Decides.{nat_tests}
 use Rattle.rw_navigator.specs.Moves.{landing}
 use Rattle.rw_navigator.specs.declared.moves.Move.TheVariants.{Goto}

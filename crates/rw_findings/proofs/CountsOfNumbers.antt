@@ -1,5 +1,5 @@
 -- How many numbers meet a condition.
-use Rattle.std.proofs.Common.{◌≡◌, ℕ, zero, suc, ◌+◌, ◌-◌, ◌<◌, ◌≤◌, ◌⊎◌, inl, inr, refl, ap, sym, subst, arith, add-one}
+use Rattle.std.proofs.Common.{◌≡◌, ℕ, zero, suc, ◌+◌, ◌-◌, ◌<◌, ◌≤◌, sym, subst, arith, add-one}
 use Rattle.rw_findings.specs.Totals.{IsCount, none, one, other}
 
 pub count_same : {P Q : ℕ → Type 0} {n count : ℕ} → ((v : ℕ) → v ≤ n → P v → Q v) → ((v : ℕ) → v ≤ n → Q v → P v) → IsCount P n count → IsCount Q n count

@@ -1,5 +1,5 @@
 -- One call of a channel: it moves or drops no handle but the one that it names.
-use Rattle.std.proofs.Common.{◌≡◌, ◌≢◌, ℕ, ◌+◌, ◌-◌, ◌<◌, ◌≤◌, ◌⊎◌, true, false, List, [], ◌∷◌, ◌++◌, length, inl, inr, refl, ap, sym, ◌∙◌, arith}
+use Rattle.std.proofs.Common.{◌≡◌, ◌≢◌, ℕ, ◌-◌, ◌≤◌, ◌⊎◌, true, false, List, [], ◌∷◌, ◌++◌, length, inl, inr, refl, sym, ◌∙◌, arith}
 use Rattle.std.specs.Prelude.{Option, Some, None, nat_lt, ◌==◌, slice_get, slice_set}
 use Rattle.std.proofs.lemmas.Bool.{cond_both}
 use Rattle.rw_handles.specs.declared.kinds.Kind.{Kind}

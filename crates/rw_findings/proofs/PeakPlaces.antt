@@ -1,6 +1,6 @@
 -- What is measured of the receivers of a channel, from place to place.
-use Rattle.std.proofs.Common.{◌≡◌, ◌≢◌, ℕ, zero, ◌+◌, ◌-◌, ◌*◌, ◌<◌, ◌≤◌, ◌⊎◌, max, min, Bool, true, false, cond, List, [], ◌∷◌, length, get_or, inl, inr, refl, ap, sym, ◌∙◌, subst, arith}
-use Rattle.std.specs.Prelude.{MatchOption, Option, Some, None, not, ◌&&◌, nat_eq, map, option_and_then, option_map, slice_get, unwrap_or}
+use Rattle.std.proofs.Common.{◌≡◌, ◌≢◌, ℕ, ◌+◌, ◌<◌, ◌≤◌, ◌⊎◌, true, false, cond, List, length, get_or, inl, inr, refl, ap, sym, ◌∙◌, arith}
+use Rattle.std.specs.Prelude.{Some, None, not, ◌&&◌, nat_eq, option_and_then, option_map, slice_get, unwrap_or}
 use Rattle.std.proofs.lemmas.Bool.{cases_eq}
 use Rattle.std.proofs.lemmas.Bool.Decides.{nat_tests}
 use Rattle.rw_broadcast.specs.Arithmetic.{lag, unread}
@@ -13,7 +13,7 @@ use Rattle.rw_watch.specs.Shown as w
 use Rattle.std.proofs.lemmas.Option.{slice_get_past}
 use Rattle.rw_journal.specs.Run.{Run}
 use Rattle.rw_world.specs.Kinds.{broadcast_shown, watch_shown}
-use Rattle.rw_world.specs.Machines.{ChanShown, of_chan, of_world}
+use Rattle.rw_world.specs.Machines.{ChanShown, of_chan}
 use Rattle.rw_world.specs.Records.{ShowsAtPlaces}
 use Rattle.rw_world.specs.Specified.{WorldEntry}
 use Rattle.rw_world.specs.declared.channels.ChanCall.{ChanCall}

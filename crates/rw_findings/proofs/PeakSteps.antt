@@ -1,5 +1,5 @@
 -- One call of a channel: what is measured of a receiver falls only by a call that names it.
-use Rattle.std.proofs.Common.{◌≡◌, ◌≢◌, ℕ, ◌+◌, ◌-◌, ◌<◌, ◌≤◌, ◌⊎◌, true, false, cond, List, inl, inr, refl, ap, sym, subst, arith}
+use Rattle.std.proofs.Common.{◌≡◌, ◌≢◌, ℕ, ◌-◌, ◌≤◌, true, false, cond, List, inl, inr, refl, ap, sym, subst, arith}
 use Rattle.std.specs.Prelude.{All, Option, Some, None, not, ◌==◌, option_map, slice_get, unwrap_or}
 use Rattle.std.proofs.lemmas.Bool.{cases_order}
 use Rattle.std.proofs.lemmas.Bool.Decides.{nat_tests}

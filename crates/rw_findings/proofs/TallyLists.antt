@@ -1,18 +1,14 @@
 -- The end of the pass that counts for each receiver: the list of the totals.
-use Rattle.std.proofs.Common.{◌≡◌, ℕ, zero, suc, ◌+◌, ◌-◌, ◌*◌, ◌<◌, ◌≤◌, ◌⊎◌, List, [], ◌∷◌, ◌++◌, length, get_or, take, inl, inr, refl, ap, sym, ◌∙◌, subst, arith, cond}
+use Rattle.std.proofs.Common.{◌≡◌, ℕ, zero, suc, ◌-◌, ◌≤◌, List, [], length, take, inl, inr, refl, ap, sym, ◌∙◌, subst, cond}
 use Rattle.std.specs.Prelude.{Option, Some, None, IsSome, slice_get, option_map, option_and_then, nat_lt}
-use Rattle.std.specs.List.{All, Contains}
-use Rattle.std.proofs.lemmas.Bool.{cases_lt, cases_order}
-use Rattle.std.proofs.lemmas.Option.{slice_get_within, slice_get_past, slice_get-get_or}
+use Rattle.std.specs.List.{Contains}
+use Rattle.std.proofs.lemmas.Bool.{cases_lt}
+use Rattle.std.proofs.lemmas.Option.{slice_get_past}
 use Rattle.std.proofs.Math.Seq.{take-length}
-use Rattle.rw_handles.specs.declared.table.TheConstants.{MOST_HANDLES}
-use Rattle.rw_journal.specs.declared.book.TheConstants.{MOST_ENTRIES}
-use Rattle.rw_world.specs.declared.opening.TheConstants.{MOST_CHANNELS}
 use Rattle.rw_world.specs.Kinds.{broadcast_shown, watch_shown}
-use Rattle.rw_world.specs.Machines.{ChanShown, of_chan, of_world}
+use Rattle.rw_world.specs.Machines.{ChanShown}
 use Rattle.rw_world.specs.Specified.{WorldEntry}
 use Rattle.rw_navigator.specs.Conditions.{lag_at, unread_at, as_broadcast}
-use Rattle.rw_findings.specs.declared.totals.total.BroadcastCounts.{BroadcastCounts}
 use Rattle.rw_findings.specs.declared.totals.total.Counts.{Counts}
 use Rattle.rw_findings.specs.declared.totals.total.Counts.TheVariants as counts
 use Rattle.rw_findings.specs.declared.totals.total.Totals.{Totals}
@@ -20,20 +16,19 @@ use Rattle.rw_findings.specs.declared.totals.broadcast.Reader.{Reader}
 use Rattle.rw_findings.specs.declared.totals.watch.Watcher.{Watcher}
 use Rattle.rw_findings.specs.declared.totals.tally.Tally.{Tally}
 use Rattle.rw_findings.specs.declared.totals.tally.Tally.TheVariants.{Broadcast, Watch}
-use Rattle.rw_findings.specs.Totals.{receives, is_told, is_notified, count_on, growth, IsGreatest, IsMissed, IsCount, lag_there, mark_there, version_there, AreCounts, AreBroadcastCounts, AreWatchCounts, WasThere, ComesFirst, AreTotalsOf}
+use Rattle.rw_findings.specs.Totals.{receives, is_told, is_notified, count_on, IsGreatest, IsMissed, IsCount, lag_there, mark_there, version_there, AreCounts, AreBroadcastCounts, AreWatchCounts, WasThere, AreTotalsOf}
 use Rattle.rw_findings.specs.BroadcastTallies as broadcast
 use Rattle.rw_findings.specs.BroadcastTallies.{BroadcastTally}
 use Rattle.rw_findings.specs.WatchTallies as watch
 use Rattle.rw_findings.specs.WatchTallies.{WatchTally}
-use Rattle.rw_findings.specs.Tallies.{made_in, counts_in, HasRoom, HaveRoom, HaveFewHandles, with_totals, with_receivers, with_channel, with_channels}
-use Rattle.rw_findings.proofs.LossSteps.{position_of, position}
+use Rattle.rw_findings.specs.Tallies.{made_in, counts_in, with_totals, with_receivers, with_channel, with_channels}
+use Rattle.rw_findings.proofs.LossSteps.{position}
 use Rattle.rw_findings.proofs.LossPasses.{lag_in_channel}
 use Rattle.rw_findings.proofs.Listed.{IsListed, none_listed, skipped, pushed, next_channel}
 use Rattle.rw_findings.proofs.Greatest.{settled_top}
 use Rattle.rw_findings.proofs.BroadcastReaders.{settled_parts, Counted, Uncounted, IsCounted}
-use Rattle.rw_findings.proofs.BroadcastTallying.{AreCounted, made_same, reader_position, position_is, get_or_past}
-use Rattle.rw_findings.proofs.Watchers.{Watched, Unwatched, IsWatched, missed_count, few_at}
-use Rattle.rw_findings.proofs.WatchTallying.{AreWatched}
+use Rattle.rw_findings.proofs.BroadcastTallying.{reader_position, position_is, get_or_past}
+use Rattle.rw_findings.proofs.Watchers.{Watched, Unwatched, IsWatched, missed_count}
 use Rattle.rw_findings.proofs.TallyRuns.{IsKept, AreKept, mark_in_channel, version_in_channel, lag_on, received_on, told_on, notified_on}
 
 module _ {V : Type 0} (at : ℕ → List (ChanShown V)) (es : List (WorldEntry V)) where

@@ -1,44 +1,32 @@
 -- The pass that counts for each receiver, over a run: its beginning and its entries.
-use Rattle.std.proofs.Common.{◌≡◌, ◌≢◌, ℕ, zero, suc, ◌+◌, ◌-◌, ◌<◌, ◌≤◌, ◌⊎◌, Bool, true, false, cond, List, [], ◌∷◌, length, get_or, take, inl, inr, refl, ap, sym, ◌∙◌, subst, arith}
+use Rattle.std.proofs.Common.{◌≡◌, ◌≢◌, ℕ, ◌+◌, ◌<◌, ◌≤◌, Bool, true, false, cond, List, length, get_or, take, inl, inr, refl, ap, sym, ◌∙◌, subst, arith}
 use Rattle.std.specs.Prelude.{Option, Some, None, MatchOption, unwrap_or, slice_get, option_map, option_and_then, nat_eq, ◌&&◌, count_by}
 use Rattle.std.proofs.lemmas.Bool.{cases_lt}
 use Rattle.std.proofs.lemmas.List.Sums.{count_by_more_yes, count_by_more_no}
-use Rattle.rw_journal.specs.Run.{Run}
-use Rattle.rw_law.specs.Journal.{IsLegal, IsStep}
-use Rattle.rw_law.proofs.Journals.{after_more, step_at}
 use Rattle.rw_broadcast.specs.Channel.{effect as broadcast_effect}
-use Rattle.rw_broadcast.specs.Shown.{channel_of, with_change as broadcast_change}
+use Rattle.rw_broadcast.specs.Shown.{channel_of}
 use Rattle.rw_watch.specs.Channel.{effect as watch_effect}
 use Rattle.rw_watch.specs.Machine.{mark_at}
-use Rattle.rw_watch.specs.Shown.{with_change as watch_change}
 use Rattle.rw_world.specs.Kinds.{broadcast_shown, watch_shown}
-use Rattle.rw_world.specs.Lists.{map_at}
 use Rattle.rw_world.specs.Machines.{ChanShown, of_chan, of_world}
-use Rattle.rw_world.specs.Openings.{opening_row}
 use Rattle.rw_world.specs.Specified.{WorldEntry}
 use Rattle.rw_world.specs.declared.channels.ChanCall.{ChanCall}
 use Rattle.rw_world.specs.declared.channels.ChanCall.TheVariants as call_of
 use Rattle.rw_world.specs.declared.channels.ChanReply.{ChanReply}
-use Rattle.rw_world.specs.declared.channels.ChanReply.TheVariants as reply_of
-use Rattle.rw_world.specs.declared.opening.Spec.{Spec}
-use Rattle.rw_world.specs.declared.opening.Spec.TheVariants as spec
-use Rattle.rw_world.specs.declared.rows.RowCall.{RowCall}
 use Rattle.rw_world.proofs.Modifying.{get-modified_other}
 use Rattle.rw_navigator.specs.Conditions.{lag_at, as_watch}
 use Rattle.rw_findings.specs.Totals.{receives, is_told, is_notified, count_on, mark_there, version_there}
-use Rattle.rw_findings.specs.Tallies.{opened_tallies, with_reply, with_entry}
+use Rattle.rw_findings.specs.Tallies.{with_reply, with_entry}
 use Rattle.rw_findings.specs.declared.totals.tally.Tally.{Tally}
 use Rattle.rw_findings.specs.declared.totals.tally.Tally.TheVariants.{Broadcast, Watch}
-use Rattle.rw_findings.proofs.LossSteps.{position, lag as lag_at_position}
 use Rattle.rw_findings.proofs.LossPasses.{lag_in_channel, shown_then, reply_to}
 use Rattle.rw_findings.proofs.LossEntries.{get-modified, each_at}
-use Rattle.rw_findings.proofs.LossRuns.{at_place, allowed_at}
 use Rattle.rw_findings.proofs.BroadcastSteps as broadcast
 use Rattle.rw_findings.proofs.BroadcastReaders as readers
-use Rattle.rw_findings.proofs.BroadcastTallying.{AreCounted, LagsAs, counted_on, same_or_apart, eq_is, eq_not}
+use Rattle.rw_findings.proofs.BroadcastTallying.{AreCounted, counted_on, same_or_apart, eq_is, eq_not}
 use Rattle.rw_findings.proofs.WatchSteps as watch
 use Rattle.rw_findings.proofs.Watchers as watchers
-use Rattle.rw_findings.proofs.WatchTallying.{AreWatched, ShowsAt, watched_on}
+use Rattle.rw_findings.proofs.WatchTallying.{AreWatched, watched_on}
 
 module _ {V : Type 0} where
   -- the mark of a receiver of a channel, and the version of the channel

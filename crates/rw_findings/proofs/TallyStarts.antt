@@ -1,23 +1,20 @@
 -- The pass that counts for each receiver, before the first entry.
-use Rattle.std.proofs.Common.{◌≡◌, ℕ, zero, suc, ◌+◌, ◌-◌, ◌<◌, ◌≤◌, ◌⊎◌, List, [], ◌∷◌, length, inl, inr, refl, ap, sym, ◌∙◌, subst, arith}
+use Rattle.std.proofs.Common.{◌≡◌, ℕ, zero, suc, ◌≤◌, List, refl, ap, sym, ◌∙◌, subst, arith}
 use Rattle.std.specs.Prelude.{Option, Some, None, IsSome, unwrap_or, slice_get, option_map}
 use Rattle.std.proofs.lemmas.Option.{slice_get-map}
-use Rattle.rw_world.specs.Kinds.{broadcast_shown, watch_shown}
 use Rattle.rw_world.specs.Machines.{ChanShown}
 use Rattle.rw_world.specs.Openings.{opening_row, opened_channel}
 use Rattle.rw_world.specs.Specified.{WorldEntry}
 use Rattle.rw_world.specs.declared.opening.Spec.{Spec}
 use Rattle.rw_world.specs.declared.opening.Spec.TheVariants as spec
-use Rattle.rw_findings.specs.Totals.{mark_there, version_there, Came, IsMissed, none}
+use Rattle.rw_findings.specs.Totals.{mark_there, version_there, none}
 use Rattle.rw_findings.specs.BroadcastTallies as broadcast
 use Rattle.rw_findings.specs.WatchTallies as watch
 use Rattle.rw_findings.specs.Tallies.{tally_of, opened_tallies}
-use Rattle.rw_findings.specs.declared.totals.tally.Tally.{Tally}
-use Rattle.rw_findings.specs.declared.totals.tally.Tally.TheVariants.{Broadcast, Watch}
 use Rattle.rw_findings.proofs.LossPasses.{lag_in_channel}
 use Rattle.rw_findings.proofs.Greatest.{Stands, stands_first}
-use Rattle.rw_findings.proofs.BroadcastReaders.{lag_or_0, Counted, Uncounted, IsCounted}
-use Rattle.rw_findings.proofs.Watchers.{Watched, Unwatched, IsWatched}
+use Rattle.rw_findings.proofs.BroadcastReaders.{lag_or_0, Uncounted, IsCounted}
+use Rattle.rw_findings.proofs.Watchers.{Unwatched, IsWatched}
 use Rattle.rw_findings.proofs.TallyRuns.{IsKept, AreKept, mark_in_channel, version_in_channel, lag_on, received_on, told_on, notified_on}
 
 module _ {V : Type 0} (at : ℕ → List (ChanShown V)) (es : List (WorldEntry V)) where

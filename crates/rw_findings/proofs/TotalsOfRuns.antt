@@ -1,12 +1,12 @@
 -- The totals of a run: its entries, and what is documented at its places.
-use Rattle.std.proofs.Common.{◌≡◌, ℕ, ◌+◌, ◌<◌, ◌≤◌, List, [], length, get_or, refl, ap, sym, ◌∙◌, subst, arith}
-use Rattle.std.specs.Prelude.{Some, None, slice_get}
+use Rattle.std.proofs.Common.{◌≡◌, ℕ, ◌+◌, ◌<◌, List, [], length, get_or, ap, sym, ◌∙◌, subst, arith}
+use Rattle.std.specs.Prelude.{None, slice_get}
 use Rattle.std.proofs.lemmas.Option.{slice_get_past}
 use mathlib.Core.Path.{fun_ext}
 use Rattle.rw_journal.specs.Run.{Run}
 use Rattle.rw_law.specs.Journal.{IsLegal, IsStep}
 use Rattle.rw_law.proofs.Journals.{after_more, step_at}
-use Rattle.rw_world.specs.Machines.{ChanShown, of_world}
+use Rattle.rw_world.specs.Machines.{of_world}
 use Rattle.rw_world.specs.Openings.{opening_row}
 use Rattle.rw_world.specs.Records.{ShowsAtPlaces}
 use Rattle.rw_world.specs.Specified.{WorldEntry}

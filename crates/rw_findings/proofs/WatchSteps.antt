@@ -1,10 +1,9 @@
 -- What a call of a watch does, in eight cases.
-use Rattle.std.proofs.Common.{◌≡◌, ℕ, ◌+◌, ◌<◌, ◌≤◌, Bool, true, false, cond, length, refl, ap, sym, subst, arith}
+use Rattle.std.proofs.Common.{◌≡◌, ℕ, ◌+◌, ◌≤◌, Bool, false, cond, length, refl, arith}
 use Rattle.std.specs.Prelude.{Option, Some, None, slice_get, option_map}
 use Rattle.std.proofs.lemmas.Bool.{cond_both}
 use Rattle.rw_handles.specs.declared.kinds.Kind.{Kind}
-use Rattle.rw_handles.specs.declared.kinds.Kind.TheVariants.{Sender, Receiver, Weak}
-use Rattle.rw_handles.specs.declared.kinds.Slot.{Slot}
+use Rattle.rw_handles.specs.declared.kinds.Kind.TheVariants.{Sender, Receiver}
 use Rattle.rw_handles.specs.declared.kinds.Slot.TheVariants.{Live}
 use Rattle.rw_handles.specs.declared.kinds.Found.TheVariants.{Handle}
 use Rattle.rw_handles.specs.declared.kinds.HandleFault.{HandleFault}
@@ -18,7 +17,6 @@ use Rattle.rw_watch.specs.declared.calls.WReply.{WReply}
 use Rattle.rw_watch.specs.declared.calls.WReply.TheVariants as reply
 use Rattle.rw_watch.specs.declared.calls.WReply.TheVariants.{New, Done, TooManyHandles}
 use Rattle.rw_watch.specs.Channel.{Change, Keep, Write, Make, Mark, Leave, handle_of, wanted_kind, makes, fault_reply, is_closed, is_unseen, has_no_receiver, effect_with, effect}
-use Rattle.rw_watch.specs.Machine.{mark_at}
 use Rattle.rw_watch.specs.Shown.{Shown, IsAllowed, IsMark, IsMarked}
 use Rattle.rw_world.specs.declared.channels.ChanCall.TheVariants as call_of
 use Rattle.rw_world.specs.declared.channels.ChanReply.TheVariants as reply_of

@@ -1,9 +1,9 @@
 -- One call of a watch, and what is kept of all its receivers.
 use Rattle.std.proofs.Common.{◌≡◌, ◌≢◌, ℕ, zero, suc, ◌+◌, ◌<◌, ◌≤◌, ◌⊎◌, Bool, true, false, cond, List, [], ◌∷◌, ◌++◌, length, get_or, set, length-set, inl, inr, refl, ap, sym, ◌∙◌, subst, arith}
-use Rattle.std.specs.Prelude.{Option, Some, None, slice_get, option_map, nat_eq}
+use Rattle.std.specs.Prelude.{Option, Some, None, slice_get, option_map}
 use Rattle.std.proofs.lemmas.Bool.{cases_order, cases_lt}
 use Rattle.std.proofs.lemmas.List.{length_push, get_or_append_left}
-use Rattle.std.proofs.lemmas.Option.{slice_get_within, slice_get_past}
+use Rattle.std.proofs.lemmas.Option.{slice_get_within}
 use Rattle.std.proofs.Math.Seq.{get_or-append_seam}
 use Rattle.rw_handles.specs.declared.kinds.Kind.{Kind}
 use Rattle.rw_handles.specs.declared.kinds.Kind.TheVariants.{Sender, Receiver, Weak}
@@ -11,22 +11,19 @@ use Rattle.rw_handles.specs.declared.kinds.Slot.{Slot}
 use Rattle.rw_handles.specs.declared.kinds.Slot.TheVariants.{Live, Spent}
 use Rattle.rw_handles.proofs.SlotLaws.{slice_get-set}
 use Rattle.rw_watch.specs.declared.calls.WCall.{WCall}
-use Rattle.rw_watch.specs.declared.calls.WCall.TheVariants.{Changed, MarkChanged, DropHandle}
 use Rattle.rw_watch.specs.declared.calls.WReply.{WReply}
-use Rattle.rw_watch.specs.declared.calls.WReply.TheVariants.{New, Done}
-use Rattle.rw_watch.specs.declared.calls.WReply.TheVariants as reply
-use Rattle.rw_watch.specs.Channel.{Change, Keep, Write, Make, Mark, Leave}
+use Rattle.rw_watch.specs.Channel.{Change, Write, Make, Mark, Leave}
 use Rattle.rw_watch.specs.Machine.{mark_at}
 use Rattle.rw_watch.specs.Shown.{Shown, with_change}
 use Rattle.rw_world.specs.declared.channels.ChanCall.TheVariants as call_of
 use Rattle.rw_world.specs.declared.channels.ChanReply.TheVariants as reply_of
 use Rattle.rw_findings.specs.Totals.{is_notified}
 use Rattle.rw_findings.specs.declared.totals.watch.Watcher.{Watcher}
-use Rattle.rw_findings.specs.WatchTallies.{WatchTally, new_watcher, after_look, after_change, after_end, watcher_in, with_watcher, made_watcher, with_call}
+use Rattle.rw_findings.specs.WatchTallies.{WatchTally, new_watcher, after_look, after_change, after_end, watcher_in, with_watcher, with_call}
 use Rattle.rw_findings.proofs.LossSteps.{get-set_other}
 use Rattle.rw_findings.proofs.BroadcastTallying.{get_or_past, get_or_push_past, get_or-set_same, get_or-set_apart, same_or_apart, eq_is, eq_not}
-use Rattle.rw_findings.proofs.WatchSteps.{IsSilent, IsUpTo, StepsTo, keeps, writes, makes_receiver, makes_other, looks, changes, unmarks, leaves}
-use Rattle.rw_findings.proofs.Watchers.{Rises, Watched, Unwatched, IsWatched, rests, is_unmarked, is_made, is_looked, is_changed, is_ended, is_gone}
+use Rattle.rw_findings.proofs.WatchSteps.{IsSilent, StepsTo, keeps, writes, makes_receiver, makes_other, looks, changes, unmarks, leaves}
+use Rattle.rw_findings.proofs.Watchers.{Watched, Unwatched, IsWatched, rests, is_unmarked, is_made, is_looked, is_changed, is_ended, is_gone}
 
 pub get-push_other : {A : Type 0} (xs : List A) (i : ℕ) (a : A) → i ≢ length xs → slice_get (xs ++ a ∷ []) i ≡ slice_get xs i
 get-push_other [] zero a apart = absurd (apart refl)

@@ -1,5 +1,5 @@
 -- What the search for totals keeps of a broadcast while it passes over its entries.
-use Rattle.std.specs.Prelude.{◌≡◌, ◌<◌, ◌^◌, ℕ, ◌+◌, ◌-◌, nat_lt, if◌then◌else◌, List, [], ◌∷◌, ◌++◌, length, Option, Some, None, option_map, option_and_then, slice_set, slice_index_or}
+use Rattle.std.specs.Prelude.{◌≡◌, ◌<◌, ◌^◌, ℕ, ◌+◌, ◌-◌, nat_lt, if◌then◌else◌, List, [], ◌∷◌, ◌++◌, Option, Some, None, option_map, option_and_then, slice_set, slice_index_or}
 use Rattle.rw_broadcast.specs.Arithmetic.{retained_capacity}
 use Rattle.rw_broadcast.specs.declared.calls.BCall.{BCall}
 use Rattle.rw_broadcast.specs.declared.calls.BCall.TheVariants.{Subscribe, Resubscribe}

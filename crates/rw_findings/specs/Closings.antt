@@ -12,7 +12,7 @@ use Rattle.rw_world.specs.Machines.{ChanShown}
 use Rattle.rw_world.specs.Specified.{WorldEntry}
 use Rattle.rw_journal.specs.Run.{Run}
 use Rattle.rw_navigator.specs.Conditions.{has, closed_at, lag_at, seen_at}
-use Rattle.rw_navigator.specs.Places.{last_place, shown_at}
+use Rattle.rw_navigator.specs.Places.{shown_at}
 use Rattle.rw_findings.specs.Totals.{receiver_in, count_on}
 use Rattle.rw_findings.specs.declared.closings.closing.Closing.{Closing}
 use Rattle.rw_findings.specs.declared.closings.closing.LateReader.{LateReader}

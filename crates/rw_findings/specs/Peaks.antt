@@ -1,5 +1,5 @@
 -- The peaks of a run: how much the receivers of a channel lagged, and the like, at most in stretches of places.
-use Rattle.std.specs.Prelude.{◌≡◌, ℕ, ◌+◌, ◌-◌, ◌*◌, ◌<◌, ◌≤◌, ◌⊎◌, max, not, Bool, ◌&&◌, nat_eq, if◌then◌else◌, List, [], ◌∷◌, Some, unwrap_or, slice_get, slice_index_or}
+use Rattle.std.specs.Prelude.{◌≡◌, ℕ, ◌+◌, ◌*◌, ◌<◌, ◌≤◌, ◌⊎◌, max, not, ◌&&◌, nat_eq, if◌then◌else◌, List, [], ◌∷◌, unwrap_or, slice_index_or}
 use Rattle.rw_journal.specs.Run.{Run}
 use Rattle.rw_navigator.specs.Conditions.{has, lag_at, seen_at, unread_at}
 use Rattle.rw_navigator.specs.Places.{last_place, shown_at}

@@ -32,7 +32,6 @@ pub fn closings_of<V: Copy>(alloc: Global, run: &Run<V>) -> Result<Closings, NoM
         let _moved = debugger.step(Move::Goto(place));
         take(alloc, &mut closed, entry, debugger.state(), place)?;
     }
-    drop(debugger);
     listed(alloc, &closed)
 }
 

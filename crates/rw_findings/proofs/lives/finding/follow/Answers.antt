@@ -1,7 +1,6 @@
 use Rattle.std.proofs.Common.{◌≡◌, ◌<◌, ◌∙◌, ◌+◌, ap, arith, get_or, length, subst, sym}
 use Rattle.rw_world.specs.Machines.{of_chan}
 use Rattle.rw_findings.specs.Lives.{TookCall, TookMade, kind_in}
-use Rattle.rw_findings.specs.Subjects.{handle_in}
 use Rattle.rw_findings.proofs.FollowedPlaces.{channel_here}
 use Rattle.rw_findings.proofs.LifePlaces.{few_calls, lives_here, lives_there, same_element}
 use Rattle.rw_findings.proofs.lives.finding.follow.Goals as goal

@@ -1,4 +1,4 @@
-use Rattle.std.proofs.Common.{◌≡◌, ◌<◌, ◌≤◌, ◌+◌, ◌∙◌, ◌++◌, length, get_or, take, drop, refl, sym, ap, subst, rules}
+use Rattle.std.proofs.Common.{◌≡◌, ◌<◌, ◌≤◌, ◌+◌, ◌∙◌, ◌++◌, length, get_or, take, drop, refl, sym, ap, subst, rules, arith}
 use Rattle.std.proofs.lemmas.List.Sorted.{IsNonDecreasingBy-from_sort_by_key}
 use Rattle.rw_law.specs.Journal.{IsLegal}
 use Rattle.rw_world.specs.Machines.{of_world}
@@ -56,14 +56,14 @@ loop-entry-preserved g c =
 pub push_open-requires-clause-few : goal.push_open-requires-clause-few
 push_open-requires-clause-few g c =
     let run = c.args.run.now in
-    let last : c.loop-entry.entry-index ≡ last_place run = search rules in
+    let last : c.loop-entry.entry-index ≡ last_place run = omega (arith, ap length c.loop-entry.invariant.entries, c.loop-entry-test.false) in
     let passed = subst (λ n. IsPassed (at_place run) (last_place run) n c.loop-entry.tracks.items c.loop-entry.losses.items) last c.loop-entry.invariant.passed in
     subst (λ us. length us ≤ MOST_CHANNELS) (sym c.deref-2.ensures.value) (few_tracks run c.loop-entry.tracks.items c.loop-entry.losses.items c.entries-entry-items.ensures.run.opens passed)
 
 pub push_open-requires-clause-small : goal.push_open-requires-clause-small
 push_open-requires-clause-small g c =
     let run = c.args.run.now in
-    let last : c.loop-entry.entry-index ≡ last_place run = search rules in
+    let last : c.loop-entry.entry-index ≡ last_place run = omega (arith, ap length c.loop-entry.invariant.entries, c.loop-entry-test.false) in
     let passed = subst (λ n. IsPassed (at_place run) (last_place run) n c.loop-entry.tracks.items c.loop-entry.losses.items) last c.loop-entry.invariant.passed in
     subst (λ us. HasFewHandles us) (sym c.deref-2.ensures.value) (few_handles run c.loop-entry.tracks.items c.loop-entry.losses.items c.entries-entry-items.ensures.run.opens passed)
 
@@ -72,9 +72,9 @@ returns g c =
     let run = c.args.run.now in
     let ts = c.loop-entry.tracks.items in
     let losses = c.loop-entry.losses.items in
-    let last : c.loop-entry.entry-index ≡ last_place run = search rules in
+    let last : c.loop-entry.entry-index ≡ last_place run = omega (arith, ap length c.loop-entry.invariant.entries, c.loop-entry-test.false) in
     let passed = subst (λ n. IsPassed (at_place run) (last_place run) n ts losses) last c.loop-entry.invariant.passed in
-    let pushed : c.push_open.new.losses.items ≡ with_open losses c.deref-2.result.now (length c.deref-2.result.now) = search rules in
+    let pushed : c.push_open.new.losses.items ≡ with_open losses c.deref-2.result.now (length c.deref-2.result.now) = c.in_ok-push_open.ensures in
     let found : c.push_open.new.losses.items ≡ with_open losses ts (length ts) = pushed ∙ ap (λ us. with_open losses us (length us)) c.deref-2.ensures.value in
     are_losses run ts losses c.entries-entry-items.ensures.run.opens passed c.documented.ensures.places c.push_open.new.losses.items c.sort_unstable_by_key.new.self.items found
     c.sort_unstable_by_key.ensures.permutation

@@ -5,6 +5,9 @@ use Rattle.rw_findings.specs.LossTracks.{opened_tracks, track_of}
 use Rattle.rw_findings.proofs.LossCode.{is_none_from}
 use Rattle.rw_findings.proofs.losses.finding.open_tracks.Goals as goal
 
+pub loop-spec-init : goal.loop-spec-init
+loop-spec-init g c = record { tracks = c.in_ok-tracks.ensures.items; room = c.in_ok-tracks.ensures.exact }
+
 pub track_of-requires : goal.track_of-requires
 track_of-requires g c =
     let good = c.refusal_of-refusal.ensures.good (is_none_from _ (c.refusal_of-refusal.ensures.refusal ∙ c.requires)) c.loop-spec.spec-index c.spec-item.result c.loop-spec-test.true in

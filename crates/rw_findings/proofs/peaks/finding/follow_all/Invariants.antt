@@ -1,4 +1,4 @@
-use Rattle.std.proofs.Common.{◌≡◌, ℕ, ◌+◌, ◌-◌, ◌<◌, ◌≤◌, min}
+use Rattle.std.proofs.Common.{◌≡◌, ℕ, ◌+◌, ◌<◌, ◌≤◌, min}
 use Rattle.rw_findings.specs.Following.{Stands}
 use Rattle.rw_findings.specs.Peaks.{IsGreatest, measured_at, peak_in, start_of}
 use Rattle.rw_navigator.specs.Places.{last_place}

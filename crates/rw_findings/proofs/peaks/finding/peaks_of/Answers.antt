@@ -1,8 +1,8 @@
-use Rattle.std.proofs.Common.{◌≡◌, ◌∙◌, ◌+◌, ap, arith, length, refl, subst, sym}
+use Rattle.std.proofs.Common.{◌≡◌, ◌+◌, ap, arith, length, refl, subst, sym}
 use Rattle.rw_findings.specs.Peaks.{IsGreatest, measured_at, peak_in, start_of}
 use Rattle.rw_navigator.specs.Places.{last_place}
 use Rattle.rw_findings.proofs.PeakPlaces.{no_channel_measured, no_such_channel}
-use Rattle.rw_findings.proofs.PeakSums.{greatest_none, none_each, none_past}
+use Rattle.rw_findings.proofs.PeakSums.{greatest_none}
 use Rattle.rw_findings.proofs.peaks.finding.peaks_of.Goals as goal
 
 pub returns-then-specs-channel : goal.returns-then-specs-channel

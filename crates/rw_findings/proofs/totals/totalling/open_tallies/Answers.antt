@@ -5,6 +5,9 @@ use Rattle.rw_findings.specs.Tallies.{opened_tallies, tally_of}
 use Rattle.rw_findings.proofs.LossCode.{is_none_from}
 use Rattle.rw_findings.proofs.totals.totalling.open_tallies.Goals as goal
 
+pub loop-spec-init : goal.loop-spec-init
+loop-spec-init g c = record { tallies = c.in_ok-tallies.ensures.items; room = c.in_ok-tallies.ensures.exact }
+
 pub tally_of-requires : goal.tally_of-requires
 tally_of-requires g c =
     let good = c.refusal_of-refusal.ensures.good (is_none_from _ (c.refusal_of-refusal.ensures.refusal ∙ c.requires)) c.loop-spec.spec-index c.spec-item.result c.loop-spec-test.true in
