@@ -1,5 +1,6 @@
 //! Passes, which record calls, and desks.
 
+mod beside;
 mod full;
 mod most;
 mod one_thread;

@@ -1,15 +1,16 @@
 //! A desk with a channel whose journal is full.
 
 use super::plain::{
-    OfBoth, b_receiver_count, b_send, call, entries, open_both, receipts, run_of_one, stamp, w_send,
+    OfOne, b_receiver_count, b_send, broadcast_of, call, entries, length_of, open_one, receipts,
+    run_of_one, stamp, w_send, watch_of,
 };
-use super::shared::length_of;
-use crate::comparing::same;
+use crate::comparing::{b_same, same_answers, same_calls, same_numbers, same_order, w_same};
 use rw_broadcast::{BCall, BReply};
 use rw_desk::{BTx, Desk, DeskFault, Pass};
 use rw_law::Entry;
 use rw_watch::{WCall, WReply};
 use rw_world::{ChanCall, ChanReply, Spec, World};
+use std::alloc::Global;
 use std::process::Abort;
 use std::sync::Wait;
 use std::test::Fail;
@@ -18,7 +19,7 @@ use std::test::Fail;
 fn fill<R: Wait + Abort>(rt: &R, desk: &Desk<u64>, pass: &mut Pass<u64>, sender: &BTx) {
     for value in 1..=1_048_576 {
         let sent = b_send(desk, rt, pass, sender, value);
-        same(rt, &"sent", &sent, &Ok(BReply::Sent(1)));
+        b_same(rt, "sent", &[sent], &[Ok(BReply::Sent(1))]);
     }
 }
 
@@ -29,77 +30,63 @@ fn is_full<R: Wait + Abort>(rt: &R, desk: &Desk<u64>, pass: &mut Pass<u64>, send
         b_send(desk, rt, pass, sender, 9),
         b_receiver_count(desk, rt, pass, sender),
     ];
-    same(rt, &"answers", &answers, &[full, full]);
-    let borrow = ChanCall::W(WCall::Borrow(1));
-    let strayed = call(desk, rt, pass, 0, borrow);
-    same(rt, &"strayed", &strayed, &Err(DeskFault::NoChannel));
-    same(
-        rt,
-        &"is full",
-        &(stamp(pass), receipts(pass).len()),
-        &(1_048_576, 1_048_576),
-    );
+    b_same(rt, "answers", &answers, &[full, full]);
+    let strayed = call(desk, rt, pass, 0, ChanCall::W(WCall::Borrow(1)));
+    same_answers(rt, "strayed", &[strayed], &[Err(DeskFault::NoChannel)]);
+    let counts = [stamp(pass), receipts(pass).len() as u64];
+    same_numbers(rt, "is full", &counts, &[1_048_576, 1_048_576]);
 }
 
 /// The last entries are the last one of the full channel, and one of the other.
-fn ends_on_both(rt: &impl Abort, entries: &[Entry<World<u64>>]) -> Result<(), Fail> {
+fn ends_on_both(rt: &impl Abort, entries: &[Entry<World<u64>>]) {
     let [.., last, other] = entries else {
-        return Err(Fail::from("no two entries"));
+        panic!(rt; "no two entries")
     };
-    same(
+    let places = [
+        (last.stamp, last.call.channel),
+        (other.stamp, other.call.channel),
+    ];
+    same_order(
         rt,
-        &"ends on both",
-        &(last.stamp, last.call.channel),
-        &(1_048_576, 0),
+        "ends on both",
+        &places,
+        &[(1_048_576, 0), (1_048_577, 1)],
     );
-    same(
-        rt,
-        &"ends on both",
-        &last.call.call,
-        &ChanCall::B(BCall::Send(0, 1_048_576)),
-    );
-    same(
-        rt,
-        &"ends on both",
-        &(other.stamp, other.call.channel),
-        &(1_048_577, 1),
-    );
-    same(
-        rt,
-        &"ends on both",
-        &other.reply,
-        &ChanReply::W(WReply::Stored),
-    );
-    Ok(())
+    let calls = [(last.call.call, last.reply), (other.call.call, other.reply)];
+    let wanted = [
+        (
+            ChanCall::B(BCall::Send(0, 1_048_576)),
+            ChanReply::B(BReply::Sent(1)),
+        ),
+        (ChanCall::W(WCall::Send(0, 2)), ChanReply::W(WReply::Stored)),
+    ];
+    same_calls(rt, "ends on both", &calls, &wanted);
 }
 
 /// Fills the first channel, which refuses calls then, and calls the other.
-fn fills_one<R: Wait + Abort>(rt: &R, open: &mut OfBoth) {
-    let (desk, pass, sender) = (&open.desk, &mut open.pass, &open.sender);
+fn fills_one<R: Wait + Abort>(rt: &R, open: &mut OfOne) {
+    let (sender, _) = broadcast_of(rt, &open.ends);
+    let (writer, _) = watch_of(rt, &open.ends);
+    let (desk, pass) = (&open.desk, &mut open.pass);
     fill(rt, desk, pass, sender);
     is_full(rt, desk, pass, sender);
     is_full(rt, desk, pass, sender);
-    let stored = w_send(desk, rt, pass, &open.writer, 2);
-    same(
-        rt,
-        &"fills one",
-        &(stored, stamp(pass)),
-        &(Ok(WReply::Stored), 1_048_577),
-    );
+    let stored = w_send(desk, rt, pass, writer, 2);
+    w_same(rt, "fills one", &[stored], &[Ok(WReply::Stored)]);
+    same_numbers(rt, "fills one", &[stamp(pass)], &[1_048_577]);
+}
+
+/// The desk closes, and its run ends on both channels.
+fn closes_on_both(rt: &impl Abort, alloc: Global, open: OfOne) -> Result<(), Fail> {
+    let run = run_of_one(alloc, open)?;
+    ends_on_both(rt, entries(&run));
+    same_numbers(rt, "length", &[length_of(run)], &[1_048_577]);
+    Ok(())
 }
 
 #[test]
 fn a_full_channel_of_a_desk(rt: HostRuntime) -> Result<(), Fail> {
-    let alloc = rt.alloc();
-    let mut open = open_both(alloc, &[Spec::Broadcast(1), Spec::Watch(1)])?;
+    let mut open = open_one(rt.alloc(), &[Spec::Broadcast(1), Spec::Watch(1)])?;
     fills_one(&rt, &mut open);
-    let run = run_of_one(alloc, open.desk, open.pass)?;
-    let ends = ends_on_both(&rt, entries(&run));
-    same(
-        &rt,
-        &"a full channel of a desk",
-        &length_of(run),
-        &1_048_577,
-    );
-    ends
+    closes_on_both(&rt, rt.alloc(), open)
 }

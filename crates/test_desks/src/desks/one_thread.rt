@@ -5,54 +5,47 @@
 mod handles;
 
 use super::plain::{
-    self, OfBoth, OfBroadcast, OfWatch, b_receiver_len, b_recv, b_send, b_try_recv, both_ends,
-    call, close, differs, drop_broadcast, drop_desk, drop_ends, drop_pass, drop_passes, drop_run,
-    last_three, open, open_both, open_broadcast, open_watch, order, receipts, run_of, run_of_one,
-    run_with, stamp, w_drop_sender, w_send, w_send_if_modified, w_wait_for, wait_call,
+    self, OfOne, b_receiver_len, b_recv, b_send, b_try_recv, broadcast_of, call, close, differs,
+    drop_desk, drop_ends, drop_one, drop_pass, drop_passes, drop_run, has_kept, length_of_one,
+    no_passes, open, open_one, order, receipts, run_of, run_of_one, run_with, stamp, w_drop_sender,
+    w_send, w_send_if_modified, w_wait_for, wait_call, watch_of,
 };
-use super::shared::{desk_of_two, length_of, run_of_two};
-use crate::comparing::same;
+use super::shared::{OfTwo, open_two, run_of_two};
+use crate::comparing::{
+    b_same, same, same_answers, same_closes, same_flags, same_numbers, same_order, w_same,
+};
 use rw_broadcast::{BCall, BReply};
-use rw_desk::{BTx, CloseFault, Desk, DeskFault, DeskOpenFault, Kept, Pass, WRx, WTx};
+use rw_desk::{CloseFault, Desk, DeskFault, DeskOpenFault, Ends, Kept, Pass, WRx, WTx};
 use rw_journal::Run;
 use rw_watch::{WCall, WReply};
 use rw_world::{ChanCall, ChanReply, OpenFault, Spec};
-use std::alloc::{AllocError, Global};
+use std::alloc::Global;
 use std::process::Abort;
 use std::sync::Wait;
 use std::test::Fail;
 
 /// A value is sent and received, a call would wait, and one strays.
-fn answers_to_one_actor<R: Wait + Abort>(rt: &R, open: &mut OfBroadcast) {
+fn answers_to_one_actor<R: Wait + Abort>(rt: &R, open: &mut OfOne) {
+    let (sender, receiver) = broadcast_of(rt, &open.ends);
     let (desk, pass) = (&open.desk, &mut open.pass);
     let answers = [
-        b_send(desk, rt, pass, &open.sender, 4),
-        b_try_recv(desk, rt, pass, &open.receiver),
-        b_try_recv(desk, rt, pass, &open.receiver),
+        b_send(desk, rt, pass, sender, 4),
+        b_try_recv(desk, rt, pass, receiver),
+        b_try_recv(desk, rt, pass, receiver),
     ];
-    same(
-        rt,
-        &"answers",
-        &answers,
-        &[Ok(BReply::Sent(1)), Ok(BReply::Value(4)), Ok(BReply::Empty)],
-    );
+    let wanted = [Ok(BReply::Sent(1)), Ok(BReply::Value(4)), Ok(BReply::Empty)];
+    b_same(rt, "answers", &answers, &wanted);
     let recv = ChanCall::B(BCall::Recv(1));
     let refused = [call(desk, rt, pass, 0, recv), call(desk, rt, pass, 1, recv)];
-    same(
-        rt,
-        &"refused",
-        &refused,
-        &[Err(DeskFault::Waits), Err(DeskFault::NoChannel)],
-    );
+    let wanted = [Err(DeskFault::Waits), Err(DeskFault::NoChannel)];
+    same_answers(rt, "refused", &refused, &wanted);
 }
 
 /// The fault of a close without the pass, and the stamps and channels of the run of the next close, with it.
-fn closes(
-    alloc: Global,
-    desk: Desk<u64>,
-    pass: Pass<u64>,
-) -> Result<(CloseFault, Vec<(u64, u32)>), Fail> {
-    match close(desk, alloc, Vec::new(alloc)) {
+fn closes(alloc: Global, open: OfOne) -> Result<(CloseFault, Vec<(u64, u32)>), Fail> {
+    let OfOne { desk, pass, ends } = open;
+    drop_ends(ends);
+    match close(desk, alloc, no_passes(alloc)) {
         Ok(run) => {
             drop_run(run);
             drop_pass(pass);
@@ -68,64 +61,52 @@ fn closes(
 #[test]
 fn desk_of_one_actor(rt: HostRuntime) -> Result<(), Fail> {
     let alloc = rt.alloc();
-    let mut open = open_broadcast(alloc, &[Spec::Broadcast(2)])?;
+    let mut open = open_one(alloc, &[Spec::Broadcast(2)])?;
     answers_to_one_actor(&rt, &mut open);
-    let (fault, order) = closes(alloc, open.desk, open.pass)?;
-    same(&rt, &"fault", &fault, &CloseFault::Stranger(0));
-    same(
-        &rt,
-        &"desk of one actor",
-        &order.as_slice(),
-        &[(1, 0), (2, 0), (3, 0)].as_slice(),
-    );
+    let (fault, order) = closes(alloc, open)?;
+    same_order(&rt, "order", &order, &[(1, 0), (2, 0), (3, 0)]);
+    same_closes(&rt, "fault", &[Err(fault)], &[Err(CloseFault::Stranger(0))]);
     Ok(())
 }
 
-/// Where these receipts differ from the run, and fewer and other ones.
-fn differs_at(rt: &impl Abort, run: &Run<u64>, kept: &[Kept<u64>]) -> Result<(), Fail> {
-    same(rt, &"differs at", &differs(run, 0, kept), &None);
-    let [first, second, third] = kept else {
-        return Err(Fail::from("not three receipts"));
-    };
+/// The numbers of the first receipts that aren't entries of the run: of these receipts, of fewer and of other ones.
+fn differences(run: &Run<u64>, kept: &[Kept<u64>; 3]) -> [Option<u64>; 3] {
+    let [first, second, third] = kept;
     let other = Kept {
         reply: ChanReply::B(BReply::Value(5)),
         ..*second
     };
-    let numbers = [
+    [
+        differs(run, 0, kept),
         differs(run, 0, &[*first, *second]),
         differs(run, 0, &[*first, other, *third]),
-    ];
-    same(rt, &"numbers", &numbers, &[Some(2), Some(1)]);
-    Ok(())
+    ]
 }
 
 /// Sends a value, and receives twice. The receipts.
-fn calls_thrice<R: Wait>(
-    rt: &R,
-    alloc: Global,
-    open: &mut OfBroadcast,
-) -> Result<Vec<Kept<u64>>, AllocError> {
+fn calls_thrice<R: Wait + Abort>(rt: &R, open: &mut OfOne) -> [Kept<u64>; 3] {
+    let (sender, receiver) = broadcast_of(rt, &open.ends);
     let (desk, pass) = (&open.desk, &mut open.pass);
-    let _sent = b_send(desk, rt, pass, &open.sender, 4);
-    let _received = b_try_recv(desk, rt, pass, &open.receiver);
-    let _nothing = b_try_recv(desk, rt, pass, &open.receiver);
-    Vec::from_slice(alloc, receipts(pass))
+    let _sent = b_send(desk, rt, pass, sender, 4);
+    let _received = b_try_recv(desk, rt, pass, receiver);
+    let _nothing = b_try_recv(desk, rt, pass, receiver);
+    match receipts(pass) {
+        [first, second, third] => [*first, *second, *third],
+        _ => panic!(rt; "not three receipts"),
+    }
 }
 
 /// The number of the first receipt that isn't its actor's entry of the run.
 #[test]
 fn receipts_beside_a_run(rt: HostRuntime) -> Result<(), Fail> {
     let alloc = rt.alloc();
-    let mut open = open_broadcast(alloc, &[Spec::Broadcast(2)])?;
-    let kept = calls_thrice(&rt, alloc, &mut open);
-    let run = run_of_one(alloc, open.desk, open.pass)?;
-    let differs = match &kept {
-        Ok(kept) => differs_at(&rt, &run, kept),
-        Err(_) => Err(Fail::from("no receipts")),
-    };
+    let mut open = open_one(alloc, &[Spec::Broadcast(2)])?;
+    let kept = calls_thrice(&rt, &mut open);
+    let run = run_of_one(alloc, open)?;
+    let found = differences(&run, &kept);
     drop_run(run);
-    drop(kept);
-    differs
+    same(&rt, &"differences", &found, &[None, Some(2), Some(1)]);
+    Ok(())
 }
 
 /// The fault of a desk that isn't opened.
@@ -173,133 +154,103 @@ fn lengths_without_calls(alloc: Global) -> Result<(u64, usize), Fail> {
 
 #[test]
 fn desk_without_calls(rt: HostRuntime) -> Result<(), Fail> {
-    same(
-        &rt,
-        &"desk without calls",
-        &lengths_without_calls(rt.alloc())?,
-        &(0, 64),
-    );
+    let (entries, specs) = lengths_without_calls(rt.alloc())?;
+    same_numbers(&rt, "lengths", &[entries, specs as u64], &[0, 64]);
     Ok(())
-}
-
-/// A desk of two actors with a broadcast and then a watch, and a sender of each.
-#[derive(Drop)]
-struct OfTwo {
-    desk: Desk<u64>,
-    first: Pass<u64>,
-    second: Pass<u64>,
-    sender: BTx,
-    writer: WTx,
-}
-
-/// Opens a desk of two actors.
-fn open_of_two(alloc: Global) -> Result<OfTwo, Fail> {
-    let specs = [Spec::Broadcast(2), Spec::Watch(5)];
-    let (desk, ends, first, second) = desk_of_two(alloc, &specs)?;
-    let Some((sender, _, writer, _)) = both_ends(ends) else {
-        drop_desk(desk);
-        return Err(Fail::from("other channels"));
-    };
-    Ok(OfTwo {
-        desk,
-        first,
-        second,
-        sender,
-        writer,
-    })
 }
 
 /// The first actor sends three values, and the second, who heeds a stamp, writes one, at the next stamp.
 fn heeds<R: Wait + Abort>(rt: &R, open: &mut OfTwo, heed: u64, next: u64) {
+    let (sender, _) = broadcast_of(rt, &open.ends);
+    let (writer, _) = watch_of(rt, &open.ends);
     let desk = &open.desk;
     for _ in 0..3 {
-        let sent = b_send(desk, rt, &mut open.first, &open.sender, 1);
-        same(rt, &"sent", &sent, &Ok(BReply::Sent(1)));
+        let sent = b_send(desk, rt, &mut open.first, sender, 1);
+        b_same(rt, "sent", &[sent], &[Ok(BReply::Sent(1))]);
     }
     let second = &mut open.second;
     plain::heed(second, heed);
-    let stored = w_send(desk, rt, second, &open.writer, 6);
-    same(
-        rt,
-        &"heeds",
-        &(stored, stamp(second)),
-        &(Ok(WReply::Stored), next),
-    );
+    let stored = w_send(desk, rt, second, writer, 6);
+    w_same(rt, "stored", &[stored], &[Ok(WReply::Stored)]);
+    same_numbers(rt, "stamp", &[stamp(second)], &[next]);
 }
 
-/// The stamps and channels of the run of a desk of two actors, of whom the second heeds a stamp.
-fn order_heeding<R: Wait + Abort>(
+/// The run of a desk of two actors, of whom the second heeds a stamp, has these stamps and channels.
+fn has_order<R: Wait + Abort>(
     rt: &R,
     alloc: Global,
     heed: u64,
     next: u64,
-) -> Result<Vec<(u64, u32)>, Fail> {
-    let mut open = open_of_two(alloc)?;
+    wanted: &[(u64, u32)],
+) -> Result<(), Fail> {
+    let mut open = open_two(alloc, &[Spec::Broadcast(2), Spec::Watch(5)])?;
     heeds(rt, &mut open, heed, next);
-    let run = run_of_two(alloc, open.desk, open.first, open.second)?;
-    Ok(order(alloc, run)?)
+    let order = order(alloc, run_of_two(alloc, open)?)?;
+    same_order(rt, "heeded stamps", &order, wanted);
+    Ok(())
 }
 
 #[test]
 fn heeded_stamps(rt: HostRuntime) -> Result<(), Fail> {
-    let heeded = order_heeding(&rt, rt.alloc(), 3, 4)?;
-    same(
-        &rt,
-        &"heeded stamps",
-        &heeded.as_slice(),
-        &[(1, 0), (2, 0), (3, 0), (4, 1)].as_slice(),
-    );
-    let unheeded = order_heeding(&rt, rt.alloc(), 0, 1)?;
-    same(
-        &rt,
-        &"heeded stamps",
-        &unheeded.as_slice(),
-        &[(1, 0), (1, 1), (2, 0), (3, 0)].as_slice(),
-    );
-    Ok(())
+    has_order(&rt, rt.alloc(), 3, 4, &[(1, 0), (2, 0), (3, 0), (4, 1)])?;
+    has_order(&rt, rt.alloc(), 0, 1, &[(1, 0), (1, 1), (2, 0), (3, 0)])
 }
 
 /// The only writer is dropped.
 fn drops_a_writer<R: Wait + Abort>(rt: &R, desk: &Desk<u64>, pass: &mut Pass<u64>, writer: WTx) {
-    let dropped = w_drop_sender(desk, rt, pass, writer);
-    same(rt, &"dropped", &dropped, &Ok(WReply::Dropped));
+    match w_drop_sender(desk, rt, pass, writer) {
+        Ok(reply) => w_same(rt, "dropped", &[Ok(reply)], &[Ok(WReply::Dropped)]),
+        Err(_) => panic!(rt; "not dropped"),
+    }
 }
 
 /// Nobody waits for a value of a watch that is closed.
 fn is_closed<R: Wait + Abort>(rt: &R, desk: &Desk<u64>, pass: &mut Pass<u64>, reader: &WRx) {
     let answer = w_wait_for(desk, rt, pass, reader, |value| *value == 2);
-    same(rt, &"answer", &answer, &Ok(WReply::Closed));
+    w_same(rt, "answer", &[answer], &[Ok(WReply::Closed)]);
 }
+
+/// The only writer is dropped, and then nobody waits for a value.
+fn closes_a_watch<R: Wait + Abort>(rt: &R, open: &mut OfOne) {
+    let Some(Ends::Watch(writer, reader)) = open.ends.pop() else {
+        panic!(rt; "no watch")
+    };
+    drops_a_writer(rt, &open.desk, &mut open.pass, writer);
+    is_closed(rt, &open.desk, &mut open.pass, &reader);
+}
+
+/// The receipts of a wait at a watch that is closed.
+static AT_CLOSED: [(ChanCall<u64>, ChanReply<u64>); 3] = [
+    (
+        ChanCall::W(WCall::DropHandle(0)),
+        ChanReply::W(WReply::Dropped),
+    ),
+    (
+        ChanCall::W(WCall::Update(1)),
+        ChanReply::W(WReply::Value(1)),
+    ),
+    (ChanCall::W(WCall::Changed(1)), ChanReply::W(WReply::Closed)),
+];
 
 #[test]
 fn wait_for_a_value_of_a_closed_watch(rt: HostRuntime) -> Result<(), Fail> {
     let alloc = rt.alloc();
-    let OfWatch {
-        desk,
-        mut pass,
-        writer,
-        reader,
-    } = open_watch(alloc, &[Spec::Watch(1)])?;
-    drops_a_writer(&rt, &desk, &mut pass, writer);
-    is_closed(&rt, &desk, &mut pass, &reader);
-    let found = (receipts(&pass).len(), last_three(receipts(&pass)));
-    drop_run(run_of_one(alloc, desk, pass)?);
-    let wanted = [
-        (WCall::DropHandle(0), WReply::Dropped),
-        (WCall::Update(1), WReply::Value(1)),
-        (WCall::Changed(1), WReply::Closed),
-    ]
-    .map(|(call, reply)| (ChanCall::W(call), ChanReply::W(reply)));
-    same(&rt, &"receipts", &found, &(3, Some(wanted)));
+    let mut open = open_one(alloc, &[Spec::Watch(1)])?;
+    closes_a_watch(&rt, &mut open);
+    let kept = has_kept(&rt, alloc, "receipts", &open.pass, &AT_CLOSED);
+    let length = length_of_one(alloc, open);
+    kept?;
+    same_closes(&rt, "length", &[length], &[Ok(3)]);
     Ok(())
 }
 
 /// Sends a value more than the greatest ring holds, and then receives the oldest that are left.
-fn overfills<R: Wait + Abort>(rt: &R, open: &mut OfBroadcast) {
-    let (desk, pass, receiver) = (&open.desk, &mut open.pass, &open.receiver);
+fn overfills<R: Wait + Abort>(rt: &R, open: &mut OfOne) {
+    let (sender, receiver) = broadcast_of(rt, &open.ends);
+    let (desk, pass) = (&open.desk, &mut open.pass);
     for value in 0..=65_536 {
-        let sent = b_send(desk, rt, pass, &open.sender, value);
-        same(rt, &"sent", &sent, &Ok(BReply::Sent(1)));
+        let sent = b_send(desk, rt, pass, sender, value);
+        b_same(rt, "sent", &[sent], &[Ok(BReply::Sent(1))]);
     }
     let answers = [
         b_receiver_len(desk, rt, pass, receiver),
@@ -307,90 +258,85 @@ fn overfills<R: Wait + Abort>(rt: &R, open: &mut OfBroadcast) {
         b_try_recv(desk, rt, pass, receiver),
         b_try_recv(desk, rt, pass, receiver),
     ];
-    same(
-        rt,
-        &"answers",
-        &answers,
-        &[
-            Ok(BReply::Count(65_537)),
-            Ok(BReply::Lagged(1)),
-            Ok(BReply::Value(1)),
-            Ok(BReply::Value(2)),
-        ],
-    );
+    let wanted = [
+        Ok(BReply::Count(65_537)),
+        Ok(BReply::Lagged(1)),
+        Ok(BReply::Value(1)),
+        Ok(BReply::Value(2)),
+    ];
+    b_same(rt, "answers", &answers, &wanted);
 }
 
 #[test]
 fn ring_of_the_greatest_capacity(rt: HostRuntime) -> Result<(), Fail> {
-    let mut open = open_broadcast(rt.alloc(), &[Spec::Broadcast(65_536)])?;
+    let mut open = open_one(rt.alloc(), &[Spec::Broadcast(65_536)])?;
     overfills(&rt, &mut open);
-    drop_broadcast(open);
+    drop_one(open);
     Ok(())
 }
 
-/// Each call is refused for want of a stamp, but one that strays.
-fn has_no_stamp<R: Wait + Abort>(rt: &R, open: &mut OfBoth) {
+/// Each call of a broadcast is refused for want of a stamp.
+fn sends_nothing<R: Wait + Abort>(rt: &R, open: &mut OfOne) {
+    let (sender, receiver) = broadcast_of(rt, &open.ends);
     let (desk, pass) = (&open.desk, &mut open.pass);
-    let full = DeskFault::JournalFull;
     let answers = [
-        b_send(desk, rt, pass, &open.sender, 4),
-        b_recv(desk, rt, pass, &open.receiver),
+        b_send(desk, rt, pass, sender, 4),
+        b_recv(desk, rt, pass, receiver),
     ];
-    same(rt, &"answers", &answers, &[Err(full), Err(full)]);
+    b_same(rt, "answers", &answers, &[Err(DeskFault::JournalFull); 2]);
+}
+
+/// Each call of a watch is refused for want of a stamp, and no closure is called.
+fn writes_nothing<R: Wait + Abort>(rt: &R, open: &mut OfOne) {
+    let (writer, reader) = watch_of(rt, &open.ends);
+    let (desk, pass) = (&open.desk, &mut open.pass);
     let mut was_called = false;
-    let modified = w_send_if_modified(desk, rt, pass, &open.writer, |_| {
-        was_called = true;
-        true
-    });
-    same(
-        rt,
-        &"has no stamp",
-        &(modified, was_called),
-        &(Err(full), false),
-    );
-    let waited = w_wait_for(desk, rt, pass, &open.reader, |_| true);
-    same(rt, &"waited", &waited, &Err(full));
+    let answers = [
+        w_send_if_modified(desk, rt, pass, writer, |_| {
+            was_called = true;
+            true
+        }),
+        w_wait_for(desk, rt, pass, reader, |_| true),
+    ];
+    w_same(rt, "answers", &answers, &[Err(DeskFault::JournalFull); 2]);
+    same_flags(rt, "was called", &[was_called], &[false]);
+}
+
+/// Each call by the channel's number is refused for want of a stamp, but one that strays.
+fn strays_alone<R: Wait + Abort>(rt: &R, desk: &Desk<u64>, pass: &mut Pass<u64>) {
     let recv = ChanCall::B(BCall::Recv(1));
     let answers = [
         wait_call(desk, rt, pass, 0, recv),
         call(desk, rt, pass, 1, recv),
     ];
-    same(
-        rt,
-        &"answers",
-        &answers,
-        &[Err(full), Err(DeskFault::NoChannel)],
-    );
+    let wanted = [Err(DeskFault::JournalFull), Err(DeskFault::NoChannel)];
+    same_answers(rt, "answers", &answers, &wanted);
 }
 
 /// A writer comes back where its drop is refused for want of a stamp, and nothing was recorded.
-fn comes_back<R: Wait + Abort>(
-    rt: &R,
-    desk: &Desk<u64>,
-    pass: &mut Pass<u64>,
-    writer: WTx,
-    heeded: u64,
-) {
-    let back = match w_drop_sender(desk, rt, pass, writer) {
+fn comes_back<R: Wait + Abort>(rt: &R, open: &mut OfOne, heeded: u64) {
+    let Some(Ends::Watch(writer, _)) = open.ends.pop() else {
+        panic!(rt; "no watch")
+    };
+    let back = match w_drop_sender(&open.desk, rt, &mut open.pass, writer) {
         Ok(_) => None,
         Err((fault, writer)) => Some((fault, writer.number())),
     };
-    same(
-        rt,
-        &"comes back",
-        &(back, stamp(pass), receipts(pass).len()),
-        &(Some((DeskFault::JournalFull, 0)), heeded, 0),
-    );
+    same(rt, &"back", &back, &Some((DeskFault::JournalFull, 0)));
+    let counts = [stamp(&open.pass), receipts(&open.pass).len() as u64];
+    same_numbers(rt, "counts", &counts, &[heeded, 0]);
 }
 
 /// No call is recorded by an actor that has heeded a stamp after which there is none.
 fn records_nothing<R: Wait + Abort>(rt: &R, alloc: Global, heeded: u64) -> Result<(), Fail> {
-    let mut open = open_both(alloc, &[Spec::Broadcast(2), Spec::Watch(1)])?;
+    let mut open = open_one(alloc, &[Spec::Broadcast(2), Spec::Watch(1)])?;
     plain::heed(&mut open.pass, heeded);
-    has_no_stamp(rt, &mut open);
-    comes_back(rt, &open.desk, &mut open.pass, open.writer, heeded);
-    let run = run_of_one(alloc, open.desk, open.pass)?;
-    same(rt, &"records nothing", &length_of(run), &0);
+    sends_nothing(rt, &mut open);
+    writes_nothing(rt, &mut open);
+    strays_alone(rt, &open.desk, &mut open.pass);
+    comes_back(rt, &mut open, heeded);
+    let length = length_of_one(alloc, open)?;
+    same_numbers(rt, "records nothing", &[length], &[0]);
     Ok(())
 }
 

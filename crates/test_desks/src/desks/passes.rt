@@ -5,7 +5,7 @@ ghost use Rattle.rw_law.specs.declared.limits.TheConstants.{MOST_ACTORS};
 ghost use Rattle.rw_world.specs.Openings.{has_bad_capacity};
 
 use super::plain::{drop_pass, heed, receipts, stamp};
-use crate::comparing::same;
+use crate::comparing::{same, same_answers, same_numbers};
 use rw_broadcast::{BCall, BReply};
 use rw_desk::{DeskFault, Kept, Pass};
 use rw_journal::Book;
@@ -44,8 +44,8 @@ fn actor_of(pass: &Pass<u64>) -> u32 {
 }
 
 /// The stamp of a pass, and how many receipts it and how many entries the book has.
-fn counts(book: &Book<Chan<u64>>, pass: &Pass<u64>) -> (u64, usize, u64) {
-    (stamp(pass), receipts(pass).len(), book.len())
+fn counts(book: &Book<Chan<u64>>, pass: &Pass<u64>) -> [u64; 3] {
+    [stamp(pass), receipts(pass).len() as u64, book.len()]
 }
 
 /// Records a call by a pass.
@@ -72,9 +72,9 @@ fn records(rt: &impl Abort, book: &mut Book<Chan<u64>>, pass: &mut Pass<u64>) {
         Err(DeskFault::NoChannel),
         Err(DeskFault::Waits),
     ];
-    same(rt, &"answers", &answers, &wanted);
-    let found = (actor_of(pass), counts(book, pass));
-    same(rt, &"counts", &found, &(5, (2, 2, 2)));
+    same_answers(rt, "answers", &answers, &wanted);
+    same_numbers(rt, "actor", &[u64::from(actor_of(pass))], &[5]);
+    same_numbers(rt, "counts", &counts(book, pass), &[2, 2, 2]);
 }
 
 /// The actor, the channel and the stamp of the receipt of a number, if it is that of the entry there.
@@ -118,26 +118,22 @@ fn records_nothing(rt: &impl Abort, book: &mut Book<Chan<u64>>, pass: &mut Pass<
         record(book, pass, 0, ChanCall::W(WCall::Borrow(1))),
     ];
     let faults = [Err(DeskFault::JournalFull), Err(DeskFault::NoChannel)];
-    same(rt, &"answers", &answers, &faults);
-    same(rt, &"counts", &counts(book, pass), &(clock, 1, 1));
+    same_answers(rt, "answers", &answers, &faults);
+    same_numbers(rt, "counts", &counts(book, pass), &[clock, 1, 1]);
 }
 
 /// The last stamp is given, and then none, whatever is heeded.
 fn ends_its_clock(rt: &impl Abort, book: &mut Book<Chan<u64>>, pass: &mut Pass<u64>) {
     heed(pass, (1 << 62) - 1);
     heed(pass, 3);
-    same(rt, &"heeded", &stamp(pass), &((1 << 62) - 1));
+    same_numbers(rt, "heeded", &[stamp(pass)], &[(1 << 62) - 1]);
     let counted = record(book, pass, 0, ChanCall::B(BCall::ReceiverCount(0)));
-    same(
-        rt,
-        &"counted",
-        &counted,
-        &Ok(ChanReply::B(BReply::Count(1))),
-    );
+    let wanted = Ok(ChanReply::B(BReply::Count(1)));
+    same_answers(rt, "counted", &[counted], &[wanted]);
     for heeded in [0, 1 << 62, u64::MAX] {
         records_nothing(rt, book, pass, heeded);
     }
-    same(rt, &"at last", &stamp(pass), &u64::MAX);
+    same_numbers(rt, "at last", &[stamp(pass)], &[u64::MAX]);
 }
 
 #[test]
@@ -159,6 +155,7 @@ fn a_refused_call_is_recorded(rt: HostRuntime) -> Result<(), Fail> {
     drop_book(book);
     drop_pass(pass);
     let unknown = Ok(ChanReply::W(WReply::Unknown));
-    same(&rt, &"a refused call", &(answer, last), &(unknown, 1));
+    same_answers(&rt, "a refused call", &[answer], &[unknown]);
+    same_numbers(&rt, "its stamp", &[last], &[1]);
     Ok(())
 }

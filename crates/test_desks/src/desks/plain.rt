@@ -1,5 +1,6 @@
 //! Calls of desks without their contracts: each instance of a generic call is put together here once, and not in every test.
 
+use crate::comparing::same_calls;
 use rw_broadcast::{BCall, BReply};
 use rw_desk::{
     BRx, BTx, CloseFault, Desk, DeskFault, DeskOpenFault, Ends, Kept, Made, Pass, WRx, WTx, compare,
@@ -9,37 +10,17 @@ use rw_law::Entry;
 use rw_watch::{WCall, WReply};
 use rw_world::{ChanCall, ChanReply, Spec, World};
 use std::alloc::{AllocError, Global};
+use std::process::Abort;
 use std::sync::Wait;
 use std::test::Fail;
 use support_desks::{by_reader, by_receiver, by_sender, by_writer};
 
-/// A desk of one actor with a broadcast channel.
+/// A desk of one actor, its pass, and the ends of its channels.
 #[derive(Drop)]
-pub struct OfBroadcast {
+pub struct OfOne {
     pub desk: Desk<u64>,
     pub pass: Pass<u64>,
-    pub sender: BTx,
-    pub receiver: BRx,
-}
-
-/// A desk of one actor with a watch channel.
-#[derive(Drop)]
-pub struct OfWatch {
-    pub desk: Desk<u64>,
-    pub pass: Pass<u64>,
-    pub writer: WTx,
-    pub reader: WRx,
-}
-
-/// A desk of one actor with a broadcast channel, and then a watch channel.
-#[derive(Drop)]
-pub struct OfBoth {
-    pub desk: Desk<u64>,
-    pub pass: Pass<u64>,
-    pub sender: BTx,
-    pub receiver: BRx,
-    pub writer: WTx,
-    pub reader: WRx,
+    pub ends: Vec<Ends>,
 }
 
 /// A desk with its passes and ends.
@@ -72,109 +53,57 @@ pub fn drop_passes(_passes: Vec<Pass<u64>>) {}
 /// Drops the ends of channels.
 pub fn drop_ends(_ends: Vec<Ends>) {}
 
-/// Drops a run.
-pub fn drop_run(_run: Run<u64>) {}
+/// Drops a run. What goes out of scope by itself is walked at each exit, and of a run that is long.
+pub fn drop_run(run: Run<u64>) {
+    drop(run);
+}
 
-/// Drops a desk with a broadcast channel, its pass and its handles.
-pub fn drop_broadcast(_open: OfBroadcast) {}
+/// Drops a desk of one actor, its pass and its ends.
+pub fn drop_one(_open: OfOne) {}
 
-/// Drops a desk with a watch channel, its pass and its handles.
-pub fn drop_watch(_open: OfWatch) {}
-
-/// Drops a desk with both, its pass and its handles.
-pub fn drop_both(_open: OfBoth) {}
-
-/// The ends of the last channel, where it is a broadcast.
-pub fn broadcast_ends(ends: &mut Vec<Ends>) -> Option<(BTx, BRx)> {
-    match ends.pop() {
-        Some(Ends::Broadcast(sender, receiver)) => Some((sender, receiver)),
-        _ => None,
+/// The ends of the first channel, which is a broadcast.
+pub fn broadcast_of<'a>(rt: &impl Abort, ends: &'a [Ends]) -> (&'a BTx, &'a BRx) {
+    match ends {
+        [Ends::Broadcast(sender, receiver), ..] => (sender, receiver),
+        _ => panic!(rt; "no broadcast"),
     }
 }
 
-/// The ends of the last channel, where it is a watch.
-fn watch_ends(ends: &mut Vec<Ends>) -> Option<(WTx, WRx)> {
-    match ends.pop() {
-        Some(Ends::Watch(writer, reader)) => Some((writer, reader)),
-        _ => None,
+/// The ends of the last channel, which is a watch.
+pub fn watch_of<'a>(rt: &impl Abort, ends: &'a [Ends]) -> (&'a WTx, &'a WRx) {
+    match ends {
+        [.., Ends::Watch(writer, reader)] => (writer, reader),
+        _ => panic!(rt; "no watch"),
     }
-}
-
-/// The ends of a broadcast and then a watch.
-pub fn both_ends(mut ends: Vec<Ends>) -> Option<(BTx, BRx, WTx, WRx)> {
-    let (writer, reader) = watch_ends(&mut ends)?;
-    let (sender, receiver) = broadcast_ends(&mut ends)?;
-    Some((sender, receiver, writer, reader))
 }
 
 /// A desk of one actor, its pass, and the ends of its channels.
-pub fn open_one(
-    alloc: Global,
-    specs: &[Spec<u64>],
-) -> Result<(Desk<u64>, Pass<u64>, Vec<Ends>), Fail> {
+pub fn open_one(alloc: Global, specs: &[Spec<u64>]) -> Result<OfOne, Fail> {
     let (desk, mut passes, ends) = open(alloc, specs, 1)?;
-    let pass = passes.pop();
+    let pass = last_pass(&mut passes);
     drop_passes(passes);
     let Some(pass) = pass else {
         drop_desk(desk);
         drop_ends(ends);
         return Err(Fail::from("no pass"));
     };
-    Ok((desk, pass, ends))
+    Ok(OfOne { desk, pass, ends })
 }
 
-/// A desk of one actor with the broadcast of these specs.
-pub fn open_broadcast(alloc: Global, specs: &[Spec<u64>]) -> Result<OfBroadcast, Fail> {
-    let (desk, pass, mut ends) = open_one(alloc, specs)?;
-    let last = broadcast_ends(&mut ends);
-    drop_ends(ends);
-    let Some((sender, receiver)) = last else {
-        drop_desk(desk);
-        drop_pass(pass);
-        return Err(Fail::from("no broadcast"));
-    };
-    Ok(OfBroadcast {
-        desk,
-        pass,
-        sender,
-        receiver,
-    })
+/// Takes the last pass.
+pub fn last_pass(passes: &mut Vec<Pass<u64>>) -> Option<Pass<u64>> {
+    passes.pop()
 }
 
-/// A desk of one actor with the watch of these specs.
-pub fn open_watch(alloc: Global, specs: &[Spec<u64>]) -> Result<OfWatch, Fail> {
-    let (desk, pass, mut ends) = open_one(alloc, specs)?;
-    let last = watch_ends(&mut ends);
-    drop_ends(ends);
-    let Some((writer, reader)) = last else {
-        drop_desk(desk);
-        drop_pass(pass);
-        return Err(Fail::from("no watch"));
-    };
-    Ok(OfWatch {
-        desk,
-        pass,
-        writer,
-        reader,
-    })
+/// Adds a pass, which is dropped if there is no memory.
+pub fn push_pass(passes: &mut Vec<Pass<u64>>, pass: Pass<u64>) -> Result<(), AllocError> {
+    passes.push(pass)?;
+    Ok(())
 }
 
-/// A desk of one actor with the broadcast and the watch of these specs.
-pub fn open_both(alloc: Global, specs: &[Spec<u64>]) -> Result<OfBoth, Fail> {
-    let (desk, pass, ends) = open_one(alloc, specs)?;
-    let Some((sender, receiver, writer, reader)) = both_ends(ends) else {
-        drop_desk(desk);
-        drop_pass(pass);
-        return Err(Fail::from("no broadcast and watch"));
-    };
-    Ok(OfBoth {
-        desk,
-        pass,
-        sender,
-        receiver,
-        writer,
-        reader,
-    })
+/// No passes.
+pub fn no_passes(alloc: Global) -> Vec<Pass<u64>> {
+    Vec::new(alloc)
 }
 
 /// The run of a desk that closes with these passes.
@@ -200,7 +129,7 @@ pub fn run_with(
     mut passes: Vec<Pass<u64>>,
     pass: Pass<u64>,
 ) -> Result<Run<u64>, CloseFault> {
-    if passes.push(pass).is_err() {
+    if push_pass(&mut passes, pass).is_err() {
         drop_desk(desk);
         drop_passes(passes);
         return Err(CloseFault::NoMemory);
@@ -208,9 +137,23 @@ pub fn run_with(
     run_of(alloc, desk, passes)
 }
 
-/// The run of a desk that closes with this one pass.
-pub fn run_of_one(alloc: Global, desk: Desk<u64>, pass: Pass<u64>) -> Result<Run<u64>, CloseFault> {
-    run_with(alloc, desk, Vec::new(alloc), pass)
+/// The run of a desk of one actor, which closes.
+pub fn run_of_one(alloc: Global, open: OfOne) -> Result<Run<u64>, CloseFault> {
+    let OfOne { desk, pass, ends } = open;
+    drop_ends(ends);
+    run_with(alloc, desk, no_passes(alloc), pass)
+}
+
+/// How many entries a run has, which is dropped.
+pub fn length_of(run: Run<u64>) -> u64 {
+    let length = entries(&run).len() as u64;
+    drop_run(run);
+    length
+}
+
+/// How long the run is of a desk of one actor, which closes.
+pub fn length_of_one(alloc: Global, open: OfOne) -> Result<u64, CloseFault> {
+    Ok(length_of(run_of_one(alloc, open)?))
 }
 
 /// One call.
@@ -260,18 +203,6 @@ pub fn entries(run: &Run<u64>) -> &[Entry<World<u64>>] {
     run.entries()
 }
 
-/// The calls and replies of the last three receipts.
-pub fn last_three(kept: &[Kept<u64>]) -> Option<[(ChanCall<u64>, ChanReply<u64>); 3]> {
-    let [.., first, second, third] = kept else {
-        return None;
-    };
-    Some([
-        (first.call, first.reply),
-        (second.call, second.reply),
-        (third.call, third.reply),
-    ])
-}
-
 /// The call and the reply of each receipt.
 fn calls_in(
     alloc: Global,
@@ -284,14 +215,17 @@ fn calls_in(
     Ok(calls)
 }
 
-/// The same of a pass that is dropped.
-pub fn calls_of(
+/// A pass has kept these calls and replies.
+pub fn has_kept(
+    rt: &impl Abort,
     alloc: Global,
-    pass: Pass<u64>,
-) -> Result<Vec<(ChanCall<u64>, ChanReply<u64>)>, AllocError> {
-    let calls = calls_in(alloc, receipts(&pass));
-    drop_pass(pass);
-    calls
+    case: &str,
+    pass: &Pass<u64>,
+    wanted: &[(ChanCall<u64>, ChanReply<u64>)],
+) -> Result<(), AllocError> {
+    let calls = calls_in(alloc, receipts(pass))?;
+    same_calls(rt, case, &calls, wanted);
+    Ok(())
 }
 
 /// The number of the first receipt at which receipts and entries differ.

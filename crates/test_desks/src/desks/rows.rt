@@ -1,10 +1,9 @@
 //! Worked rows of both channels, made by handles at a desk of one actor. In a row `/` stands for a line's end.
 
-use super::plain::{call, drop_ends, open_one, run_of_one};
-use super::shared::length_of;
-use crate::comparing::same;
+use super::plain::{OfOne, call, length_of_one, open_one};
+use crate::comparing::{same_answers, same_numbers};
 use rw_broadcast::BCall;
-use rw_desk::{CloseFault, Desk, Ends, Pass};
+use rw_desk::{Desk, Ends, Pass};
 use rw_watch::WCall;
 use rw_words::{WordFault, read_call, read_reply};
 use rw_world::{ChanCall, ChanReply, Spec};
@@ -188,35 +187,29 @@ fn make_all<R: Wait + Abort>(
         let (words, reply) = line.split_once('=').ok_or("no reply")?;
         let (call, reply) = line_of(broadcast, words, reply)?;
         let made = hands.make(rt, desk, pass, words, call)?;
-        same(rt, &line, &made, &reply);
+        same_answers(rt, line, &[Ok(made)], &[Ok(reply)]);
     }
     Ok(())
 }
 
-/// Makes the calls of a row with the ends of the last channel.
+/// Makes the calls of a row with the ends of the only channel.
 fn make_with<R: Wait + Abort>(
     rt: &R,
     alloc: Global,
-    desk: &Desk<u64>,
-    pass: &mut Pass<u64>,
-    ends: Option<Ends>,
+    open: &mut OfOne,
     broadcast: bool,
     row: &str,
 ) -> Result<(), Fail> {
-    let mut hands = Hands::with(alloc, ends.ok_or("no ends")?)?;
-    let made = make_all(rt, desk, pass, &mut hands, broadcast, row);
+    let ends = open.ends.pop().ok_or("no ends")?;
+    let mut hands = Hands::with(alloc, ends)?;
+    let made = make_all(rt, &open.desk, &mut open.pass, &mut hands, broadcast, row);
     drop_hands(hands);
     made
 }
 
-/// How long the run is of a desk that closes with this one pass.
-fn length_at_close(alloc: Global, desk: Desk<u64>, pass: Pass<u64>) -> Result<u64, CloseFault> {
-    Ok(length_of(run_of_one(alloc, desk, pass)?))
-}
-
 /// A run has as many entries as its row has lines.
 fn is_long_as(rt: &impl Abort, length: u64, row: &str) {
-    same(rt, &"length", &length, &(row.split('/').count() as u64));
+    same_numbers(rt, "length", &[length], &[row.split('/').count() as u64]);
 }
 
 /// Plays a row on a desk of one channel, a broadcast or not, which then closes.
@@ -227,11 +220,9 @@ fn play<R: Wait + Abort>(
     broadcast: bool,
     row: &str,
 ) -> Result<(), Fail> {
-    let (desk, mut pass, mut ends) = open_one(alloc, specs)?;
-    let last = ends.pop();
-    drop_ends(ends);
-    let made = make_with(rt, alloc, &desk, &mut pass, last, broadcast, row);
-    let length = length_at_close(alloc, desk, pass);
+    let mut open = open_one(alloc, specs)?;
+    let made = make_with(rt, alloc, &mut open, broadcast, row);
+    let length = length_of_one(alloc, open);
     made?;
     is_long_as(rt, length?, row);
     Ok(())
@@ -263,7 +254,8 @@ fn call_all<R: Wait + Abort>(
     for line in row.split('/') {
         let (words, reply) = line.split_once('=').ok_or("no reply")?;
         let (asked, reply) = line_of(true, words, reply)?;
-        same(rt, &line, &call(desk, rt, pass, 0, asked)?, &reply);
+        let answer = call(desk, rt, pass, 0, asked);
+        same_answers(rt, line, &[answer], &[Ok(reply)]);
     }
     Ok(())
 }
@@ -271,10 +263,9 @@ fn call_all<R: Wait + Abort>(
 #[test]
 fn weak_senders(rt: HostRuntime) -> Result<(), Fail> {
     let alloc = rt.alloc();
-    let (desk, mut pass, ends) = open_one(alloc, &[Spec::Broadcast(2)])?;
-    drop_ends(ends);
-    let called = call_all(&rt, &desk, &mut pass, WEAK_SENDERS);
-    let length = length_at_close(alloc, desk, pass);
+    let mut open = open_one(alloc, &[Spec::Broadcast(2)])?;
+    let called = call_all(&rt, &open.desk, &mut open.pass, WEAK_SENDERS);
+    let length = length_of_one(alloc, open);
     called?;
     is_long_as(&rt, length?, WEAK_SENDERS);
     Ok(())

@@ -1,66 +1,88 @@
-//! Desks that threads share, and how tests open desks of two actors and close any.
+//! Desks that threads share, and how tests open and close desks of two actors.
 
 use super::plain::{
-    b_drop_sender, b_recv, b_send, call, drop_desk, drop_ends, drop_passes, drop_run, entries,
-    is_awaited, open, run_of, w_closed, w_drop_receiver, w_send, w_send_if_modified, w_send_modify,
-    w_wait_for, wait_call,
+    b_drop_sender, b_recv, b_send, call, drop_desk, drop_ends, drop_pass, drop_passes, is_awaited,
+    last_pass, no_passes, open, push_pass, run_with, w_closed, w_drop_receiver, w_send,
+    w_send_if_modified, w_send_modify, w_wait_for, wait_call,
 };
 use rw_broadcast::BReply;
 use rw_desk::{BRx, BTx, CloseFault, Desk, DeskFault, Ends, Pass, WRx, WTx};
 use rw_journal::Run;
 use rw_watch::WReply;
 use rw_world::{ChanCall, ChanReply, Spec};
-use std::alloc::{AllocError, Global};
+use std::alloc::Global;
 use std::sync::Wait;
 use std::test::Fail;
 
-/// A desk of two actors, the ends of its channels, and the passes of the first and the second actor.
-pub type Opened = (Desk<u64>, Vec<Ends>, Pass<u64>, Pass<u64>);
+/// A desk of two actors, their passes, and the ends of its channels. Tests lend its parts, so that few functions own them.
+#[derive(Drop)]
+pub struct OfTwo {
+    pub desk: Desk<u64>,
+    pub first: Pass<u64>,
+    pub second: Pass<u64>,
+    pub ends: Vec<Ends>,
+}
 
-/// Opens a desk of two actors. A test that gets all at once has few early exits that drop them.
-pub fn desk_of_two(alloc: Global, specs: &[Spec<u64>]) -> Result<Opened, Fail> {
+/// Opens a desk of two actors.
+pub fn open_two(alloc: Global, specs: &[Spec<u64>]) -> Result<OfTwo, Fail> {
     let (desk, mut passes, ends) = open(alloc, specs, 2)?;
-    let (second, first) = (passes.pop(), passes.pop());
+    let (second, first) = (last_pass(&mut passes), last_pass(&mut passes));
     drop_passes(passes);
     let (Some(first), Some(second)) = (first, second) else {
         drop_desk(desk);
         drop_ends(ends);
         return Err(Fail::from("no two passes"));
     };
-    Ok((desk, ends, first, second))
+    Ok(OfTwo {
+        desk,
+        first,
+        second,
+        ends,
+    })
 }
 
-/// Two passes in one list, in this order.
-pub fn both(
-    alloc: Global,
-    former: Pass<u64>,
-    latter: Pass<u64>,
-) -> Result<Vec<Pass<u64>>, AllocError> {
-    let mut passes = Vec::with_capacity(alloc, 2)?;
-    passes.push(former)?;
-    passes.push(latter)?;
-    Ok(passes)
-}
+/// Drops a desk of two actors, their passes and its ends.
+pub fn drop_two(_open: OfTwo) {}
 
 /// The run of a desk of two actors, which closes with their passes in this order.
-pub fn run_of_two(
+fn run_with_both(
     alloc: Global,
     desk: Desk<u64>,
     former: Pass<u64>,
     latter: Pass<u64>,
 ) -> Result<Run<u64>, CloseFault> {
-    let Ok(passes) = both(alloc, former, latter) else {
+    let mut passes = no_passes(alloc);
+    if push_pass(&mut passes, former).is_err() {
         drop_desk(desk);
+        drop_passes(passes);
+        drop_pass(latter);
         return Err(CloseFault::NoMemory);
-    };
-    run_of(alloc, desk, passes)
+    }
+    run_with(alloc, desk, passes, latter)
 }
 
-/// How many entries a run has, which is dropped.
-pub fn length_of(run: Run<u64>) -> u64 {
-    let length = entries(&run).len() as u64;
-    drop_run(run);
-    length
+/// The run of a desk of two actors, which closes with the first one's pass and then the other.
+pub fn run_of_two(alloc: Global, open: OfTwo) -> Result<Run<u64>, CloseFault> {
+    let OfTwo {
+        desk,
+        first,
+        second,
+        ends,
+    } = open;
+    drop_ends(ends);
+    run_with_both(alloc, desk, first, second)
+}
+
+/// The same with the passes the other way round.
+pub fn run_turned(alloc: Global, open: OfTwo) -> Result<Run<u64>, CloseFault> {
+    let OfTwo {
+        desk,
+        first,
+        second,
+        ends,
+    } = open;
+    drop_ends(ends);
+    run_with_both(alloc, desk, second, first)
 }
 
 /// What threads make their calls on. They share it as a parameter, so that their proof needn't look into a desk.

@@ -2,9 +2,8 @@
 //!
 //! Each desk of a test has two broadcast channels and two actors. Tables say what is called, and with whose passes each desk closes.
 
-use super::plain::{call, close, drop_ends, open, stamp};
-use super::shared::length_of;
-use crate::comparing::same;
+use super::plain::{call, close, drop_ends, length_of, no_passes, open, stamp};
+use crate::comparing::{same_closes, same_numbers};
 use rw_broadcast::BCall;
 use rw_desk::{CloseFault, Desk, Pass};
 use rw_world::{ChanCall, Spec};
@@ -90,7 +89,7 @@ impl Desks {
         let slot = self.open.get_mut(at).ok_or("no such desk")?;
         let passes = self.passes.get_mut(of).ok_or("no such passes")?;
         let desk = slot.take().ok_or("a desk that is closed")?;
-        match close(desk, alloc, mem::replace(passes, Vec::new(alloc))) {
+        match close(desk, alloc, mem::replace(passes, no_passes(alloc))) {
             Ok(run) => Ok(Ok(length_of(run))),
             Err((fault, desk, back)) => {
                 *slot = Some(desk);
@@ -195,12 +194,7 @@ fn passes_of_another_desk(rt: HostRuntime) -> Result<(), Fail> {
         Ok(2),
         Ok(3),
     ];
-    same(
-        &rt,
-        &"passes of another desk",
-        &shown.closes.as_slice(),
-        &wanted.as_slice(),
-    );
+    same_closes(&rt, "closes", &shown.closes, &wanted);
     Ok(())
 }
 
@@ -220,12 +214,7 @@ fn a_pass_at_two_desks(rt: HostRuntime) -> Result<(), Fail> {
         Err(CloseFault::Strayed(1, 2)),
         Err(CloseFault::Strayed(1, 0)),
     ];
-    same(
-        &rt,
-        &"a pass at two desks",
-        &shown.closes.as_slice(),
-        &wanted.as_slice(),
-    );
+    same_closes(&rt, "closes", &shown.closes, &wanted);
     Ok(())
 }
 
@@ -257,17 +246,7 @@ fn entries_out_of_order(rt: HostRuntime) -> Result<(), Fail> {
     // It doesn't close with any passes.
     let shown = played(&rt, rt.alloc(), &calls, &[(0, 0), (0, 0)])?;
     let strayed = Err(CloseFault::Strayed(1, 1));
-    same(
-        &rt,
-        &"entries out of order",
-        &shown.clocks.as_slice(),
-        &[1, 1, 2, 2, 2].as_slice(),
-    );
-    same(
-        &rt,
-        &"entries out of order",
-        &shown.closes.as_slice(),
-        &[strayed, strayed].as_slice(),
-    );
+    same_numbers(&rt, "clocks", &shown.clocks, &[1, 1, 2, 2, 2]);
+    same_closes(&rt, "closes", &shown.closes, &[strayed, strayed]);
     Ok(())
 }

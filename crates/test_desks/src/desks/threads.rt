@@ -1,9 +1,12 @@
 //! Desks that threads share.
 
-use super::plain::{calls_of, drop_desk, drop_run, entries, w_peek};
-use super::shared::{Calls, desk_of_two, length_of, run_of_two};
-use crate::comparing::same;
-use crate::flags::{is_awaited_in_time, is_set_in_time};
+use super::beside::{Play, plays};
+use super::plain::{
+    drop_desk, drop_ends, drop_pass, drop_run, entries, has_kept, length_of, w_peek,
+};
+use super::shared::{Calls, OfTwo, drop_two, open_two, run_of_two, run_turned};
+use crate::comparing::{same, same_flags, same_numbers, w_same};
+use crate::flags::is_awaited_in_time;
 use rw_broadcast::{BCall, BReply};
 use rw_desk::{BRx, BTx, Desk, Ends, Pass, WRx, WTx};
 use rw_journal::Run;
@@ -12,21 +15,25 @@ use rw_world::{ChanCall, ChanReply, Spec};
 use std::alloc::{AllocError, Global};
 use std::process::Abort;
 use std::sync::Wait;
-use std::sync::atomic::{AtomicBool, Ordering};
 use std::test::Fail;
 use std::thread;
 use std::thread::Threads;
 
-/// A watch has this value.
+/// The first channel is a watch, and has this value.
 fn peeks<R: Wait + Abort>(
     rt: &R,
     desk: &Desk<u64>,
     pass: &mut Pass<u64>,
-    sender: &WTx,
+    ends: &[Ends],
     value: u64,
 ) {
-    let peeked = w_peek(desk, rt, pass, sender);
-    same(rt, &"peeked", &peeked, &Ok(WReply::Value(value)));
+    match ends {
+        [Ends::Watch(sender, _), ..] => {
+            let peeked = w_peek(desk, rt, pass, sender);
+            w_same(rt, "peeked", &[peeked], &[Ok(WReply::Value(value))]);
+        }
+        _ => panic!(rt; "no watch"),
+    }
 }
 
 /// An entry of a run: its stamp, its channel, its actor and its reply.
@@ -47,211 +54,61 @@ fn has_entries(
     alloc: Global,
     run: Run<u64>,
     wanted: &[Shown],
-) -> Result<(), Fail> {
+) -> Result<(), AllocError> {
     let shown = shown(alloc, &run);
     drop_run(run);
     same(rt, &"has entries", &shown?.as_slice(), &wanted);
     Ok(())
 }
 
-/// Adds one to the value, 1,000 times.
-fn add_thousand<D: Calls, R: Wait>(
-    rt: &R,
-    desk: &D,
-    mut pass: Pass<u64>,
-    sender: &WTx,
-) -> Pass<u64> {
-    for _ in 0..1000 {
-        let _ = desk.w_send_if_modified(rt, &mut pass, sender, |value| {
-            *value = value.wrapping_add(1);
-            true
-        });
-    }
-    pass
-}
-
-/// The same in another thread and in this one. `None`: the thread wasn't started.
-fn add_twice<D: Calls + Sync, R: Threads + Wait + Sync>(
-    rt: &R,
-    desk: &D,
-    first: Pass<u64>,
-    second: Pass<u64>,
-    sender: &WTx,
-) -> Option<(Pass<u64>, Pass<u64>)> {
-    let mut back = None;
-    thread::scope(thread::scope_env(), rt, |scope| {
-        if let Ok(other) = scope.spawn(move || add_thousand(rt, desk, first, sender)) {
-            let second = add_thousand(rt, desk, second, sender);
-            back = Some((other.join(rt), second));
-        }
-    });
-    back
-}
-
 #[test]
 fn closures_of_two_threads(rt: HostRuntime) -> Result<(), Fail> {
-    let alloc = rt.alloc();
-    let (desk, ends, first, second) = desk_of_two(alloc, &[Spec::Watch(0)])?;
-    let [Ends::Watch(sender, _)] = ends.as_slice() else {
-        drop_desk(desk);
-        return Err(Fail::from("no watch"));
-    };
-    let Some((mut first, second)) = add_twice(&rt, &desk, first, second, sender) else {
-        drop_desk(desk);
-        return Err(Fail::from("no thread"));
-    };
-    peeks(&rt, &desk, &mut first, sender, 2000);
-    let run = run_of_two(alloc, desk, second, first)?;
-    same(&rt, &"closures of two threads", &length_of(run), &2001);
+    let open = open_two(rt.alloc(), &[Spec::Watch(0)])?;
+    let (mut open, was_played) = plays(&rt, open, Play::Add)?;
+    peeks(&rt, &open.desk, &mut open.first, &open.ends, 2000);
+    let length = length_of(run_turned(rt.alloc(), open)?);
+    same_flags(&rt, "was played", &[was_played], &[true]);
+    same_numbers(&rt, "length", &[length], &[2001]);
     Ok(())
-}
-
-/// A receiver's wait, in another thread, and the value that it waits for, sent in this one. Says whether the receiver was seen to
-/// wait before that.
-pub fn receive_beside<D: Calls + Sync, R: Threads + Wait + Sync>(
-    rt: &R,
-    desk: &D,
-    mut first: Pass<u64>,
-    second: &mut Pass<u64>,
-    receiver: &BRx,
-    sender: &BTx,
-) -> Option<(Pass<u64>, bool)> {
-    let mut back = None;
-    thread::scope(thread::scope_env(), rt, |scope| {
-        let waiting = scope.spawn(move || {
-            let _ = desk.b_recv(rt, &mut first, receiver);
-            first
-        });
-        if let Ok(other) = waiting {
-            let in_time = is_awaited_in_time(rt, desk, 0);
-            let _ = desk.b_send(rt, second, sender, 5);
-            back = Some((other.join(rt), in_time));
-        }
-    });
-    back
 }
 
 #[test]
 fn a_value_for_a_thread_that_waits(rt: HostRuntime) -> Result<(), Fail> {
     let alloc = rt.alloc();
-    let (desk, ends, first, mut second) = desk_of_two(alloc, &[Spec::Broadcast(2)])?;
-    let [Ends::Broadcast(sender, receiver)] = ends.as_slice() else {
-        drop_desk(desk);
-        return Err(Fail::from("no broadcast"));
-    };
-    let received = receive_beside(&rt, &desk, first, &mut second, receiver, sender);
-    let Some((first, in_time)) = received else {
-        drop_desk(desk);
-        return Err(Fail::from("no thread"));
-    };
-    let run = run_of_two(alloc, desk, second, first)?;
-    assert!(rt; in_time);
+    let open = open_two(alloc, &[Spec::Broadcast(2)])?;
+    let (open, in_time) = plays(&rt, open, Play::Receive)?;
     let wanted = [
         (1, 0, 1, ChanReply::B(BReply::Sent(1))),
         (2, 0, 0, ChanReply::B(BReply::Value(5))),
     ];
-    has_entries(&rt, alloc, run, &wanted)
-}
-
-/// A closure under the lock of one channel, in another thread, that waits for an answered call of another channel in this one.
-fn modify_beside<D: Calls + Sync, R: Threads + Wait + Sync>(
-    rt: &R,
-    desk: &D,
-    mut first: Pass<u64>,
-    second: &mut Pass<u64>,
-    here: &WTx,
-    there: &WTx,
-) -> Option<Pass<u64>> {
-    let entered = AtomicBool::new(false);
-    let answered = AtomicBool::new(false);
-    let (is_entered, is_answered) = (&entered, &answered);
-    let mut back = None;
-    thread::scope(thread::scope_env(), rt, |scope| {
-        let modifying = scope.spawn(move || {
-            let _ = desk.w_send_if_modified(rt, &mut first, here, |value| {
-                is_entered.store(true, Ordering::SeqCst);
-                *value = if is_set_in_time(is_answered) { 1 } else { 2 };
-                true
-            });
-            first
-        });
-        if let Ok(other) = modifying {
-            if is_set_in_time(is_entered) {
-                let _ = desk.w_send(rt, second, there, 6);
-                is_answered.store(true, Ordering::SeqCst);
-            }
-            back = Some(other.join(rt));
-        }
-    });
-    back
+    has_entries(&rt, alloc, run_turned(alloc, open)?, &wanted)?;
+    same_flags(&rt, "in time", &[in_time], &[true]);
+    Ok(())
 }
 
 #[test]
 fn a_call_beside_a_closure_of_another_channel(rt: HostRuntime) -> Result<(), Fail> {
-    let alloc = rt.alloc();
-    let (desk, ends, first, mut second) = desk_of_two(alloc, &[Spec::Watch(0); 2])?;
-    let [Ends::Watch(here, _), Ends::Watch(there, _)] = ends.as_slice() else {
-        drop_desk(desk);
-        return Err(Fail::from("no two watches"));
-    };
-    let Some(first) = modify_beside(&rt, &desk, first, &mut second, here, there) else {
-        drop_desk(desk);
-        return Err(Fail::from("no thread"));
-    };
-    peeks(&rt, &desk, &mut second, here, 1);
-    drop_run(run_of_two(alloc, desk, first, second)?);
+    let open = open_two(rt.alloc(), &[Spec::Watch(0); 2])?;
+    let (mut open, in_time) = plays(&rt, open, Play::Modify)?;
+    peeks(&rt, &open.desk, &mut open.second, &open.ends, 1);
+    drop_run(run_of_two(rt.alloc(), open)?);
+    same_flags(&rt, "in time", &[in_time], &[true]);
     Ok(())
-}
-
-/// A send on a broadcast, in another thread, that is held until this one has written to a watch. Says whether it was held no longer
-/// than the limit.
-fn send_held<D: Calls + Sync, R: Threads + Wait + Sync>(
-    rt: &R,
-    desk: &D,
-    mut first: Pass<u64>,
-    second: &mut Pass<u64>,
-    sender: &BTx,
-    writer: &WTx,
-) -> Option<(Pass<u64>, bool)> {
-    let written = AtomicBool::new(false);
-    let is_written = &written;
-    let mut back = None;
-    thread::scope(thread::scope_env(), rt, |scope| {
-        let held = scope.spawn(move || {
-            let in_time = is_set_in_time(is_written);
-            let _ = desk.b_send(rt, &mut first, sender, 1);
-            (first, in_time)
-        });
-        if let Ok(other) = held {
-            let _ = desk.w_send(rt, second, writer, 6);
-            is_written.store(true, Ordering::SeqCst);
-            back = Some(other.join(rt));
-        }
-    });
-    back
 }
 
 #[test]
 fn calls_of_two_threads_on_two_channels(rt: HostRuntime) -> Result<(), Fail> {
     let alloc = rt.alloc();
-    let specs = [Spec::Broadcast(2), Spec::Watch(5)];
-    let (desk, ends, first, mut second) = desk_of_two(alloc, &specs)?;
-    let [Ends::Broadcast(sender, _), Ends::Watch(writer, _)] = ends.as_slice() else {
-        drop_desk(desk);
-        return Err(Fail::from("no broadcast and watch"));
-    };
-    let Some((first, in_time)) = send_held(&rt, &desk, first, &mut second, sender, writer) else {
-        drop_desk(desk);
-        return Err(Fail::from("no thread"));
-    };
-    let run = run_of_two(alloc, desk, first, second)?;
-    assert!(rt; in_time);
+    let open = open_two(alloc, &[Spec::Broadcast(2), Spec::Watch(5)])?;
+    let (open, in_time) = plays(&rt, open, Play::Hold)?;
     // The send came later, and is first in the run: by its stamp, and then by its channel.
     let wanted = [
         (1, 0, 0, ChanReply::B(BReply::Sent(1))),
         (1, 1, 1, ChanReply::W(WReply::Stored)),
     ];
-    has_entries(&rt, alloc, run, &wanted)
+    has_entries(&rt, alloc, run_of_two(alloc, open)?, &wanted)?;
+    same_flags(&rt, "in time", &[in_time], &[true]);
+    Ok(())
 }
 
 /// What a thread waits by: for the value 3 of a watch, for the end of a broadcast, and for that of another watch.
@@ -323,7 +180,7 @@ fn wait_beside<D: Calls + Sync, R: Threads + Wait + Sync>(
 }
 
 /// The handles of a watch, a broadcast and another watch, as they wait and as they end that.
-fn roles(mut ends: Vec<Ends>) -> Option<(Waits, Ending)> {
+fn roles(ends: &mut Vec<Ends>) -> Option<(Waits, Ending)> {
     let (
         Some(Ends::Watch(waiting, dropped)),
         Some(Ends::Broadcast(sender, receiver)),
@@ -344,12 +201,19 @@ fn roles(mut ends: Vec<Ends>) -> Option<(Waits, Ending)> {
     Some((waits, ending))
 }
 
-/// An update of receiver 1 of a watch that read this value.
-fn updated(value: u64) -> (ChanCall<u64>, ChanReply<u64>) {
-    (
-        ChanCall::W(WCall::Update(1)),
-        ChanReply::W(WReply::Value(value)),
-    )
+/// The waits and what ends them at a desk, if it has these handles.
+fn waits_beside<R: Threads + Wait + Sync>(
+    rt: &R,
+    desk: &Desk<u64>,
+    first: Pass<u64>,
+    second: &mut Pass<u64>,
+    roles: Option<(Waits, Ending)>,
+) -> Option<(Pass<u64>, bool)> {
+    let Some((waits, ending)) = roles else {
+        drop_pass(first);
+        return None;
+    };
+    wait_beside(rt, desk, first, second, &waits, ending)
 }
 
 /// A wait of receiver 1 of a watch that a change has ended.
@@ -358,92 +222,81 @@ const CHANGED: (ChanCall<u64>, ChanReply<u64>) = (
     ChanReply::W(WReply::Done),
 );
 
+/// The receipts of the waits that are ended in turn.
+static WAITED: [(ChanCall<u64>, ChanReply<u64>); 9] = [
+    (
+        ChanCall::W(WCall::Update(1)),
+        ChanReply::W(WReply::Value(0)),
+    ),
+    CHANGED,
+    (
+        ChanCall::W(WCall::Update(1)),
+        ChanReply::W(WReply::Value(1)),
+    ),
+    CHANGED,
+    (
+        ChanCall::W(WCall::Update(1)),
+        ChanReply::W(WReply::Value(2)),
+    ),
+    CHANGED,
+    (
+        ChanCall::W(WCall::Update(1)),
+        ChanReply::W(WReply::Value(3)),
+    ),
+    (ChanCall::B(BCall::Recv(1)), ChanReply::B(BReply::Closed)),
+    (
+        ChanCall::W(WCall::AwaitClosed(0)),
+        ChanReply::W(WReply::Done),
+    ),
+];
+
 #[test]
 fn waits_that_another_thread_ends(rt: HostRuntime) -> Result<(), Fail> {
     let alloc = rt.alloc();
     let specs = [Spec::Watch(0), Spec::Broadcast(2), Spec::Watch(0)];
-    let (desk, ends, first, mut second) = desk_of_two(alloc, &specs)?;
-    let Some((waits, ending)) = roles(ends) else {
-        drop_desk(desk);
-        return Err(Fail::from("other ends"));
-    };
-    let back = wait_beside(&rt, &desk, first, &mut second, &waits, ending);
+    let OfTwo {
+        desk,
+        first,
+        mut second,
+        mut ends,
+    } = open_two(alloc, &specs)?;
+    let roles = roles(&mut ends);
+    drop_ends(ends);
+    let back = waits_beside(&rt, &desk, first, &mut second, roles);
     drop_desk(desk);
+    drop_pass(second);
     let (first, in_time) = back.ok_or("no thread")?;
-    let made = calls_of(alloc, first)?;
-    let wanted = [
-        updated(0),
-        CHANGED,
-        updated(1),
-        CHANGED,
-        updated(2),
-        CHANGED,
-        updated(3),
-        (ChanCall::B(BCall::Recv(1)), ChanReply::B(BReply::Closed)),
-        (
-            ChanCall::W(WCall::AwaitClosed(0)),
-            ChanReply::W(WReply::Done),
-        ),
-    ];
-    same(
-        &rt,
-        &"receipts",
-        &(made.as_slice(), in_time),
-        &(wanted.as_slice(), true),
-    );
-    Ok(())
+    let kept = has_kept(&rt, alloc, "receipts", &first, &WAITED);
+    drop_pass(first);
+    same_flags(&rt, "in time", &[in_time], &[true]);
+    Ok(kept?)
 }
 
-/// A wait for the value 3 in another thread, and two closures in this one that add to the value, each once the other thread waits.
-/// Says whether it did.
-fn modify_for_one_that_waits<D: Calls + Sync, R: Threads + Wait + Sync>(
-    rt: &R,
-    desk: &D,
-    mut first: Pass<u64>,
-    second: &mut Pass<u64>,
-    reader: &WRx,
-    writer: &WTx,
-) -> Option<(Pass<u64>, bool)> {
-    let mut back = None;
-    thread::scope(thread::scope_env(), rt, |scope| {
-        let waiting = scope.spawn(move || {
-            let _ = desk.w_wait_for(rt, &mut first, reader, |value| *value == 3);
-            first
-        });
-        if let Ok(other) = waiting {
-            let mut in_time = is_awaited_in_time(rt, desk, 0);
-            let _ = desk.w_send_modify(rt, second, writer, |value| {
-                *value = value.wrapping_add(1);
-            });
-            in_time &= is_awaited_in_time(rt, desk, 0);
-            let _ = desk.w_send_if_modified(rt, second, writer, |value| {
-                *value = value.wrapping_add(2);
-                true
-            });
-            back = Some((other.join(rt), in_time));
-        }
-    });
-    back
-}
+/// The receipts of the wait for the value 3.
+static MODIFIED: [(ChanCall<u64>, ChanReply<u64>); 5] = [
+    (
+        ChanCall::W(WCall::Update(1)),
+        ChanReply::W(WReply::Value(0)),
+    ),
+    CHANGED,
+    (
+        ChanCall::W(WCall::Update(1)),
+        ChanReply::W(WReply::Value(1)),
+    ),
+    CHANGED,
+    (
+        ChanCall::W(WCall::Update(1)),
+        ChanReply::W(WReply::Value(3)),
+    ),
+];
 
 #[test]
 fn closures_for_a_thread_that_waits(rt: HostRuntime) -> Result<(), Fail> {
     let alloc = rt.alloc();
-    let (desk, ends, first, mut second) = desk_of_two(alloc, &[Spec::Watch(0)])?;
-    let [Ends::Watch(writer, reader)] = ends.as_slice() else {
-        drop_desk(desk);
-        return Err(Fail::from("no watch"));
-    };
-    let back = modify_for_one_that_waits(&rt, &desk, first, &mut second, reader, writer);
-    drop_desk(desk);
-    let (first, in_time) = back.ok_or("no thread")?;
-    let made = calls_of(alloc, first)?;
-    let wanted = [updated(0), CHANGED, updated(1), CHANGED, updated(3)];
-    same(
-        &rt,
-        &"receipts",
-        &(made.as_slice(), in_time),
-        &(wanted.as_slice(), true),
-    );
-    Ok(())
+    let open = open_two(alloc, &[Spec::Watch(0)])?;
+    let (open, in_time) = plays(&rt, open, Play::AddForReader)?;
+    let kept = has_kept(&rt, alloc, "receipts", &open.first, &MODIFIED);
+    drop_two(open);
+    same_flags(&rt, "in time", &[in_time], &[true]);
+    Ok(kept?)
 }

@@ -2,12 +2,16 @@
 //!
 //! Each is seen to wait before the call that ends its wait. So if that call wakes nobody, its test doesn't end.
 
-use super::plain::{call, calls_of, drop_desk, drop_ends, drop_pass, drop_passes, open, receipts};
-use super::shared::{Calls, desk_of_two};
-use crate::comparing::same;
+use super::beside::{Case, Play, plays};
+use super::plain::{
+    call, drop_desk, drop_ends, drop_pass, drop_passes, has_kept, is_awaited, last_pass, open,
+    receipts,
+};
+use super::shared::{Calls, drop_two, open_two};
+use crate::comparing::{same, same_flags};
 use crate::flags::is_awaited_in_time;
 use rw_broadcast::{BCall, BReply};
-use rw_desk::{Desk, DeskFault, Pass};
+use rw_desk::{Desk, Pass};
 use rw_watch::{WCall, WReply};
 use rw_world::{ChanCall, ChanReply, Spec};
 use std::alloc::Global;
@@ -60,80 +64,25 @@ static LEFT: [(&str, WCall<u64>, WReply<u64>); 2] = [
     ("its sender's drop", WCall::DropHandle(0), WReply::Gone),
 ];
 
-/// A wait on channel 0 of a desk, and the call that ends it.
-#[derive(Clone, Copy)]
-struct Case {
-    spec: Spec<u64>,
-    waiting: ChanCall<u64>,
-    ending: ChanCall<u64>,
-    /// Whether that call is made as one that waits, as scripts make all of theirs.
-    by_wait_call: bool,
-}
-
-/// A call by the first sender of the same channel that changes nothing, and isn't refused.
-fn count_beside(waiting: &ChanCall<u64>) -> ChanCall<u64> {
-    match waiting {
-        ChanCall::B(_) => ChanCall::B(BCall::ReceiverCount(0)),
-        ChanCall::W(_) => ChanCall::W(WCall::ReceiverCount(0)),
-    }
-}
-
-/// Makes three calls while another thread waits: one that is refused, one that isn't and ends no wait, and the one that ends it.
-/// Says whether the thread waited before the first, right behind it, and before the last, and whether the first was refused.
-fn end_wait<D: Calls, R: Wait>(rt: &R, desk: &D, pass: &mut Pass<u64>, case: &Case) -> [bool; 4] {
-    let in_time = is_awaited_in_time(rt, desk, 0);
-    let refused = desk.call(rt, pass, 0, case.waiting);
-    let still = desk.is_awaited(rt, 0);
-    let _ = desk.call(rt, pass, 0, count_beside(&case.waiting));
-    let again = is_awaited_in_time(rt, desk, 0);
-    let _ = if case.by_wait_call {
-        desk.wait_call(rt, pass, 0, case.ending)
-    } else {
-        desk.call(rt, pass, 0, case.ending)
-    };
-    [in_time, still, again, refused == Err(DeskFault::Waits)]
-}
-
-/// The wait in another thread, and the three calls in this one. The pass that waited, what those said, and whether a thread waits
-/// at the end.
-fn end_beside<D: Calls + Sync, R: Threads + Wait + Sync>(
+/// At a desk of its own, the call of a case wakes the thread, which waits before and not behind it, and whose wait ends with this
+/// reply.
+fn ends_alone<R: Threads + Wait + Sync + Abort>(
     rt: &R,
-    desk: &D,
-    mut first: Pass<u64>,
-    second: &mut Pass<u64>,
+    alloc: Global,
+    name: &str,
     case: &Case,
-) -> Option<(Pass<u64>, [bool; 4], bool)> {
-    let asked = case.waiting;
-    let mut back = None;
-    thread::scope(thread::scope_env(), rt, |scope| {
-        let waiting = scope.spawn(move || {
-            let _ = desk.wait_call(rt, &mut first, 0, asked);
-            first
-        });
-        if let Ok(other) = waiting {
-            let seen = end_wait(rt, desk, second, case);
-            let first = other.join(rt);
-            back = Some((first, seen, desk.is_awaited(rt, 0)));
-        }
-    });
-    back
+    reply: ChanReply<u64>,
+) -> Result<(), Fail> {
+    let open = open_two(alloc, &[case.spec])?;
+    let (open, seen) = plays(rt, open, Play::End(*case))?;
+    let waits = is_awaited(&open.desk, rt, 0) == Some(true);
+    let kept = has_kept(rt, alloc, name, &open.first, &[(case.waiting, reply)]);
+    drop_two(open);
+    same_flags(rt, name, &[seen, waits], &[true, false]);
+    Ok(kept?)
 }
 
-/// The calls and replies of the thread that waited, what was seen of it, and whether a thread waits at the end.
-type Ended = (Vec<(ChanCall<u64>, ChanReply<u64>)>, [bool; 4], bool);
-
-/// Plays a case at a desk of its own.
-fn ended<R: Threads + Wait + Sync>(rt: &R, alloc: Global, case: &Case) -> Result<Ended, Fail> {
-    let (desk, ends, first, mut second) = desk_of_two(alloc, &[case.spec])?;
-    drop_ends(ends);
-    let back = end_beside(rt, &desk, first, &mut second, case);
-    drop_desk(desk);
-    drop_pass(second);
-    let (first, seen, waits) = back.ok_or("no thread")?;
-    Ok((calls_of(alloc, first)?, seen, waits))
-}
-
-/// The call wakes the thread, whose wait ends with this reply, whether it is made by `call` or by `wait_call`.
+/// The call wakes the thread, whether it is made by `call` or by `wait_call`.
 fn wakes<R: Threads + Wait + Sync + Abort>(
     rt: &R,
     alloc: Global,
@@ -146,14 +95,7 @@ fn wakes<R: Threads + Wait + Sync + Abort>(
             by_wait_call,
             ..case
         };
-        let (made, seen, waits) = ended(rt, alloc, &case)?;
-        let wanted = [(case.waiting, reply)];
-        same(
-            rt,
-            &name,
-            &(made.as_slice(), seen, waits),
-            &(wanted.as_slice(), [true; 4], false),
-        );
+        ends_alone(rt, alloc, name, &case, reply)?;
     }
     Ok(())
 }
@@ -271,7 +213,8 @@ fn asked<R: Threads + Wait + Sync>(
     desk: &Desk<u64>,
     mut passes: Vec<Pass<u64>>,
 ) -> Option<(usize, usize, bool)> {
-    let (third, second, first) = (passes.pop(), passes.pop(), passes.pop());
+    let (third, second) = (last_pass(&mut passes), last_pass(&mut passes));
+    let first = last_pass(&mut passes);
     drop_passes(passes);
     let (Some(mut third), Some(second), Some(first)) = (third, second, first) else {
         return None;

@@ -1,7 +1,0 @@
-use Rattle.std.proofs.Crossing.{crosses}
-use denote.Param.Send.{sendable}
-use Rattle.test_desks.proofs.Sharing.{desk_shared}
-use Rattle.test_desks.proofs.desks.threads.a_value_for_a_thread_that_waits.Goals as goal
-
-pub receive_beside-received-requires-sync-D : goal.receive_beside-received-requires-sync-D
-receive_beside-received-requires-sync-D g c = λ κs. search (desk_shared, sendable, crosses) depth 100 fits 100000 steps 9900000

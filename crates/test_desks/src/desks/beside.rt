@@ -1,0 +1,236 @@
+//! What two threads do at a desk, each by the pass of one actor.
+//!
+//! All of it is behind one scope, since each scope is proved with its closures, and for a desk once more.
+
+use super::plain::{drop_desk, drop_ends, drop_pass};
+use super::shared::{Calls, OfTwo};
+use crate::flags::{is_awaited_in_time, is_set_in_time};
+use rw_broadcast::BCall;
+use rw_desk::{DeskFault, Ends, Pass, WTx};
+use rw_watch::WCall;
+use rw_world::{ChanCall, Spec};
+use std::sync::Wait;
+use std::sync::atomic::{AtomicBool, Ordering};
+use std::test::Fail;
+use std::thread;
+use std::thread::Threads;
+
+/// A wait on channel 0 of a desk, and the call that ends it.
+#[derive(Clone, Copy)]
+pub struct Case {
+    pub spec: Spec<u64>,
+    pub waiting: ChanCall<u64>,
+    pub ending: ChanCall<u64>,
+    /// Whether that call is made as one that waits, as scripts make all of theirs.
+    pub by_wait_call: bool,
+}
+
+/// What the other thread does, and meanwhile this one.
+#[derive(Clone, Copy)]
+pub enum Play {
+    /// Both add one to the value of a watch, 1,000 times.
+    Add,
+    /// A receiver waits for a value, which is sent once it waits.
+    Receive,
+    /// A closure under the lock of one watch waits for an answered call of the other watch.
+    Modify,
+    /// A send on a broadcast is held until a watch was written.
+    Hold,
+    /// A reader waits for the value 3, to which two closures add, each once it waits.
+    AddForReader,
+    /// A call waits, and calls are made that end no wait, and then the one that ends it.
+    End(Case),
+}
+
+/// What the threads tell each other.
+#[derive(Drop)]
+struct Told {
+    by_other: AtomicBool,
+    by_this: AtomicBool,
+}
+
+/// Adds one to the value, 1,000 times.
+fn add_thousand<D: Calls, R: Wait>(rt: &R, desk: &D, pass: &mut Pass<u64>, sender: &WTx) {
+    for _ in 0..1000 {
+        let _ = desk.w_send_if_modified(rt, pass, sender, |value| {
+            *value = value.wrapping_add(1);
+            true
+        });
+    }
+}
+
+/// Stores 1 by a closure if this thread tells in time that its call was answered, and else 2.
+fn modify_held<D: Calls, R: Wait>(
+    rt: &R,
+    desk: &D,
+    pass: &mut Pass<u64>,
+    sender: &WTx,
+    told: &Told,
+) {
+    let _ = desk.w_send_if_modified(rt, pass, sender, |value| {
+        told.by_other.store(true, Ordering::SeqCst);
+        *value = if is_set_in_time(&told.by_this) { 1 } else { 2 };
+        true
+    });
+}
+
+/// What the other thread does. Says whether it was held no longer than the limit.
+fn play_there<D: Calls, R: Wait>(
+    rt: &R,
+    desk: &D,
+    pass: &mut Pass<u64>,
+    ends: &[Ends],
+    play: Play,
+    told: &Told,
+) -> bool {
+    match (play, ends) {
+        (Play::Add, [Ends::Watch(sender, _)]) => add_thousand(rt, desk, pass, sender),
+        (Play::Receive, [Ends::Broadcast(_, receiver)]) => {
+            let _ = desk.b_recv(rt, pass, receiver);
+        }
+        (Play::Modify, [Ends::Watch(here, _), _]) => modify_held(rt, desk, pass, here, told),
+        (Play::Hold, [Ends::Broadcast(sender, _), _]) => {
+            let in_time = is_set_in_time(&told.by_this);
+            let _ = desk.b_send(rt, pass, sender, 1);
+            return in_time;
+        }
+        (Play::AddForReader, [Ends::Watch(_, reader)]) => {
+            let _ = desk.w_wait_for(rt, pass, reader, |value| *value == 3);
+        }
+        (Play::End(case), _) => {
+            let _ = desk.wait_call(rt, pass, 0, case.waiting);
+        }
+        _ => return false,
+    }
+    true
+}
+
+/// Two closures add to the value, each once the other thread waits. Says whether it did.
+fn add_for_reader<D: Calls, R: Wait>(rt: &R, desk: &D, pass: &mut Pass<u64>, writer: &WTx) -> bool {
+    let mut in_time = is_awaited_in_time(rt, desk, 0);
+    let _ = desk.w_send_modify(rt, pass, writer, |value| {
+        *value = value.wrapping_add(1);
+    });
+    in_time &= is_awaited_in_time(rt, desk, 0);
+    let _ = desk.w_send_if_modified(rt, pass, writer, |value| {
+        *value = value.wrapping_add(2);
+        true
+    });
+    in_time
+}
+
+/// A call by the first sender of the same channel that changes nothing, and isn't refused.
+fn count_beside(waiting: &ChanCall<u64>) -> ChanCall<u64> {
+    match waiting {
+        ChanCall::B(_) => ChanCall::B(BCall::ReceiverCount(0)),
+        ChanCall::W(_) => ChanCall::W(WCall::ReceiverCount(0)),
+    }
+}
+
+/// Makes three calls while another thread waits: one that is refused, one that isn't and ends no wait, and the one that ends it.
+/// Says whether the thread waited before the first, right behind it, and before the last, and the first was refused.
+fn end_wait<D: Calls, R: Wait>(rt: &R, desk: &D, pass: &mut Pass<u64>, case: &Case) -> bool {
+    let in_time = is_awaited_in_time(rt, desk, 0);
+    let refused = desk.call(rt, pass, 0, case.waiting);
+    let still = desk.is_awaited(rt, 0);
+    let _ = desk.call(rt, pass, 0, count_beside(&case.waiting));
+    let again = is_awaited_in_time(rt, desk, 0);
+    let _ = if case.by_wait_call {
+        desk.wait_call(rt, pass, 0, case.ending)
+    } else {
+        desk.call(rt, pass, 0, case.ending)
+    };
+    in_time && still && again && refused == Err(DeskFault::Waits)
+}
+
+/// What this thread does meanwhile. Says whether the other one was seen to wait, or was met, each time before that.
+fn play_here<D: Calls, R: Wait>(
+    rt: &R,
+    desk: &D,
+    pass: &mut Pass<u64>,
+    ends: &[Ends],
+    play: Play,
+    told: &Told,
+) -> bool {
+    match (play, ends) {
+        (Play::Add, [Ends::Watch(sender, _)]) => {
+            add_thousand(rt, desk, pass, sender);
+            true
+        }
+        (Play::Receive, [Ends::Broadcast(sender, _)]) => {
+            let in_time = is_awaited_in_time(rt, desk, 0);
+            let _ = desk.b_send(rt, pass, sender, 5);
+            in_time
+        }
+        (Play::Modify, [_, Ends::Watch(there, _)]) => {
+            let in_time = is_set_in_time(&told.by_other);
+            let _ = desk.w_send(rt, pass, there, 6);
+            told.by_this.store(true, Ordering::SeqCst);
+            in_time
+        }
+        (Play::Hold, [_, Ends::Watch(writer, _)]) => {
+            let _ = desk.w_send(rt, pass, writer, 6);
+            told.by_this.store(true, Ordering::SeqCst);
+            true
+        }
+        (Play::AddForReader, [Ends::Watch(writer, _)]) => add_for_reader(rt, desk, pass, writer),
+        (Play::End(case), _) => end_wait(rt, desk, pass, &case),
+        _ => false,
+    }
+}
+
+/// The play in another thread and in this one. The pass that was there, and what both say. `None`: the thread wasn't started.
+fn play_beside<D: Calls + Sync, R: Threads + Wait + Sync>(
+    rt: &R,
+    desk: &D,
+    mut first: Pass<u64>,
+    second: &mut Pass<u64>,
+    ends: &[Ends],
+    play: Play,
+) -> Option<((Pass<u64>, bool), bool)> {
+    let told = Told {
+        by_other: AtomicBool::new(false),
+        by_this: AtomicBool::new(false),
+    };
+    let is_told = &told;
+    let mut back = None;
+    thread::scope(thread::scope_env(), rt, |scope| {
+        let there = scope.spawn(move || {
+            let there = play_there(rt, desk, &mut first, ends, play, is_told);
+            (first, there)
+        });
+        if let Ok(other) = there {
+            let here = play_here(rt, desk, second, ends, play, is_told);
+            back = Some((other.join(rt), here));
+        }
+    });
+    back
+}
+
+/// The play by the two actors of a desk. Says whether all waits were as they should be.
+pub fn plays<R: Threads + Wait + Sync>(
+    rt: &R,
+    open: OfTwo,
+    play: Play,
+) -> Result<(OfTwo, bool), Fail> {
+    let OfTwo {
+        desk,
+        first,
+        mut second,
+        ends,
+    } = open;
+    let back = play_beside(rt, &desk, first, &mut second, &ends, play);
+    let Some(((first, there), here)) = back else {
+        drop_desk(desk);
+        drop_pass(second);
+        drop_ends(ends);
+        return Err(Fail::from("no thread"));
+    };
+    let open = OfTwo {
+        desk,
+        first,
+        second,
+        ends,
+    };
+    Ok((open, there && here))
+}
