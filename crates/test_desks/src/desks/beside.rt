@@ -6,7 +6,7 @@ use super::plain::{drop_desk, drop_ends, drop_pass};
 use super::shared::{Calls, OfTwo};
 use crate::flags::{is_awaited_in_time, is_set_in_time};
 use rw_broadcast::BCall;
-use rw_desk::{DeskFault, Ends, Pass, WTx};
+use rw_desk::{BRx, BTx, DeskFault, Ends, Pass, WTx};
 use rw_watch::WCall;
 use rw_world::{ChanCall, Spec};
 use std::sync::Wait;
@@ -32,6 +32,8 @@ pub enum Play {
     Add,
     /// A receiver waits for a value, which is sent once it waits.
     Receive,
+    /// Each waits for the other's value 1,000 times, and answers it. So each send is the only one that ends the other's wait.
+    Answer,
     /// A closure under the lock of one watch waits for an answered call of the other watch.
     Modify,
     /// A send on a broadcast is held until a watch was written.
@@ -56,6 +58,34 @@ fn add_thousand<D: Calls, R: Wait>(rt: &R, desk: &D, pass: &mut Pass<u64>, sende
             *value = value.wrapping_add(1);
             true
         });
+    }
+}
+
+/// Waits for a value and answers it, 1,000 times.
+fn answer_thousand<D: Calls, R: Wait>(
+    rt: &R,
+    desk: &D,
+    pass: &mut Pass<u64>,
+    receiver: &BRx,
+    sender: &BTx,
+) {
+    for _ in 0..1000 {
+        let _ = desk.b_recv(rt, pass, receiver);
+        let _ = desk.b_send(rt, pass, sender, 6);
+    }
+}
+
+/// Sends a value and waits for the answer, 1,000 times.
+fn ask_thousand<D: Calls, R: Wait>(
+    rt: &R,
+    desk: &D,
+    pass: &mut Pass<u64>,
+    sender: &BTx,
+    receiver: &BRx,
+) {
+    for _ in 0..1000 {
+        let _ = desk.b_send(rt, pass, sender, 5);
+        let _ = desk.b_recv(rt, pass, receiver);
     }
 }
 
@@ -87,6 +117,9 @@ fn play_there<D: Calls, R: Wait>(
         (Play::Add, [Ends::Watch(sender, _)]) => add_thousand(rt, desk, pass, sender),
         (Play::Receive, [Ends::Broadcast(_, receiver)]) => {
             let _ = desk.b_recv(rt, pass, receiver);
+        }
+        (Play::Answer, [Ends::Broadcast(_, receiver), Ends::Broadcast(sender, _)]) => {
+            answer_thousand(rt, desk, pass, receiver, sender);
         }
         (Play::Modify, [Ends::Watch(here, _), _]) => modify_held(rt, desk, pass, here, told),
         (Play::Hold, [Ends::Broadcast(sender, _), _]) => {
@@ -161,6 +194,10 @@ fn play_here<D: Calls, R: Wait>(
             let in_time = is_awaited_in_time(rt, desk, 0);
             let _ = desk.b_send(rt, pass, sender, 5);
             in_time
+        }
+        (Play::Answer, [Ends::Broadcast(sender, _), Ends::Broadcast(_, receiver)]) => {
+            ask_thousand(rt, desk, pass, sender, receiver);
+            true
         }
         (Play::Modify, [_, Ends::Watch(there, _)]) => {
             let in_time = is_set_in_time(&told.by_other);

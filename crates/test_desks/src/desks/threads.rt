@@ -73,6 +73,16 @@ fn closures_of_two_threads(rt: HostRuntime) -> Result<(), Fail> {
 }
 
 #[test]
+fn threads_that_answer_each_other(rt: HostRuntime) -> Result<(), Fail> {
+    let open = open_two(rt.alloc(), &[Spec::Broadcast(2); 2])?;
+    let (open, was_played) = plays(&rt, open, Play::Answer)?;
+    let length = length_of(run_of_two(rt.alloc(), open)?);
+    same_flags(&rt, "was played", &[was_played], &[true]);
+    same_numbers(&rt, "length", &[length], &[4000]);
+    Ok(())
+}
+
+#[test]
 fn a_value_for_a_thread_that_waits(rt: HostRuntime) -> Result<(), Fail> {
     let alloc = rt.alloc();
     let open = open_two(alloc, &[Spec::Broadcast(2)])?;
