@@ -84,6 +84,39 @@ pub fn last_seat<B: Keeps + Drop>(
     seats.pop()
 }
 
+/// Pops the last of a hand-off's seats, which has to be seat 0.
+fn seat_zero<B: Keeps + Drop>(
+    hand_off: &HandOff<B>,
+    seats: &mut Vec<HandSeat<B>>,
+) -> Result<HandSeat<B>, Fail>
+    requires { All (λ s. s.home ≡ hand_off.now.home) seats.old.items }
+    ensures seat { IfOk result (λ s. (s.home ≡ hand_off.now.home) × (s.number ≡ 0)) }
+    ensures rest { All (λ s. s.home ≡ hand_off.now.home) seats.new.items }
+{
+    let Some(seat) = last_seat(hand_off, seats) else {
+        return Err(Fail::from("no seat 0"));
+    };
+    if seat.number() != 0 {
+        return Err(Fail::from("the first seat is not seat 0"));
+    }
+    Ok(seat)
+}
+
+/// Opens a hand-off of a book with two seats, and returns seat 0 before seat 1.
+pub fn open_two<B: Recorded + Drop>(
+    alloc: Global,
+) -> Result<(HandOff<B>, HandSeat<B>, HandSeat<B>), Fail>
+    ensures zero { IfOk result (λ r. (r.1.home ≡ r.0.home) × (r.1.number ≡ 0)) }
+    ensures one { IfOk result (λ r. r.2.home ≡ r.0.home) }
+{
+    let (hand_off, mut seats) = open::<B>(alloc, 2)?;
+    let Some(one) = last_seat(&hand_off, &mut seats) else {
+        return Err(Fail::from("no seat 1"));
+    };
+    let zero = seat_zero(&hand_off, &mut seats)?;
+    Ok((hand_off, zero, one))
+}
+
 /// Pushes one more seat onto a hand-off's seats.
 pub fn with_seat<B: Keeps + Drop>(
     hand_off: &HandOff<B>,
@@ -174,17 +207,16 @@ pub fn close_with<B: Keeps + Drop>(
 /// Lets two seats meet, and closes a hand-off: first without the second seat, which is refused, and then with it.
 fn meet_and_close<B: Keeps + Drop, R: Wait>(
     rt: &R,
+    alloc: Global,
     hand_off: HandOff<B>,
-    seats: Vec<HandSeat<B>>,
     one: HandSeat<B>,
     two: HandSeat<B>,
 ) -> Result<B, Fail>
-    requires seats { All (λ s. s.home ≡ hand_off.home) seats.items }
     requires one { one.home ≡ hand_off.home }
     requires two { two.home ≡ hand_off.home }
 {
     let (one, two) = hand_off.meet(rt, one, two);
-    let seats = with_seat(&hand_off, seats, one)?;
+    let seats = with_seat(&hand_off, Vec::new(alloc), one)?;
     let Err(back) = hand_off.close(seats) else {
         return Err(Fail::from("closed without a seat"));
     };
@@ -198,9 +230,7 @@ fn looked<B: Recorded + Drop, R: Wait>(
     alloc: Global,
 ) -> Result<((u64, Option<u32>), u64), Fail> {
     let (hand_off, mut seats) = open::<B>(alloc, 1)?;
-    let Some(seat) = last_seat(&hand_off, &mut seats) else {
-        return Err(Fail::from("no seat"));
-    };
+    let seat = seat_zero(&hand_off, &mut seats)?;
     let (seat, shown) = look(rt, &hand_off, seat);
     let book = close_with(hand_off, seats, seat)?;
     Ok((shown, book.len()))
@@ -222,19 +252,10 @@ fn sent<B: Recorded + Drop, R: Wait>(
     alloc: Global,
     value: B::Value,
 ) -> Result<Sent<B::Value>, Fail> {
-    let (hand_off, mut seats) = open::<B>(alloc, 2)?;
-    let Some(one) = last_seat(&hand_off, &mut seats) else {
-        return Err(Fail::from("no seat 1"));
-    };
-    let Some(zero) = last_seat(&hand_off, &mut seats) else {
-        return Err(Fail::from("no seat 0"));
-    };
-    if zero.number() != 0 {
-        return Err(Fail::from("the first seat is not seat 0"));
-    }
+    let (hand_off, zero, one) = open_two::<B>(alloc)?;
     let (zero, sent) = send(rt, &hand_off, zero, value);
     let (one, shown) = look(rt, &hand_off, one);
-    let book = meet_and_close(rt, hand_off, seats, zero, one)?;
+    let book = meet_and_close(rt, alloc, hand_off, zero, one)?;
     Ok((sent, shown, book.len()))
 }
 
@@ -259,12 +280,7 @@ fn read_by_all<B: Recorded + Drop, R: Wait>(
 ) -> Result<(u32, u32, u64), Fail> {
     let (hand_off, seats) = open::<B>(alloc, 64)?;
     let (mut seats, before) = look_each(rt, alloc, &hand_off, seats, (0, None))?;
-    let Some(zero) = last_seat(&hand_off, &mut seats) else {
-        return Err(Fail::from("no seat 0"));
-    };
-    if zero.number() != 0 {
-        return Err(Fail::from("the first seat is not seat 0"));
-    }
+    let zero = seat_zero(&hand_off, &mut seats)?;
     let (zero, _) = send(rt, &hand_off, zero, value);
     let (seats, after) = look_each(rt, alloc, &hand_off, seats, (1, Some(0)))?;
     let book = close_with(hand_off, seats, zero)?;

@@ -203,7 +203,9 @@ where
     let Ok(run) = desk.close(rt, alloc, seats) else {
         return Err(Fail::from("not closed"));
     };
-    Ok(order(alloc, &run)?)
+    let order = order(alloc, &run);
+    drop(run);
+    Ok(order?)
 }
 
 /// Closes a desk with these seats and one more, and returns the order of its calls.
@@ -234,12 +236,17 @@ where
     D::Seat: Drop,
     requires { D.owns desk seat }
 {
-    let Err(back) = desk.close(rt, alloc, Vec::new(alloc)) else {
-        return Err(Fail::from("closed without a seat"));
-    };
-    let (fault, desk, seats) = back;
-    let order = close_with(rt, alloc, desk, seats, seat)?;
-    Ok((fault, order))
+    match desk.close(rt, alloc, Vec::new(alloc)) {
+        Ok(run) => {
+            drop(run);
+            Err(Fail::from("closed without a seat"))
+        }
+        Err(back) => {
+            let (fault, desk, seats) = back;
+            let order = close_with(rt, alloc, desk, seats, seat)?;
+            Ok((fault, order))
+        }
+    }
 }
 
 /// Lets two seats meet on two channels, and closes the desk with them. Returns how much the first has seen at each meeting, and

@@ -2,7 +2,7 @@
 
 ghost use Rattle.std.specs.Prelude.{◌≡◌};
 
-use super::hand_offs::{Recorded, close_with, last_seat, look, open, with_seat};
+use super::hand_offs::{Recorded, close_with, look, open_two, with_seat};
 use crate::comparing::same;
 use rw_journal::Book;
 use rw_seat::{HandOff, HandSeat};
@@ -115,18 +115,9 @@ fn waited<B: Recorded + Drop + Send, R: Threads + Wait + Sync>(
 where
     B::Value: Send + Sync,
 {
-    let (hand_off, mut seats) = open::<B>(alloc, 2)?;
-    let Some(one) = last_seat(&hand_off, &mut seats) else {
-        return Err(Fail::from("no seat 1"));
-    };
-    let Some(zero) = last_seat(&hand_off, &mut seats) else {
-        return Err(Fail::from("no seat 0"));
-    };
-    if zero.number() != 0 {
-        return Err(Fail::from("the first seat is not seat 0"));
-    }
+    let (hand_off, zero, one) = open_two::<B>(alloc)?;
     let ((zero, asked), (one, shown)) = beside(rt, &hand_off, zero, one, value);
-    let seats = with_seat(&hand_off, seats, zero)?;
+    let seats = with_seat(&hand_off, Vec::new(alloc), zero)?;
     let book = close_with(hand_off, seats, one)?;
     Ok((asked, shown, book.len()))
 }
