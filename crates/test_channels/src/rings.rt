@@ -4,6 +4,7 @@ ghost use Rattle.std.specs.Prelude.{◌<◌};
 use crate::comparing::same;
 use rw_law::NoMemory;
 use rw_ring::Ring;
+use std::alloc::Global;
 use std::process::Abort;
 use std::test::Fail;
 
@@ -72,8 +73,12 @@ impl Plain {
     }
 }
 
-fn agree(ring: &Ring<u64>, plain: &Plain) -> bool {
-    ring.count() == plain.count && (0..14).all(|position| ring.at(position) == plain.at(position))
+/// Asserts that a ring shows what a plain list does.
+fn agree(rt: &impl Abort, ring: &Ring<u64>, plain: &Plain) {
+    same(rt, &"count", &ring.count(), &plain.count);
+    for position in 0..14 {
+        same(rt, &position, &ring.at(position), &plain.at(position));
+    }
 }
 
 // Two puts and one undone, again and again, and then all undone.
@@ -81,24 +86,29 @@ fn agree(ring: &Ring<u64>, plain: &Plain) -> bool {
 fn rings_keep_what_a_plain_list_keeps(rt: HostRuntime) -> Result<(), Fail> {
     for capacity in [1, 2, 4] {
         let mut ring: Ring<u64> = Ring::new(rt.alloc(), capacity)?;
-        let mut plain = Plain {
-            values: Vec::new(rt.alloc()),
-            capacity: capacity as usize,
-            count: 0,
-        };
-        let mut evictions = Vec::new(rt.alloc());
-        for step in 0..24 {
-            assert!(rt; agree(&ring, &plain));
-            take(&rt, &mut ring, &mut plain, &mut evictions, step)?;
-        }
-        assert!(rt; agree(&ring, &plain));
-        same(
-            &rt,
-            &"rings keep what a plain list keeps",
-            &ring.count(),
-            &0,
-        );
+        keeps(&rt, rt.alloc(), &mut ring, capacity)?;
     }
+    Ok(())
+}
+
+/// Takes 24 steps on a ring of this capacity, and on a plain list.
+fn keeps(
+    rt: &impl Abort,
+    alloc: Global,
+    ring: &mut Ring<u64>,
+    capacity: u64,
+) -> Result<(), NoMemory> {
+    let mut plain = Plain {
+        values: Vec::new(alloc),
+        capacity: capacity as usize,
+        count: 0,
+    };
+    let mut evictions = Vec::new(alloc);
+    for step in 0..24 {
+        take(rt, ring, &mut plain, &mut evictions, step)?;
+    }
+    agree(rt, ring, &plain);
+    same(rt, &"rings keep what a plain list keeps", &ring.count(), &0);
     Ok(())
 }
 
@@ -110,6 +120,7 @@ fn take(
     evictions: &mut Vec<Option<u64>>,
     step: u64,
 ) -> Result<(), NoMemory> {
+    agree(rt, ring, plain);
     if step % 3 < 2 && step < 18 {
         assert!(rt; ring.count() < 1000 && plain.count < 1000);
         let evicted = ring.put(100 + step);

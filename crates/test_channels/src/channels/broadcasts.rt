@@ -1,29 +1,18 @@
 //! Rows of a broadcast channel.
-ghost use Rattle.std.specs.Prelude.{◌<◌, length};
-
-use crate::channels::playing::{Expected, play, record_and_walk};
+use crate::channels::playing::{Expected, play};
 use crate::comparing::same;
 use rw_broadcast::{BCall, BReply, Broadcast, Refusal};
 use rw_handles::{HandleFault, Kind};
-use std::alloc::Global;
+use std::alloc::{AllocError, Global};
 use std::process::Abort;
 use std::test::Fail;
 use support_fixtures::broadcasts::{OPENING, Place};
 
-/// Records a row and walks it, on channels of this capacity.
-fn play_at(rt: &impl Abort, alloc: Global, capacity: u32, steps: &[Wanted]) -> Result<(), Fail>
-    requires { length steps.now < 100 }
-{
+/// Plays a row, on channels of this capacity.
+fn play_at(rt: &impl Abort, alloc: Global, capacity: u32, steps: &[Wanted]) -> Result<(), Fail> {
     let recorded = Broadcast::open(alloc, capacity)?;
     let walked = Broadcast::open(alloc, capacity)?;
     play(rt, alloc, recorded, walked, steps)
-}
-
-/// Records a row of any length and walks it, on channels of this capacity.
-fn record_at(rt: &impl Abort, alloc: Global, capacity: u32, steps: &[Wanted]) -> Result<(), Fail> {
-    let recorded = Broadcast::open(alloc, capacity)?;
-    let walked = Broadcast::open(alloc, capacity)?;
-    record_and_walk(rt, alloc, recorded, walked, steps)
 }
 
 type Wanted = Expected<BCall<u64>, BReply<u64>, Place>;
@@ -257,6 +246,52 @@ fn weak_senders_refused(rt: HostRuntime) -> Result<(), Fail> {
     play_at(&rt, rt.alloc(), 2, &STEPS)
 }
 
+/// The calls of a long row, by their number in it.
+#[derive(Clone, Copy)]
+enum Repeated {
+    /// Sends of the values 0, 1, .. .
+    Send,
+    /// Senders cloned from sender 0, from handle 2 on.
+    CloneSender,
+    /// Weak senders cloned from handle 2, which is made first, from handle 3 on.
+    CloneWeak,
+}
+
+impl Repeated {
+    /// Returns the number of the first call.
+    fn first(self) -> u32 {
+        match self {
+            Repeated::Send => 0,
+            Repeated::CloneSender | Repeated::CloneWeak => 2,
+        }
+    }
+
+    /// Returns the call of this number, and its reply.
+    fn step(self, number: u32) -> Wanted {
+        match self {
+            Repeated::Send => (BCall::Send(0, u64::from(number)), BReply::Sent(1), None),
+            Repeated::CloneSender => (BCall::CloneSender(0), BReply::New(number), None),
+            Repeated::CloneWeak if number == 2 => (BCall::Downgrade(0), BReply::New(2), None),
+            Repeated::CloneWeak => (BCall::CloneWeak(2), BReply::New(number), None),
+        }
+    }
+}
+
+/// Returns a row of such calls up to a number, and then the last steps.
+fn long_row(
+    alloc: Global,
+    repeated: Repeated,
+    end: u32,
+    last: &[Wanted],
+) -> Result<Vec<Wanted>, AllocError> {
+    let mut steps = Vec::new(alloc);
+    for number in repeated.first()..end {
+        steps.push(repeated.step(number))?;
+    }
+    steps.extend_from_slice(last)?;
+    Ok(steps)
+}
+
 /// The limit of handles is checked before whether there is a sender.
 #[test]
 fn upgrade_at_the_handle_limit(rt: HostRuntime) -> Result<(), Fail> {
@@ -264,13 +299,8 @@ fn upgrade_at_the_handle_limit(rt: HostRuntime) -> Result<(), Fail> {
         (BCall::DropHandle(0), BReply::Dropped, None),
         (BCall::Upgrade(2), BReply::TooManyHandles, None),
     ];
-    let mut steps = Vec::new(rt.alloc());
-    steps.push((BCall::Downgrade(0), BReply::New(2), None))?;
-    for number in 3..65_536 {
-        steps.push((BCall::CloneWeak(2), BReply::New(number), None))?;
-    }
-    steps.extend_from_slice(&LAST)?;
-    record_at(&rt, rt.alloc(), 1, &steps)
+    let steps = long_row(rt.alloc(), Repeated::CloneWeak, 65_536, &LAST)?;
+    play_at(&rt, rt.alloc(), 1, &steps)
 }
 
 #[test]
@@ -297,12 +327,8 @@ fn handle_limit(rt: HostRuntime) -> Result<(), Fail> {
         (BCall::DropHandle(2), BReply::Dropped, Some(FULL)),
         (BCall::CloneSender(0), BReply::TooManyHandles, Some(FULL)),
     ];
-    let mut steps = Vec::new(rt.alloc());
-    for number in 2..65_536 {
-        steps.push((BCall::CloneSender(0), BReply::New(number), None))?;
-    }
-    steps.extend_from_slice(&LAST)?;
-    record_at(&rt, rt.alloc(), 1, &steps)
+    let steps = long_row(rt.alloc(), Repeated::CloneSender, 65_536, &LAST)?;
+    play_at(&rt, rt.alloc(), 1, &steps)
 }
 
 /// The greatest channel, filled and overrun by one value: the first is evicted, and one place back it is there again.
@@ -326,10 +352,6 @@ fn greatest_capacity_overrun_by_one(rt: HostRuntime) -> Result<(), Fail> {
         (BCall::Send(0, 65_535), BReply::Sent(1), Some(FULL)),
         (BCall::Send(0, 65_536), BReply::Sent(1), Some(OVERRUN)),
     ];
-    let mut steps = Vec::new(rt.alloc());
-    for value in 0..65_535 {
-        steps.push((BCall::Send(0, value), BReply::Sent(1), None))?;
-    }
-    steps.extend_from_slice(&LAST)?;
-    record_at(&rt, rt.alloc(), 65_536, &steps)
+    let steps = long_row(rt.alloc(), Repeated::Send, 65_535, &LAST)?;
+    play_at(&rt, rt.alloc(), 65_536, &steps)
 }

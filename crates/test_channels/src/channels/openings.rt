@@ -2,9 +2,10 @@
 
 use crate::comparing::same;
 use rw_broadcast::{BCall, BPatch, BReply, Broadcast, OpenFault};
-use rw_law::Reversible;
+use rw_law::{NoMemory, Reversible};
 use rw_watch::{WCall, WPatch, WReply, Watch};
 use std::alloc::Global;
+use std::process::Abort;
 use std::test::Fail;
 
 /// What capacity is asked for, and how many values the channel then retains.
@@ -32,13 +33,20 @@ fn capacities_of_openings(rt: HostRuntime) {
 #[test]
 fn room_grows_call_by_call(rt: HostRuntime) -> Result<(), Fail> {
     let mut machine = Watch::open(rt.alloc(), 0)?;
+    let grown = grows(&rt, &mut machine);
+    drop(machine);
+    Ok(grown?)
+}
+
+/// Makes room for each of 98 receivers just before it is made.
+fn grows(rt: &impl Abort, machine: &mut Watch<u64>) -> Result<(), NoMemory> {
     for number in 2..100 {
         assert!(rt; machine.weight() < 100);
         machine.ready(1)?;
         assert!(rt; machine.weight() < machine.limit());
         let (reply, _patch) = machine.apply(&WCall::Subscribe(0));
         assert!(rt; !Watch::<u64>::waits(&reply) && !Watch::<u64>::strays(&reply));
-        same(&rt, &"reply", &reply, &WReply::New(number));
+        same(rt, &"reply", &reply, &WReply::New(number));
     }
     Ok(())
 }

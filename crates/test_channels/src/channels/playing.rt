@@ -1,6 +1,7 @@
 //! How a row is played: its calls are made and undone one by one, and then recorded in a book, whose journal a navigator walks
 //! back and forward again.
-ghost use Rattle.std.specs.Prelude.{◌≡◌, ◌+◌, ◌<◌, ◌≤◌, ◌^◌, IfOk, length};
+ghost use Rattle.std.specs.Prelude.{◌≡◌, ◌+◌, ◌<◌, ◌≤◌, ◌^◌, length};
+ghost use Rattle.rw_journal.specs.Book.{opening_of};
 
 use crate::comparing::same;
 use rw_journal::{Book, TakeFault};
@@ -38,23 +39,38 @@ where
     }
 }
 
-/// Records the calls of a row by actor 0, and compares the replies. A call that would wait isn't recorded.
-fn record<M: Reversible + Drop + Shows>(
+/// Makes the calls of a row in order and undoes them, if it is a short one: this takes a call of `make_and_undo` for each.
+fn make_short<M: Reversible + Shows>(
     rt: &impl Abort,
-    alloc: Global,
-    start: M,
+    machine: &mut M,
     steps: &[Expected<M::Call, M::Reply, M::Place>],
-) -> Result<Book<M>, NoMemory>
+) -> Result<(), NoMemory>
 where
     M::Reply: PartialEq + Debug,
-    requires { M.weigh (M.shown start) ≤ 2 ^ 32 }
-    ensures { IfOk result (λ book. book.opening ≡ start) }
+    requires { M.weigh (M.shown machine.old) ≤ 2 ^ 32 }
+    ensures { M.shown machine.new ≡ M.shown machine.old }
 {
-    let mut book = Book::open(alloc, start)?;
-    for step in steps {
-        take(rt, &mut book, step)?;
+    if steps.len() < 100 {
+        machine.ready(steps.len() as u64)?;
+        make_and_undo(rt, machine, steps);
     }
-    Ok(book)
+    Ok(())
+}
+
+/// Records the calls of a row by actor 0, and compares the replies. A call that would wait isn't recorded.
+fn record<M: Reversible + Shows>(
+    rt: &impl Abort,
+    book: &mut Book<M>,
+    steps: &[Expected<M::Call, M::Reply, M::Place>],
+) -> Result<(), NoMemory>
+where
+    M::Reply: PartialEq + Debug,
+    ensures { book.new.opening ≡ book.old.opening }
+{
+    for step in steps {
+        take(rt, book, step)?;
+    }
+    Ok(())
 }
 
 /// Records the call of a step, and compares the replies. A call that would wait isn't recorded.
@@ -78,7 +94,8 @@ where
     Ok(())
 }
 
-/// Plays and records a row on one machine, and walks it back and forward again on another in the same state.
+/// Plays and records a row on one machine, and walks it back and forward again on another in the same state. The calls of a long
+/// row are only recorded.
 pub fn play<M: Reversible + Drop + Shows>(
     rt: &impl Abort,
     alloc: Global,
@@ -90,36 +107,30 @@ where
     M::Reply: PartialEq + Debug,
     requires weight { M.weigh (M.shown recorded) ≤ 2 ^ 32 }
     requires same { M.shown walked ≡ M.shown recorded }
-    requires few { length steps.now < 100 }
 {
     let opening = walked.place();
-    recorded.ready(steps.len() as u64)?;
-    make_and_undo(rt, &mut recorded, steps);
+    make_short(rt, &mut recorded, steps)?;
     same(rt, &"play", &recorded.place(), &opening);
-    record_and_walk(rt, alloc, recorded, walked, steps)
-}
-
-/// Records a row, of any length, on one machine, and walks it back and forward again on another in the same state.
-pub fn record_and_walk<M: Reversible + Drop + Shows>(
-    rt: &impl Abort,
-    alloc: Global,
-    recorded: M,
-    walked: M,
-    steps: &[Expected<M::Call, M::Reply, M::Place>],
-) -> Result<(), Fail>
-where
-    M::Reply: PartialEq + Debug,
-    requires weight { M.weigh (M.shown recorded) ≤ 2 ^ 32 }
-    requires same { M.shown walked ≡ M.shown recorded }
-{
-    let opening = walked.place();
-    let book = record(rt, alloc, recorded, steps)?;
-    let opened = Navigator::open(alloc, walked, book.entries());
-    drop(book);
-    let mut navigator = opened?;
+    let mut book = Book::open(alloc, recorded)?;
+    record(rt, &mut book, steps)?;
+    let mut navigator = opened(alloc, walked, book)?;
     walk(rt, &mut navigator, opening, steps);
     drop(navigator);
     Ok(())
+}
+
+/// Opens a navigator over the journal of a book, and drops the book.
+fn opened<M: Reversible + Drop>(
+    alloc: Global,
+    walked: M,
+    book: Book<M>,
+) -> Result<Navigator<M>, NoMemory>
+    requires weight { M.weigh (M.shown walked) ≤ 2 ^ 32 }
+    requires same { M.shown walked ≡ opening_of M.Reversible book }
+{
+    let opened = Navigator::open(alloc, walked, book.entries());
+    drop(book);
+    opened
 }
 
 /// Walks from the opening to the end, back, and forward again.
