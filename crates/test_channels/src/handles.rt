@@ -1,8 +1,6 @@
 //! The life of a small table.
 use crate::comparing::same;
 use rw_handles::{Found, HandleFault, Kind, Table};
-use rw_law::NoMemory;
-use std::alloc::Global;
 use std::test::Fail;
 
 /// Drops a table. A test that calls `drop` itself has its instance put together in its proof.
@@ -99,18 +97,12 @@ fn the_first_two(rt: HostRuntime) -> Result<(), Fail> {
     Ok(())
 }
 
-/// Returns how many handles a table has room for that is made ready for this many. Drops the table.
-fn room_after(alloc: Global, handles: u64) -> Result<u64, NoMemory> {
-    let mut table: Table<u64> = Table::new(alloc)?;
-    table.ready(handles)?;
-    Ok(table.room())
-}
-
 #[test]
 fn room_for_many_handles(rt: HostRuntime) -> Result<(), Fail> {
     for handles in [1_025, 65_536] {
-        let room = room_after(rt.alloc(), handles)?;
-        assert!(rt; handles <= room);
+        let mut table: Table<u64> = Table::new(rt.alloc())?;
+        table.ready(handles)?;
+        assert!(rt; handles <= table.room());
     }
     Ok(())
 }
