@@ -1,7 +1,7 @@
 //! The calls of a broadcast channel, their replies, and the patches of their steps.
 ghost use Rattle.std.specs.Prelude.{◌≡◌};
 ghost use Rattle.rw_broadcast.specs.Channel.{handle_of, makes, fault_reply, wanted_kind, with_handle};
-ghost use Rattle.rw_broadcast.specs.Shown.{patch_of_send};
+ghost use Rattle.rw_broadcast.specs.Shown.{patch_of_send, refuses};
 
 use rw_handles::{HandleFault, Kind};
 
@@ -90,7 +90,7 @@ pub enum BPatch<V> {
 
 impl<V: Copy> BCall<V> {
     /// Returns the number of the handle that the call is made with.
-    pub(crate) fn handle(&self) -> u32
+    pub fn handle(&self) -> u32
         ensures { result ≡ handle_of self.now }
     {
         match self {
@@ -166,6 +166,24 @@ impl<V: Copy> BCall<V> {
 }
 
 impl<V: Copy> BReply<V> {
+    /// Whether the reply refuses: the call has changed nothing.
+    pub fn refuses(&self) -> bool
+        ensures { result ≡ refuses self.now }
+    {
+        matches!(
+            self,
+            BReply::NoReceivers(_)
+                | BReply::Empty
+                | BReply::Closed
+                | BReply::Waits
+                | BReply::Unknown
+                | BReply::Gone
+                | BReply::WrongKind
+                | BReply::TooManyHandles
+                | BReply::NoSender
+        )
+    }
+
     /// Returns the reply for a handle that can't be used.
     pub(crate) fn refused(fault: HandleFault) -> BReply<V>
         ensures { result ≡ fault_reply fault }

@@ -15,7 +15,8 @@ use Rattle.rw_watch.specs.declared.calls.WReply.TheVariants.{Value, Done, Closed
 use Rattle.rw_world.specs.declared.channels.ChanCall.TheVariants as call
 use Rattle.rw_world.specs.declared.channels.ChanReply.TheVariants as reply
 use Rattle.rw_world.specs.Channel.{strays_at}
-use Rattle.rw_world.specs.Kinds.{broadcast_shown, watch, watch_shown}
+use Rattle.rw_world.specs.declared.kinds.ChannelKind.TheVariants as kinds
+use Rattle.rw_world.specs.Kinds.{broadcast_shown, watch_shown}
 use Rattle.rw_world.specs.Machines.{ChanShown, of_chan, of_watch}
 use Rattle.rw_world.specs.Openings.{opened_channel, spec_kind}
 use Rattle.rw_world.specs.declared.opening.Spec.{Spec}
@@ -81,7 +82,7 @@ module _ {V : Type 0} where
   pub watch_found : (specs : List (Spec V)) (channel : ℕ) (c : WCall V) → (IsTrue (stray_of strays_at (map spec_kind specs) (row_call channel (call.W c))) → true ≡ false) → IsTrue (has_no_watch specs channel) → ⊥
   watch_found specs channel c found none = true≢false (found (subst IsTrue (sym (strays_alike specs channel c)) none))
 
-  pub watch_there : (s : Spec V) (c : WCall V) → strays_at (spec_kind s) (call.W c) ≡ false → spec_kind s ≡ watch
+  pub watch_there : (s : Spec V) (c : WCall V) → strays_at (spec_kind s) (call.W c) ≡ false → spec_kind s ≡ kinds.Watch
   watch_there (spec.Broadcast n) c stays = absurd (true≢false stays)
   watch_there (spec.Watch v) c stays = refl
 

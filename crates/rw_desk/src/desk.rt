@@ -118,11 +118,12 @@ impl<V: Payload> Desk<V> {
         }
     }
 
-    /// Whether a thread waits on a channel, or `None` if there is no such channel. It acquires the lock of the channel, and no
-    /// other.
+    /// Whether a thread sleeps until a channel changes, or `None` if there is no such channel. It acquires the lock of the channel,
+    /// and no other.
     ///
-    /// A thread that waits has released the lock, and sleeps until another thread's call may have changed the channel. So a test
-    /// can see that a thread waits before it makes the call that ends the wait. No clause says whether a thread does.
+    /// A thread that waits has released the lock. It looks for a change for a short time, and isn't seen here while it does. Then it
+    /// sleeps until another thread's call may have changed the channel. So a test can see that a thread sleeps before it makes the
+    /// call that ends the wait. No clause says whether a thread does.
     pub fn is_awaited<R: Wait>(&self, rt: &R, channel: u32) -> Option<bool>
         ensures { IsNone result ↔ length self.now.specs ≤ channel }
     {
@@ -142,21 +143,10 @@ impl<V: Payload> Desk<V> {
     {
         let at = channel as usize;
         let spec = self.specs.get(at)?;
-        if strays(spec, call) {
+        if spec.is_of_other_kind(call) {
             return None;
         }
         Some((spec, &self.locks[at]))
-    }
-}
-
-/// Whether the spec and the call are of different kinds of channels.
-pub fn strays<V: Copy>(spec: &Spec<V>, call: &ChanCall<V>) -> bool
-    ensures { result ≡ strays_at (spec_kind spec.now) call.now }
-{
-    match (spec, call) {
-        (Spec::Broadcast(_), ChanCall::B(_)) => false,
-        (Spec::Watch(_), ChanCall::W(_)) => false,
-        _ => true,
     }
 }
 

@@ -25,7 +25,7 @@ mod watch_calls;
 mod watch_closures;
 
 pub use closing::{settle, settle_for};
-pub use desk::{Desk, refusal_to_open, strays};
+pub use desk::{Desk, refusal_to_open};
 pub use faults::{CloseFault, DeskFault, DeskOpenFault};
 pub use handles::{BRx, BTx, Ends, WRx, WTx};
 pub use has_pass::HasPass;

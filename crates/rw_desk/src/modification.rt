@@ -2,7 +2,8 @@
 
 ghost use Rattle.std.specs.Prelude.{◌≡◌, Bool};
 ghost use Rattle.std.specs.Fn.{FnOnceReturnsAtMut};
-ghost use Rattle.rw_world.specs.Kinds.{channel_kind, watch};
+ghost use Rattle.rw_world.specs.declared.kinds.ChannelKind.TheVariants as kind;
+ghost use Rattle.rw_world.specs.Kinds.{channel_kind};
 ghost use Rattle.rw_world.specs.Machines.{of_chan};
 ghost use Rattle.rw_desk.specs.Modifying.{IsModification};
 
@@ -45,7 +46,7 @@ pub(crate) fn modification<V: Copy, T: Told, F: FnOnce(&mut V) -> T>(
     f: F,
 ) -> WCall<V>
     requires f { F.IsAlwaysCallable f }
-    requires watch { channel_kind ((of_chan {V = V}).shown channel.now) ≡ watch }
+    requires watch { channel_kind ((of_chan {V = V}).shown channel.now) ≡ kind.Watch }
     ensures { IsModification (λ v told w. (t : T) × FnOnceReturnsAtMut F.FnOnce f v t w × (told ≡ T.tells t)) ((of_chan {V = V}).shown channel.now) sender result }
 {
     let Chan::Watch(channel) = channel else {

@@ -20,7 +20,7 @@ use Rattle.rw_world.specs.declared.opening.Spec.{Spec}
 use Rattle.rw_world.specs.declared.opening.Spec.TheVariants.{Broadcast, Watch}
 use Rattle.rw_findings.specs.Lives.{AreLivesTo, Counted, EndsAt, IsLife, Life, TookCall, TookMade, born, calls_after, calls_to, dropped_by, is_call_with, kind_in, kind_then, made_at, made_in, with_kind}
 use Rattle.rw_navigator.specs.Places.{last_place, shown_at}
-use Rattle.rw_findings.specs.Subjects.{handle_in}
+use Rattle.rw_world.specs.Channel.{handle_of}
 use Rattle.rw_findings.proofs.FollowedPlaces.{channel_here, channel_there}
 use Rattle.rw_findings.proofs.LifeSteps.{Steps, steps}
 
@@ -82,13 +82,13 @@ module _ {V : Type 0} (run : Run V) (c : ℕ) where
       other_channel h actor apart =
           let not_here : nat_eq e.call.channel c ≡ false = grind (arith, nat_tests) in
           tested h actor ∙ and_false (nat_lt h (made_at run c p)) (is_call_with c h actor e)
-          (ap (λ k. k && nat_eq (handle_in e.call.call) h && nat_eq e.actor actor) not_here)
+          (ap (λ k. k && nat_eq (handle_of e.call.call) h && nat_eq e.actor actor) not_here)
 
-      other_handle : (h actor : ℕ) → h ≢ handle_in e.call.call → calls_after run c h actor p ≡ false
+      other_handle : (h actor : ℕ) → h ≢ handle_of e.call.call → calls_after run c h actor p ≡ false
       other_handle h actor apart =
-          let not_it : nat_eq (handle_in e.call.call) h ≡ false = grind (arith, nat_tests) in
+          let not_it : nat_eq (handle_of e.call.call) h ≡ false = grind (arith, nat_tests) in
           tested h actor ∙ and_false (nat_lt h (made_at run c p)) (is_call_with c h actor e)
-          (by_test (nat_eq e.call.channel c) (nat_eq (handle_in e.call.call) h) (nat_eq e.actor actor) not_it) where
+          (by_test (nat_eq e.call.channel c) (nat_eq (handle_of e.call.call) h) (nat_eq e.actor actor) not_it) where
             by_test : (a b d : Bool) → b ≡ false → (a && b && d) ≡ false
             by_test true b d none = ap (λ k. k && d) none
             by_test false b d none = refl
@@ -97,22 +97,22 @@ module _ {V : Type 0} (run : Run V) (c : ℕ) where
       other_actor h actor apart =
           let not_by : nat_eq e.actor actor ≡ false = grind (arith, nat_tests) in
           tested h actor ∙ and_false (nat_lt h (made_at run c p)) (is_call_with c h actor e)
-          (and_false (nat_eq e.call.channel c && nat_eq (handle_in e.call.call) h) (nat_eq e.actor actor) not_by)
+          (and_false (nat_eq e.call.channel c && nat_eq (handle_of e.call.call) h) (nat_eq e.actor actor) not_by)
 
       unmade : (h actor : ℕ) → made_at run c p ≤ h → calls_after run c h actor p ≡ false
       unmade h actor past =
           let not_yet : nat_lt h (made_at run c p) ≡ false = grind (arith, nat_tests) in
           tested h actor ∙ ap (λ k. k && is_call_with c h actor e) not_yet
 
-      the_call : e.call.channel ≡ c → handle_in e.call.call < made_at run c p → calls_after run c (handle_in e.call.call) e.actor p ≡ true
+      the_call : e.call.channel ≡ c → handle_of e.call.call < made_at run c p → calls_after run c (handle_of e.call.call) e.actor p ≡ true
       the_call here there =
-          let one : nat_lt (handle_in e.call.call) (made_at run c p) ≡ true = grind (arith, nat_tests) in
+          let one : nat_lt (handle_of e.call.call) (made_at run c p) ≡ true = grind (arith, nat_tests) in
           let two : nat_eq e.call.channel c ≡ true = grind (arith, nat_tests) in
-          let three : nat_eq (handle_in e.call.call) (handle_in e.call.call) ≡ true = grind (arith, nat_tests) in
+          let three : nat_eq (handle_of e.call.call) (handle_of e.call.call) ≡ true = grind (arith, nat_tests) in
           let four : nat_eq e.actor e.actor ≡ true = grind (arith, nat_tests) in
-          tested (handle_in e.call.call) e.actor
-          ∙ ap (λ k. k && is_call_with c (handle_in e.call.call) e.actor e) one
-          ∙ ap (λ k. k && nat_eq (handle_in e.call.call) (handle_in e.call.call) && nat_eq e.actor e.actor) two
+          tested (handle_of e.call.call) e.actor
+          ∙ ap (λ k. k && is_call_with c (handle_of e.call.call) e.actor e) one
+          ∙ ap (λ k. k && nat_eq (handle_of e.call.call) (handle_of e.call.call) && nat_eq e.actor e.actor) two
           ∙ ap (λ k. k && nat_eq e.actor e.actor) three
           ∙ four
 
@@ -132,35 +132,35 @@ module _ {V : Type 0} (run : Run V) (c : ℕ) where
         ends (Some place) end = (end.0, omega (arith, end.1), end.2, end.3)
 
       -- the life of the handle that is called with
-      life_called : (life mid : Life) → IsLife run c (handle_in e.call.call) p life → e.call.channel ≡ c → handle_in e.call.call < made_at run c p → Counted life mid e.actor
-          → IsLife run c (handle_in e.call.call) (p + 1) (with_kind mid (kind_then run c (handle_in e.call.call) (p + 1)) (p + 1))
+      life_called : (life mid : Life) → IsLife run c (handle_of e.call.call) p life → e.call.channel ≡ c → handle_of e.call.call < made_at run c p → Counted life mid e.actor
+          → IsLife run c (handle_of e.call.call) (p + 1) (with_kind mid (kind_then run c (handle_of e.call.call) (p + 1)) (p + 1))
       life_called life mid is here there counted = record {
-        made = subst (λ m. handle_in e.call.call < made_at run c m) (sym counted.made) is.made;
-        fresh = subst (λ m. (m ≡ 0) ⊎ (made_at run c (m - 1) ≤ handle_in e.call.call)) (sym counted.made) is.fresh;
+        made = subst (λ m. handle_of e.call.call < made_at run c m) (sym counted.made) is.made;
+        fresh = subst (λ m. (m ≡ 0) ⊎ (made_at run c (m - 1) ≤ handle_of e.call.call)) (sym counted.made) is.fresh;
         inside = omega (arith, is.inside, counted.made);
-        kind = ap (λ m. kind_then run c (handle_in e.call.call) m) counted.made ∙ is.kind ∙ ap Some (sym counted.kind);
+        kind = ap (λ m. kind_then run c (handle_of e.call.call) m) counted.made ∙ is.kind ∙ ap Some (sym counted.kind);
         maker = counted.maker ∙ is.maker ∙ ap (λ m. option_map (λ f. f.actor) (entry_to_place m)) (sym counted.made);
-        end = ends mid.dropped (kind_then run c (handle_in e.call.call) (p + 1)) refl (subst (EndsAt run c (handle_in e.call.call) p) (sym counted.dropped) is.end);
+        end = ends mid.dropped (kind_then run c (handle_of e.call.call) (p + 1)) refl (subst (EndsAt run c (handle_of e.call.call) p) (sym counted.dropped) is.end);
         calls = λ actor. counted.calls actor ∙ by_actor actor;
       } where
         entry_to_place : ℕ → Option (WorldEntry V)
         entry_to_place m = cond (nat_lt 0 m) (slice_get run.entries (m - 1)) None
 
-        ends : (dropped : Option ℕ) (kind : Option Kind) → kind_then run c (handle_in e.call.call) (p + 1) ≡ kind → EndsAt run c (handle_in e.call.call) p dropped
-            → EndsAt run c (handle_in e.call.call) (p + 1) (dropped_by dropped kind (p + 1))
-        ends None None none end = (omega arith, omega arith, let back : p + 1 - 1 ≡ p = omega arith in subst (λ q. IsSome (kind_then run c (handle_in e.call.call) q)) (sym back) end, none)
+        ends : (dropped : Option ℕ) (kind : Option Kind) → kind_then run c (handle_of e.call.call) (p + 1) ≡ kind → EndsAt run c (handle_of e.call.call) p dropped
+            → EndsAt run c (handle_of e.call.call) (p + 1) (dropped_by dropped kind (p + 1))
+        ends None None none end = (omega arith, omega arith, let back : p + 1 - 1 ≡ p = omega arith in subst (λ q. IsSome (kind_then run c (handle_of e.call.call) q)) (sym back) end, none)
         ends None (Some kind) is_kind end = subst (λ o. IsSome o) (sym is_kind) refl
         ends (Some place) kind is_kind end = (end.0, omega (arith, end.1), end.2, end.3)
 
-        by_actor : (actor : ℕ) → slice_index_or life.calls actor 0 + cond (nat_eq actor e.actor) 1 0 ≡ calls_to run c (handle_in e.call.call) actor (p + 1)
+        by_actor : (actor : ℕ) → slice_index_or life.calls actor 0 + cond (nat_eq actor e.actor) 1 0 ≡ calls_to run c (handle_of e.call.call) actor (p + 1)
         by_actor actor =
             elim (cases_eq actor e.actor) [
               | inl same ↦ let yes : nat_eq actor e.actor ≡ true = grind (arith, nat_tests) in
-                  let called : calls_after run c (handle_in e.call.call) actor p ≡ true = ap (λ a. calls_after run c (handle_in e.call.call) a p) same ∙ the_call here there in
-                  ap (λ k. slice_index_or life.calls actor 0 + cond k 1 0) yes ∙ ap (λ n. n + 1) (is.calls actor) ∙ sym (call_more (handle_in e.call.call) actor p called)
+                  let called : calls_after run c (handle_of e.call.call) actor p ≡ true = ap (λ a. calls_after run c (handle_of e.call.call) a p) same ∙ the_call here there in
+                  ap (λ k. slice_index_or life.calls actor 0 + cond k 1 0) yes ∙ ap (λ n. n + 1) (is.calls actor) ∙ sym (call_more (handle_of e.call.call) actor p called)
               | inr apart ↦ let no : nat_eq actor e.actor ≡ false = grind (arith, nat_tests) in
-                  let not_called : calls_after run c (handle_in e.call.call) actor p ≡ false = other_actor (handle_in e.call.call) actor (λ same. apart (sym same)) in
-                  ap (λ k. slice_index_or life.calls actor 0 + cond k 1 0) no ∙ omega (arith, is.calls actor, no_call (handle_in e.call.call) actor p not_called)
+                  let not_called : calls_after run c (handle_of e.call.call) actor p ≡ false = other_actor (handle_of e.call.call) actor (λ same. apart (sym same)) in
+                  ap (λ k. slice_index_or life.calls actor 0 + cond k 1 0) no ∙ omega (arith, is.calls actor, no_call (handle_of e.call.call) actor p not_called)
             ]
 
       -- what a call on another channel leaves
@@ -265,11 +265,11 @@ module _ {V : Type 0} (run : Run V) (c : ℕ) where
 
       -- what a call on the channel leaves
       pub lives_here : (x : ChanShown V) (lives mid new : List Life) → slice_get (shown_at run p) c ≡ Some x → e.call.channel ≡ c → AreLivesTo run c p lives
-          → TookCall lives mid (handle_in e.call.call) e.actor (kind_in ((of_chan {V = V}).next x e.call.call) (handle_in e.call.call)) (p + 1)
+          → TookCall lives mid (handle_of e.call.call) e.actor (kind_in ((of_chan {V = V}).next x e.call.call) (handle_of e.call.call)) (p + 1)
           → TookMade mid new ((of_chan {V = V}).next x e.call.call) (p + 1) e.actor → AreLivesTo run c (p + 1) new
       lives_here x lives mid new here on are call made = by_made made where
         h : ℕ
-        h = handle_in e.call.call
+        h = handle_of e.call.call
 
         y : ChanShown V
         y = (of_chan {V = V}).next x e.call.call

@@ -17,7 +17,7 @@ use Rattle.rw_world.specs.Machines.{ChanShown, of_chan}
 use Rattle.rw_world.specs.declared.channels.ChanCall.{ChanCall}
 use Rattle.rw_world.specs.declared.channels.ChanCall.TheVariants as call_of
 use Rattle.rw_findings.specs.Lives.{kind_in, made_in}
-use Rattle.rw_findings.specs.Subjects.{handle_in}
+use Rattle.rw_world.specs.Channel.{handle_of}
 use Rattle.rw_findings.proofs.HandleSteps.{IsKept, grows, grows_marked, own, own_mark}
 
 -- from slots to slots: as many, or one more that has a handle
@@ -65,7 +65,7 @@ module _ {V : Type 0} where
   idle : (x : ChanShown V) (h : ℕ) → Steps x x h
   idle x h = record { others = λ g apart within. refl; made = inl refl }
 
-  pub steps : (x : ChanShown V) (call : ChanCall V) → Steps x ((of_chan {V = V}).next x call) (handle_in call)
+  pub steps : (x : ChanShown V) (call : ChanCall V) → Steps x ((of_chan {V = V}).next x call) (handle_of call)
   steps (broadcast_shown x) (call_of.B call) =
       let e = (b.effect (bs.channel_of x) call).0 in
       record {

@@ -22,7 +22,7 @@ use Rattle.rw_navigator.specs.Conditions.{as_broadcast, as_watch, has}
 use Rattle.rw_findings.specs.Lives.{made_in}
 use Rattle.rw_findings.specs.Peaks.{measured, measured_at, measured_of, named_level}
 use Rattle.rw_navigator.specs.Places.{shown_at}
-use Rattle.rw_findings.specs.Subjects.{handle_in}
+use Rattle.rw_world.specs.Channel.{handle_of}
 use Rattle.rw_findings.specs.declared.peaks.measure.Measure.{Measure}
 use Rattle.rw_findings.specs.declared.peaks.measure.Measure.TheVariants.{Lag, Unread, Unseen}
 use Rattle.rw_findings.proofs.FollowedPlaces.{allowed_is, channel_here, channel_there}
@@ -65,19 +65,19 @@ module _ {V : Type 0} where
 
   -- a receiver's level where a call is made: what is measured, if the call names it
   pub named_or_not : (measure : Measure) (c : ℕ) (x : ChanShown V) (call : RowCall (ChanCall V)) (h : ℕ)
-      → (named_level measure c x call h ≡ measured_of measure x h) ⊎ ((named_level measure c x call h ≡ 0) × ((call.channel ≢ c) ⊎ (h ≢ handle_in call.call)))
+      → (named_level measure c x call h ≡ measured_of measure x h) ⊎ ((named_level measure c x call h ≡ 0) × ((call.channel ≢ c) ⊎ (h ≢ handle_of call.call)))
   named_or_not measure c x call h =
       elim (cases_eq call.channel c) [
-        | inl here ↦ elim (cases_eq h (handle_in call.call)) [
+        | inl here ↦ elim (cases_eq h (handle_of call.call)) [
           | inl named ↦ let one : nat_eq call.channel c ≡ true = grind (arith, nat_tests) in
-              let two : nat_eq h (handle_in call.call) ≡ true = grind (arith, nat_tests) in
-              inl (ap (λ k. cond (k && nat_eq h (handle_in call.call)) (measured_of measure x h) 0) one ∙ ap (λ k. cond k (measured_of measure x h) 0) two)
+              let two : nat_eq h (handle_of call.call) ≡ true = grind (arith, nat_tests) in
+              inl (ap (λ k. cond (k && nat_eq h (handle_of call.call)) (measured_of measure x h) 0) one ∙ ap (λ k. cond k (measured_of measure x h) 0) two)
           | inr apart ↦ let one : nat_eq call.channel c ≡ true = grind (arith, nat_tests) in
-              let two : nat_eq h (handle_in call.call) ≡ false = grind (arith, nat_tests) in
-              inr (ap (λ k. cond (k && nat_eq h (handle_in call.call)) (measured_of measure x h) 0) one ∙ ap (λ k. cond k (measured_of measure x h) 0) two, inr apart)
+              let two : nat_eq h (handle_of call.call) ≡ false = grind (arith, nat_tests) in
+              inr (ap (λ k. cond (k && nat_eq h (handle_of call.call)) (measured_of measure x h) 0) one ∙ ap (λ k. cond k (measured_of measure x h) 0) two, inr apart)
         ]
         | inr apart ↦ let one : nat_eq call.channel c ≡ false = grind (arith, nat_tests) in
-            inr (ap (λ k. cond (k && nat_eq h (handle_in call.call)) (measured_of measure x h) 0) one, inl apart)
+            inr (ap (λ k. cond (k && nat_eq h (handle_of call.call)) (measured_of measure x h) 0) one, inl apart)
       ]
 
   module _ (shows : ShowsAtPlaces V) (run : Run V) where
@@ -89,7 +89,7 @@ module _ {V : Type 0} where
           let then : measured_at measure run c h (p + 1) ≡ measured_of measure x h = measured_is measure (shown_at run (p + 1)) c h x (channel_there shows run c p e within read apart ∙ here) in
           omega (arith, before, then)
 
-      pub rises : (measure : Measure) (h : ℕ) (x : ChanShown V) → slice_get (shown_at run p) c ≡ Some x → (e.call.channel ≢ c) ⊎ (h ≢ handle_in e.call.call)
+      pub rises : (measure : Measure) (h : ℕ) (x : ChanShown V) → slice_get (shown_at run p) c ≡ Some x → (e.call.channel ≢ c) ⊎ (h ≢ handle_of e.call.call)
           → measured_at measure run c h p ≤ measured_at measure run c h (p + 1)
       rises measure h x here (inl apart) = rises_there measure h x here apart
       rises measure h x here (inr unnamed) =

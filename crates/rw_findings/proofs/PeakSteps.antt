@@ -20,7 +20,7 @@ use Rattle.rw_world.specs.declared.channels.ChanCall.{ChanCall}
 use Rattle.rw_world.specs.declared.channels.ChanCall.TheVariants as call_of
 use Rattle.rw_navigator.specs.Conditions.{has}
 use Rattle.rw_findings.specs.Peaks.{measured_of}
-use Rattle.rw_findings.specs.Subjects.{handle_in}
+use Rattle.rw_world.specs.Channel.{handle_of}
 use Rattle.rw_findings.specs.declared.peaks.measure.Measure.{Measure}
 use Rattle.rw_findings.specs.declared.peaks.measure.Measure.TheVariants.{Lag, Unread, Unseen}
 use Rattle.rw_findings.proofs.HandleSteps.{Grows, GrowsMarked, IsKept, grows, grows_marked, own, own_mark}
@@ -86,7 +86,7 @@ module _ {V : Type 0} where
 
   -- ---- a channel of either kind
 
-  pub kept : (measure : Measure) (x : ChanShown V) (call : ChanCall V) (g : ℕ) → (of_chan {V = V}).allowed x → g ≢ handle_in call → measured_of measure x g ≤ measured_of measure ((of_chan {V = V}).next x call) g
+  pub kept : (measure : Measure) (x : ChanShown V) (call : ChanCall V) (g : ℕ) → (of_chan {V = V}).allowed x → g ≢ handle_of call → measured_of measure x g ≤ measured_of measure ((of_chan {V = V}).next x call) g
   kept measure (broadcast_shown x) (call_of.B call) g ok apart =
       broadcast_kept measure x (bs.next x call) g (grows x (b.effect (bs.channel_of x) call).0 (b.handle_of call) g (own (bs.channel_of x) call) apart)
   kept measure (broadcast_shown x) (call_of.W call) g ok apart = omega arith

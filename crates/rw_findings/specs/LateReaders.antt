@@ -2,9 +2,8 @@
 use Rattle.std.specs.Prelude.{◌≡◌, ◌<◌, ◌≤◌, ◌^◌, ℕ, zero, suc, ◌+◌, if◌then◌else◌, List, [], ◌∷◌, ◌++◌, length, map, Option, Some, None, is_none, option_map, slice_set, slice_get, slice_index_or}
 use Rattle.rw_handles.specs.declared.table.TheConstants.{MOST_HANDLES}
 use Rattle.rw_world.specs.declared.opening.Spec.{Spec}
-use Rattle.rw_world.specs.Kinds.{broadcast_shown, watch_shown}
 use Rattle.rw_world.specs.Lists.{map_at}
-use Rattle.rw_world.specs.Machines.{ChanShown}
+use Rattle.rw_world.specs.Machines.{ChanShown, handles_made}
 use Rattle.rw_world.specs.Specified.{WorldEntry}
 use Rattle.rw_findings.specs.Closings.{got_by, told_by, is_there}
 use Rattle.rw_navigator.specs.Conditions.{closed_at, has}
@@ -37,8 +36,7 @@ with_change change k (Some h) = record k { readers = slice_set k.readers h (opti
 -- how many handles a channel has made
 abbrev pub made_by : {V : Type 0} → Option (ChanShown V) → ℕ
 made_by None = 0
-made_by (Some (broadcast_shown x)) = length x.slots
-made_by (Some (watch_shown y)) = length y.slots
+made_by (Some x) = handles_made x
 
 module _ {V : Type 0} where
   -- at their opening all channels are open

@@ -6,7 +6,6 @@ pub mod WatchTallies
 pub mod Tallies
 pub mod Closings
 pub mod LateReaders
-pub mod Subjects
 pub mod Following
 pub mod Lives
 pub mod Peaks

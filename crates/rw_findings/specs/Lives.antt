@@ -6,7 +6,7 @@ use Rattle.rw_handles.specs.declared.kinds.Kind.{Kind}
 use Rattle.rw_handles.specs.Slots.{kind_at}
 use Rattle.rw_journal.specs.Run.{Run}
 use Rattle.rw_navigator.specs.Places.{entry_to, last_place, shown_at}
-use Rattle.rw_findings.specs.Subjects.{handle_in}
+use Rattle.rw_world.specs.Channel.{handle_of}
 use Rattle.rw_world.specs.Kinds.{broadcast_shown, watch_shown}
 use Rattle.rw_world.specs.Machines.{ChanShown}
 use Rattle.rw_world.specs.Specified.{WorldEntry}
@@ -38,7 +38,7 @@ module _ {V : Type 0} where
 
   -- the entry is this actor's call with this handle of the channel
   abbrev pub is_call_with : (channel handle actor : ℕ) → WorldEntry V → Bool
-  is_call_with channel handle actor e = nat_eq e.call.channel channel && nat_eq (handle_in e.call.call) handle && nat_eq e.actor actor
+  is_call_with channel handle actor e = nat_eq e.call.channel channel && nat_eq (handle_of e.call.call) handle && nat_eq e.actor actor
 
   -- the entry after a place is such a call, and the handle was made before
   abbrev pub calls_after : Run V → (channel handle actor place : ℕ) → Bool

@@ -3,7 +3,7 @@ use Rattle.std.specs.Prelude.{◌≡◌, ℕ, ◌+◌, ◌*◌, ◌<◌, ◌≤�
 use Rattle.rw_journal.specs.Run.{Run}
 use Rattle.rw_navigator.specs.Conditions.{has, lag_at, seen_at, unread_at}
 use Rattle.rw_navigator.specs.Places.{last_place, shown_at}
-use Rattle.rw_findings.specs.Subjects.{handle_in}
+use Rattle.rw_world.specs.Channel.{handle_of}
 use Rattle.rw_findings.specs.declared.peaks.measure.Measure.{Measure}
 use Rattle.rw_findings.specs.declared.peaks.measure.Measure.TheVariants.{Lag, Unread, Unseen}
 use Rattle.rw_findings.specs.declared.peaks.measure.Stretches.{Stretches}
@@ -59,7 +59,7 @@ alone receiver level other = if nat_eq other receiver then level else 0
 
 -- what is measured of the receiver that a call names, if it is on this channel
 abbrev pub named_level : {V : Type 0} → Measure → (channel : ℕ) → ChanShown V → RowCall (ChanCall V) → ℕ → ℕ
-named_level measure channel x call receiver = if nat_eq call.channel channel && nat_eq receiver (handle_in call.call) then measured_of measure x receiver else 0
+named_level measure channel x call receiver = if nat_eq call.channel channel && nat_eq receiver (handle_of call.call) then measured_of measure x receiver else 0
 
 -- from a place up to another, this is the greatest so far but for the last of these places
 pub record IsSoFar (at : ℕ → ℕ) (from place greatest : ℕ) : Type 0 where

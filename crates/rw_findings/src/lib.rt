@@ -17,7 +17,6 @@ mod handles;
 mod lives;
 mod losses;
 mod peaks;
-mod subjects;
 mod totals;
 mod values;
 

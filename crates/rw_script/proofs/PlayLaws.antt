@@ -11,8 +11,9 @@ use Rattle.rw_law.specs.Journal.{after_all}
 use Rattle.rw_world.specs.declared.opening.Spec.{Spec}
 use Rattle.rw_world.specs.declared.channels.ChanCall.TheVariants as call
 use Rattle.rw_world.specs.declared.rows.RowCall.{RowCall}
-use Rattle.rw_world.specs.Channel.{strays_at}
-use Rattle.rw_world.specs.Kinds.{ChannelKind, broadcast, watch}
+use Rattle.rw_world.specs.declared.kinds.ChannelKind.{ChannelKind}
+use Rattle.rw_world.specs.declared.kinds.ChannelKind.TheVariants.{Broadcast, Watch}
+use Rattle.rw_world.specs.Channel.{strays_at, with_handle}
 use Rattle.rw_world.specs.declared.channels.ChanCall.{ChanCall}
 use Rattle.rw_world.specs.declared.channels.ChanReply.{ChanReply}
 use Rattle.rw_world.specs.Machines.{ChanShown, of_chan, of_world}
@@ -23,16 +24,16 @@ use Rattle.rw_journal.specs.Book.{Book, last_stamp_from, last_stamp, opening_of,
 use Rattle.rw_journal.specs.Interleaving.{CountsFrom, interleaving_of}
 use Rattle.rw_script.specs.declared.steps.ScriptStep.{ScriptStep}
 use Rattle.rw_script.specs.WellFormed.{IsScriptStep}
-use Rattle.rw_script.specs.Running.{Ran, IsMade, PlaysFrom, call_of, with_made_handle, made_after, made_by, onto, run_from, run_of, with_handle}
+use Rattle.rw_script.specs.Running.{Ran, IsMade, PlaysFrom, call_of, with_made_handle, made_after, made_by, onto, run_from, run_of}
 use Rattle.rw_script.specs.Script.{Script}
 
 -- ---- a call with another handle is of the same kind
 
 strays_with : (k : ChannelKind) (c : ChanCall ℕ) (h : ℕ) → strays_at k (with_handle c h) ≡ strays_at k c
-strays_with broadcast (call.B c) h = refl
-strays_with broadcast (call.W c) h = refl
-strays_with watch (call.B c) h = refl
-strays_with watch (call.W c) h = refl
+strays_with Broadcast (call.B c) h = refl
+strays_with Broadcast (call.W c) h = refl
+strays_with Watch (call.B c) h = refl
+strays_with Watch (call.W c) h = refl
 
 strays_filled : (k : ChannelKind) (c : ChanCall ℕ) (name : Option ℕ) (made : List ℕ) → strays_at k (with_made_handle c name made) ≡ strays_at k c
 strays_filled k c None made = refl

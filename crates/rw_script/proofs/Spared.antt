@@ -16,8 +16,12 @@ use Rattle.rw_script.specs.declared.faults.ScriptFault.{ScriptFault}
 use Rattle.rw_script.specs.declared.head.HeadLine.{HeadLine}
 use Rattle.rw_script.specs.declared.head.HeadLine.TheVariants.{Broadcast, Watch, Actors}
 use Rattle.rw_script.specs.Fields.{fields_in, named_in}
-use Rattle.rw_script.specs.Script.{ScriptReader, actors_of, after_line, at_line, head_of_line, is_broadcast, spec_for, with_head, with_line, with_said, with_spec, with_step, with_words}
-use Rattle.rw_script.specs.StepLines.{Bound, Said, in_script, is_bound_again, makes, number_of, said_by, said_in, target_in, with_bound}
+use Rattle.rw_world.specs.declared.kinds.ChannelKind.{ChannelKind}
+use Rattle.rw_world.specs.Channel.{makes}
+use Rattle.rw_world.specs.Kinds.{is_broadcast}
+use Rattle.rw_world.specs.Openings.{spec_kind}
+use Rattle.rw_script.specs.Script.{ScriptReader, actors_of, after_line, at_line, head_of_line, spec_for, with_head, with_line, with_said, with_spec, with_step, with_words}
+use Rattle.rw_script.specs.StepLines.{Bound, Said, in_script, is_bound_again, number_of, said_by, said_in, target_in, with_bound}
 
 abbrev Spared : {A : Type 0} → Result A ScriptFaultKind → Type 0
 Spared r = Spares kind.NoMemory r
@@ -36,10 +40,10 @@ in_script_spared (Err WrongWord) = λ e. cc
 in_script_spared (Err BadArguments) = λ e. cc
 in_script_spared (Err HandleTooLarge) = λ e. cc
 
-said_spared : (broadcast : Bool) (text : List ℕ) → Spared (said_in broadcast text)
+said_spared : (k : ChannelKind) (text : List ℕ) → Spared (said_in k text)
 unfolding said_in
-said_spared broadcast text =
-    bind_spares kind.NoMemory (in_script (call_in numbers broadcast (named_in text).text)) (said_by (named_in text).target (named_in text).bound) (in_script_spared (call_in numbers broadcast (named_in text).text))
+said_spared k text =
+    bind_spares kind.NoMemory (in_script (call_in numbers (is_broadcast k) (named_in text).text)) (said_by (named_in text).target (named_in text).bound) (in_script_spared (call_in numbers (is_broadcast k) (named_in text).text))
     (λ c. cond_spares kind.NoMemory (is_some (named_in text).bound && not (makes c)) (Err kind.BadArguments) (Ok (record { call = c; target = (named_in text).target; bound = (named_in text).bound })) (λ e. cc) tt)
 
 target_spared : (names : List Bound) (actor channel : ℕ) (target : Option (List ℕ)) → Spared (target_in names actor channel target)
@@ -64,9 +68,9 @@ spec_for_spared r actor channel =
 step_spared : (r : ScriptReader) (line : List ℕ) → Spared (with_step r line)
 unfolding with_step
 step_spared r line =
-    bind_spares kind.NoMemory (or_fault kind.Syntax (fields_in line)) (λ f. spec_for r f.0 f.1 >>= λ s. said_in (is_broadcast s) f.2 >>= λ said. target_in r.names f.0 f.1 said.target >>= with_said r f.0 f.1 said) (or_fault_spares kind.NoMemory kind.Syntax (fields_in line) (λ e. cc))
-    (λ f. bind_spares kind.NoMemory (spec_for r f.0 f.1) (λ s. said_in (is_broadcast s) f.2 >>= λ said. target_in r.names f.0 f.1 said.target >>= with_said r f.0 f.1 said) (spec_for_spared r f.0 f.1)
-    (λ s. bind_spares kind.NoMemory (said_in (is_broadcast s) f.2) (λ said. target_in r.names f.0 f.1 said.target >>= with_said r f.0 f.1 said) (said_spared (is_broadcast s) f.2)
+    bind_spares kind.NoMemory (or_fault kind.Syntax (fields_in line)) (λ f. spec_for r f.0 f.1 >>= λ s. said_in (spec_kind s) f.2 >>= λ said. target_in r.names f.0 f.1 said.target >>= with_said r f.0 f.1 said) (or_fault_spares kind.NoMemory kind.Syntax (fields_in line) (λ e. cc))
+    (λ f. bind_spares kind.NoMemory (spec_for r f.0 f.1) (λ s. said_in (spec_kind s) f.2 >>= λ said. target_in r.names f.0 f.1 said.target >>= with_said r f.0 f.1 said) (spec_for_spared r f.0 f.1)
+    (λ s. bind_spares kind.NoMemory (said_in (spec_kind s) f.2) (λ said. target_in r.names f.0 f.1 said.target >>= with_said r f.0 f.1 said) (said_spared (spec_kind s) f.2)
     (λ said. bind_spares kind.NoMemory (target_in r.names f.0 f.1 said.target) (with_said r f.0 f.1 said) (target_spared r.names f.0 f.1 said.target) (λ target. with_said_spared r f.0 f.1 said target))))
 
 words_spared : (r : ScriptReader) (head : Option HeadLine) (line : List ℕ) → Spared (with_words r head line)

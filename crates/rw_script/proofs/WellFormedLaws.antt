@@ -9,7 +9,7 @@ use Rattle.rw_world.specs.declared.channels.ChanCall.{ChanCall}
 use Rattle.rw_world.specs.declared.opening.Spec.{Spec}
 use Rattle.rw_world.specs.declared.opening.OpenFault.TheVariants.{NoChannels, TooManyChannels, BadCapacity}
 use Rattle.rw_world.specs.Channel.{strays_at}
-use Rattle.rw_world.specs.Kinds.{ChannelKind}
+use Rattle.rw_world.specs.declared.kinds.ChannelKind.{ChannelKind}
 use Rattle.rw_world.specs.Openings.{has_bad_capacity, refusal, spec_kind}
 use Rattle.rw_script.specs.Script.{ScriptReader, actors_of}
 use Rattle.rw_script.specs.WellFormed.{IsReading, IsScript, IsScriptStep}

@@ -1,22 +1,15 @@
 -- The run of a script: its calls in the order of its lines, up to the first that would wait.
 use Rattle.std.specs.Prelude.{◌≡◌, ℕ, Bool, true, false, List, [], ◌∷◌, ◌++◌, get_or, map, fold, Option, None, Some, if◌then◌else◌}
+use Rattle.std.specs.Option.{unwrap_or}
 use Rattle.rw_law.specs.declared.journal.Entry.{Entry}
 use Rattle.rw_law.specs.declared.machine.Reversible.{Ghosts}
 use Rattle.rw_law.specs.Journal.{after_all}
 use Rattle.rw_journal.specs.Book.{Book, IsTaken, reply_to}
-use Rattle.rw_broadcast.specs.declared.calls.BReply.{BReply}
-use Rattle.rw_broadcast.specs.declared.calls.BReply.TheVariants as b
-use Rattle.rw_broadcast.specs.Channel as broadcast
-use Rattle.rw_watch.specs.declared.calls.WReply.{WReply}
-use Rattle.rw_watch.specs.declared.calls.WReply.TheVariants as w
-use Rattle.rw_watch.specs.Channel as watch
-use Rattle.rw_world.specs.declared.channels.ChanCall.TheVariants as call
-use Rattle.rw_world.specs.declared.channels.ChanReply.TheVariants as reply
 use Rattle.rw_world.specs.declared.rows.RowCall.{RowCall}
 use Rattle.rw_world.specs.declared.channels.ChanCall.{ChanCall}
 use Rattle.rw_world.specs.declared.channels.ChanReply.{ChanReply}
 use Rattle.rw_world.specs.declared.opening.Spec.{Spec}
-use Rattle.rw_world.specs.Channel.{strays_at}
+use Rattle.rw_world.specs.Channel.{new_handle, strays_at, with_handle}
 use Rattle.rw_world.specs.Machines.{of_chan}
 use Rattle.rw_world.specs.Openings.{spec_kind}
 use Rattle.rw_world.specs.Records.{ChannelRecord, opened_records, next_records, records_after, reply_from}
@@ -35,11 +28,6 @@ pub record Ran : Type 0 where
 abbrev pub NEVER_MADE : ℕ
 NEVER_MADE = 4294967295
 
--- the same call, made with another handle
-abbrev pub with_handle : {V : Type 0} → ChanCall V → ℕ → ChanCall V
-with_handle (call.B c) h = call.B (broadcast.with_handle c h)
-with_handle (call.W c) h = call.W (watch.with_handle c h)
-
 -- the step's call, with the handle that its name stands for; made: the handles of the names so far
 abbrev pub with_made_handle : ChanCall ℕ → Option ℕ → List ℕ → ChanCall ℕ
 with_made_handle c None made = c
@@ -50,18 +38,8 @@ abbrev pub call_of : ScriptStep → List ℕ → ℕ × RowCall (ChanCall ℕ)
 call_of step made = (step.actor, record { channel = step.channel; call = with_made_handle step.call step.target made })
 
 -- the handle that a call made, by its reply
-abbrev pub made_on_broadcast : {V : Type 0} → BReply V → ℕ
-made_on_broadcast (b.New h) = h
-made_on_broadcast _ = NEVER_MADE
-
-abbrev pub made_on_watch : {V : Type 0} → WReply V → ℕ
-made_on_watch (w.New h) = h
-made_on_watch _ = NEVER_MADE
-
 abbrev pub made_by : {V : Type 0} → ChanReply V → ℕ
-made_by (reply.B r) = made_on_broadcast r
-made_by (reply.W r) = made_on_watch r
-made_by reply.NoChannel = NEVER_MADE
+made_by r = unwrap_or (new_handle r) NEVER_MADE
 
 -- a step that binds a name makes it stand for the handle that its call made
 abbrev pub made_after : Bool → ChanReply ℕ → List ℕ → List ℕ

@@ -11,6 +11,7 @@ use Rattle.rw_world.specs.declared.opening.Spec.TheVariants as spec
 use Rattle.rw_law.specs.declared.limits.TheConstants.{MOST_ACTORS}
 use Rattle.rw_ring.specs.declared.ring.TheConstants.{MOST_CAPACITY}
 use Rattle.rw_world.specs.declared.opening.TheConstants.{MOST_CHANNELS}
+use Rattle.rw_world.specs.Openings.{spec_kind}
 use Rattle.rw_script.specs.declared.reader.TheConstants.{MOST_STEPS}
 use Rattle.rw_script.specs.declared.faults.ScriptFaultKind.{ScriptFaultKind}
 use Rattle.rw_script.specs.declared.faults.ScriptFaultKind.TheVariants.{TooLong, Syntax, BadCapacity, TooManyChannels, BadActors, UnknownActor, UnknownChannel, NameTaken, TooManySteps, NoChannels}
@@ -79,10 +80,6 @@ with_head r (Actors n) = if nat_le 1 n && nat_le n MOST_ACTORS then Ok (record r
 
 -- ---- step lines
 
-abbrev pub is_broadcast : Spec ℕ → Bool
-is_broadcast (spec.Broadcast n) = true
-is_broadcast (spec.Watch v) = false
-
 -- what the channel is opened as, if the actor exists
 abbrev pub spec_for : ScriptReader → ℕ → ℕ → Result (Spec ℕ) ScriptFaultKind
 spec_for r actor channel = if nat_lt actor (actors_of r) then or_fault UnknownChannel (slice_get r.specs channel) else Err UnknownActor
@@ -101,7 +98,7 @@ unfoldable pub with_step : ScriptReader → List ℕ → Result ScriptReader Scr
 with_step r line = do
   f ← or_fault Syntax (fields_in line)
   s ← spec_for r f.0 f.1
-  said ← said_in (is_broadcast s) f.2
+  said ← said_in (spec_kind s) f.2
   target ← target_in r.names f.0 f.1 said.target
   with_said r f.0 f.1 said target
 

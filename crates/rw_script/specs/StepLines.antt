@@ -5,11 +5,9 @@ use Rattle.std.specs.Option.{option_map}
 use Rattle.std.specs.List.{list_any}
 use Rattle.std.specs.Str.{bytes_eq}
 use Rattle.rw_law.specs.Numbers.{numbers}
-use Rattle.rw_broadcast.specs.Channel as broadcast
-use Rattle.rw_watch.specs.Channel as watch
-use Rattle.rw_world.specs.declared.channels.ChanCall.TheVariants as call
-use Rattle.rw_world.specs.Kinds.{ChannelKind}
-use Rattle.rw_world.specs.Kinds as kinds
+use Rattle.rw_world.specs.declared.kinds.ChannelKind.{ChannelKind}
+use Rattle.rw_world.specs.Channel.{makes}
+use Rattle.rw_world.specs.Kinds.{is_broadcast}
 use Rattle.rw_world.specs.declared.channels.ChanCall.{ChanCall}
 use Rattle.rw_words.specs.declared.arguments.WordFault.{WordFault}
 use Rattle.rw_script.specs.declared.faults.ScriptFaultKind.{ScriptFaultKind}
@@ -31,11 +29,6 @@ pub record Said : Type 0 where
   -- the name that the line binds
   pub bound : Option (List ℕ)
 
--- whether the call makes a handle if it isn't refused
-abbrev pub makes : {V : Type 0} → ChanCall V → Bool
-makes (call.B c) = broadcast.makes c
-makes (call.W c) = watch.makes c
-
 -- such a call, from the type that the program has for it
 abbrev pub said_of : SaidCall → Said
 said_of s = record { call = s.call; target = option_map (λ n. n.now) s.target; bound = option_map (λ n. n.now) s.bound }
@@ -48,14 +41,9 @@ in_script (Err fault) = Err (kind_of_words fault)
 abbrev pub said_by : Option (List ℕ) → Option (List ℕ) → ChanCall ℕ → Result Said ScriptFaultKind
 said_by target bound c = if is_some bound && not (makes c) then Err BadArguments else Ok (record { call = c; target = target; bound = bound })
 
--- the call of a text, in the words of a broadcast or else of a watch
-unfoldable pub said_in : Bool → List ℕ → Result Said ScriptFaultKind
-said_in broadcast text = in_script (call_in numbers broadcast (named_in text).text) >>= said_by (named_in text).target (named_in text).bound
-
--- the kind of channel that is a broadcast or else a watch
-abbrev pub kind_if : Bool → ChannelKind
-kind_if true = kinds.broadcast
-kind_if false = kinds.watch
+-- the call of a text, in the words of this kind of channel
+unfoldable pub said_in : ChannelKind → List ℕ → Result Said ScriptFaultKind
+said_in kind text = in_script (call_in numbers (is_broadcast kind) (named_in text).text) >>= said_by (named_in text).target (named_in text).bound
 
 -- ---- names
 

@@ -7,8 +7,8 @@ ghost use Rattle.rw_script.specs.Memory.{Reads, ReadsLine};
 ghost use Rattle.rw_world.specs.Openings.{has_bad_capacity, spec_kind};
 ghost use Rattle.rw_lines.specs.declared.lines.TheConstants.{LONGEST_LINE};
 ghost use Rattle.rw_script.specs.WellFormed.{IsScriptStep};
-ghost use Rattle.rw_script.specs.Script.{actors_of, after_line, script_at_end, is_broadcast, is_in_head, is_mark, opening, spec_for, with_head, with_line, with_said, with_spec, with_step};
-ghost use Rattle.rw_script.specs.StepLines.{kind_if, said_of, target_in};
+ghost use Rattle.rw_script.specs.Script.{actors_of, after_line, script_at_end, is_in_head, is_mark, opening, spec_for, with_head, with_line, with_said, with_spec, with_step};
+ghost use Rattle.rw_script.specs.StepLines.{said_of, target_in};
 ghost use Rattle.rw_words.specs.Words.{map_ok};
 
 use crate::faults::{ScriptFault, ScriptFaultKind};
@@ -20,7 +20,7 @@ use crate::script::Script;
 use crate::steps::ScriptStep;
 use rw_law::MOST_ACTORS;
 use rw_lines::{LONGEST_LINE, is_skipped};
-use rw_world::{MOST_CAPACITY, MOST_CHANNELS, Spec};
+use rw_world::{ChannelKind, MOST_CAPACITY, MOST_CHANNELS, Spec};
 use std::alloc::Global;
 use std::marker::Model;
 
@@ -201,25 +201,24 @@ impl ScriptReader {
         let Some((actor, channel, text)) = fields_of(line) else {
             return Err(ScriptFaultKind::Syntax);
         };
-        let broadcast = self.kind_for(actor, channel)?;
-        let said = read_said(broadcast, text)?;
+        let kind = self.kind_for(actor, channel)?;
+        let said = read_said(kind, text)?;
         let target = self.target_of(actor as u32, channel as u32, said.target)?;
         self.add_step(actor as u32, channel as u32, &said, target)
     }
 
-    /// Returns whether the channel that an actor calls is a broadcast. Refuses an actor or a channel that the script lacks.
-    fn kind_for(&self, actor: u64, channel: u64) -> Result<bool, ScriptFaultKind>
-        ensures kind { result ≡ map_ok is_broadcast (spec_for self.now actor channel) }
+    /// Returns the kind of the channel that an actor calls. Refuses an actor or a channel that the script lacks.
+    fn kind_for(&self, actor: u64, channel: u64) -> Result<ChannelKind, ScriptFaultKind>
+        ensures kind { result ≡ map_ok spec_kind (spec_for self.now actor channel) }
         ensures actor { OnOk result (actor < actors_of self.now) }
-        ensures channel { IfOk result (λ b. slice_get (map spec_kind self.now.specs) channel ≡ Some (kind_if b)) }
+        ensures channel { IfOk result (λ kind. slice_get (map spec_kind self.now.specs) channel ≡ Some kind) }
         ensures small { OnOk result ((actor < MOST_ACTORS) × (channel < MOST_CHANNELS)) }
     {
         if actor >= u64::from(self.actors.unwrap_or(1)) {
             return Err(ScriptFaultKind::UnknownActor);
         }
         match self.specs.get(channel as usize) {
-            Some(Spec::Broadcast(_)) => Ok(true),
-            Some(Spec::Watch(_)) => Ok(false),
+            Some(spec) => Ok(spec.kind()),
             None => Err(ScriptFaultKind::UnknownChannel),
         }
     }

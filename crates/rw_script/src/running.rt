@@ -7,15 +7,13 @@ ghost use Rattle.rw_journal.specs.Book.{last_stamp, opening_of, reply_to};
 ghost use Rattle.rw_journal.specs.Interleaving.{CountsFrom, interleaving_of, journal_of};
 ghost use Rattle.rw_world.specs.Machines.{of_world};
 ghost use Rattle.rw_world.specs.Openings.{opening_row, refusal};
-ghost use Rattle.rw_script.specs.Running.{IsMade, PlaysFrom, call_of, with_made_handle, made_by, run_of, with_handle};
+ghost use Rattle.rw_script.specs.Running.{IsMade, PlaysFrom, call_of, with_made_handle, made_by, run_of};
 
 use crate::script::Script;
 use crate::steps::ScriptStep;
-use rw_broadcast::BReply;
 use rw_journal::laws::journal_of_an_interleaving;
 use rw_journal::{Book, Run, TakeFault};
 use rw_law::{NoMemory, Reversible};
-use rw_watch::WReply;
 use rw_world::{ChanCall, ChanReply, OpenFault, RowCall, Spec, World, documented, open, specified};
 use std::alloc::Global;
 use thiserror::Error;
@@ -49,16 +47,6 @@ impl From<NoMemory> for RunFault {
     }
 }
 
-/// Returns the same call, made with another handle.
-fn with_handle(call: ChanCall<u64>, handle: u32) -> ChanCall<u64>
-    ensures { result ≡ with_handle call handle }
-{
-    match call {
-        ChanCall::B(call) => ChanCall::B(call.with_handle(handle)),
-        ChanCall::W(call) => ChanCall::W(call.with_handle(handle)),
-    }
-}
-
 /// Returns the step's call, with the handle that its name stands for.
 pub(crate) fn filled(step: &ScriptStep, made: &[u32]) -> ChanCall<u64>
     ensures { result ≡ with_made_handle step.now.call step.now.target made.now }
@@ -66,21 +54,17 @@ pub(crate) fn filled(step: &ScriptStep, made: &[u32]) -> ChanCall<u64>
     match step.target {
         None => step.call,
         Some(name) => match made.get(name as usize) {
-            Some(handle) => with_handle(step.call, *handle),
-            None => with_handle(step.call, NEVER_MADE),
+            Some(handle) => step.call.with_handle(*handle),
+            None => step.call.with_handle(NEVER_MADE),
         },
     }
 }
 
-/// Returns the handle that a call made, by its reply.
+/// Returns the handle that a call made, by its reply, or `NEVER_MADE`.
 pub(crate) fn made_by(reply: &ChanReply<u64>) -> u32
     ensures { result ≡ made_by reply.now }
 {
-    match reply {
-        ChanReply::B(BReply::New(handle)) => *handle,
-        ChanReply::W(WReply::New(handle)) => *handle,
-        _ => NEVER_MADE,
-    }
+    reply.new_handle().unwrap_or(NEVER_MADE)
 }
 
 /// Makes the call of a step, and returns the handle that it made, or `NEVER_MADE`. A call that would wait isn't made: the

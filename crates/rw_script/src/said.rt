@@ -2,18 +2,19 @@
 
 ghost use Rattle.std.specs.Prelude.{◌≡◌, ◌≤◌, ◌+◌, ◌++◌, ◌∷◌, length, option_map, take, false, IfOk};
 ghost use Rattle.rw_world.specs.Channel.{strays_at};
+ghost use Rattle.rw_world.specs.Kinds.{is_broadcast};
 ghost use Rattle.rw_lines.specs.declared.lines.TheConstants.{LONGEST_LINE};
 ghost use Rattle.rw_words.specs.Arguments.{rest_text};
 ghost use Rattle.rw_script.specs.Fields.{bound_in, handle_text, name_in, named_call};
 ghost use Rattle.rw_law.specs.Numbers.{numbers};
-ghost use Rattle.rw_script.specs.StepLines.{kind_if, makes, said_by, said_in, said_of};
+ghost use Rattle.rw_script.specs.StepLines.{said_by, said_in, said_of};
 ghost use Rattle.rw_words.specs.Texts.{call_in};
 ghost use Rattle.rw_words.specs.Words.{map_ok};
 
 use crate::faults::ScriptFaultKind;
 use rw_lines::{cut, is_name, put_bytes};
 use rw_words::{WordFault, first_word, read_call};
-use rw_world::ChanCall;
+use rw_world::{ChanCall, ChannelKind};
 
 /// A call that may name its handle, and may bind a name.
 #[derive(Clone, Copy)]
@@ -24,16 +25,6 @@ pub(crate) struct SaidCall<'a> {
     pub(crate) target: Option<&'a [u8]>,
     /// The name that the line binds.
     pub(crate) bound: Option<&'a [u8]>,
-}
-
-/// Whether a call makes a handle if it isn't refused.
-fn makes(call: &ChanCall<u64>) -> bool
-    ensures { result ≡ makes call.now }
-{
-    match call {
-        ChanCall::B(call) => call.makes(),
-        ChanCall::W(call) => call.makes(),
-    }
 }
 
 /// Returns the token if it is a name.
@@ -80,7 +71,7 @@ fn put_rest(out: &mut [u8; 256], at: usize, more: Option<&[u8]>) -> usize
 
 /// Parses the call of a text that is given in parts, without its names.
 fn call_of_parts(
-    broadcast: bool,
+    kind: ChannelKind,
     text: &[u8],
     word: &[u8],
     handle: &[u8],
@@ -88,19 +79,19 @@ fn call_of_parts(
 ) -> Result<ChanCall<u64>, WordFault>
     requires short { length text.now ≤ LONGEST_LINE }
     requires whole { text.now ≡ word.now ++ 32 ∷ (handle.now ++ rest_text (option_map (λ m. m.now) more)) }
-    ensures kind { IfOk result (λ call. strays_at (kind_if broadcast) call ≡ false) }
-    ensures call { result ≡ call_in numbers broadcast (named_call word.now handle.now (option_map (λ m. m.now) more.entry)).text }
+    ensures kind { IfOk result (λ call. strays_at kind call ≡ false) }
+    ensures call { result ≡ call_in numbers (is_broadcast kind) (named_call word.now handle.now (option_map (λ m. m.now) more.entry)).text }
 {
     let binds = bound_of(more).is_some();
     if !binds && !is_name(handle) {
-        return read_call(broadcast, text);
+        return read_call(kind.is_broadcast(), text);
     }
     let mut out = [0u8; 256];
     let at = put_bytes(&mut out, 0, word);
     let at = put_bytes(&mut out, at, b" ");
     let at = put_bytes(&mut out, at, handle_text(handle));
     let at = put_rest(&mut out, at, if binds { None } else { more });
-    read_call(broadcast, &out[..at])
+    read_call(kind.is_broadcast(), &out[..at])
 }
 
 /// Returns a call with its names. Only a call that makes a handle may bind one.
@@ -112,7 +103,7 @@ fn said_by<'a>(
     ensures call { IfOk result (λ said. said.call ≡ call) }
     ensures said { map_ok said_of result ≡ said_by (option_map (λ n. n.now) target.entry) (option_map (λ n. n.now) bound.entry) call }
 {
-    if bound.is_some() && !makes(&call) {
+    if bound.is_some() && !call.makes() {
         return Err(ScriptFaultKind::BadArguments);
     }
     Ok(SaidCall {
@@ -122,17 +113,17 @@ fn said_by<'a>(
     })
 }
 
-/// Parses the text of a call, in the words of a broadcast or else of a watch.
+/// Parses the text of a call, in the words of this kind of channel.
 #[tactic(auto, unfolding(crate::specs::StepLines::said_in, crate::specs::Fields::named_in))]
-pub(crate) fn read_said(broadcast: bool, text: &[u8]) -> Result<SaidCall<'_>, ScriptFaultKind>
+pub(crate) fn read_said(kind: ChannelKind, text: &[u8]) -> Result<SaidCall<'_>, ScriptFaultKind>
     requires { length text.now ≤ LONGEST_LINE }
-    ensures said { map_ok said_of result ≡ said_in broadcast text.now }
-    ensures kind { IfOk result (λ said. strays_at (kind_if broadcast) said.call ≡ false) }
+    ensures said { map_ok said_of result ≡ said_in kind text.now }
+    ensures kind { IfOk result (λ said. strays_at kind said.call ≡ false) }
 {
     let Some((word, rest)) = cut(text, b' ') else {
-        return said_by(None, None, read_call(broadcast, text)?);
+        return said_by(None, None, read_call(kind.is_broadcast(), text)?);
     };
     let (handle, more) = first_word(rest);
-    let call = call_of_parts(broadcast, text, word, handle, more)?;
+    let call = call_of_parts(kind, text, word, handle, more)?;
     said_by(name_of(handle), bound_of(more), call)
 }

@@ -14,7 +14,7 @@ use crate::answered::Answered;
 use crate::calling::{call_by_seat, length_by_seat};
 use crate::desk_seat::DeskSeat;
 use crate::hand_off::HandOff;
-use rw_desk::{DeskFault, strays};
+use rw_desk::DeskFault;
 use rw_journal::Book;
 use rw_law::Payload;
 use rw_world::{Chan, ChanCall, Spec};
@@ -102,7 +102,7 @@ impl<V: Payload> SeatDesk<V> {
         ensures spec { IfSome result (λ h. (spec : Specs V) × (slice_get self.now.specs channel ≡ Some spec) × (opening_at h.now.home ≡ Some (opened_channel spec)) × (strays_at (spec_kind spec) call.now ≡ false)) }
     {
         let at = channel as usize;
-        if strays(self.specs.get(at)?, call) {
+        if self.specs.get(at)?.is_of_other_kind(call) {
             return None;
         }
         self.hand_off_at(at)

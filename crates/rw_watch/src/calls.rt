@@ -1,7 +1,7 @@
 //! The calls of a watch channel, their replies, and the patches of their steps.
 ghost use Rattle.std.specs.Prelude.{◌≡◌};
 ghost use Rattle.rw_watch.specs.Channel.{handle_of, makes, fault_reply, wanted_kind, with_handle};
-ghost use Rattle.rw_watch.specs.Shown.{patch_of_drop, patch_of_mark};
+ghost use Rattle.rw_watch.specs.Shown.{patch_of_drop, patch_of_mark, refuses};
 
 use rw_handles::{HandleFault, Kind};
 
@@ -101,7 +101,7 @@ pub enum WPatch<V> {
 
 impl<V: Copy> WCall<V> {
     /// Returns the number of the handle that the call is made with.
-    pub(crate) fn handle(&self) -> u32
+    pub fn handle(&self) -> u32
         ensures { result ≡ handle_of self.now }
     {
         match self {
@@ -187,6 +187,22 @@ impl<V: Copy> WCall<V> {
 }
 
 impl<V: Copy> WReply<V> {
+    /// Whether the reply refuses: the call has changed nothing.
+    pub fn refuses(&self) -> bool
+        ensures { result ≡ refuses self.now }
+    {
+        matches!(
+            self,
+            WReply::NoReceivers(_)
+                | WReply::Closed
+                | WReply::Waits
+                | WReply::Unknown
+                | WReply::Gone
+                | WReply::WrongKind
+                | WReply::TooManyHandles
+        )
+    }
+
     /// Returns the reply for a handle that can't be used.
     pub(crate) fn refused(fault: HandleFault) -> WReply<V>
         ensures { result ≡ fault_reply fault }

@@ -1,7 +1,9 @@
 -- The steps of a channel of either kind: a call of its own kind is made on its machine, one of the other kind strays.
-use Rattle.std.specs.Prelude.{ℕ, Bool, true, false}
+use Rattle.std.specs.Prelude.{ℕ, Bool, true, false, Option, None, Some}
 use Rattle.rw_law.specs.declared.machine.Reversible.{Ghosts}
-use Rattle.rw_world.specs.Kinds.{ChannelKind, broadcast, watch, Shown, broadcast_shown, watch_shown}
+use Rattle.rw_world.specs.declared.kinds.ChannelKind.{ChannelKind}
+use Rattle.rw_world.specs.declared.kinds.ChannelKind.TheVariants as kind
+use Rattle.rw_world.specs.Kinds.{Shown, broadcast_shown, watch_shown}
 use Rattle.rw_world.specs.declared.channels.Chan.{Chan}
 use Rattle.rw_world.specs.declared.channels.Chan.TheVariants as machine
 use Rattle.rw_world.specs.declared.channels.ChanCall.{ChanCall}
@@ -14,10 +16,14 @@ use Rattle.rw_world.specs.Row.{Missing}
 use Rattle.rw_broadcast.specs.declared.calls.BCall.{BCall}
 use Rattle.rw_broadcast.specs.declared.calls.BReply.{BReply}
 use Rattle.rw_broadcast.specs.declared.calls.BPatch.{BPatch}
+use Rattle.rw_broadcast.specs.declared.calls.BReply.TheVariants as breply
+use Rattle.rw_broadcast.specs.Channel as broadcast
 use Rattle.rw_broadcast.specs.Machine.{Machine as BroadcastMachine}
 use Rattle.rw_watch.specs.declared.calls.WCall.{WCall}
 use Rattle.rw_watch.specs.declared.calls.WReply.{WReply}
 use Rattle.rw_watch.specs.declared.calls.WPatch.{WPatch}
+use Rattle.rw_watch.specs.declared.calls.WReply.TheVariants as wreply
+use Rattle.rw_watch.specs.Channel as watch
 use Rattle.rw_watch.specs.Machine.{Machine as WatchMachine}
 
 -- the machine of a broadcast, and that of a watch
@@ -33,10 +39,39 @@ no_channel = record { reply = reply.NoChannel; patch = patch.NoChannel }
 
 -- whether a call is of the other kind
 abbrev pub strays_at : {V : Type 0} → ChannelKind → ChanCall V → Bool
-strays_at broadcast (call.B c) = false
-strays_at broadcast (call.W d) = true
-strays_at watch (call.B c) = true
-strays_at watch (call.W d) = false
+strays_at kind.Broadcast (call.B c) = false
+strays_at kind.Broadcast (call.W d) = true
+strays_at kind.Watch (call.B c) = true
+strays_at kind.Watch (call.W d) = false
+
+-- the number of the handle that a call is made with
+abbrev pub handle_of : {V : Type 0} → ChanCall V → ℕ
+handle_of (call.B c) = broadcast.handle_of c
+handle_of (call.W d) = watch.handle_of d
+
+-- the same call, made with another handle
+abbrev pub with_handle : {V : Type 0} → ChanCall V → ℕ → ChanCall V
+with_handle (call.B c) h = call.B (broadcast.with_handle c h)
+with_handle (call.W d) h = call.W (watch.with_handle d h)
+
+-- whether a call makes a handle, unless it is refused
+abbrev pub makes : {V : Type 0} → ChanCall V → Bool
+makes (call.B c) = broadcast.makes c
+makes (call.W d) = watch.makes d
+
+-- the handle that a call made, by its reply
+abbrev pub new_on_broadcast : {V : Type 0} → BReply V → Option ℕ
+new_on_broadcast (breply.New h) = Some h
+new_on_broadcast _ = None
+
+abbrev pub new_on_watch : {V : Type 0} → WReply V → Option ℕ
+new_on_watch (wreply.New h) = Some h
+new_on_watch _ = None
+
+abbrev pub new_handle : {V : Type 0} → ChanReply V → Option ℕ
+new_handle (reply.B r) = new_on_broadcast r
+new_handle (reply.W s) = new_on_watch s
+new_handle reply.NoChannel = None
 
 module _ {V : Type 0} (b : OfBroadcast V) (w : OfWatch V) where
   abbrev pub shown : Chan V → Shown b.View w.View

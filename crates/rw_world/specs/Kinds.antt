@@ -1,8 +1,7 @@
 -- The kinds of channels, and what a channel of either kind shows.
-
-pub data ChannelKind : Type 0 where
-  broadcast : ChannelKind
-  watch : ChannelKind
+use Rattle.std.specs.Prelude.{Bool, true, false}
+use Rattle.rw_world.specs.declared.kinds.ChannelKind.{ChannelKind}
+use Rattle.rw_world.specs.declared.kinds.ChannelKind.TheVariants.{Broadcast, Watch}
 
 -- what a broadcast shows, or what a watch shows
 pub data Shown (V W : Type 0) : Type 0 where
@@ -10,5 +9,9 @@ pub data Shown (V W : Type 0) : Type 0 where
   watch_shown : W → Shown V W
 
 abbrev pub channel_kind : {V W : Type 0} → Shown V W → ChannelKind
-channel_kind (broadcast_shown x) = broadcast
-channel_kind (watch_shown y) = watch
+channel_kind (broadcast_shown x) = Broadcast
+channel_kind (watch_shown y) = Watch
+
+abbrev pub is_broadcast : ChannelKind → Bool
+is_broadcast Broadcast = true
+is_broadcast Watch = false

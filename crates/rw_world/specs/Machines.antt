@@ -10,7 +10,7 @@ use Rattle.rw_watch.specs.declared.calls.WReply.{WReply}
 use Rattle.rw_watch.specs.declared.calls.WPatch.{WPatch}
 use Rattle.rw_watch.specs.Machine.{Machine as WatchMachine}
 use Rattle.rw_watch.specs.Shown as w
-use Rattle.std.specs.Prelude.{List}
+use Rattle.std.specs.Prelude.{ℕ, List, length}
 use Rattle.rw_world.specs.declared.channels.Chan.{Chan}
 use Rattle.rw_world.specs.declared.channels.ChanCall.{ChanCall}
 use Rattle.rw_world.specs.declared.channels.ChanReply.{ChanReply}
@@ -18,11 +18,16 @@ use Rattle.rw_world.specs.declared.channels.ChanPatch.{ChanPatch}
 use Rattle.rw_world.specs.declared.rows.RowCall.{RowCall}
 use Rattle.rw_world.specs.Channel.{no_channel, of_channel}
 use Rattle.rw_world.specs.Row.{of_row}
-use Rattle.rw_world.specs.Kinds.{Shown}
+use Rattle.rw_world.specs.Kinds.{Shown, broadcast_shown, watch_shown}
 
 -- what a channel shows
 abbrev pub ChanShown : Type 0 → Type 0
 ChanShown V = Shown (b.Shown V) (w.Shown V)
+
+-- how many handles a channel has made
+abbrev pub handles_made : {V : Type 0} → ChanShown V → ℕ
+handles_made (broadcast_shown x) = length x.slots
+handles_made (watch_shown y) = length y.slots
 
 module _ {V : Type 0} where
   abbrev pub of_broadcast : Ghosts (BroadcastMachine V) (BCall V) (BReply V) (BPatch V)

@@ -11,7 +11,9 @@ use Rattle.rw_world.specs.declared.opening.Spec.{Spec}
 use Rattle.rw_world.specs.declared.opening.Spec.TheVariants.{Broadcast, Watch}
 use Rattle.rw_world.specs.declared.opening.OpenFault.{OpenFault}
 use Rattle.rw_world.specs.declared.opening.OpenFault.TheVariants.{NoChannels, TooManyChannels, BadCapacity}
-use Rattle.rw_world.specs.Kinds.{ChannelKind, broadcast, watch, broadcast_shown, watch_shown}
+use Rattle.rw_world.specs.declared.kinds.ChannelKind.{ChannelKind}
+use Rattle.rw_world.specs.declared.kinds.ChannelKind.TheVariants as kind
+use Rattle.rw_world.specs.Kinds.{broadcast_shown, watch_shown}
 use Rattle.rw_world.specs.Machines.{ChanShown}
 
 module _ {V : Type 0} where
@@ -26,8 +28,8 @@ module _ {V : Type 0} where
 
   -- the kind of channel that is opened
   abbrev pub spec_kind : Spec V → ChannelKind
-  spec_kind (Broadcast capacity) = broadcast
-  spec_kind (Watch init) = watch
+  spec_kind (Broadcast capacity) = kind.Broadcast
+  spec_kind (Watch init) = kind.Watch
 
   -- a capacity of 0, or above the greatest
   abbrev pub has_bad_capacity : Spec V → Bool

@@ -1,5 +1,9 @@
 //! Channels of either kind.
 
+ghost use Rattle.std.specs.Prelude.{◌≡◌};
+ghost use Rattle.rw_world.specs.Channel.{handle_of, makes, new_handle, with_handle};
+ghost use Rattle.rw_world.specs.Machines.{handles_made, of_chan};
+
 use crate::members::Member;
 use rw_broadcast::{BCall, BPatch, BReply, Broadcast};
 use rw_law::{NoMemory, Reversible};
@@ -35,6 +39,85 @@ pub enum ChanPatch<V> {
     B(BPatch<V>),
     W(WPatch<V>),
     NoChannel,
+}
+
+impl<V: Copy> ChanCall<V> {
+    /// Returns the number of the handle that the call is made with.
+    pub fn handle(&self) -> u32
+        ensures { result ≡ handle_of self.now }
+    {
+        match self {
+            ChanCall::B(call) => call.handle(),
+            ChanCall::W(call) => call.handle(),
+        }
+    }
+
+    /// Returns the same call, made with another handle.
+    pub fn with_handle(self, handle: u32) -> ChanCall<V>
+        ensures { result ≡ with_handle self handle }
+    {
+        match self {
+            ChanCall::B(call) => ChanCall::B(call.with_handle(handle)),
+            ChanCall::W(call) => ChanCall::W(call.with_handle(handle)),
+        }
+    }
+
+    /// Whether the call makes a handle, unless it is refused.
+    pub fn makes(&self) -> bool
+        ensures { result ≡ makes self.now }
+    {
+        match self {
+            ChanCall::B(call) => call.makes(),
+            ChanCall::W(call) => call.makes(),
+        }
+    }
+}
+
+impl<V: Copy> ChanReply<V> {
+    /// Returns the number of the handle that the call made, if it made one.
+    pub fn new_handle(&self) -> Option<u32>
+        ensures { result ≡ new_handle self.now }
+    {
+        match self {
+            ChanReply::B(BReply::New(handle)) => Some(*handle),
+            ChanReply::W(WReply::New(handle)) => Some(*handle),
+            _ => None,
+        }
+    }
+
+    /// Whether the reply refuses: the call has changed nothing.
+    pub fn refuses(&self) -> bool
+        ensures { result ≡ of_chan.refuses self.now }
+    {
+        match self {
+            ChanReply::B(reply) => reply.refuses(),
+            ChanReply::W(reply) => reply.refuses(),
+            ChanReply::NoChannel => true,
+        }
+    }
+}
+
+impl<V: Copy> Chan<V> {
+    /// Returns how many handles the channel has made.
+    pub fn made(&self) -> u32
+        ensures { result ≡ handles_made (of_chan.shown self.now) }
+    {
+        match self {
+            Chan::Broadcast(machine) => machine.made(),
+            Chan::Watch(machine) => machine.made(),
+        }
+    }
+
+    /// Whether a call is of the other kind. Such a call strays: its reply is `NoChannel`.
+    pub fn is_of_other_kind(&self, call: &ChanCall<V>) -> bool
+        ensures { result ≡ of_chan.is_straying (of_chan.reply_of (of_chan.shown self.now) call.now) }
+    {
+        match (self, call) {
+            (Chan::Broadcast(_), ChanCall::B(_)) => false,
+            (Chan::Watch(_), ChanCall::W(_)) => false,
+            _ => true,
+        }
+    }
 }
 
 impl<V: Copy> Reversible for Chan<V> {

@@ -1,12 +1,14 @@
 //! Opening worlds.
 
-ghost use Rattle.std.specs.Prelude.{◌≡◌, ◌≤◌, ◌<◌, false, length, map, position, All, IfOk, IfSome, IfNone, IsNone, MatchResult};
-ghost use Rattle.rw_world.specs.Openings.{has_bad_capacity, opening_row, opened_channel, refusal};
+ghost use Rattle.std.specs.Prelude.{◌≡◌, ◌≤◌, ◌<◌, ◌↔◌, false, length, map, position, All, IfOk, IfSome, IfNone, IsNone, IsTrue, MatchResult};
+ghost use Rattle.rw_world.specs.Channel.{strays_at};
+ghost use Rattle.rw_world.specs.Openings.{has_bad_capacity, opening_row, opened_channel, refusal, spec_kind};
 
-use crate::channels::Chan;
+use crate::channels::{Chan, ChanCall};
+use crate::kinds::ChannelKind;
 use crate::rows::Row;
 use rw_broadcast::{Broadcast, MOST_CAPACITY};
-use rw_law::{NoMemory, Reversible};
+use rw_law::{NoMemory, Payload, Reversible};
 use rw_watch::Watch;
 use std::alloc::Global;
 use thiserror::Error;
@@ -55,6 +57,27 @@ impl From<NoMemory> for OpenFault {
 }
 
 impl<V: Copy> Spec<V> {
+    /// Returns the kind of the channel.
+    pub fn kind(&self) -> ChannelKind
+        ensures { result ≡ spec_kind self.now }
+    {
+        match self {
+            Spec::Broadcast(_) => ChannelKind::Broadcast,
+            Spec::Watch(_) => ChannelKind::Watch,
+        }
+    }
+
+    /// Whether a call is of the other kind of channel.
+    pub fn is_of_other_kind(&self, call: &ChanCall<V>) -> bool
+        ensures { result ≡ strays_at (spec_kind self.now) call.now }
+    {
+        match (self, call) {
+            (Spec::Broadcast(_), ChanCall::B(_)) => false,
+            (Spec::Watch(_), ChanCall::W(_)) => false,
+            _ => true,
+        }
+    }
+
     /// Whether it is a broadcast with a capacity of 0 or above 65,536.
     pub fn has_bad_capacity(&self) -> bool
         ensures { result ≡ has_bad_capacity self.now }
@@ -62,6 +85,19 @@ impl<V: Copy> Spec<V> {
         match self {
             Spec::Broadcast(capacity) => *capacity == 0 || *capacity > MOST_CAPACITY,
             Spec::Watch(_) => false,
+        }
+    }
+}
+
+impl<V: Payload> Spec<V> {
+    /// Whether two specs are the same.
+    pub fn is_same(&self, other: &Spec<V>) -> bool
+        ensures { IsTrue result ↔ (self.now ≡ other.now) }
+    {
+        match (self, other) {
+            (Spec::Broadcast(a), Spec::Broadcast(b)) => a == b,
+            (Spec::Watch(a), Spec::Watch(b)) => a.word() == b.word(),
+            _ => false,
         }
     }
 }

@@ -45,8 +45,7 @@ fn made_by<V: Copy>(world: &World<V>, channel: u64) -> u32
     ensures { result ≡ made_by (slice_get (⟦<World<V> as Reversible>⟧.shown world.now) channel) }
 {
     match world.channel(channel as usize) {
-        Some(Chan::Broadcast(machine)) => machine.made(),
-        Some(Chan::Watch(machine)) => machine.made(),
+        Some(machine) => machine.made(),
         None => 0,
     }
 }

@@ -8,7 +8,6 @@ ghost use Rattle.rw_navigator.specs.Places.{last_place};
 use super::life::Life;
 use crate::following::{advance, opened};
 use crate::handles::{kind_of, made};
-use crate::subjects::handle_in;
 use rw_handles::Kind;
 use rw_journal::Run;
 use rw_law::{NoMemory, Reversible};
@@ -95,7 +94,7 @@ fn follow<V: Copy>(
     if entry.call.channel != channel {
         return Ok(());
     }
-    let handle = handle_in(&entry.call.call);
+    let handle = entry.call.call.handle();
     take_call(
         lives,
         handle,

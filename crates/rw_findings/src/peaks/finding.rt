@@ -12,7 +12,6 @@ use super::measure::{Measure, Stretches};
 use super::rows::Peaks;
 use crate::following::{advance, advance_to, advance_within, opened};
 use crate::handles::made;
-use crate::subjects::handle_in;
 use rw_journal::Run;
 use rw_law::{NoMemory, Reversible};
 use rw_world::{Chan, ChanCall, RowCall, documented};
@@ -163,7 +162,7 @@ fn raise_named<V: Copy>(
     if call.channel != asked.channel {
         return Ok(());
     }
-    let receiver = handle_in(&call.call);
+    let receiver = call.call.handle();
     let level = asked.measure.of(machine, receiver);
     peaks.raise(alloc, receiver as usize, stretch, level)
 }

@@ -6,7 +6,7 @@ use rw_broadcast::BCall;
 use rw_desk::{Desk, Ends, Pass};
 use rw_watch::WCall;
 use rw_words::{WordFault, read_call, read_reply};
-use rw_world::{ChanCall, ChanReply, Spec};
+use rw_world::{ChanCall, ChanReply, ChannelKind, Spec};
 use std::alloc::{AllocError, Global};
 use std::process::Abort;
 use std::sync::Wait;
@@ -101,13 +101,13 @@ const WEAK_SENDERS: &str =
 
 /// The call and the reply of a line.
 fn line_of(
-    broadcast: bool,
+    kind: ChannelKind,
     words: &str,
     reply: &str,
 ) -> Result<(ChanCall<u64>, ChanReply<u64>), WordFault> {
     Ok((
-        read_call(broadcast, words.as_bytes())?,
-        read_reply(broadcast, reply.as_bytes())?,
+        read_call(kind.is_broadcast(), words.as_bytes())?,
+        read_reply(kind.is_broadcast(), reply.as_bytes())?,
     ))
 }
 
@@ -180,12 +180,12 @@ fn make_all<R: Wait + Abort>(
     desk: &Desk<u64>,
     pass: &mut Pass<u64>,
     hands: &mut Hands,
-    broadcast: bool,
+    kind: ChannelKind,
     row: &str,
 ) -> Result<(), Fail> {
     for line in row.split('/') {
         let (words, reply) = line.split_once('=').ok_or("no reply")?;
-        let (call, reply) = line_of(broadcast, words, reply)?;
+        let (call, reply) = line_of(kind, words, reply)?;
         let made = hands.make(rt, desk, pass, words, call)?;
         same_answers(rt, line, &[Ok(made)], &[Ok(reply)]);
     }
@@ -197,12 +197,12 @@ fn make_with<R: Wait + Abort>(
     rt: &R,
     alloc: Global,
     open: &mut OfOne,
-    broadcast: bool,
+    kind: ChannelKind,
     row: &str,
 ) -> Result<(), Fail> {
     let ends = open.ends.pop().ok_or("no ends")?;
     let mut hands = Hands::with(alloc, ends)?;
-    let made = make_all(rt, &open.desk, &mut open.pass, &mut hands, broadcast, row);
+    let made = make_all(rt, &open.desk, &mut open.pass, &mut hands, kind, row);
     drop_hands(hands);
     made
 }
@@ -212,16 +212,10 @@ fn is_long_as(rt: &impl Abort, length: u64, row: &str) {
     same_numbers(rt, "length", &[length], &[row.split('/').count() as u64]);
 }
 
-/// Plays a row on a desk of one channel, a broadcast or not, which then closes.
-fn play<R: Wait + Abort>(
-    rt: &R,
-    alloc: Global,
-    specs: &[Spec<u64>],
-    broadcast: bool,
-    row: &str,
-) -> Result<(), Fail> {
-    let mut open = open_one(alloc, specs)?;
-    let made = make_with(rt, alloc, &mut open, broadcast, row);
+/// Plays a row on a desk of one channel, which then closes.
+fn play<R: Wait + Abort>(rt: &R, alloc: Global, spec: Spec<u64>, row: &str) -> Result<(), Fail> {
+    let mut open = open_one(alloc, &[spec])?;
+    let made = make_with(rt, alloc, &mut open, spec.kind(), row);
     let length = length_of_one(alloc, open);
     made?;
     is_long_as(rt, length?, row);
@@ -231,7 +225,7 @@ fn play<R: Wait + Abort>(
 #[test]
 fn rows_of_broadcasts(rt: HostRuntime) -> Result<(), Fail> {
     for (capacity, row) in &BROADCASTS {
-        play(&rt, rt.alloc(), &[Spec::Broadcast(*capacity)], true, row)?;
+        play(&rt, rt.alloc(), Spec::Broadcast(*capacity), row)?;
     }
     Ok(())
 }
@@ -239,7 +233,7 @@ fn rows_of_broadcasts(rt: HostRuntime) -> Result<(), Fail> {
 #[test]
 fn rows_of_watches(rt: HostRuntime) -> Result<(), Fail> {
     for (value, row) in &WATCHES {
-        play(&rt, rt.alloc(), &[Spec::Watch(*value)], false, row)?;
+        play(&rt, rt.alloc(), Spec::Watch(*value), row)?;
     }
     Ok(())
 }
@@ -253,7 +247,7 @@ fn call_all<R: Wait + Abort>(
 ) -> Result<(), Fail> {
     for line in row.split('/') {
         let (words, reply) = line.split_once('=').ok_or("no reply")?;
-        let (asked, reply) = line_of(true, words, reply)?;
+        let (asked, reply) = line_of(ChannelKind::Broadcast, words, reply)?;
         let answer = call(desk, rt, pass, 0, asked);
         same_answers(rt, line, &[answer], &[Ok(reply)]);
     }

@@ -10,13 +10,13 @@ returns-in_err-spec-clause-none g c =
     let none : slice_get specs c.args.channel ≡ None = slice_get_past specs c.args.channel (subst (λ ss. length ss ≤ c.args.channel) c.deref.ensures.value c.in_err-spec.ensures.lookup.3) in
     rw (c.from_residual.ensures, ← c.self.view_is, slice_get-map, none) (λ _. refl, λ _. refl)
 
-pub returns-then-strays-clause-none : goal.returns-then-strays-clause-none
-returns-then-strays-clause-none g c =
+pub returns-then-is_of_other_kind-clause-none : goal.returns-then-is_of_other_kind-clause-none
+returns-then-is_of_other_kind-clause-none g c =
     let read = c.deref.result.now in
     let spec = c.in_ok-spec.spec.now in
     let there : slice_get c.self.inside.specs.items c.args.channel ≡ Some spec =
     subst (λ ss. slice_get ss c.args.channel ≡ Some spec) c.deref.ensures.value (slice_get_read read (length read) c.args.channel spec refl c.in_ok-spec.ensures.lookup.3.0 c.in_ok-spec.ensures.lookup.1) in
-    rw (← c.self.view_is, slice_get-map, there) (λ _. sym c.if-strays.ensures, λ _. refl)
+    rw (← c.self.view_is, slice_get-map, there) (λ _. sym c.if-is_of_other_kind.ensures, λ _. refl)
 
 pub returns-clause-none : goal.returns-clause-none
 returns-clause-none g c =
@@ -24,7 +24,7 @@ returns-clause-none g c =
     let spec = c.in_ok-spec.spec.now in
     let there : slice_get c.self.inside.specs.items c.args.channel ≡ Some spec =
     subst (λ ss. slice_get ss c.args.channel ≡ Some spec) c.deref.ensures.value (slice_get_read read (length read) c.args.channel spec refl c.in_ok-spec.ensures.lookup.3.0 c.in_ok-spec.ensures.lookup.1) in
-    rw (← c.self.view_is, slice_get-map, there) (λ none. absurd (true≢false none), λ strays. absurd (true≢false (sym strays ∙ sym c.if-strays.ensures)))
+    rw (← c.self.view_is, slice_get-map, there) (λ none. absurd (true≢false none), λ strays. absurd (true≢false (sym strays ∙ sym c.if-is_of_other_kind.ensures)))
 
 pub returns-clause-there : goal.returns-clause-there
 returns-clause-there g c =

@@ -16,8 +16,8 @@ take_call-requires g c = λ life found.
     let actor = c.index-entries-place.result.actor in
     omega (
       arith,
-      (c.requires.lives.each c.handle_in-handle.result life found).calls actor,
-      few_calls c.args.run.now c.args.channel c.handle_in-handle.result actor c.args.place,
+      (c.requires.lives.each c.handle-handle.result life found).calls actor,
+      few_calls c.args.run.now c.args.channel c.handle-handle.result actor c.args.place,
       c.requires.more,
       c.entries.ensures.few,
       ap length c.entries.ensures.entries,
@@ -33,13 +33,13 @@ returns-clause-lives g c =
     let read = c.index-entries-place.is ∙ ap (λ es. get_or es p e) c.entries.ensures.entries in
     let there = channel_here c.documented.ensures.places run c.args.channel p e c.requires.more read x c.requires.here.shows c.if-entry-channel.false in
     let y_is : (of_chan {V = g.row.V.Denot}).shown c.advance.new.machine ≡ y = same_element (sym c.advance.ensures.shows ∙ there) in
-    let h = c.handle_in-handle.result in
+    let h = c.handle-handle.result in
     let kind : c.kind_of.result ≡ kind_in y h = c.kind_of.ensures ∙ ap (λ z. kind_in z h) y_is in
     let mid = c.take_call.new.lives.items in
     let called : TookCall c.args.lives.now.items mid h e.actor (kind_in y h) (p + 1) = subst (λ k. TookCall c.args.lives.now.items mid h e.actor k (p + 1)) kind c.in_ok-take_call.ensures in
     let made : TookMade mid c.take_made.new.lives.items y (p + 1) e.actor = subst (λ z. TookMade mid c.take_made.new.lives.items z (p + 1) e.actor) y_is c.in_ok-take_made.ensures in
     lives_here run c.args.channel c.documented.ensures.places p e c.requires.more read x c.args.lives.now.items mid c.take_made.new.lives.items c.requires.here.shows c.if-entry-channel.false c.requires.lives
-    (subst (λ k. TookCall c.args.lives.now.items mid k e.actor (kind_in y k) (p + 1)) c.handle_in-handle.ensures called) made
+    (subst (λ k. TookCall c.args.lives.now.items mid k e.actor (kind_in y k) (p + 1)) c.handle-handle.ensures called) made
 
 pub bounds-entries-place : goal.bounds-entries-place
 bounds-entries-place g c = subst (λ es. c.args.place < length es) (sym c.entries.ensures.entries) c.requires.more
