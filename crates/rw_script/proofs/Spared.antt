@@ -1,5 +1,5 @@
 -- As specified, no line of a script has the fault `NoMemory`.
-use Rattle.std.proofs.Common.{◌≡◌, ◌≢◌, ◌+◌, ℕ, Bool, cond, List, [], ◌∷◌, ◌++◌, length, Option, Some, None, Result, Ok, Err, ltb, leb}
+use Rattle.std.proofs.Common.{◌≡◌, ◌≢◌, ◌+◌, ℕ, cond, List, [], ◌∷◌, ◌++◌, length, Option, Some, None, Result, Ok, Err, ltb, leb}
 use Rattle.std.specs.Prelude.{◌&&◌, is_some, not, slice_get}
 use Rattle.rw_law.specs.Numbers.{numbers}
 use Rattle.rw_lines.specs.Lines.{is_skipped}

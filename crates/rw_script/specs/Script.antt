@@ -1,5 +1,5 @@
 -- What a script describes: channels, actors, and their calls in order.
-use Rattle.std.specs.Prelude.{ℕ, ◌+◌, List, [], ◌∷◌, ◌++◌, length, slice_get, Bool, true, false, Option, None, Some, is_some, is_none, Result, Ok, Err, ◌&&◌, nat_eq, nat_lt, nat_le, if◌then◌else◌, codes}
+use Rattle.std.specs.Prelude.{ℕ, ◌+◌, List, [], ◌∷◌, ◌++◌, length, slice_get, Bool, Option, None, Some, is_some, is_none, Result, Ok, Err, ◌&&◌, nat_eq, nat_lt, nat_le, if◌then◌else◌, codes}
 use Rattle.std.specs.Option.{unwrap_or}
 use Rattle.std.specs.Str.{bytes_eq}
 use Rattle.rw_lines.specs.Cut.{cut}

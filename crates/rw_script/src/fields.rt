@@ -1,6 +1,8 @@
 //! The fields of a step line.
 
-ghost use Rattle.std.specs.Prelude.{◌≡◌, ◌≤◌, length, option_map, IfSome};
+ghost use Rattle.std.specs.Prelude.{◌≡◌, ◌++◌, option_map, true, IfSome};
+ghost use Rattle.rw_lines.specs.Cut.{lacks};
+ghost use Rattle.rw_words.specs.Arguments.{rest_text};
 ghost use Rattle.rw_script.specs.Fields.{fields_in, number_field};
 
 use rw_lines::{cut, is_word, numeral};
@@ -9,24 +11,23 @@ use rw_words::first_word;
 /// Reads a numeral that a space follows, and returns its number and the rest.
 #[tactic(auto, unfolding(crate::specs::Fields::number_field))]
 fn number_field(text: &[u8]) -> Option<(u64, &[u8])>
-    ensures field { option_map (λ p. (p.0, p.1.now)) result ≡ number_field text.now }
-    ensures within { IfSome result (λ p. length p.1.now ≤ length text.now) }
+    ensures { option_map (λ p. (p.0, p.1.now)) result ≡ number_field text.now }
 {
     let (token, rest) = cut(text, b' ')?;
     Some((numeral(token)?, rest))
 }
 
-/// Returns the actor and the channel of a step line, and the text of its call, which begins with a word.
+/// Returns the actor and the channel of a step line, and the text of its call, split into its first word and what follows.
 #[tactic(auto, unfolding(crate::specs::Fields::fields_in))]
-pub(crate) fn fields_of(line: &[u8]) -> Option<(u64, u64, &[u8])>
-    ensures fields { option_map (λ p. (p.0, p.1, p.2.now)) result ≡ fields_in line.now }
-    ensures within { IfSome result (λ p. length p.2.now ≤ length line.now) }
+pub(crate) fn fields_of(line: &[u8]) -> Option<(u64, u64, &[u8], Option<&[u8]>)>
+    ensures fields { option_map (λ p. (p.0, p.1, p.2.now ++ rest_text (option_map (λ r. r.now) p.3))) result ≡ fields_in line.now }
+    ensures apart { IfSome result (λ p. lacks 32 p.2.now ≡ true) }
 {
     let (actor, rest) = number_field(line)?;
     let (channel, text) = number_field(rest)?;
-    let (word, _) = first_word(text);
+    let (word, rest) = first_word(text);
     if is_word(word) {
-        Some((actor, channel, text))
+        Some((actor, channel, word, rest))
     } else {
         None
     }

@@ -5,7 +5,6 @@ ghost use Rattle.rw_law.specs.declared.limits.TheConstants.{MOST_ACTORS};
 ghost use Rattle.rw_world.specs.declared.opening.TheConstants.{MOST_CHANNELS};
 ghost use Rattle.rw_script.specs.Memory.{Reads, ReadsLine};
 ghost use Rattle.rw_world.specs.Openings.{has_bad_capacity, spec_kind};
-ghost use Rattle.rw_lines.specs.declared.lines.TheConstants.{LONGEST_LINE};
 ghost use Rattle.rw_script.specs.WellFormed.{IsScriptStep};
 ghost use Rattle.rw_script.specs.Script.{actors_of, after_line, script_at_end, is_in_head, is_mark, opening, spec_for, with_head, with_line, with_said, with_spec, with_step};
 ghost use Rattle.rw_script.specs.StepLines.{said_of, target_in};
@@ -193,16 +192,15 @@ impl ScriptReader {
     /// Reads a step line.
     #[tactic(auto, unfolding(crate::specs::Script::with_step))]
     fn read_step(&mut self, line: &[u8]) -> Result<(), ScriptFaultKind>
-        requires { length line.now ≤ LONGEST_LINE }
         ensures taken { ReadsLine result self.old self.new (with_step self.old line.now) }
         ensures unchanged { OnErr result (self.new ≡ self.old) }
         ensures lines { self.new.lines ≡ self.old.lines }
     {
-        let Some((actor, channel, text)) = fields_of(line) else {
+        let Some((actor, channel, word, rest)) = fields_of(line) else {
             return Err(ScriptFaultKind::Syntax);
         };
         let kind = self.kind_for(actor, channel)?;
-        let said = read_said(kind, text)?;
+        let said = read_said(kind, word, rest)?;
         let target = self.target_of(actor as u32, channel as u32, said.target)?;
         self.add_step(actor as u32, channel as u32, &said, target)
     }

@@ -1,19 +1,16 @@
 //! The text of a call in a script, where names may stand for handles.
 
-ghost use Rattle.std.specs.Prelude.{◌≡◌, ◌≤◌, ◌+◌, ◌++◌, ◌∷◌, length, option_map, take, false, IfOk};
+ghost use Rattle.std.specs.Prelude.{◌≡◌, ◌++◌, option_map, false, true, IfOk};
 ghost use Rattle.rw_world.specs.Channel.{strays_at};
-ghost use Rattle.rw_world.specs.Kinds.{is_broadcast};
-ghost use Rattle.rw_lines.specs.declared.lines.TheConstants.{LONGEST_LINE};
+ghost use Rattle.rw_lines.specs.Cut.{lacks};
 ghost use Rattle.rw_words.specs.Arguments.{rest_text};
-ghost use Rattle.rw_script.specs.Fields.{bound_in, handle_text, name_in, named_call};
-ghost use Rattle.rw_law.specs.Numbers.{numbers};
+ghost use Rattle.rw_script.specs.Fields.{bound_in, handle_text, name_in, without_binding};
 ghost use Rattle.rw_script.specs.StepLines.{said_by, said_in, said_of};
-ghost use Rattle.rw_words.specs.Texts.{call_in};
 ghost use Rattle.rw_words.specs.Words.{map_ok};
 
 use crate::faults::ScriptFaultKind;
-use rw_lines::{cut, is_name, put_bytes};
-use rw_words::{WordFault, first_word, read_call};
+use rw_lines::{cut, is_name};
+use rw_words::{first_word, read_call, read_split_call};
 use rw_world::{ChanCall, ChannelKind};
 
 /// A call that may name its handle, and may bind a name.
@@ -49,49 +46,16 @@ fn bound_of(more: Option<&[u8]>) -> Option<&[u8]>
 /// Returns the handle's token, or `0` if it is a name.
 fn handle_text(handle: &[u8]) -> &[u8]
     ensures text { result.now ≡ handle_text handle.now }
-    ensures short { length result.now ≤ length handle.now }
+    ensures apart { lacks 32 handle.now ≡ true → lacks 32 result.now ≡ true }
 {
     if is_name(handle) { b"0" } else { handle }
 }
 
-/// Writes a space and what follows the handle at an offset, or nothing if nothing follows. Returns where that ends.
-fn put_rest(out: &mut [u8; 256], at: usize, more: Option<&[u8]>) -> usize
-    requires { at + length (rest_text (option_map (λ m. m.now) more)) ≤ 256 }
-    ensures end { result ≡ at + length (rest_text (option_map (λ m. m.now) more.entry)) }
-    ensures text { take result out.new ≡ take at out.old ++ rest_text (option_map (λ m. m.now) more.entry) }
+/// Returns what follows the handle, or nothing if that binds a name.
+fn without_binding(more: Option<&[u8]>) -> Option<&[u8]>
+    ensures { option_map (λ m. m.now) result ≡ without_binding (option_map (λ m. m.now) more.entry) }
 {
-    match more {
-        None => at,
-        Some(more) => {
-            let at = put_bytes(out, at, b" ");
-            put_bytes(out, at, more)
-        }
-    }
-}
-
-/// Parses the call of a text that is given in parts, without its names.
-fn call_of_parts(
-    kind: ChannelKind,
-    text: &[u8],
-    word: &[u8],
-    handle: &[u8],
-    more: Option<&[u8]>,
-) -> Result<ChanCall<u64>, WordFault>
-    requires short { length text.now ≤ LONGEST_LINE }
-    requires whole { text.now ≡ word.now ++ 32 ∷ (handle.now ++ rest_text (option_map (λ m. m.now) more)) }
-    ensures kind { IfOk result (λ call. strays_at kind call ≡ false) }
-    ensures call { result ≡ call_in numbers (is_broadcast kind) (named_call word.now handle.now (option_map (λ m. m.now) more.entry)).text }
-{
-    let binds = bound_of(more).is_some();
-    if !binds && !is_name(handle) {
-        return read_call(kind.is_broadcast(), text);
-    }
-    let mut out = [0u8; 256];
-    let at = put_bytes(&mut out, 0, word);
-    let at = put_bytes(&mut out, at, b" ");
-    let at = put_bytes(&mut out, at, handle_text(handle));
-    let at = put_rest(&mut out, at, if binds { None } else { more });
-    read_call(kind.is_broadcast(), &out[..at])
+    if bound_of(more).is_some() { None } else { more }
 }
 
 /// Returns a call with its names. Only a call that makes a handle may bind one.
@@ -113,17 +77,21 @@ fn said_by<'a>(
     })
 }
 
-/// Parses the text of a call, in the words of this kind of channel.
-#[tactic(auto, unfolding(crate::specs::StepLines::said_in, crate::specs::Fields::named_in))]
-pub(crate) fn read_said(kind: ChannelKind, text: &[u8]) -> Result<SaidCall<'_>, ScriptFaultKind>
-    requires { length text.now ≤ LONGEST_LINE }
-    ensures said { map_ok said_of result ≡ said_in kind text.now }
+/// Parses the text of a call, split into its word and what follows, in the words of this kind of channel.
+#[tactic(auto, unfolding(crate::specs::StepLines::said_in), using(crate::proofs::NamedLaws::named_joined, crate::proofs::NamedLaws::named_alone))]
+pub(crate) fn read_said<'a>(
+    kind: ChannelKind,
+    word: &[u8],
+    rest: Option<&'a [u8]>,
+) -> Result<SaidCall<'a>, ScriptFaultKind>
+    requires { lacks 32 word.now ≡ true }
+    ensures said { map_ok said_of result ≡ said_in kind (word.now ++ rest_text (option_map (λ r. r.now) rest.entry)) }
     ensures kind { IfOk result (λ said. strays_at kind said.call ≡ false) }
 {
-    let Some((word, rest)) = cut(text, b' ') else {
-        return said_by(None, None, read_call(kind.is_broadcast(), text)?);
+    let Some(rest) = rest else {
+        return said_by(None, None, read_call(kind.is_broadcast(), word)?);
     };
     let (handle, more) = first_word(rest);
-    let call = call_of_parts(kind, text, word, handle, more)?;
+    let call = read_split_call(kind, word, handle_text(handle), without_binding(more))?;
     said_by(name_of(handle), bound_of(more), call)
 }

@@ -1,9 +1,9 @@
 //! What follows a word.
 
-ghost use Rattle.std.specs.Prelude.{◌≡◌, ⊤, option_map};
-ghost use Rattle.rw_lines.specs.Cut.{cut};
+ghost use Rattle.std.specs.Prelude.{◌≡◌, ◌++◌, ⊤, Some, option_map, true};
+ghost use Rattle.rw_lines.specs.Cut.{cut, lacks};
 ghost use Rattle.rw_lines.specs.Numerals.{numeral_in};
-ghost use Rattle.rw_words.specs.Arguments.{flag_named, number_value_flag_named, number_value_named, value_named};
+ghost use Rattle.rw_words.specs.Arguments.{flag_named, number_value_flag_named, number_value_named, rest_text, value_named};
 ghost use Rattle.rw_words.specs.Words.{when_alone, flag_in, handle_in, handle_value_flag_in, handle_value_in, handle_within, first_part, number_in, rest_of, value_in};
 
 use rw_law::Payload;
@@ -51,6 +51,9 @@ impl<V: Copy> Clone for Args<V> {
 pub fn first_word(text: &[u8]) -> (&[u8], Option<&[u8]>)
     ensures word { result.0.now ≡ first_part text.now (cut 32 text.now) }
     ensures rest { option_map (λ r. r.now) result.1 ≡ rest_of (cut 32 text.now) }
+    // The word has no space, and with what follows it is the whole text.
+    ensures apart { lacks 32 result.0.now ≡ true }
+    ensures whole { text.now ≡ result.0.now ++ rest_text (option_map (λ r. r.now) result.1) }
 {
     match cut(text, b' ') {
         None => (text, None),
@@ -76,21 +79,27 @@ fn flag_named(text: &[u8]) -> Option<bool>
     }
 }
 
-#[tactic(auto, unfolding(crate::specs::Arguments::number_value_named))]
-fn number_value_named<V: Payload>(text: &[u8]) -> Option<(u64, V)>
-    ensures { result ≡ number_value_named V.Payload text.now }
+/// Returns the number and the value of a numeral and of what follows it.
+#[tactic(auto, using(crate::proofs::ArgumentLaws::number_value_joined))]
+fn number_value_named<V: Payload>(number: &[u8], more: Option<&[u8]>) -> Option<(u64, V)>
+    requires { lacks 32 number.now ≡ true }
+    ensures { result ≡ number_value_named V.Payload (number.now ++ rest_text (option_map (λ m. m.now) more.entry)) }
 {
-    let (number, value) = cut(text, b' ')?;
-    Some((numeral(number)?, value_named(value)?))
+    let number = numeral(number)?;
+    Some((number, value_named(more?)?))
 }
 
-#[tactic(auto, unfolding(crate::specs::Arguments::number_value_flag_named))]
-fn number_value_flag_named<V: Payload>(text: &[u8]) -> Option<(u64, (V, bool))>
-    ensures { result ≡ number_value_flag_named V.Payload text.now }
+/// Returns the number, the value and the flag of a numeral and of what follows it.
+#[tactic(auto, using(crate::proofs::ArgumentLaws::number_value_flag_joined))]
+fn number_value_flag_named<V: Payload>(
+    number: &[u8],
+    more: Option<&[u8]>,
+) -> Option<(u64, (V, bool))>
+    requires { lacks 32 number.now ≡ true }
+    ensures { result ≡ number_value_flag_named V.Payload (number.now ++ rest_text (option_map (λ m. m.now) more.entry)) }
 {
-    let (number, rest) = cut(text, b' ')?;
     let number = numeral(number)?;
-    let (value, flag) = cut(rest, b' ')?;
+    let (value, flag) = cut(more?, b' ')?;
     Some((number, (value_named(value)?, flag_named(flag)?)))
 }
 
@@ -138,22 +147,39 @@ pub(crate) fn handle(rest: Option<&[u8]>) -> Result<u32, WordFault>
     handle_within(number(rest)?)
 }
 
-#[tactic(auto, unfolding(crate::specs::Words::handle_value_in))]
-pub(crate) fn handle_value<V: Payload>(rest: Option<&[u8]>) -> Result<(u32, V), WordFault>
-    ensures { result ≡ handle_value_in V.Payload (option_map (λ r. r.now) rest.entry) }
+/// Returns the handle, where nothing follows it.
+#[tactic(auto, using(crate::proofs::ShapeLaws::handle_followed))]
+pub(crate) fn handle_alone(handle: &[u8], more: Option<&[u8]>) -> Result<u32, WordFault>
+    requires { lacks 32 handle.now ≡ true }
+    ensures { result ≡ handle_in (Some (handle.now ++ rest_text (option_map (λ m. m.now) more.entry))) }
 {
-    let text = rest.ok_or(WordFault::BadArguments)?;
-    let (number, value) = number_value_named(text).ok_or(WordFault::BadArguments)?;
+    match more {
+        None => self::handle(Some(handle)),
+        Some(_) => Err(WordFault::BadArguments),
+    }
+}
+
+#[tactic(auto, unfolding(crate::specs::Words::handle_value_in))]
+pub(crate) fn handle_value<V: Payload>(
+    handle: &[u8],
+    more: Option<&[u8]>,
+) -> Result<(u32, V), WordFault>
+    requires { lacks 32 handle.now ≡ true }
+    ensures { result ≡ handle_value_in V.Payload (Some (handle.now ++ rest_text (option_map (λ m. m.now) more.entry))) }
+{
+    let (number, value) = number_value_named(handle, more).ok_or(WordFault::BadArguments)?;
     Ok((handle_within(number)?, value))
 }
 
 #[tactic(auto, unfolding(crate::specs::Words::handle_value_flag_in))]
 pub(crate) fn handle_value_flag<V: Payload>(
-    rest: Option<&[u8]>,
+    handle: &[u8],
+    more: Option<&[u8]>,
 ) -> Result<(u32, (V, bool)), WordFault>
-    ensures { result ≡ handle_value_flag_in V.Payload (option_map (λ r. r.now) rest.entry) }
+    requires { lacks 32 handle.now ≡ true }
+    ensures { result ≡ handle_value_flag_in V.Payload (Some (handle.now ++ rest_text (option_map (λ m. m.now) more.entry))) }
 {
-    let text = rest.ok_or(WordFault::BadArguments)?;
-    let (number, (value, flag)) = number_value_flag_named(text).ok_or(WordFault::BadArguments)?;
+    let named = number_value_flag_named(handle, more);
+    let (number, (value, flag)) = named.ok_or(WordFault::BadArguments)?;
     Ok((handle_within(number)?, (value, flag)))
 }

@@ -16,5 +16,5 @@ mod writing;
 
 pub use arguments::{WordFault, first_word};
 pub use entries::write_entry;
-pub use reading::{read_call, read_reply};
+pub use reading::{read_call, read_reply, read_split_call};
 pub use reply_word::ReplyWord;
