@@ -6,7 +6,8 @@ use Rattle.rw_handles.specs.declared.refusals.Refusal.TheVariants as refusal
 use Rattle.rw_handles.specs.declared.refusals.SendError.{SendError}
 use Rattle.rw_handles.specs.declared.refusals.SendError.TheVariants as send
 use Rattle.rw_broadcast.specs.declared.calls.BReply.{BReply}
-use Rattle.rw_broadcast.specs.declared.calls.BReply.TheVariants.{Sent, NoReceivers, Value, Lagged, Empty, Closed, Waits, New, Dropped, Count, Unknown, Gone, WrongKind, TooManyHandles, NoSender}
+use Rattle.rw_broadcast.specs.declared.calls.BReply.TheVariants.{Sent, NoReceivers, Value, Lagged, Empty, Closed, Waits, New}
+use Rattle.rw_broadcast.specs.declared.calls.BReply.TheVariants.{Dropped, Count, Unknown, Gone, WrongKind, TooManyHandles, NoSender}
 use Rattle.rw_broadcast.specs.declared.results.TryRecvError.{TryRecvError}
 use Rattle.rw_broadcast.specs.declared.results.TryRecvError.TheVariants as receive
 

@@ -18,12 +18,15 @@ use Rattle.rw_law.specs.Laws.{Laws}
 use Rattle.rw_law.specs.Outcomes.{IsSound, sound_if, laws_of}
 use Rattle.rw_law.proofs.Lists.{push_back}
 use Rattle.rw_broadcast.specs.declared.calls.BCall.{BCall}
-use Rattle.rw_broadcast.specs.declared.calls.BCall.TheVariants.{Send, Subscribe, CloneSender, Resubscribe, TryRecv, Recv, DropHandle, SenderLen, ReceiverCount, ReceiverLen, Downgrade, Upgrade, CloneWeak}
+use Rattle.rw_broadcast.specs.declared.calls.BCall.TheVariants.{Send, Subscribe, CloneSender, Resubscribe, TryRecv, Recv, DropHandle}
+use Rattle.rw_broadcast.specs.declared.calls.BCall.TheVariants.{SenderLen, ReceiverCount, ReceiverLen, Downgrade, Upgrade, CloneWeak}
 use Rattle.rw_broadcast.specs.declared.calls.BReply.{BReply}
 use Rattle.rw_broadcast.specs.declared.calls.BReply.TheVariants.{Sent, Value, Lagged, Empty, Waits, New, Dropped, TooManyHandles}
 use Rattle.rw_broadcast.specs.Arithmetic.{lag}
-use Rattle.rw_broadcast.specs.Channel.{Change, Keep, Append, Make, Move, Leave, handle_of, wanted_kind, makes, fault_reply, is_closed, oldest, receivers, read, receive, effect_with, effect}
-use Rattle.rw_broadcast.specs.Shown.{Shown, channel_of, with_change, patch_of_send, outcome_of, outcome, next, reply_of, patch_of, back, IsPlaced, IsAllowed, CanUnsend, Fits, weight, refuses, waits, strays}
+use Rattle.rw_broadcast.specs.Channel.{Change, Keep, Append, Make, Move, Leave, handle_of, wanted_kind, makes}
+use Rattle.rw_broadcast.specs.Channel.{fault_reply, is_closed, oldest, receivers, read, receive, effect_with, effect}
+use Rattle.rw_broadcast.specs.Shown.{Shown, channel_of, with_change, patch_of_send, outcome_of, outcome, next, reply_of}
+use Rattle.rw_broadcast.specs.Shown.{patch_of, back, IsPlaced, IsAllowed, CanUnsend, Fits, weight, refuses, waits, strays}
 use Rattle.rw_ring.specs.Windows.{window_after, eviction, window_before, window_before-after, length-window_after}
 
 -- the laws, for one change and reply of a call
@@ -43,7 +46,10 @@ right_keep x call reply = record {
   weight_rises = omega arith;
 }
 
-right_make : {V : Type 0} (x : Shown V) (call : BCall V) (kind : Kind) (position : ℕ) → IsPlaced x.sent (Live kind position) → length x.slots < MOST_HANDLES → IsRight x call (Make kind position, New (length x.slots))
+right_make : {V : Type 0} (x : Shown V) (call : BCall V) (kind : Kind) (position : ℕ)
+    → IsPlaced x.sent (Live kind position)
+    → length x.slots < MOST_HANDLES
+    → IsRight x call (Make kind position, New (length x.slots))
 right_make x call kind position placed few = record {
   undone = λ _. ap (λ slots. record x { slots = slots }) (push_back x.slots (Live kind position));
   next_allowed = λ ok. record {
@@ -59,7 +65,10 @@ right_make x call kind position placed few = record {
 }
 
 -- after a write to the call's handle, what is shown is still allowed
-set_allowed : {V : Type 0} (x : Shown V) (call : BCall V) (slot : Slot ℕ) → (IsAllowed x → IsPlaced x.sent slot) → IsAllowed x → IsAllowed (record x { slots = set x.slots (handle_of call) slot })
+set_allowed : {V : Type 0} (x : Shown V) (call : BCall V) (slot : Slot ℕ)
+    → (IsAllowed x → IsPlaced x.sent slot)
+    → IsAllowed x
+    → IsAllowed (record x { slots = set x.slots (handle_of call) slot })
 set_allowed x call slot placed ok = record {
   some_capacity = ok.some_capacity;
   small_capacity = ok.small_capacity;
@@ -68,22 +77,34 @@ set_allowed x call slot placed ok = record {
   placed = All-set (IsPlaced x.sent) x.slots (handle_of call) slot (placed ok) ok.placed;
 }
 
-right_move : {V : Type 0} (x : Shown V) (call : BCall V) (from to : ℕ) (reply : BReply V) → Stands x call (Live Receiver from) → (IsAllowed x → to ≤ x.sent) → refuses reply ≡ false → IsRight x call (Move (handle_of call) from to, reply)
+right_move : {V : Type 0} (x : Shown V) (call : BCall V) (from to : ℕ) (reply : BReply V)
+    → Stands x call (Live Receiver from)
+    → (IsAllowed x → to ≤ x.sent)
+    → refuses reply ≡ false
+    → IsRight x call (Move (handle_of call) from to, reply)
 unfolding Stands
 right_move x call from to reply here within served = record {
   undone = λ _. ap (λ slots. record x { slots = slots }) (set_back x.slots (handle_of call) (Live Receiver to) (Live Receiver from) here);
   next_allowed = set_allowed x call (Live Receiver to) within;
-  patch_fits = λ ok. (receiver_set x.slots (handle_of call) to from here, All-slice_get (IsPlaced x.sent) x.slots (handle_of call) (Live Receiver from) here ok.placed);
+  patch_fits = λ ok. (
+    receiver_set x.slots (handle_of call) to from here,
+    All-slice_get (IsPlaced x.sent) x.slots (handle_of call) (Live Receiver from) here ok.placed,
+  );
   refused = λ h. cc;
   weight_rises = omega (arith, length-set x.slots (handle_of call) (Live Receiver to));
 }
 
-right_leave : {V : Type 0} (x : Shown V) (call : BCall V) (kind : Kind) (position : ℕ) → Stands x call (Live kind position) → IsRight x call (Leave (handle_of call) kind position, Dropped)
+right_leave : {V : Type 0} (x : Shown V) (call : BCall V) (kind : Kind) (position : ℕ)
+    → Stands x call (Live kind position)
+    → IsRight x call (Leave (handle_of call) kind position, Dropped)
 unfolding Stands
 right_leave x call kind position here = record {
   undone = λ _. ap (λ slots. record x { slots = slots }) (set_back x.slots (handle_of call) Spent (Live kind position) here);
   next_allowed = set_allowed x call Spent (λ _. tt);
-  patch_fits = λ ok. (slice_get-set x.slots (handle_of call) Spent (Live kind position) here, All-slice_get (IsPlaced x.sent) x.slots (handle_of call) (Live kind position) here ok.placed);
+  patch_fits = λ ok. (
+    slice_get-set x.slots (handle_of call) Spent (Live kind position) here,
+    All-slice_get (IsPlaced x.sent) x.slots (handle_of call) (Live kind position) here ok.placed,
+  );
   refused = λ h. cc;
   weight_rises = omega (arith, length-set x.slots (handle_of call) Spent);
 }
@@ -94,12 +115,17 @@ placed_more n (Live kind position) h = h
 placed_more n Spent h = h
 
 -- undoing a send, by the value that it evicted
-back_send : {V : Type 0} (y : Shown V) (call : BCall V) (old : Option V) → back y call (patch_of_send old) ≡ record y { sent = y.sent - 1; window = window_before old y.window }
+back_send : {V : Type 0} (y : Shown V) (call : BCall V) (old : Option V)
+    → back y call (patch_of_send old) ≡ record y { sent = y.sent - 1; window = window_before old y.window }
 back_send y call None = refl
 back_send y call (Some old) = refl
 
 -- the patch of a send fits: it evicted nothing where there was room, and the oldest value where there was none
-fits_send : {V : Type 0} (y : Shown V) (call : BCall V) (b : Bool) (w : List V) → CanUnsend y → (b ≡ true → y.sent ≤ y.capacity) → (b ≡ false → (0 < length w) × (y.capacity < y.sent)) → Fits y call (patch_of_send (cond b None (slice_get w 0)))
+fits_send : {V : Type 0} (y : Shown V) (call : BCall V) (b : Bool) (w : List V)
+    → CanUnsend y
+    → (b ≡ true → y.sent ≤ y.capacity)
+    → (b ≡ false → (0 < length w) × (y.capacity < y.sent))
+    → Fits y call (patch_of_send (cond b None (slice_get w 0)))
 fits_send y call true w can room full = (can, room refl)
 fits_send y call false [] can room full = absurd (omega (arith, (full refl).0))
 fits_send y call false (v ∷ w) can room full = (can, (full refl).1)
@@ -126,19 +152,28 @@ right_append x call v reply served =
           fits_send y call has_room x.window
           (record { some_sent = omega arith; placed = rw one_less ok.placed })
           (λ room. omega (arith, ok.retained, ltb-true (length x.window) x.capacity room))
-          (λ full. (omega (arith, ok.some_capacity, ltb-false (length x.window) x.capacity full), omega (arith, ok.retained, ltb-false (length x.window) x.capacity full)));
+          (λ full. (
+            omega (arith, ok.some_capacity, ltb-false (length x.window) x.capacity full),
+            omega (arith, ok.retained, ltb-false (length x.window) x.capacity full),
+          ));
       refused = λ h. cc;
       weight_rises = omega arith;
     }
 
-right_read : {V : Type 0} (x : Shown V) (call : BCall V) (position : ℕ) (o : Option V) (nothing : BReply V) → Stands x call (Live Receiver position) → lag (oldest (channel_of x)) position ≡ 0 → (channel_of x).value position ≡ o → IsRight x call (read (channel_of x) (handle_of call) position o nothing)
+right_read : {V : Type 0} (x : Shown V) (call : BCall V) (position : ℕ) (o : Option V) (nothing : BReply V)
+    → Stands x call (Live Receiver position)
+    → lag (oldest (channel_of x)) position ≡ 0
+    → (channel_of x).value position ≡ o
+    → IsRight x call (read (channel_of x) (handle_of call) position o nothing)
 right_read x call position None nothing here none at = right_keep x call _
 right_read x call position (Some v) nothing here none at =
     right_move x call position (position + 1) (Value v) here
     (λ ok. omega (arith, ok.retained, slice_get_within x.window (position - oldest (channel_of x)) v at))
     refl
 
-right_receive : {V : Type 0} (x : Shown V) (call : BCall V) (position : ℕ) (nothing : BReply V) → Stands x call (Live Receiver position) → IsRight x call (receive (channel_of x) (handle_of call) position nothing)
+right_receive : {V : Type 0} (x : Shown V) (call : BCall V) (position : ℕ) (nothing : BReply V)
+    → Stands x call (Live Receiver position)
+    → IsRight x call (receive (channel_of x) (handle_of call) position nothing)
 right_receive x call position nothing here =
     let behind = lag (oldest (channel_of x)) position in
     sound_if IsAllowed weight back Fits refuses (outcome_of x) (nat_lt 0 behind)
@@ -146,9 +181,15 @@ right_receive x call position nothing here =
     (λ none. right_read x call position _ nothing here (omega (arith, ltb-false 0 behind none)) refl)
 
 -- each call, with the handle that was found
-right_with : {V : Type 0} (x : Shown V) (call : BCall V) (kind : Kind) (position : ℕ) → lookup (wanted_kind call) x.slots (handle_of call) ≡ Handle kind position → (makes call ≡ true → length x.slots < MOST_HANDLES) → IsRight x call (effect_with (channel_of x) call kind position)
+right_with : {V : Type 0} (x : Shown V) (call : BCall V) (kind : Kind) (position : ℕ)
+    → lookup (wanted_kind call) x.slots (handle_of call) ≡ Handle kind position
+    → (makes call ≡ true → length x.slots < MOST_HANDLES)
+    → IsRight x call (effect_with (channel_of x) call kind position)
 unfolding Stands
-right_with x (Send h v) kind position is few = sound_if IsAllowed weight back Fits refuses (outcome_of x) (receivers (channel_of x) == 0) (λ _. right_keep x _ _) (λ _. right_append x _ v (Sent (receivers (channel_of x))) refl)
+right_with x (Send h v) kind position is few =
+    sound_if IsAllowed weight back Fits refuses (outcome_of x) (receivers (channel_of x) == 0)
+    (λ _. right_keep x _ _)
+    (λ _. right_append x _ v (Sent (receivers (channel_of x))) refl)
 right_with x (Subscribe h) kind position is few = right_make x _ Receiver x.sent (omega arith) (few refl)
 right_with x (CloneSender h) kind position is few = right_make x _ Sender 0 refl (few refl)
 right_with x (Resubscribe h) kind position is few = right_make x _ Receiver x.sent (omega arith) (few refl)
@@ -159,7 +200,10 @@ right_with x (SenderLen h) kind position is few = right_keep x _ _
 right_with x (ReceiverCount h) kind position is few = right_keep x _ _
 right_with x (ReceiverLen h) kind position is few = right_keep x _ _
 right_with x (Downgrade h) kind position is few = right_make x _ Weak 0 refl (few refl)
-right_with x (Upgrade h) kind position is few = sound_if IsAllowed weight back Fits refuses (outcome_of x) (is_closed (channel_of x)) (λ _. right_keep x _ _) (λ _. right_make x _ Sender 0 refl (few refl))
+right_with x (Upgrade h) kind position is few =
+    sound_if IsAllowed weight back Fits refuses (outcome_of x) (is_closed (channel_of x))
+    (λ _. right_keep x _ _)
+    (λ _. right_make x _ Sender 0 refl (few refl))
 right_with x (CloneWeak h) kind position is few = right_make x _ Weak 0 refl (few refl)
 
 right : {V : Type 0} (x : Shown V) (call : BCall V) → IsRight x call (effect (channel_of x) call)

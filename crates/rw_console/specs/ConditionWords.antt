@@ -5,7 +5,8 @@ use Rattle.rw_lines.specs.Cut.{cut}
 use Rattle.rw_lines.specs.Numerals.{numeral_in}
 use Rattle.rw_words.specs.ReplyWords.{reply_word_in, reply_word_text}
 use Rattle.rw_navigator.specs.declared.worlds.condition.Cond.{Cond}
-use Rattle.rw_navigator.specs.declared.worlds.condition.Cond.TheVariants.{Actor, Channel, ReplyKind, UnreadAtLeast, Lagging, Unseen, VersionAtLeast, Closed, QueueAtLeast}
+use Rattle.rw_navigator.specs.declared.worlds.condition.Cond.TheVariants.{Actor, Channel, ReplyKind, UnreadAtLeast, Lagging}
+use Rattle.rw_navigator.specs.declared.worlds.condition.Cond.TheVariants.{Unseen, VersionAtLeast, Closed, QueueAtLeast}
 use Rattle.rw_console.specs.declared.condition_words.ConditionWord.{ConditionWord}
 use Rattle.rw_console.specs.declared.condition_words.ConditionWord.TheVariants as word
 

@@ -45,7 +45,11 @@ pub record GivesFault (reader reader' : Option (List ℕ)) (limit : ℕ) (fault 
 
 -- why reading stopped within the script
 abbrev pub ExplainsScript : ℕ → List ℕ → StreamFault → Type 0
-ExplainsScript limit bytes streams.Read = (ls : List (List ℕ)) × (part : List ℕ) × All IsUnbroken ls × IsUnbroken part × (bytes ≡ unlines ls ++ part) × (HasMark ls → ⊥) × (length bytes ≤ limit)
+ExplainsScript limit bytes streams.Read =
+    (ls : List (List ℕ)) × (part : List ℕ) × All IsUnbroken ls × IsUnbroken part
+    × (bytes ≡ unlines ls ++ part)
+    × (HasMark ls → ⊥)
+    × (length bytes ≤ limit)
 ExplainsScript limit bytes streams.TooMuch = length bytes ≡ limit + 1
 ExplainsScript limit bytes streams.Write = ⊥
 ExplainsScript limit bytes streams.NoMemory = length bytes ≤ limit

@@ -19,13 +19,17 @@ pub record Answers (reader reader' writer writer' : Option (List ℕ)) (report :
 -- Otherwise there are no more than are allowed.
 abbrev pub Explains : (List ℕ → List ℕ) → (List (List ℕ) → Type 0) → ℕ → List ℕ → List ℕ → StreamFault → Type 0
 Explains report begun limit bytes text Read =
-    (ls : List (List ℕ)) × (part : List ℕ) × All IsUnbroken ls × IsUnbroken part × (bytes ≡ unlines ls ++ part) × (begun ls → text ≡ report (unlines ls)) × (length bytes ≤ limit)
+    (ls : List (List ℕ)) × (part : List ℕ) × All IsUnbroken ls × IsUnbroken part
+    × (bytes ≡ unlines ls ++ part)
+    × (begun ls → text ≡ report (unlines ls))
+    × (length bytes ≤ limit)
 Explains report begun limit bytes text TooMuch = length bytes ≡ limit + 1
 Explains report begun limit bytes text Write = length bytes ≤ limit
 Explains report begun limit bytes text NoMemory = length bytes ≤ limit
 
 -- It read bytes and wrote a prefix of their report.
-pub record Stops (reader reader' writer writer' : Option (List ℕ)) (report : List ℕ → List ℕ) (begun : List (List ℕ) → Type 0) (limit : ℕ) (fault : StreamFault) : Type 0 where
+pub record Stops (reader reader' writer writer' : Option (List ℕ)) (report : List ℕ → List ℕ)
+    (begun : List (List ℕ) → Type 0) (limit : ℕ) (fault : StreamFault) : Type 0 where
   pub bytes : List ℕ
   pub text : List ℕ
   pub rest : List ℕ

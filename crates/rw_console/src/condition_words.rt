@@ -3,7 +3,8 @@
 ghost use Rattle.std.specs.Prelude.{◌≡◌, find, IfSome, IsSome};
 ghost use Rattle.std.specs.Str.{bytes_eq};
 ghost use Rattle.rw_navigator.specs.declared.worlds.condition.Cond.{Cond};
-ghost use Rattle.rw_console.specs.ConditionWords.{condition_in, condition_of_word, condition_text, condition_word_text, condition_words, three_numbers_in, two_numbers_in, HasNumerals};
+ghost use Rattle.rw_console.specs.ConditionWords.{condition_in, condition_of_word, condition_text, condition_word_text};
+ghost use Rattle.rw_console.specs.ConditionWords.{condition_words, three_numbers_in, two_numbers_in, HasNumerals};
 
 use rw_lines::{cut, numeral};
 use rw_navigator::Cond;

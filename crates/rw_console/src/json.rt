@@ -3,7 +3,8 @@
 ghost use Rattle.std.specs.Prelude.{◌≡◌, ◌++◌, ◌∷◌, [], codes, length, map, option_map, option_to_list, IfOk, OnOk};
 ghost use Rattle.serde_json.specs.Data.{object};
 ghost use Rattle.serde_json.specs.View.{view, members_view};
-ghost use Rattle.rw_console.specs.Json.{broadcast_json, broadcast_with, channel_json, json_text, receiver_json, receivers_json, handle_json, handles_json, watch_json, watcher_json, watchers_json, world_json, natural};
+ghost use Rattle.rw_console.specs.Json.{broadcast_json, broadcast_with, channel_json, json_text, receiver_json, receivers_json};
+ghost use Rattle.rw_console.specs.Json.{handle_json, handles_json, watch_json, watcher_json, watchers_json, world_json, natural};
 ghost use Rattle.rw_broadcast.specs.Machine.{position_at};
 ghost use Rattle.rw_watch.specs.Machine.{mark_at};
 ghost use Rattle.std.specs.Prelude.{slice_get};
@@ -163,7 +164,8 @@ fn receiver_value(
     channel: &Broadcast<u64>,
     h: u32,
 ) -> Result<Option<Value>, AllocError>
-    ensures { IfOk result (λ value. option_map view value ≡ option_map (receiver_json channel.now.shown h) (position_at (slice_get channel.now.shown.slots h))) }
+    ensures { IfOk result (λ value. option_map view value
+        ≡ option_map (receiver_json channel.now.shown h) (position_at (slice_get channel.now.shown.slots h))) }
 {
     let Some(position) = channel.position(h) else {
         return Ok(None);

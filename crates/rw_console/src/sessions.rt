@@ -105,9 +105,11 @@ pub fn session<R: Read, W: Write>(
     reader: &mut R,
     writer: &mut W,
 ) -> Result<Outcome, SessionFault>
-    ensures ok { IfOk result (λ o. (done : Answers (R.remaining reader.old) (R.remaining reader.new) (W.contents writer.old) (W.contents writer.new) report MOST_BYTES)
+    ensures ok { IfOk result (λ o. (done : Answers (R.remaining reader.old) (R.remaining reader.new)
+        (W.contents writer.old) (W.contents writer.new) report MOST_BYTES)
         × (outcome done.bytes ≡ o)) }
-    ensures err { IfErr result (Stops (R.remaining reader.old) (R.remaining reader.new) (W.contents writer.old) (W.contents writer.new) report HasMark MOST_BYTES) }
+    ensures err { IfErr result (Stops (R.remaining reader.old) (R.remaining reader.new) (W.contents writer.old) (W.contents writer.new)
+        report HasMark MOST_BYTES) }
 {
     let mut allowed = MOST_BYTES;
     match read_script(alloc, reader, &mut allowed)? {

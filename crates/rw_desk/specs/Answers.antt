@@ -46,7 +46,8 @@ module _ {V : Type 0} (specs : List (Spec V)) (old after : Pass V) (channel : �
   IsAnsweredW c answer = IsAnswered specs old after channel (call.W c) (λ r. reply.W r) answer
 
   -- this is the result of a call that makes a handle: the handle has the receipt's channel, and the number in its reply
-  pub record IsMaking {H R : Type 0} (c : ChanCall V) (new : ℕ → R) (tell : R → ChanReply V) (channel_of number : H → ℕ) (answer : Result (Made H R) DeskFault) : Type 0 where
+  pub record IsMaking {H R : Type 0} (c : ChanCall V) (new : ℕ → R) (tell : R → ChanReply V)
+      (channel_of number : H → ℕ) (answer : Result (Made H R) DeskFault) : Type 0 where
     pub answered : IsAnswered specs old after channel c (λ made. tell (reply_made new number made)) answer
     pub made : IfOk answer (IsMadeOn new channel_of channel)
 

@@ -1,5 +1,6 @@
 -- Desks, and what they return.
-use Rattle.std.specs.Prelude.{◌≡◌, ◌↔◌, Bool, true, false, ℕ, ◌<◌, ◌≤◌, ◌||◌, nat_eq, nat_lt, if◌then◌else◌, None, Some, Option, slice_get, List, length, map, IfOk, OnErr, IsErrOf, IsTrue, Result}
+use Rattle.std.specs.Prelude.{◌≡◌, ◌↔◌, Bool, true, false, ℕ, ◌<◌, ◌≤◌, ◌||◌, nat_eq, nat_lt, if◌then◌else◌, None}
+use Rattle.std.specs.Prelude.{Some, Option, slice_get, List, length, map, IfOk, OnErr, IsErrOf, IsTrue, Result}
 use Rattle.std.specs.Option.{option_map}
 use Rattle.rw_law.specs.declared.limits.TheConstants.{MOST_ACTORS}
 use Rattle.rw_world.specs.declared.opening.Spec.{Spec}
@@ -61,7 +62,8 @@ has_no_watch specs channel = no_watch_at (slice_get specs channel)
 
 -- What a desk returns for a call: the pass has its receipt, with the reply that the result has; or the pass is unchanged. The fault is
 -- `NoChannel` exactly if the call strays by the specs.
-pub record IsAnswered {V X : Type 0} (specs : List (Spec V)) (old new : Pass V) (channel : ℕ) (call : ChanCall V) (reply_of : X → ChanReply V) (answer : Result X DeskFault) : Type 0 where
+pub record IsAnswered {V X : Type 0} (specs : List (Spec V)) (old new : Pass V) (channel : ℕ) (call : ChanCall V)
+    (reply_of : X → ChanReply V) (answer : Result X DeskFault) : Type 0 where
   pub receipt : IfOk answer (λ x. HasReceipt (slice_get specs channel) old new channel call (reply_of x))
   pub refused : OnErr answer (new ≡ old)
   pub no_channel : IsErrOf answer NoChannel ↔ IsTrue (stray_of strays_at (map spec_kind specs) (row_call channel call))

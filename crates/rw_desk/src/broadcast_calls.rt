@@ -168,7 +168,8 @@ impl<V: Payload> Desk<V> {
         pass: &mut Pass<V>,
         receiver: BRx,
     ) -> Result<BReply<V>, (DeskFault, BRx)>
-        ensures { IsDropping self.now.specs pass.old pass.new receiver.channel (ChanCall.B (BCall.DropHandle receiver.number)) (λ r. ChanReply.B r) receiver result }
+        ensures { IsDropping self.now.specs pass.old pass.new receiver.channel
+            (ChanCall.B (BCall.DropHandle receiver.number)) (λ r. ChanReply.B r) receiver result }
     {
         match self.b_call(
             rt,

@@ -1,6 +1,7 @@
 //! Desks: channels that threads call, each under its own lock.
 
-ghost use Rattle.std.specs.Prelude.{◌≡◌, ◌↔◌, ◌<◌, ◌≤◌, ℕ, false, None, Some, All, length, map, slice_get, IfNone, IfOk, IfSome, IsErrOf, IsNone, IsTrue, MatchResult};
+ghost use Rattle.std.specs.Prelude.{◌≡◌, ◌↔◌, ◌<◌, ◌≤◌, ℕ, false, None, Some, All, length, map, slice_get};
+ghost use Rattle.std.specs.Prelude.{IfNone, IfOk, IfSome, IsErrOf, IsNone, IsTrue, MatchResult};
 ghost use Rattle.rw_law.specs.declared.limits.TheConstants.{MOST_ACTORS};
 ghost use Rattle.rw_world.specs.declared.opening.TheConstants.{MOST_CHANNELS};
 ghost use Rattle.rw_world.specs.Channel.{strays_at};
@@ -48,7 +49,9 @@ impl<V: Payload> Desk<V> {
         actors: u32,
     ) -> Result<(Desk<V>, Vec<Pass<V>>, Vec<Ends>), DeskOpenFault>
         ensures refused { IfSome (refusal_to_open specs.now actors) (λ fault. result ≡ Err fault) }
-        ensures opened { IfNone (refusal_to_open specs.now actors) (MatchResult result (λ r. HasOpened specs.now actors r.0 r.1.items r.2.items) (λ fault. fault ≡ DeskOpenFault.World OpenFault.NoMemory)) }
+        ensures opened { IfNone (refusal_to_open specs.now actors) (MatchResult result
+            (λ r. HasOpened specs.now actors r.0 r.1.items r.2.items)
+            (λ fault. fault ≡ DeskOpenFault.World OpenFault.NoMemory)) }
     {
         if let Some(fault) = refusal_to_open(specs, actors) {
             return Err(fault);
@@ -183,7 +186,8 @@ fn fresh_passes<V: Copy>(alloc: Global, actors: u32) -> Result<Vec<Pass<V>>, NoM
 /// Returns the first two handles of each channel.
 fn first_ends<V: Copy>(alloc: Global, specs: &[Spec<V>]) -> Result<Vec<Ends>, NoMemory>
     requires { length specs.now ≤ MOST_CHANNELS }
-    ensures { IfOk result (λ ends. (length ends.items ≡ length specs.now) × ((c : ℕ) → c < length specs.now → slice_get ends.items c ≡ ends_at c (slice_get specs.now c))) }
+    ensures { IfOk result (λ ends. (length ends.items ≡ length specs.now)
+        × ((c : ℕ) → c < length specs.now → slice_get ends.items c ≡ ends_at c (slice_get specs.now c))) }
 {
     let mut ends = Vec::new(alloc);
     for channel in 0..specs.len() {

@@ -47,7 +47,9 @@ pub(crate) fn modification<V: Copy, T: Told, F: FnOnce(&mut V) -> T>(
 ) -> WCall<V>
     requires f { F.IsAlwaysCallable f }
     requires watch { channel_kind ((of_chan {V = V}).shown channel.now) ≡ kind.Watch }
-    ensures { IsModification (λ v told w. (t : T) × FnOnceReturnsAtMut F.FnOnce f v t w × (told ≡ T.tells t)) ((of_chan {V = V}).shown channel.now) sender result }
+    ensures { IsModification
+        (λ v told w. (t : T) × FnOnceReturnsAtMut F.FnOnce f v t w × (told ≡ T.tells t))
+        ((of_chan {V = V}).shown channel.now) sender result }
 {
     let Chan::Watch(channel) = channel else {
         unreachable!()

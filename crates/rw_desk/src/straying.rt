@@ -40,7 +40,9 @@ fn follow<V: Payload, P: HasPass<V>>(
     entry: &Entry<World<V>>,
 ) -> bool
     requires { entry.now.actor < length numbers.old }
-    ensures same { IsTrue result ↔ (slice_get (receipts_of entry.now.actor (map P.pass_of passes.now)) (get_or numbers.old entry.now.actor 0) ≡ Some (receipt_of entry.now)) }
+    ensures same { IsTrue result
+        ↔ (slice_get (receipts_of entry.now.actor (map P.pass_of passes.now)) (get_or numbers.old entry.now.actor 0)
+        ≡ Some (receipt_of entry.now)) }
     ensures numbers { MatchBool result (numbers.new ≡ set numbers.old entry.now.actor (get_or numbers.old entry.now.actor 0 + 1)) (numbers.new ≡ numbers.old) }
 {
     let actor = entry.actor as usize;

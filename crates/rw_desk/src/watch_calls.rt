@@ -261,7 +261,8 @@ impl<V: Payload> Desk<V> {
         pass: &mut Pass<V>,
         receiver: WRx,
     ) -> Result<WReply<V>, (DeskFault, WRx)>
-        ensures { IsDropping self.now.specs pass.old pass.new receiver.channel (ChanCall.W (WCall.DropHandle receiver.number)) (λ r. ChanReply.W r) receiver result }
+        ensures { IsDropping self.now.specs pass.old pass.new receiver.channel
+            (ChanCall.W (WCall.DropHandle receiver.number)) (λ r. ChanReply.W r) receiver result }
     {
         match self.w_call(
             rt,

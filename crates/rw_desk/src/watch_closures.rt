@@ -27,7 +27,10 @@ impl<V: Payload> Desk<V> {
         f: F,
     ) -> Result<WReply<V>, DeskFault>
         requires { F.IsAlwaysCallable f }
-        ensures modified { IfOk result (HasModified (λ v told w. FnOnceReturnsAtMut F.FnOnce f v told w) (λ v. Unit {0}) (slice_get self.now.specs sender.now.channel) pass.old pass.new sender.now.channel sender.now.number) }
+        ensures modified { IfOk result (HasModified
+            (λ v told w. FnOnceReturnsAtMut F.FnOnce f v told w)
+            (λ v. Unit {0}) (slice_get self.now.specs sender.now.channel)
+            pass.old pass.new sender.now.channel sender.now.number) }
         ensures refused { OnErr result (pass.new ≡ pass.old) }
         ensures no_channel { IsErrOf result DeskFault.NoChannel ↔ IsTrue (has_no_watch self.now.specs sender.now.channel) }
     {
@@ -43,7 +46,10 @@ impl<V: Payload> Desk<V> {
         f: F,
     ) -> Result<WReply<V>, DeskFault>
         requires { F.IsAlwaysCallable f }
-        ensures modified { IfOk result (HasModified (λ v told w. (told ≡ true) × FnOnceReturnsAtMut F.FnOnce f v tt w) (λ v. Unit {0}) (slice_get self.now.specs sender.now.channel) pass.old pass.new sender.now.channel sender.now.number) }
+        ensures modified { IfOk result (HasModified
+            (λ v told w. (told ≡ true) × FnOnceReturnsAtMut F.FnOnce f v tt w)
+            (λ v. Unit {0}) (slice_get self.now.specs sender.now.channel)
+            pass.old pass.new sender.now.channel sender.now.number) }
         ensures refused { OnErr result (pass.new ≡ pass.old) }
         ensures no_channel { IsErrOf result DeskFault.NoChannel ↔ IsTrue (has_no_watch self.now.specs sender.now.channel) }
     {
@@ -60,7 +66,8 @@ impl<V: Payload> Desk<V> {
         f: F,
     ) -> Result<WReply<V>, DeskFault>
         requires { F.IsAlwaysCallable f }
-        ensures waited { HasWaited (λ v told. FnReturnsAt F.Fn f v told) (slice_get self.now.specs receiver.now.channel) receiver.now.channel receiver.now.number pass.old pass.new result }
+        ensures waited { HasWaited (λ v told. FnReturnsAt F.Fn f v told) (slice_get self.now.specs receiver.now.channel)
+            receiver.now.channel receiver.now.number pass.old pass.new result }
         ensures no_channel { IsErrOf result DeskFault.NoChannel ↔ IsTrue (has_no_watch self.now.specs receiver.now.channel) }
         ensures no_wait { ¬ IsErrOf result DeskFault.Waits }
     {
@@ -81,8 +88,14 @@ impl<V: Payload> Desk<V> {
         f: &F,
     ) -> Result<Option<WReply<V>>, DeskFault>
         requires { F.IsAlwaysCallable f.now }
-        ensures tried { IfOk result (λ ended. MatchOption ended (HasTried (λ v told. FnReturnsAt F.Fn f.now v told) (slice_get self.now.specs receiver.now.channel) receiver.now.channel receiver.now.number pass.old pass.new WReply.Done) (HasEnded (λ v told. FnReturnsAt F.Fn f.now v told) (slice_get self.now.specs receiver.now.channel) receiver.now.channel receiver.now.number pass.old pass.new)) }
-        ensures broken { OnErr result (HasBroken (λ v told. FnReturnsAt F.Fn f.now v told) (slice_get self.now.specs receiver.now.channel) receiver.now.channel receiver.now.number pass.old pass.new) }
+        ensures tried { IfOk result (λ ended. MatchOption ended
+            (HasTried (λ v told. FnReturnsAt F.Fn f.now v told) (slice_get self.now.specs receiver.now.channel)
+            receiver.now.channel receiver.now.number pass.old pass.new WReply.Done)
+            (HasEnded (λ v told. FnReturnsAt F.Fn f.now v told) (slice_get self.now.specs receiver.now.channel)
+            receiver.now.channel receiver.now.number pass.old pass.new)) }
+        ensures broken { OnErr result (HasBroken
+            (λ v told. FnReturnsAt F.Fn f.now v told) (slice_get self.now.specs receiver.now.channel)
+            receiver.now.channel receiver.now.number pass.old pass.new) }
         ensures no_channel { IsErrOf result DeskFault.NoChannel ↔ IsTrue (has_no_watch self.now.specs receiver.now.channel) }
         ensures no_wait { ¬ IsErrOf result DeskFault.Waits }
     {
@@ -110,7 +123,10 @@ impl<V: Payload> Desk<V> {
         f: F,
     ) -> Result<WReply<V>, DeskFault>
         requires { F.IsAlwaysCallable f }
-        ensures modified { IfOk result (HasModified (λ v told w. (t : T) × FnOnceReturnsAtMut F.FnOnce f v t w × (told ≡ T.tells t)) (λ v. Unit {0}) (slice_get self.now.specs sender.now.channel) pass.old pass.new sender.now.channel sender.now.number) }
+        ensures modified { IfOk result (HasModified
+            (λ v told w. (t : T) × FnOnceReturnsAtMut F.FnOnce f v t w × (told ≡ T.tells t))
+            (λ v. Unit {0}) (slice_get self.now.specs sender.now.channel)
+            pass.old pass.new sender.now.channel sender.now.number) }
         ensures refused { OnErr result (pass.new ≡ pass.old) }
         ensures no_channel { IsErrOf result DeskFault.NoChannel ↔ IsTrue (has_no_watch self.now.specs sender.now.channel) }
     {

@@ -79,7 +79,15 @@ end_place (Dropped place) = place
 -- a loss as numbers, or all 0 where there is none
 abbrev pub loss_found : Option Loss → LossFound
 loss_found None = record { is_some = 0; channel = 0; receiver = 0; end = 0; from = 0; lost = 0; to = 0 }
-loss_found (Some loss) = record { is_some = 1; channel = loss.channel; receiver = loss.receiver; end = end_number loss.end; from = loss.from; lost = loss.lost; to = end_place loss.end }
+loss_found (Some loss) = record {
+  is_some = 1;
+  channel = loss.channel;
+  receiver = loss.receiver;
+  end = end_number loss.end;
+  from = loss.from;
+  lost = loss.lost;
+  to = end_place loss.end;
+}
 
 -- the totals of a receiver as numbers, or all 0 where there are none
 abbrev pub broadcast_found : (channel receiver : ℕ) → BroadcastCounts → ReaderFound
@@ -117,7 +125,19 @@ counts_found channel receiver (Broadcast counts) = broadcast_found channel recei
 counts_found channel receiver (Watch counts) = watch_found channel receiver counts
 
 abbrev pub reader_found : Option Totals → ReaderFound
-reader_found None = record { is_some = 0; channel = 0; receiver = 0; kind = 0; received = 0; told = 0; lost = 0; worst = 0; worst_place = 0; unread = 0; unseen = 0 }
+reader_found None = record {
+  is_some = 0;
+  channel = 0;
+  receiver = 0;
+  kind = 0;
+  received = 0;
+  told = 0;
+  lost = 0;
+  worst = 0;
+  worst_place = 0;
+  unread = 0;
+  unseen = 0;
+}
 reader_found (Some totals) = counts_found totals.channel totals.receiver totals.counts
 
 -- a closing as numbers, or all 0 where there is none
@@ -128,7 +148,13 @@ closing_found (Some closing) = record { is_some = 1; channel = closing.channel; 
 -- what a receiver did after its channel was closed, as numbers, or all 0 where there is none
 abbrev pub late_reader_found : Option LateReader → LateReaderFound
 late_reader_found None = record { is_some = 0; channel = 0; receiver = 0; told_at = 0; read_on = 0 }
-late_reader_found (Some late) = record { is_some = 1; channel = late.channel; receiver = late.receiver; told_at = unwrap_or late.told 0; read_on = late.read_on }
+late_reader_found (Some late) = record {
+  is_some = 1;
+  channel = late.channel;
+  receiver = late.receiver;
+  told_at = unwrap_or late.told 0;
+  read_on = late.read_on;
+}
 
 -- ---- of what is held
 

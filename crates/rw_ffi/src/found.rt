@@ -1,7 +1,8 @@
 //! Findings as numbers for C.
 
 ghost use Rattle.std.specs.Prelude.{◌≡◌, Option, slice_get};
-ghost use Rattle.rw_ffi.specs.Findings.{broadcast_found, closing_found, counts_found, end_number, end_place, fault_found, late_reader_found, loss_found, not_refused, reader_found, watch_found};
+ghost use Rattle.rw_ffi.specs.Findings.{broadcast_found, closing_found, counts_found, end_number, end_place, fault_found};
+ghost use Rattle.rw_ffi.specs.Findings.{late_reader_found, loss_found, not_refused, reader_found, watch_found};
 
 use rw_findings::{
     BroadcastCounts, Closing, Counts, LateReader, Loss, LossEnd, Totals, WatchCounts,

@@ -1,5 +1,6 @@
 -- What the search for totals keeps of a broadcast while it passes over its entries.
-use Rattle.std.specs.Prelude.{◌≡◌, ◌<◌, ◌^◌, ℕ, ◌+◌, ◌-◌, nat_lt, if◌then◌else◌, List, [], ◌∷◌, ◌++◌, Option, Some, None, option_map, option_and_then, slice_set, slice_index_or}
+use Rattle.std.specs.Prelude.{◌≡◌, ◌<◌, ◌^◌, ℕ, ◌+◌, ◌-◌, nat_lt, if◌then◌else◌, List, [], ◌∷◌, ◌++◌}
+use Rattle.std.specs.Prelude.{Option, Some, None, option_map, option_and_then, slice_set, slice_index_or}
 use Rattle.rw_broadcast.specs.Arithmetic.{retained_capacity}
 use Rattle.rw_broadcast.specs.declared.calls.BCall.{BCall}
 use Rattle.rw_broadcast.specs.declared.calls.BCall.TheVariants.{Subscribe, Resubscribe}
@@ -49,7 +50,10 @@ settled t r =
 
 -- after it has received a value, was told that it lags, or was dropped
 abbrev pub after_value : BroadcastTally → Reader → Reader
-after_value t r = record r { position = option_map (λ position. if nat_lt position t.sent then position + 1 else position) r.position; received = r.received + 1 }
+after_value t r = record r {
+  position = option_map (λ position. if nat_lt position t.sent then position + 1 else position) r.position;
+  received = r.received + 1;
+}
 
 abbrev pub after_lag : BroadcastTally → Reader → Reader
 after_lag t r = record (settled t r) { position = Some (oldest_of t); told = r.told + 1 }

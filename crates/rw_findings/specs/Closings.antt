@@ -1,5 +1,6 @@
 -- The closings of a run: where the last sender of a channel was dropped, and what its receivers did then.
-use Rattle.std.specs.Prelude.{◌≡◌, ℕ, ◌-◌, ◌<◌, ◌≤◌, ◌⊎◌, Bool, true, false, ◌||◌, nat_eq, is_some, List, length, take, drop, Option, Some, None, slice_index_or}
+use Rattle.std.specs.Prelude.{◌≡◌, ℕ, ◌-◌, ◌<◌, ◌≤◌, ◌⊎◌, Bool, true, false, ◌||◌, nat_eq, is_some}
+use Rattle.std.specs.Prelude.{List, length, take, drop, Option, Some, None, slice_index_or}
 use Rattle.std.specs.List.{All, Contains}
 use Rattle.rw_broadcast.specs.declared.calls.BReply.TheVariants as broadcast
 use Rattle.rw_watch.specs.declared.calls.WCall.TheVariants.{Changed, HasChanged}

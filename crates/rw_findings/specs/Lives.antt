@@ -1,5 +1,6 @@
 -- The lives of a channel's handles: when and by whom each was made, when it was dropped, and who called with it.
-use Rattle.std.specs.Prelude.{◌≡◌, ◌≢◌, ℕ, ◌+◌, ◌-◌, ◌<◌, ◌≤◌, ◌⊎◌, Bool, false, ◌&&◌, nat_eq, nat_lt, if◌then◌else◌, List, [], ◌∷◌, ◌++◌, length, Option, None, Some, IsSome, option_and_then, option_map, slice_get, slice_index_or}
+use Rattle.std.specs.Prelude.{◌≡◌, ◌≢◌, ℕ, ◌+◌, ◌-◌, ◌<◌, ◌≤◌, ◌⊎◌, Bool, false, ◌&&◌, nat_eq, nat_lt, if◌then◌else◌, List, [], ◌∷◌}
+use Rattle.std.specs.Prelude.{◌++◌, length, Option, None, Some, IsSome, option_and_then, option_map, slice_get, slice_index_or}
 use Rattle.std.specs.List.{count_by, range_with_len}
 use Rattle.std.specs.Option.{option_map_or}
 use Rattle.rw_handles.specs.declared.kinds.Kind.{Kind}
@@ -42,7 +43,9 @@ module _ {V : Type 0} where
 
   -- the entry after a place is such a call, and the handle was made before
   abbrev pub calls_after : Run V → (channel handle actor place : ℕ) → Bool
-  calls_after run channel handle actor place = nat_lt handle (made_at run channel place) && option_map_or (is_call_with channel handle actor) (slice_get run.entries place) false
+  calls_after run channel handle actor place =
+      nat_lt handle (made_at run channel place)
+      && option_map_or (is_call_with channel handle actor) (slice_get run.entries place) false
 
   -- how many calls an actor made with a handle, up to a place
   abbrev pub calls_to : Run V → (channel handle actor place : ℕ) → ℕ
@@ -100,7 +103,10 @@ with_kind life kind place = record life { dropped = dropped_by life.dropped kind
 pub record TookCall (old new : List Life) (handle actor : ℕ) (kind : Option Kind) (place : ℕ) : Type 0 where
   pub many : length new ≡ length old
   pub others : (other : ℕ) → other ≢ handle → slice_get new other ≡ slice_get old other
-  pub own : (before after : Life) → slice_get old handle ≡ Some before → slice_get new handle ≡ Some after → (mid : Life) × Counted before mid actor × (after ≡ with_kind mid kind place)
+  pub own : (before after : Life)
+      → slice_get old handle ≡ Some before
+      → slice_get new handle ≡ Some after
+      → (mid : Life) × Counted before mid actor × (after ≡ with_kind mid kind place)
 
 -- a life was appended for the channel's next handle, if it has made one
 abbrev pub TookMade : {V : Type 0} → (old new : List Life) → ChanShown V → (place actor : ℕ) → Type 0

@@ -1,5 +1,6 @@
 -- What the search for losses keeps of a broadcast while it passes over its entries.
-use Rattle.std.specs.Prelude.{◌≡◌, ◌≤◌, ℕ, zero, suc, ◌+◌, ◌-◌, nat_eq, nat_lt, if◌then◌else◌, List, [], ◌∷◌, ◌++◌, length, map, Option, Some, None, option_map, option_and_then, slice_get, slice_set, slice_index_or}
+use Rattle.std.specs.Prelude.{◌≡◌, ◌≤◌, ℕ, zero, suc, ◌+◌, ◌-◌, nat_eq, nat_lt, if◌then◌else◌, List, [], ◌∷◌, ◌++◌, length}
+use Rattle.std.specs.Prelude.{map, Option, Some, None, option_map, option_and_then, slice_get, slice_set, slice_index_or}
 use Rattle.rw_broadcast.specs.Arithmetic.{retained_capacity}
 use Rattle.rw_broadcast.specs.declared.calls.BCall.{BCall}
 use Rattle.rw_broadcast.specs.declared.calls.BCall.TheVariants.{Subscribe, Resubscribe, TryRecv, Recv, DropHandle}
@@ -106,7 +107,9 @@ module _ {V : Type 0} where
 
   -- the loss that ends by a call on this channel
   abbrev pub loss_on : List (Option Track) → ℕ → ChanCall V → ChanReply V → (place : ℕ) → Option Loss
-  loss_on ts channel (call_of.B call) (reply_of.B reply) place = option_and_then (λ o. option_and_then (λ t. loss_by t channel call reply place) o) (slice_get ts channel)
+  loss_on ts channel (call_of.B call) (reply_of.B reply) place = option_and_then
+      (λ o. option_and_then (λ t. loss_by t channel call reply place) o)
+      (slice_get ts channel)
   loss_on ts channel _ _ place = None
 
   abbrev pub loss_of_entry : List (Option Track) → WorldEntry V → (place : ℕ) → Option Loss

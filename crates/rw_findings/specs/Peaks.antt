@@ -38,7 +38,8 @@ peak_in rows receiver stretch = slice_index_or (slice_index_or rows receiver [])
 -- each receiver's peak in a stretch is the greatest of what is measured at its places
 abbrev pub ArePeaks : {V : Type 0} → Run V → (channel : ℕ) → Measure → Stretches → List (List ℕ) → Type 0
 ArePeaks run channel measure stretches rows = (receiver stretch : ℕ) → stretch < stretches.count
-    → IsGreatest (measured_at measure run channel receiver) (last_place run) (start_of stretches stretch) (start_of stretches (stretch + 1)) (peak_in rows receiver stretch)
+    → IsGreatest (measured_at measure run channel receiver) (last_place run)
+    (start_of stretches stretch) (start_of stretches (stretch + 1)) (peak_in rows receiver stretch)
 
 -- ---- inside
 

@@ -1,5 +1,6 @@
 -- What each receiver of a run received, and what it missed.
-use Rattle.std.specs.Prelude.{◌≡◌, ℕ, zero, suc, ◌+◌, ◌-◌, ◌<◌, ◌≤◌, ◌⊎◌, Bool, false, nat_eq, ◌&&◌, List, length, count_by, Option, Some, None, IsSome, unwrap_or, slice_get, slice_index_or, option_and_then}
+use Rattle.std.specs.Prelude.{◌≡◌, ℕ, zero, suc, ◌+◌, ◌-◌, ◌<◌, ◌≤◌, ◌⊎◌, Bool, false, nat_eq, ◌&&◌, List, length}
+use Rattle.std.specs.Prelude.{count_by, Option, Some, None, IsSome, unwrap_or, slice_get, slice_index_or, option_and_then}
 use Rattle.std.specs.List.{All, Contains}
 use Rattle.rw_broadcast.specs.declared.calls.BReply.TheVariants as broadcast
 use Rattle.rw_broadcast.specs.declared.calls.BCall.{BCall}
@@ -136,7 +137,9 @@ module _ {V : Type 0} (at : ℕ → List (ChanShown V)) (entries : List (WorldEn
   -- the list has the totals of each receiver that was there at some place, by channel, then by receiver
   pub record AreTotalsOf (totals : List Totals) : Type 0 where
     pub each : All (λ (t : Totals). AreCounts t.channel t.receiver t.counts) totals
-    pub all : (channel receiver : ℕ) → WasThere channel receiver → (counts : Counts) × Contains totals (record { channel = channel; receiver = receiver; counts = counts })
+    pub all : (channel receiver : ℕ)
+        → WasThere channel receiver
+        → (counts : Counts) × Contains totals (record { channel = channel; receiver = receiver; counts = counts })
     pub ordered : (i j : ℕ) (d : Totals) → i < j → j < length totals → ComesFirst (slice_index_or totals i d) (slice_index_or totals j d)
 
 -- the totals of a run, by what is documented at its places

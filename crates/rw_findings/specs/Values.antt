@@ -1,5 +1,6 @@
 -- The values of a channel: since when each is there, and where it was overwritten.
-use Rattle.std.specs.Prelude.{◌≡◌, ℕ, ◌+◌, ◌-◌, ◌<◌, ◌≤◌, ◌⊎◌, Bool, true, false, nat_eq, nat_le, nat_lt, if◌then◌else◌, List, [], ◌∷◌, ◌++◌, length, Option, None, Some, option_and_then, slice_get}
+use Rattle.std.specs.Prelude.{◌≡◌, ℕ, ◌+◌, ◌-◌, ◌<◌, ◌≤◌, ◌⊎◌, Bool, true, false, nat_eq, nat_le, nat_lt, if◌then◌else◌}
+use Rattle.std.specs.Prelude.{List, [], ◌∷◌, ◌++◌, length, Option, None, Some, option_and_then, slice_get}
 use Rattle.std.specs.Option.{option_map_or}
 use Rattle.rw_broadcast.specs.Arithmetic.{oldest}
 use Rattle.rw_broadcast.specs.Shown.{channel_of}
@@ -81,4 +82,7 @@ module _ {V : Type 0} where
   abbrev pub TookState : (old new : List (ChannelValue V)) → ChanShown V → (place : ℕ) → Type 0
   TookState old new x place =
       ((new ≡ old) × ((has_had x (length old) ≡ false) ⊎ (value_in x (length old) ≡ None)))
-      ⊎ ((value : V) × (has_had x (length old) ≡ true) × (value_in x (length old) ≡ Some value) × (new ≡ with_gone (old ++ come value place ∷ []) (oldest_in x) place))
+      ⊎ ((value : V)
+      × (has_had x (length old) ≡ true)
+      × (value_in x (length old) ≡ Some value)
+      × (new ≡ with_gone (old ++ come value place ∷ []) (oldest_in x) place))

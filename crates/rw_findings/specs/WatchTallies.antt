@@ -1,5 +1,6 @@
 -- What the search for totals keeps of a watch while it passes over its entries.
-use Rattle.std.specs.Prelude.{◌≡◌, ◌<◌, ◌≤◌, ◌^◌, ℕ, ◌+◌, ◌-◌, true, false, nat_lt, if◌then◌else◌, List, [], ◌∷◌, ◌++◌, Option, Some, None, option_map, slice_set, slice_index_or}
+use Rattle.std.specs.Prelude.{◌≡◌, ◌<◌, ◌≤◌, ◌^◌, ℕ, ◌+◌, ◌-◌, true, false, nat_lt, if◌then◌else◌, List}
+use Rattle.std.specs.Prelude.{[], ◌∷◌, ◌++◌, Option, Some, None, option_map, slice_set, slice_index_or}
 use Rattle.rw_watch.specs.declared.calls.WCall.{WCall}
 use Rattle.rw_watch.specs.declared.calls.WCall.TheVariants.{Subscribe, CloneReceiver, Update, Changed, MarkUnchanged, DropHandle}
 use Rattle.rw_watch.specs.declared.calls.WReply.{WReply}

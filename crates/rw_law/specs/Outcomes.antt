@@ -30,7 +30,10 @@ module _ {V C R P : Type 0} (allowed : V → Type 0) (weigh : V → ℕ) (back :
     pub weight_rises : weigh o.next ≤ weigh x + 1
 
   -- an outcome that depends on a test is sound if it is sound in both cases
-  pub sound_if : {E : Type 0} (f : E → Outcome V R P) {x : V} {c : C} (b : Bool) {o p : E} → (b ≡ true → IsSound x c (f o)) → (b ≡ false → IsSound x c (f p)) → IsSound x c (f (if b then o else p))
+  pub sound_if : {E : Type 0} (f : E → Outcome V R P) {x : V} {c : C} (b : Bool) {o p : E}
+      → (b ≡ true → IsSound x c (f o))
+      → (b ≡ false → IsSound x c (f p))
+      → IsSound x c (f (if b then o else p))
   sound_if f true h k = h refl
   sound_if f false h k = k refl
 

@@ -11,4 +11,8 @@ is_word token = nat_lt 0 (length token) && list_all (λ b. is_ascii_lowercase b 
 -- a letter a to z, then at most 15 of a to z and 0 to 9; but not "as"
 abbrev pub is_name : List ℕ → Bool
 is_name [] = false
-is_name (b ∷ bs) = is_ascii_lowercase b && (nat_le (length bs) 15 && (list_all (λ b. is_ascii_lowercase b || is_ascii_digit b) bs && not (bytes_eq (b ∷ bs) (codes "as"))))
+is_name (b ∷ bs) =
+    is_ascii_lowercase b
+    && (nat_le (length bs) 15
+    && (list_all (λ b. is_ascii_lowercase b || is_ascii_digit b) bs
+    && not (bytes_eq (b ∷ bs) (codes "as"))))

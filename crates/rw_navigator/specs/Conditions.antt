@@ -15,7 +15,8 @@ use Rattle.rw_world.specs.Specified.{WorldEntry}
 use Rattle.rw_words.specs.declared.reply_word.ReplyWord.{ReplyWord}
 use Rattle.rw_words.specs.ReplyWords.{reply_word_of, reply_word_text}
 use Rattle.rw_navigator.specs.declared.worlds.condition.Cond.{Cond}
-use Rattle.rw_navigator.specs.declared.worlds.condition.Cond.TheVariants.{Actor, Channel, ReplyKind, UnreadAtLeast, Lagging, Unseen, VersionAtLeast, Closed, QueueAtLeast}
+use Rattle.rw_navigator.specs.declared.worlds.condition.Cond.TheVariants.{Actor, Channel, ReplyKind, UnreadAtLeast, Lagging}
+use Rattle.rw_navigator.specs.declared.worlds.condition.Cond.TheVariants.{Unseen, VersionAtLeast, Closed, QueueAtLeast}
 
 -- there is a value, and it passes the test
 abbrev pub has : {A : Type 0} → (A → Bool) → Option A → Bool

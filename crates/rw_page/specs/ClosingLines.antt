@@ -26,7 +26,8 @@ late_line late =
 -- the text is that of a run's closings, and then of the receivers that were there, a line each, or of a journal text's first fault
 abbrev pub IsClosingReport : Result (Run ℕ) TextFault → List ℕ → Type 0
 IsClosingReport (Ok run) text =
-    (closings : List Closing) × (readers : List LateReader) × AreClosings run closings readers × (text ≡ flat_map closing_line closings ++ flat_map late_line readers)
+    (closings : List Closing) × (readers : List LateReader) × AreClosings run closings readers
+    × (text ≡ flat_map closing_line closings ++ flat_map late_line readers)
 IsClosingReport (Err fault) text = text ≡ text_fault_line fault
 
 -- the same of the run whose journal text the bytes are

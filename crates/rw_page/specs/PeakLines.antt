@@ -23,14 +23,20 @@ abbrev pub peak_numbers : (count : ℕ) → List ℕ → List ℕ
 peak_numbers count row = flat_map (λ stretch. with_number (codes " ") (slice_index_or row stretch 0)) (range_with_len 0 count)
 
 unfoldable pub row_line : Measure → (channel count receiver : ℕ) → List ℕ → List ℕ
-row_line measure channel count receiver row = with_number (measure_word measure) channel ++ with_number (codes " ") receiver ++ peak_numbers count row ++ codes "\n"
+row_line measure channel count receiver row =
+    with_number (measure_word measure) channel
+    ++ with_number (codes " ") receiver
+    ++ peak_numbers count row
+    ++ codes "\n"
 
 -- a row whose peaks are all 0 isn't written
 abbrev pub shown_row : Measure → (channel count receiver : ℕ) → List ℕ → List ℕ
 shown_row measure channel count receiver row = if list_any (nat_lt 0) row then row_line measure channel count receiver row else []
 
 abbrev pub shown_rows : Measure → (channel count : ℕ) → List (List ℕ) → (receivers : ℕ) → List ℕ
-shown_rows measure channel count rows receivers = flat_map (λ receiver. shown_row measure channel count receiver (slice_index_or rows receiver [])) (range_with_len 0 receivers)
+shown_rows measure channel count rows receivers = flat_map
+    (λ receiver. shown_row measure channel count receiver (slice_index_or rows receiver []))
+    (range_with_len 0 receivers)
 
 -- the text is that of the peaks of a measure, by receiver
 abbrev pub IsMeasureText : Run ℕ → Stretches → (channel : ℕ) → Measure → List ℕ → Type 0

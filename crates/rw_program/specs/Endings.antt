@@ -31,7 +31,11 @@ refused_text fault = record { written = text_fault_line fault; told = []; status
 -- ---- `record`: the journal text of a script's run, and then on standard error which line would wait
 
 abbrev pub end_of_record : Result Script ScriptFault → Ending
-end_of_record (Ok script) = record { written = text numbers (recording_of script); told = waiting_line (run_of script).waits; status = status_of (Ok (outcome_at (run_of script).waits)) }
+end_of_record (Ok script) = record {
+  written = text numbers (recording_of script);
+  told = waiting_line (run_of script).waits;
+  status = status_of (Ok (outcome_at (run_of script).waits));
+}
 end_of_record (Err fault) = refused_script fault
 
 abbrev pub record_of : List ℕ → Ending

@@ -24,7 +24,9 @@ Plays out out' line status (Err fault) = Closes out out' line status (refused_sc
 
 -- `record` with threads plays the file's script with a thread for each actor
 abbrev pub RecordsThreads : Option (List ℕ) → Option (List ℕ) → Option (List ℕ) → Option (List ℕ) → List ℕ → ℕ → Type 0
-RecordsThreads file file' out out' line status = OverFile file file' (λ bytes. Plays out out' line status (script_in (lines bytes))) (TellsOnly out out' line status)
+RecordsThreads file file' out out' line status = OverFile file file'
+    (λ bytes. Plays out out' line status (script_in (lines bytes)))
+    (TellsOnly out out' line status)
 
 -- `record`, with threads or without them
 abbrev pub RecordsBy : Bool → Option (List ℕ) → Option (List ℕ) → Option (List ℕ) → Option (List ℕ) → List ℕ → ℕ → Type 0

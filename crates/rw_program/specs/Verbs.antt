@@ -23,7 +23,9 @@ Salvages file file' out out' line status = OverFile file file' (λ bytes. Closes
 -- `debug` runs the commands of the input over the file's journal
 abbrev pub Walks : Option (List ℕ) → Option (List ℕ) → Option (List ℕ) → Option (List ℕ) → Option (List ℕ) → Option (List ℕ) → List ℕ → ℕ → Type 0
 Walks file file' input input' out out' line status =
-    OverFile file file' (λ bytes. Debugs input input' out out' line status (reading_of numbers bytes)) (λ fault. Keeps input input' × TellsOnly out out' line status fault)
+    OverFile file file'
+    (λ bytes. Debugs input input' out out' line status (reading_of numbers bytes))
+    (λ fault. Keeps input input' × TellsOnly out out' line status fault)
 
 -- only `debug` reads the input
 abbrev pub DoneBy : Verb → Option (List ℕ) → Option (List ℕ) → Option (List ℕ) → Option (List ℕ) → Option (List ℕ) → Option (List ℕ) → List ℕ → ℕ → Type 0

@@ -1,5 +1,6 @@
 -- The last values of all that were put, as many as the capacity: their window after one more value, and before it.
-use Rattle.std.proofs.Common.{◌≡◌, ℕ, ◌+◌, ◌-◌, ◌<◌, ◌≤◌, min, Bool, true, false, cond, List, [], ◌∷◌, ◌++◌, length, take, drop, refl, ap, sym, ◌∙◌, arith, length-drop}
+use Rattle.std.proofs.Common.{◌≡◌, ℕ, ◌+◌, ◌-◌, ◌<◌, ◌≤◌, min, Bool, true, false, cond, List, []}
+use Rattle.std.proofs.Common.{◌∷◌, ◌++◌, length, take, drop, refl, ap, sym, ◌∙◌, arith, length-drop}
 use Rattle.std.specs.Prelude.{Option, Some, None, if◌then◌else◌, slice_get, nat_lt, is_some}
 use Rattle.std.proofs.lemmas.Bool.{cond_both, ltb-true, ltb-false, le-ltb, lt-ltb}
 use Rattle.std.proofs.lemmas.List.{length_push, drop-drop, drop-append-le}
@@ -40,7 +41,9 @@ window_before None window = take (length window - 1) window
 window_before (Some v) window = v ∷ take (length window - 1) window
 
 -- in both cases: with room, and without
-window_before-after_by : {V : Type 0} (b : Bool) (w : List V) (v : V) → (b ≡ false → 0 < length w) → window_before (cond b None (slice_get w 0)) (cond b (w ++ v ∷ []) (drop 1 w ++ v ∷ [])) ≡ w
+window_before-after_by : {V : Type 0} (b : Bool) (w : List V) (v : V)
+    → (b ≡ false → 0 < length w)
+    → window_before (cond b None (slice_get w 0)) (cond b (w ++ v ∷ []) (drop 1 w ++ v ∷ [])) ≡ w
 window_before-after_by true w v some = push_back w v
 window_before-after_by false [] v some = absurd (omega (arith, some refl))
 window_before-after_by false (x ∷ xs) v some = ap (λ ys. x ∷ ys) (push_back xs v)
@@ -50,7 +53,10 @@ pub window_before-after : {V : Type 0} (capacity : ℕ) (w : List V) (v : V) →
 window_before-after capacity w v some = window_before-after_by (nat_lt (length w) capacity) w v (λ full. omega (arith, ltb-false (length w) capacity full))
 
 -- a window grows up to its capacity
-pub length-window_after : {V : Type 0} (capacity : ℕ) (w : List V) (v : V) (n : ℕ) → 0 < capacity → length w ≡ min n capacity → length (window_after capacity w v) ≡ min (n + 1) capacity
+pub length-window_after : {V : Type 0} (capacity : ℕ) (w : List V) (v : V) (n : ℕ)
+    → 0 < capacity
+    → length w ≡ min n capacity
+    → length (window_after capacity w v) ≡ min (n + 1) capacity
 length-window_after capacity w v n some is =
     let P = λ (l : List _). length l ≡ min (n + 1) capacity in
     cond_both (nat_lt (length w) capacity) _ _ P
@@ -58,7 +64,9 @@ length-window_after capacity w v n some is =
     (λ full. omega (arith, ltb-false (length w) capacity full, length_push (drop 1 w) v, length-drop 1 w))
 
 -- the last values of a list with one more value
-pub window_after-drop : {V : Type 0} (capacity : ℕ) (s : List V) (v : V) → 0 < capacity → window_after capacity (drop (length s - capacity) s) v ≡ drop (length (s ++ v ∷ []) - capacity) (s ++ v ∷ [])
+pub window_after-drop : {V : Type 0} (capacity : ℕ) (s : List V) (v : V)
+    → 0 < capacity
+    → window_after capacity (drop (length s - capacity) s) v ≡ drop (length (s ++ v ∷ []) - capacity) (s ++ v ∷ [])
 window_after-drop capacity s v some =
     let P = λ (l : List _). l ≡ drop (length (s ++ v ∷ []) - capacity) (s ++ v ∷ []) in
     let w = drop (length s - capacity) s in
@@ -73,12 +81,16 @@ window_after-drop capacity s v some =
     rw (one_more, drop-append-le, drop-drop) refl)
 
 -- a value is evicted where more are put than the capacity
-pub is_some-eviction : {V : Type 0} (capacity : ℕ) (w : List V) (n : ℕ) → 0 < capacity → length w ≡ min n capacity → is_some (eviction capacity w) ≡ nat_lt capacity (n + 1)
+pub is_some-eviction : {V : Type 0} (capacity : ℕ) (w : List V) (n : ℕ)
+    → 0 < capacity
+    → length w ≡ min n capacity
+    → is_some (eviction capacity w) ≡ nat_lt capacity (n + 1)
 is_some-eviction capacity w n some is =
     let P = λ (o : Option _). is_some o ≡ nat_lt capacity (n + 1) in
     cond_both (nat_lt (length w) capacity) _ _ P
     (λ room. sym (le-ltb capacity (n + 1) (omega (arith, ltb-true (length w) capacity room))))
-    (λ full. some_first w (omega (arith, ltb-false (length w) capacity full)) ∙ sym (lt-ltb capacity (n + 1) (omega (arith, ltb-false (length w) capacity full))))
+    (λ full. some_first w (omega (arith, ltb-false (length w) capacity full))
+    ∙ sym (lt-ltb capacity (n + 1) (omega (arith, ltb-false (length w) capacity full))))
   where
     some_first : {V : Type 0} (w : List V) → 0 < length w → is_some (slice_get w 0) ≡ true
     some_first [] h = absurd (omega (arith, h))

@@ -30,7 +30,8 @@ impl<V: Copy> Model for Ring<V> {
 
     ghost view = { λ r. record { capacity = r.capacity; count = r.count; values = in_order r.capacity r.count r.cells.items } };
 
-    ghost invariant = { λ r. (0 < r.capacity) × (r.capacity ≤ MOST_CAPACITY) × (vec_len r.cells ≡ min r.count r.capacity) × (r.capacity ≤ vec_capacity r.cells) };
+    ghost invariant = { λ r. (0 < r.capacity) × (r.capacity ≤ MOST_CAPACITY)
+        × (vec_len r.cells ≡ min r.count r.capacity) × (r.capacity ≤ vec_capacity r.cells) };
 }
 
 impl<V: Copy> Ring<V> {

@@ -3,7 +3,8 @@ use Rattle.std.specs.Prelude.{◌≡◌, ◌⊎◌, ◌++◌, ℕ, List, Result,
 use Rattle.rw_words.specs.declared.arguments.WordFault.{WordFault}
 use Rattle.rw_words.specs.declared.arguments.WordFault.TheVariants as words
 use Rattle.rw_script.specs.declared.faults.ScriptFaultKind.{ScriptFaultKind}
-use Rattle.rw_script.specs.declared.faults.ScriptFaultKind.TheVariants.{TooLong, Syntax, BadCapacity, TooManyChannels, BadActors, UnknownActor, UnknownChannel, WrongWord, BadArguments, UnknownName, NameTaken, TooManySteps, NoChannels, NoMemory}
+use Rattle.rw_script.specs.declared.faults.ScriptFaultKind.TheVariants.{TooLong, Syntax, BadCapacity, TooManyChannels, BadActors, UnknownActor, UnknownChannel}
+use Rattle.rw_script.specs.declared.faults.ScriptFaultKind.TheVariants.{WrongWord, BadArguments, UnknownName, NameTaken, TooManySteps, NoChannels, NoMemory}
 use Rattle.rw_script.specs.declared.faults.ScriptFault.{ScriptFault}
 
 -- the word for a fault in a fault line

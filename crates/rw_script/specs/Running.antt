@@ -67,7 +67,8 @@ run_of s = run_from (opened_records s.specs) [] s.steps
 -- ---- a step of the run on a book
 
 -- the call was recorded with its reply, and this is the handle that it made
-pub record IsMade {M P : Type 0} (m : Ghosts M (RowCall (ChanCall ℕ)) (ChanReply ℕ) P) (old new : Book M (RowCall (ChanCall ℕ)) (ChanReply ℕ) P) (c : ℕ × RowCall (ChanCall ℕ)) (handle : ℕ) : Type 0 where
+pub record IsMade {M P : Type 0} (m : Ghosts M (RowCall (ChanCall ℕ)) (ChanReply ℕ) P)
+    (old new : Book M (RowCall (ChanCall ℕ)) (ChanReply ℕ) P) (c : ℕ × RowCall (ChanCall ℕ)) (handle : ℕ) : Type 0 where
   pub stamp : ℕ
   pub taken : IsTaken m old new c.0 0 c.1 stamp (reply_to m old c.1)
   pub handle_is : handle ≡ made_by (reply_to m old c.1)
@@ -77,6 +78,8 @@ pub record IsMade {M P : Type 0} (m : Ghosts M (RowCall (ChanCall ℕ)) (ChanRep
 -- after any calls a machine that shows x replies as the records of the specs do; the same replies wait as on a channel, and
 -- calls stray by the specs
 pub record PlaysFrom {M P : Type 0} (m : Ghosts M (RowCall (ChanCall ℕ)) (ChanReply ℕ) P) (specs : List (Spec ℕ)) (x : m.View) : Type 0 where
-  pub replies : (calls : List (RowCall (ChanCall ℕ))) (c : RowCall (ChanCall ℕ)) → m.reply_of (fold m.next x calls) c ≡ reply_from (records_after (opened_records specs) calls) c
+  pub replies : (calls : List (RowCall (ChanCall ℕ))) (c : RowCall (ChanCall ℕ))
+      → m.reply_of (fold m.next x calls) c ≡ reply_from (records_after (opened_records specs) calls) c
   pub waits : (r : ChanReply ℕ) → m.is_waiting r ≡ (of_chan {V = ℕ}).is_waiting r
-  pub strays : (es : List (Entry M (RowCall (ChanCall ℕ)) (ChanReply ℕ) P)) (c : RowCall (ChanCall ℕ)) → m.is_straying (m.reply_of (after_all m x es) c) ≡ stray_of strays_at (map spec_kind specs) c
+  pub strays : (es : List (Entry M (RowCall (ChanCall ℕ)) (ChanReply ℕ) P)) (c : RowCall (ChanCall ℕ))
+      → m.is_straying (m.reply_of (after_all m x es) c) ≡ stray_of strays_at (map spec_kind specs) c

@@ -1,5 +1,6 @@
 -- What a script describes: channels, actors, and their calls in order.
-use Rattle.std.specs.Prelude.{ℕ, ◌+◌, List, [], ◌∷◌, ◌++◌, length, slice_get, Bool, Option, None, Some, is_some, is_none, Result, Ok, Err, ◌&&◌, nat_eq, nat_lt, nat_le, if◌then◌else◌, codes}
+use Rattle.std.specs.Prelude.{ℕ, ◌+◌, List, [], ◌∷◌, ◌++◌, length, slice_get, Bool, Option, None, Some}
+use Rattle.std.specs.Prelude.{is_some, is_none, Result, Ok, Err, ◌&&◌, nat_eq, nat_lt, nat_le, if◌then◌else◌, codes}
 use Rattle.std.specs.Option.{unwrap_or}
 use Rattle.std.specs.Str.{bytes_eq}
 use Rattle.rw_lines.specs.Cut.{cut}
@@ -14,7 +15,8 @@ use Rattle.rw_world.specs.declared.opening.TheConstants.{MOST_CHANNELS}
 use Rattle.rw_world.specs.Openings.{spec_kind}
 use Rattle.rw_script.specs.declared.reader.TheConstants.{MOST_STEPS}
 use Rattle.rw_script.specs.declared.faults.ScriptFaultKind.{ScriptFaultKind}
-use Rattle.rw_script.specs.declared.faults.ScriptFaultKind.TheVariants.{TooLong, Syntax, BadCapacity, TooManyChannels, BadActors, UnknownActor, UnknownChannel, NameTaken, TooManySteps, NoChannels}
+use Rattle.rw_script.specs.declared.faults.ScriptFaultKind.TheVariants.{TooLong, Syntax, BadCapacity, TooManyChannels, BadActors}
+use Rattle.rw_script.specs.declared.faults.ScriptFaultKind.TheVariants.{UnknownActor, UnknownChannel, NameTaken, TooManySteps, NoChannels}
 use Rattle.rw_script.specs.declared.faults.ScriptFault.{ScriptFault}
 use Rattle.rw_script.specs.declared.head.HeadLine.{HeadLine}
 use Rattle.rw_script.specs.declared.head.HeadLine.TheVariants.{Broadcast, Watch, Actors}

@@ -6,7 +6,8 @@ ghost use Rattle.rw_world.specs.declared.opening.TheConstants.{MOST_CHANNELS};
 ghost use Rattle.rw_script.specs.Memory.{Reads, ReadsLine};
 ghost use Rattle.rw_world.specs.Openings.{has_bad_capacity, spec_kind};
 ghost use Rattle.rw_script.specs.WellFormed.{IsScriptStep};
-ghost use Rattle.rw_script.specs.Script.{actors_of, after_line, script_at_end, is_in_head, is_mark, opening, spec_for, with_head, with_line, with_said, with_spec, with_step};
+ghost use Rattle.rw_script.specs.Script.{actors_of, after_line, script_at_end, is_in_head, is_mark, opening};
+ghost use Rattle.rw_script.specs.Script.{spec_for, with_head, with_line, with_said, with_spec, with_step};
 ghost use Rattle.rw_script.specs.StepLines.{said_of, target_in};
 ghost use Rattle.rw_words.specs.Words.{map_ok};
 
@@ -247,7 +248,14 @@ impl ScriptReader {
         said: &SaidCall<'_>,
         target: Option<u32>,
     ) -> Result<(), ScriptFaultKind>
-        requires step { IsScriptStep self.old.specs (actors_of self.old) (record { line = self.old.lines; actor = actor; channel = channel; call = said.now.call; target = target; binds = false }) }
+        requires step { IsScriptStep self.old.specs (actors_of self.old) (record {
+          line = self.old.lines;
+          actor = actor;
+          channel = channel;
+          call = said.now.call;
+          target = target;
+          binds = false;
+        }) }
         ensures taken { ReadsLine result self.old self.new (with_said self.old actor channel (said_of said.now) target) }
         ensures unchanged { OnErr result (self.new ≡ self.old) }
         ensures lines { self.new.lines ≡ self.old.lines }

@@ -78,7 +78,11 @@ fn run_step<M: Reversible<Call = RowCall<ChanCall<u64>>, Reply = ChanReply<u64>>
     requires stamps { last_stamp book.old.entries < MOST_STAMP }
     requires actor { step.now.actor < MOST_ACTORS }
     requires no_stray { M.is_straying (reply_to M.Reversible book.old (call_of step.now made.now).1) ≡ false }
-    ensures { let c = call_of step.now made.now in IfOk result (λ o. MatchOption o (IsTrue (M.is_waiting (reply_to M.Reversible book.old c.1)) × (book.new.entries ≡ book.old.entries) × (book.new.opening ≡ book.old.opening)) (IsMade M.Reversible book.old book.new c)) }
+    ensures { let c = call_of step.now made.now in IfOk result (λ o. MatchOption o
+        (IsTrue (M.is_waiting (reply_to M.Reversible book.old c.1))
+        × (book.new.entries ≡ book.old.entries)
+        × (book.new.opening ≡ book.old.opening))
+        (IsMade M.Reversible book.old book.new c)) }
 {
     let call = RowCall {
         channel: step.channel,

@@ -12,4 +12,6 @@ module _ (T U W : RattleType) (author : U.Denot → ℕ) (start : T.Denot → W.
 
   -- s ends with the book that the borrow r leaves
   abbrev pub LendsBook : MutBor (Lent T.Denot U.Denot W.Denot) → MutBor T.Denot → Fml
-  LendsBook s r = Lends (the_row (record { mir = named 1; lft = [] }) T U W (record { author = author; start = start; journal = journal })) T s r (with_book s.now)
+  LendsBook s r = Lends
+      (the_row (record { mir = named 1; lft = [] }) T U W (record { author = author; start = start; journal = journal }))
+      T s r (with_book s.now)

@@ -66,7 +66,12 @@ module _ {B E S : Type 0} (author : E → ℕ) (start : B → S) (journal : B �
   -- the word is 0, the slot has a book with the journal h from o, and no seat has the book
   abbrev pub AtHome : S → List E → State (Option B) (View E S) → Type 0
   AtHome o h s =
-      (b : B) × (s.words ≡ 0 ∷ []) × (s.homes ≡ some (Some b) ∷ []) × (start b ≡ o) × (journal b ≡ h) × ((j : ℕ) (v : View E S) → get_elem? s.views j ≡ some v → v.held ≡ false)
+      (b : B)
+      × (s.words ≡ 0 ∷ [])
+      × (s.homes ≡ some (Some b) ∷ [])
+      × (start b ≡ o)
+      × (journal b ≡ h)
+      × ((j : ℕ) (v : View E S) → get_elem? s.views j ≡ some v → v.held ≡ false)
 
   -- the word is 1, one seat with a number has the book, and the front that it noted is h
   abbrev pub IsOut : S → List E → State (Option B) (View E S) → Type 0
@@ -80,7 +85,11 @@ module _ {B E S : Type 0} (author : E → ℕ) (start : B → S) (journal : B �
   -- an acquire that succeeds: the seat gets the slot with a book, which starts as the seat knows, and whose journal fits the seat's front
   -- and each old one
   abbrev pub HasAcquired : Me (Option B) (View E S) → Me (Option B) (View E S) → Type 0
-  HasAcquired m w = (b : B) × (w ≡ (view_of m.0.numbers m.0.start (journal b) true [], (0, Some b) ∷ [])) × (m.0.start ≡ Some (start b)) × Fits author (journal b) m.0
+  HasAcquired m w =
+      (b : B)
+      × (w ≡ (view_of m.0.numbers m.0.start (journal b) true [], (0, Some b) ∷ []))
+      × (m.0.start ≡ Some (start b))
+      × Fits author (journal b) m.0
 
   abbrev pub Acquires : Step (Option B) → Me (Option B) (View E S) → ℕ → Me (Option B) (View E S) → Type 0
   Acquires st m found w = (found ≡ 0 → HasAcquired m w) × (found ≢ 0 → w ≡ m)

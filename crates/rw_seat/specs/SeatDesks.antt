@@ -1,5 +1,6 @@
 -- Desks with seats, and a hand-off for each channel's book.
-use Rattle.std.specs.Prelude.{◌≡◌, ◌↔◌, ℕ, ◌<◌, ◌≤◌, None, Some, List, [], ◌∷◌, length, map, slice_get, All, MatchOption, MatchResult, IsErrOf, IsTrue, Option, Result}
+use Rattle.std.specs.Prelude.{◌≡◌, ◌↔◌, ℕ, ◌<◌, ◌≤◌, None, Some, List, [], ◌∷◌, length, map, slice_get}
+use Rattle.std.specs.Prelude.{All, MatchOption, MatchResult, IsErrOf, IsTrue, Option, Result}
 use Rattle.std.specs.Option.{option_map}
 use Rattle.rw_law.specs.declared.limits.TheConstants.{MOST_ACTORS}
 use Rattle.rw_world.specs.declared.opening.Spec.{Spec}
@@ -52,7 +53,9 @@ module _ {V : Type 0} where
   -- no call was made: the seat may have seen more of the channel, and after that the call has this fault
   pub record IsRefused (specs : List (Spec V)) (old new : DeskSeat V) (channel : ℕ) (call : ChanCall V) (fault : DeskFault) : Type 0 where
     pub seen : HasSeen old new
-    pub reason : MatchOption (slice_get specs channel) (fault ≡ NoChannel) (λ spec. IsFaultAfter (opened_channel spec) (front_at new.hand_seats channel) old.pass.clock call fault)
+    pub reason : MatchOption (slice_get specs channel)
+        (fault ≡ NoChannel)
+        (λ spec. IsFaultAfter (opened_channel spec) (front_at new.hand_seats channel) old.pass.clock call fault)
 
   -- What a desk returns for a seat's call. The fault is `NoChannel` exactly if the call strays by the specs.
   pub record IsAnswered (specs : List (Spec V)) (old new : DeskSeat V) (channel : ℕ) (call : ChanCall V) (answer : Result (Answered V) DeskFault) : Type 0 where

@@ -22,7 +22,9 @@ fn has<B: Keeps>(seats: &Vec<HandSeat<B>>, number: u32) -> bool
 impl<B: Keeps + Drop> HandOff<B> {
     /// Whether all seats are here.
     fn has_all(&self, seats: &Vec<HandSeat<B>>) -> bool
-        ensures { MatchBool result ((n : ℕ) → n < self.now.seats → IsIn n (map (λ s. s.number) seats.now.items)) ((n : ℕ) × (n < self.now.seats) × (IsIn n (map (λ s. s.number) seats.now.items) → ⊥)) }
+        ensures { MatchBool result
+            ((n : ℕ) → n < self.now.seats → IsIn n (map (λ s. s.number) seats.now.items))
+            ((n : ℕ) × (n < self.now.seats) × (IsIn n (map (λ s. s.number) seats.now.items) → ⊥)) }
     {
         for number in 0..self.seats {
             if !has(seats, number) {

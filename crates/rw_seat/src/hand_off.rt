@@ -36,7 +36,8 @@ impl<B: Keeps + Drop> Model for HandOff<B> {
 
     ghost view = { λ h. record { home = record { table = h.table.shared.table_id; start = Some (B.start h.table.shared.key.book.value) }; seats = h.seats } };
 
-    ghost invariant = { λ h. (h.table.shared.table_id.words ≡ 1) × (h.table.shared.table_id.slots ≡ 1) × (h.table.shared.key.seats ≡ h.seats) × (0 < h.seats) × (h.seats ≤ MOST_ACTORS) };
+    ghost invariant = { λ h. (h.table.shared.table_id.words ≡ 1) × (h.table.shared.table_id.slots ≡ 1)
+        × (h.table.shared.key.seats ≡ h.seats) × (0 < h.seats) × (h.seats ≤ MOST_ACTORS) };
 }
 
 /// A seat of a hand-off. It has a number, and a front: the journal that it has seen.

@@ -1,6 +1,7 @@
 //! Opening desks with seats.
 
-ghost use Rattle.std.specs.Prelude.{◌≡◌, ◌<◌, ◌≤◌, ◌+◌, ◌∷◌, ◌++◌, ℕ, false, [], None, Some, All, length, map, slice_get, vec_len, vec_capacity, IfNone, IfOk, IfSome, MatchResult, OnOk};
+ghost use Rattle.std.specs.Prelude.{◌≡◌, ◌<◌, ◌≤◌, ◌+◌, ◌∷◌, ◌++◌, ℕ, false, [], None, Some, All, length, map};
+ghost use Rattle.std.specs.Prelude.{slice_get, vec_len, vec_capacity, IfNone, IfOk, IfSome, MatchResult, OnOk};
 ghost use Rattle.rw_law.specs.declared.limits.TheConstants.{MOST_ACTORS};
 ghost use Rattle.rw_world.specs.declared.channels.Chan.{Chan as Chans};
 ghost use Rattle.rw_world.specs.Openings.{has_bad_capacity, opened_channel, refusal};
@@ -29,7 +30,9 @@ impl<V: Payload> SeatDesk<V> {
         actors: u32,
     ) -> Result<(SeatDesk<V>, Vec<DeskSeat<V>>), DeskOpenFault>
         ensures refused { IfSome (refusal_to_open specs.now actors) (λ fault. result ≡ Err fault) }
-        ensures opened { IfNone (refusal_to_open specs.now actors) (MatchResult result (λ r. HasOpened specs.now actors r.0 r.1.items) (λ fault. fault ≡ DeskOpenFault.World OpenFault.NoMemory)) }
+        ensures opened { IfNone (refusal_to_open specs.now actors) (MatchResult result
+            (λ r. HasOpened specs.now actors r.0 r.1.items)
+            (λ fault. fault ≡ DeskOpenFault.World OpenFault.NoMemory)) }
     {
         if let Some(fault) = refusal_to_open(specs, actors) {
             return Err(fault);
@@ -116,7 +119,10 @@ fn open_to_seats<V: Payload>(
     ensures length { length seats.new ≡ length seats.old }
     ensures len { OnOk result (vec_len hand_offs.new ≡ vec_len hand_offs.old + 1) }
     ensures capacity { vec_capacity hand_offs.new ≡ vec_capacity hand_offs.old }
-    ensures opened { OnOk result ((h : HandOffs (Chans V)) × (hand_offs.new.items ≡ hand_offs.old.items ++ h ∷ []) × (opening_at h.home ≡ Some (opened_channel spec.now)) × ((a : ℕ) (s : Seated V) → a < actors → slice_get seats.old a ≡ Some s → slice_get seats.new a ≡ Some (with_hand_seat s (fresh_hand_seat a h.home)))) }
+    ensures opened { OnOk result ((h : HandOffs (Chans V)) × (hand_offs.new.items ≡ hand_offs.old.items ++ h ∷ [])
+        × (opening_at h.home ≡ Some (opened_channel spec.now))
+        × ((a : ℕ) (s : Seated V) → a < actors → slice_get seats.old a ≡ Some s →
+        slice_get seats.new a ≡ Some (with_hand_seat s (fresh_hand_seat a h.home)))) }
 {
     let (hand_off, hand_seats) = open_hand_off(alloc, spec, actors)?;
     hand_offs.push_reserved(hand_off);
@@ -129,7 +135,8 @@ fn seats_without_hand_seats<V: Payload>(
     actors: u32,
 ) -> Result<Vec<DeskSeat<V>>, NoMemory>
     requires { actors ≤ MOST_ACTORS }
-    ensures { IfOk result (λ seats. (length seats.items ≡ actors) × ((a : ℕ) → a < actors → slice_get seats.items a ≡ Some (record { pass = fresh_pass a; hand_seats = [] }))) }
+    ensures { IfOk result (λ seats. (length seats.items ≡ actors)
+        × ((a : ℕ) → a < actors → slice_get seats.items a ≡ Some (record { pass = fresh_pass a; hand_seats = [] }))) }
 {
     let mut seats = Vec::new(alloc);
     for actor in 0..actors {
@@ -164,7 +171,10 @@ fn add_hand_seats<V: Payload>(
     requires fresh { (a : ℕ) → IfSome (slice_get seats.old a) (λ s. s.pass ≡ fresh_pass a) }
     requires hand_seats { (a : ℕ) → IfSome (slice_get hand_seats.items a) (λ h. (h.number ≡ a) × (h.front ≡ [])) }
     ensures length { length seats.new ≡ length seats.old }
-    ensures each { OnOk result ((a : ℕ) (s : Seated V) (h : ChannelSeat V) → slice_get seats.old a ≡ Some s → slice_get hand_seats.items a ≡ Some h → slice_get seats.new a ≡ Some (with_hand_seat s h)) }
+    ensures each { OnOk result ((a : ℕ) (s : Seated V) (h : ChannelSeat V) →
+        slice_get seats.old a ≡ Some s →
+        slice_get hand_seats.items a ≡ Some h →
+        slice_get seats.new a ≡ Some (with_hand_seat s h)) }
 {
     let mut added = Ok(());
     while let Some(hand_seat) = hand_seats.pop() {

@@ -78,7 +78,8 @@ impl<V: Payload> SeatDesk<V> {
         ensures elsewhere { IsElsewhereAsBefore channel one result.0 × IsElsewhereAsBefore channel two result.1 }
         ensures none { IsNone result.2 ↔ length self.now.specs ≤ channel }
         ensures nothing { IfNone result.2 ((result.0 ≡ one) × (result.1 ≡ two)) }
-        ensures met { IfSome result.2 (λ n. (n ≡ length (front_at result.0.hand_seats channel)) × StartsWith (front_at result.0.hand_seats channel) (front_at result.1.hand_seats channel)) }
+        ensures met { IfSome result.2 (λ n. (n ≡ length (front_at result.0.hand_seats channel))
+            × StartsWith (front_at result.0.hand_seats channel) (front_at result.1.hand_seats channel)) }
     {
         let at = channel as usize;
         let Some(hand_off) = self.hand_off_at(at) else {
@@ -99,7 +100,8 @@ impl<V: Payload> SeatDesk<V> {
     fn hand_off(&self, channel: u32, call: &ChanCall<V>) -> Option<&HandOff<Book<Chan<V>>>>
         ensures none { IsNone result ↔ IsTrue (stray_of strays_at (map spec_kind self.now.specs) (row_call channel call.now)) }
         ensures home { IfSome result (λ h. slice_get self.now.homes channel ≡ Some h.now.home) }
-        ensures spec { IfSome result (λ h. (spec : Specs V) × (slice_get self.now.specs channel ≡ Some spec) × (opening_at h.now.home ≡ Some (opened_channel spec)) × (strays_at (spec_kind spec) call.now ≡ false)) }
+        ensures spec { IfSome result (λ h. (spec : Specs V) × (slice_get self.now.specs channel ≡ Some spec)
+            × (opening_at h.now.home ≡ Some (opened_channel spec)) × (strays_at (spec_kind spec) call.now ≡ false)) }
     {
         let at = channel as usize;
         if self.specs.get(at)?.is_of_other_kind(call) {
@@ -112,7 +114,8 @@ impl<V: Payload> SeatDesk<V> {
     pub(crate) fn hand_off_at(&self, at: usize) -> Option<&HandOff<Book<Chan<V>>>>
         ensures none { IsNone result ↔ length self.now.specs ≤ at }
         ensures home { IfSome result (λ h. slice_get self.now.homes at ≡ Some h.now.home) }
-        ensures spec { IfSome result (λ h. (spec : Specs V) × (slice_get self.now.specs at ≡ Some spec) × (opening_at h.now.home ≡ Some (opened_channel spec))) }
+        ensures spec { IfSome result (λ h. (spec : Specs V) × (slice_get self.now.specs at ≡ Some spec)
+            × (opening_at h.now.home ≡ Some (opened_channel spec))) }
     {
         if at >= self.specs.len() {
             return None;

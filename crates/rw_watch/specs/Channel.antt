@@ -13,9 +13,11 @@ use Rattle.rw_handles.specs.declared.kinds.Found.{Found}
 use Rattle.rw_handles.specs.Channels.{answer_of_check}
 use Rattle.rw_handles.specs.Slots.{lookup, alive}
 use Rattle.rw_watch.specs.declared.calls.WCall.{WCall}
-use Rattle.rw_watch.specs.declared.calls.WCall.TheVariants.{Send, SendReplace, Modify, Subscribe, CloneSender, CloneReceiver, Borrow, Update, HasChanged, Changed, MarkChanged, MarkUnchanged, DropHandle, ReceiverCount, IsClosed, AwaitClosed}
+use Rattle.rw_watch.specs.declared.calls.WCall.TheVariants.{Send, SendReplace, Modify, Subscribe, CloneSender, CloneReceiver, Borrow, Update, HasChanged}
+use Rattle.rw_watch.specs.declared.calls.WCall.TheVariants.{Changed, MarkChanged, MarkUnchanged, DropHandle, ReceiverCount, IsClosed, AwaitClosed}
 use Rattle.rw_watch.specs.declared.calls.WReply.{WReply}
-use Rattle.rw_watch.specs.declared.calls.WReply.TheVariants.{Stored, NoReceivers, Old, Told, New, Value, Flag, Closed, Waits, Done, Count, Dropped, Unknown, Gone, WrongKind, TooManyHandles}
+use Rattle.rw_watch.specs.declared.calls.WReply.TheVariants.{Stored, NoReceivers, Old, Told, New, Value, Flag, Closed, Waits}
+use Rattle.rw_watch.specs.declared.calls.WReply.TheVariants.{Done, Count, Dropped, Unknown, Gone, WrongKind, TooManyHandles}
 
 -- a channel, as its calls read it
 pub record Channel (V : Type 0) : Type 0 where

@@ -6,7 +6,8 @@ use Rattle.rw_handles.specs.declared.refusals.Refusal.TheVariants as refusal
 use Rattle.rw_handles.specs.declared.refusals.SendError.{SendError}
 use Rattle.rw_handles.specs.declared.refusals.SendError.TheVariants as send
 use Rattle.rw_watch.specs.declared.calls.WReply.{WReply}
-use Rattle.rw_watch.specs.declared.calls.WReply.TheVariants.{Stored, NoReceivers, Old, Told, New, Value, Flag, Closed, Waits, Done, Count, Dropped, Unknown, Gone, WrongKind, TooManyHandles}
+use Rattle.rw_watch.specs.declared.calls.WReply.TheVariants.{Stored, NoReceivers, Old, Told, New, Value, Flag, Closed, Waits}
+use Rattle.rw_watch.specs.declared.calls.WReply.TheVariants.{Done, Count, Dropped, Unknown, Gone, WrongKind, TooManyHandles}
 use Rattle.rw_watch.specs.declared.results.RecvError.{RecvError}
 use Rattle.rw_watch.specs.declared.results.RecvError.TheVariants as receive
 

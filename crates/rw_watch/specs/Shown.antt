@@ -1,5 +1,6 @@
 -- What a watch channel shows: the record without the earlier values. Its steps, and how they are undone.
-use Rattle.std.specs.Prelude.{◌≡◌, ℕ, ◌+◌, ◌-◌, ◌≤◌, ◌<◌, Bool, true, false, if◌then◌else◌, [], ◌∷◌, ◌++◌, Option, Some, None, All, slice_get, slice_set, length, take, ⊤}
+use Rattle.std.specs.Prelude.{◌≡◌, ℕ, ◌+◌, ◌-◌, ◌≤◌, ◌<◌, Bool, true, false, if◌then◌else◌, [], ◌∷◌}
+use Rattle.std.specs.Prelude.{◌++◌, Option, Some, None, All, slice_get, slice_set, length, take, ⊤}
 use Rattle.rw_handles.specs.declared.kinds.Kind.{Kind}
 use Rattle.rw_handles.specs.declared.kinds.Kind.TheVariants.{Sender, Receiver}
 use Rattle.rw_handles.specs.declared.kinds.Slot.{Slot}

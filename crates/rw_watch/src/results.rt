@@ -1,6 +1,7 @@
 //! Replies as the results and errors of tokio's methods.
 ghost use Rattle.std.specs.Prelude.{◌≡◌};
-ghost use Rattle.rw_watch.specs.Results.{borrowed, changed, count, done, dropped, has_changed, is_closed, made, modified, recv_error_of, refusal_of, replaced, sent};
+ghost use Rattle.rw_watch.specs.Results.{borrowed, changed, count, done, dropped, has_changed, is_closed};
+ghost use Rattle.rw_watch.specs.Results.{made, modified, recv_error_of, refusal_of, replaced, sent};
 
 use crate::calls::WReply;
 use rw_handles::{HandleFault, Refusal, SendError};

@@ -3,8 +3,9 @@
 ghost use Rattle.std.specs.Prelude.{◌≡◌, ◌++◌, ⊤, Some, option_map, true};
 ghost use Rattle.rw_lines.specs.Cut.{cut, lacks};
 ghost use Rattle.rw_lines.specs.Numerals.{numeral_in};
-ghost use Rattle.rw_words.specs.Arguments.{flag_named, number_value_flag_named, number_value_named, rest_text, value_named};
-ghost use Rattle.rw_words.specs.Words.{when_alone, flag_in, handle_in, handle_value_flag_in, handle_value_in, handle_within, first_part, number_in, rest_of, value_in};
+ghost use Rattle.rw_words.specs.Arguments.{flag_named, rest_text, value_named};
+ghost use Rattle.rw_words.specs.Words.{when_alone, flag_in, handle_in, handle_value_flag_in, handle_value_in};
+ghost use Rattle.rw_words.specs.Words.{handle_within, first_part, number_in, rest_of, value_in};
 
 use rw_law::Payload;
 use rw_lines::{cut, numeral};
@@ -79,30 +80,6 @@ fn flag_named(text: &[u8]) -> Option<bool>
     }
 }
 
-/// Returns the number and the value of a numeral and of what follows it.
-#[tactic(auto, using(crate::proofs::ArgumentLaws::number_value_joined))]
-fn number_value_named<V: Payload>(number: &[u8], more: Option<&[u8]>) -> Option<(u64, V)>
-    requires { lacks 32 number.now ≡ true }
-    ensures { result ≡ number_value_named V.Payload (number.now ++ rest_text (option_map (λ m. m.now) more.entry)) }
-{
-    let number = numeral(number)?;
-    Some((number, value_named(more?)?))
-}
-
-/// Returns the number, the value and the flag of a numeral and of what follows it.
-#[tactic(auto, using(crate::proofs::ArgumentLaws::number_value_flag_joined))]
-fn number_value_flag_named<V: Payload>(
-    number: &[u8],
-    more: Option<&[u8]>,
-) -> Option<(u64, (V, bool))>
-    requires { lacks 32 number.now ≡ true }
-    ensures { result ≡ number_value_flag_named V.Payload (number.now ++ rest_text (option_map (λ m. m.now) more.entry)) }
-{
-    let number = numeral(number)?;
-    let (value, flag) = cut(more?, b' ')?;
-    Some((number, (value_named(value)?, flag_named(flag)?)))
-}
-
 /// Returns the thing, where nothing follows its word.
 pub(crate) fn alone<T: Copy>(rest: Option<&[u8]>, thing: T) -> Result<T, WordFault>
     ensures { result ≡ when_alone (option_map (λ r. r.now) rest.entry) thing }
@@ -159,7 +136,8 @@ pub(crate) fn handle_alone(handle: &[u8], more: Option<&[u8]>) -> Result<u32, Wo
     }
 }
 
-#[tactic(auto, unfolding(crate::specs::Words::handle_value_in))]
+/// Returns the handle, and the value that follows it.
+#[tactic(auto, using(crate::proofs::ShapeLaws::handle_value_joined))]
 pub(crate) fn handle_value<V: Payload>(
     handle: &[u8],
     more: Option<&[u8]>,
@@ -167,11 +145,13 @@ pub(crate) fn handle_value<V: Payload>(
     requires { lacks 32 handle.now ≡ true }
     ensures { result ≡ handle_value_in V.Payload (Some (handle.now ++ rest_text (option_map (λ m. m.now) more.entry))) }
 {
-    let (number, value) = number_value_named(handle, more).ok_or(WordFault::BadArguments)?;
+    let number = number(Some(handle))?;
+    let value = value(more)?;
     Ok((handle_within(number)?, value))
 }
 
-#[tactic(auto, unfolding(crate::specs::Words::handle_value_flag_in))]
+/// Returns the handle, and the value and the flag that follow it.
+#[tactic(auto, using(crate::proofs::ShapeLaws::handle_value_flag_joined))]
 pub(crate) fn handle_value_flag<V: Payload>(
     handle: &[u8],
     more: Option<&[u8]>,
@@ -179,7 +159,9 @@ pub(crate) fn handle_value_flag<V: Payload>(
     requires { lacks 32 handle.now ≡ true }
     ensures { result ≡ handle_value_flag_in V.Payload (Some (handle.now ++ rest_text (option_map (λ m. m.now) more.entry))) }
 {
-    let named = number_value_flag_named(handle, more);
-    let (number, (value, flag)) = named.ok_or(WordFault::BadArguments)?;
+    let number = number(Some(handle))?;
+    let (value, flag) = first_word(more.ok_or(WordFault::BadArguments)?);
+    let value = self::value(Some(value))?;
+    let flag = self::flag(flag)?;
     Ok((handle_within(number)?, (value, flag)))
 }

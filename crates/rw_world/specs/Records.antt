@@ -90,7 +90,10 @@ module _ {V : Type 0} where
   -- changed nothing
   pub record IsDocumented (specs : List (Spec V)) (es : List (WorldEntry V)) : Type 0 where
     pub reply : (n : ℕ) (e : WorldEntry V) → slice_get es n ≡ Some e → e.reply ≡ reply_from (records_at specs es n) e.call
-    pub refused : (n : ℕ) (e : WorldEntry V) → slice_get es n ≡ Some e → (of_world {V = V}).refuses e.reply ≡ true → documented_at specs es (n + 1) ≡ documented_at specs es n
+    pub refused : (n : ℕ) (e : WorldEntry V)
+        → slice_get es n ≡ Some e
+        → (of_world {V = V}).refuses e.reply ≡ true
+        → documented_at specs es (n + 1) ≡ documented_at specs es n
 
 -- after any calls a world shows what its documented records show
 abbrev pub ShowsItsRecords : Type 0 → Type 0

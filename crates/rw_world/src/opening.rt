@@ -154,7 +154,9 @@ fn open_all<V: Copy>(alloc: Global, specs: &[Spec<V>]) -> Result<World<V>, NoMem
 /// Opens a world with a channel for each spec, under the numbers 0, 1, 2, .. . Each has sender 0 and receiver 1.
 pub fn open<V: Copy>(alloc: Global, specs: &[Spec<V>]) -> Result<World<V>, OpenFault>
     ensures refused { IfSome (refusal specs.now) (λ fault. result ≡ Err fault) }
-    ensures opened { IfNone (refusal specs.now) (MatchResult result (λ world. ⟦<World<V> as Reversible>⟧.shown world ≡ opening_row specs.now) (λ fault. fault ≡ OpenFault.NoMemory)) }
+    ensures opened { IfNone (refusal specs.now) (MatchResult result
+        (λ world. ⟦<World<V> as Reversible>⟧.shown world ≡ opening_row specs.now)
+        (λ fault. fault ≡ OpenFault.NoMemory)) }
     ensures light { IfOk result (λ world. ⟦<World<V> as Reversible>⟧.weigh (⟦<World<V> as Reversible>⟧.shown world) ≤ 2) }
 {
     if let Some(fault) = refusal_of(specs) {

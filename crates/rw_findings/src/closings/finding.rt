@@ -4,7 +4,8 @@ ghost use Rattle.std.specs.Prelude.{◌≡◌, ◌≤◌, ◌<◌, [], IfOk, OnO
 ghost use Rattle.rw_handles.specs.declared.table.TheConstants.{MOST_HANDLES};
 ghost use Rattle.rw_world.specs.declared.opening.TheConstants.{MOST_CHANNELS};
 ghost use Rattle.rw_findings.specs.Closings.{AreClosings, got_by, told_by};
-ghost use Rattle.rw_findings.specs.LateReaders.{after_entry, HasRoom, HaveFewHandles, HaveRoom, opened, with_all_readers, with_closings, with_entry, with_readers};
+ghost use Rattle.rw_findings.specs.LateReaders.{after_entry, HasRoom, HaveFewHandles, HaveRoom, opened};
+ghost use Rattle.rw_findings.specs.LateReaders.{with_all_readers, with_closings, with_entry, with_readers};
 
 use super::closed_channel::ClosedChannel;
 use super::closing::{Closing, Closings, LateReader};

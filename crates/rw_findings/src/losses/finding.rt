@@ -6,7 +6,8 @@ ghost use Rattle.rw_world.specs.Lists.{Each};
 ghost use Rattle.rw_world.specs.Openings.{has_bad_capacity, refusal};
 ghost use Rattle.rw_world.specs.declared.opening.TheConstants.{MOST_CHANNELS};
 ghost use Rattle.rw_findings.specs.Losses.{AreLosses};
-ghost use Rattle.rw_findings.specs.LossTracks.{HasFewHandles, loss_of_entry, opened_tracks, track_of, with_call, with_entry, with_loss, with_open, with_open_of};
+ghost use Rattle.rw_findings.specs.LossTracks.{HasFewHandles, loss_of_entry, opened_tracks, track_of};
+ghost use Rattle.rw_findings.specs.LossTracks.{with_call, with_entry, with_loss, with_open, with_open_of};
 
 use super::loss::{Loss, LossEnd};
 use super::track::Track;

@@ -135,7 +135,8 @@ fn follow<V: Copy>(
     requires inside { to ≤ last_place run.now + 1 }
     requires fresh { (receiver : ℕ) → peak_in peaks.old receiver stretch ≡ 0 }
     ensures stands { OnOk result (Stands run.now asked.channel machine.new (to - 1)) }
-    ensures peaks { OnOk result ((receiver : ℕ) → IsGreatest (measured_at asked.measure run.now asked.channel receiver) (last_place run.now) from to (peak_in peaks.new receiver stretch)) }
+    ensures peaks { OnOk result ((receiver : ℕ) → IsGreatest (measured_at asked.measure run.now asked.channel receiver)
+        (last_place run.now) from to (peak_in peaks.new receiver stretch)) }
     ensures others { OnOk result ((receiver other : ℕ) → other ≢ stretch → peak_in peaks.new receiver other ≡ peak_in peaks.old receiver other) }
 {
     documented::<V>();
@@ -157,7 +158,8 @@ fn raise_named<V: Copy>(
     stretch: usize,
     peaks: &mut Peaks,
 ) -> Result<(), NoMemory>
-    ensures { OnOk result (Raised peaks.old peaks.new stretch (named_level asked.measure asked.channel (⟦<Chan<V> as Reversible>⟧.shown machine.now) call.now)) }
+    ensures { OnOk result (Raised peaks.old peaks.new stretch
+        (named_level asked.measure asked.channel (⟦<Chan<V> as Reversible>⟧.shown machine.now) call.now)) }
 {
     if call.channel != asked.channel {
         return Ok(());

@@ -2,7 +2,8 @@
 
 ghost use Rattle.std.specs.Prelude.{◌≡◌, ◌<◌, ◌≤◌, ◌+◌, ◌^◌, IfOk, OnOk, Option, None, length, option_map, slice_index_or};
 ghost use Rattle.rw_ring.specs.declared.ring.TheConstants.{MOST_CAPACITY};
-ghost use Rattle.rw_findings.specs.BroadcastTallies.{after_drop, after_lag, after_value, counts_from, HasRoom, HasRoomFor, lag_of_reader, made_reader, new_reader, oldest_of, opened_broadcast, reader_in, reader_of, settled, with_call, with_reader};
+ghost use Rattle.rw_findings.specs.BroadcastTallies.{after_drop, after_lag, after_value, counts_from, HasRoom, HasRoomFor, lag_of_reader, made_reader};
+ghost use Rattle.rw_findings.specs.BroadcastTallies.{new_reader, oldest_of, opened_broadcast, reader_in, reader_of, settled, with_call, with_reader};
 
 use super::total::BroadcastCounts;
 use crate::losses::{retained, subject};

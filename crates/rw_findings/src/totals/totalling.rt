@@ -5,7 +5,8 @@ ghost use Rattle.rw_handles.specs.declared.table.TheConstants.{MOST_HANDLES};
 ghost use Rattle.rw_world.specs.Openings.{has_bad_capacity, refusal};
 ghost use Rattle.rw_world.specs.declared.opening.TheConstants.{MOST_CHANNELS};
 ghost use Rattle.rw_findings.specs.Totals.{AreTotals};
-ghost use Rattle.rw_findings.specs.Tallies.{HasRoom, HaveFewHandles, HaveRoom, made_in, opened_tallies, tally_of, with_channels, with_entry, with_receivers, with_totals};
+ghost use Rattle.rw_findings.specs.Tallies.{HasRoom, HaveFewHandles, HaveRoom, made_in, opened_tallies};
+ghost use Rattle.rw_findings.specs.Tallies.{tally_of, with_channels, with_entry, with_receivers, with_totals};
 
 use super::broadcast::BroadcastTally;
 use super::tally::Tally;

@@ -1,7 +1,8 @@
 //! What is kept of a watch while its entries are passed.
 
 ghost use Rattle.std.specs.Prelude.{◌≡◌, ◌<◌, ◌≤◌, ◌+◌, ◌-◌, ◌^◌, IfOk, OnOk, Option, length, option_map};
-ghost use Rattle.rw_findings.specs.WatchTallies.{after_change, after_end, after_look, counts_from, HasRoom, HasRoomFor, made_watcher, missed_at, new_watcher, opened_watch, watcher_in, with_call, with_watcher};
+ghost use Rattle.rw_findings.specs.WatchTallies.{after_change, after_end, after_look, counts_from, HasRoom, HasRoomFor, made_watcher};
+ghost use Rattle.rw_findings.specs.WatchTallies.{missed_at, new_watcher, opened_watch, watcher_in, with_call, with_watcher};
 
 use super::total::WatchCounts;
 use rw_law::NoMemory;

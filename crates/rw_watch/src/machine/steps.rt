@@ -5,7 +5,8 @@ ghost use Rattle.rw_handles.specs.declared.kinds.Slot.TheVariants.{Live};
 ghost use Rattle.rw_handles.specs.declared.kinds.Found.TheVariants.{Handle};
 ghost use Rattle.rw_handles.specs.Slots.{lookup};
 ghost use Rattle.rw_handles.specs.declared.table.TheConstants.{MOST_HANDLES};
-ghost use Rattle.rw_watch.specs.Channel.{Keep, Write, Make, Mark, Leave, receivers, has_no_receiver, is_unseen, send, see, has_changed, wait_effect, await_closed, effect, effect_with, handle_of, wanted_kind, makes};
+ghost use Rattle.rw_watch.specs.Channel.{Keep, Write, Make, Mark, Leave, receivers, has_no_receiver, is_unseen, send, see};
+ghost use Rattle.rw_watch.specs.Channel.{has_changed, wait_effect, await_closed, effect, effect_with, handle_of, wanted_kind, makes};
 ghost use Rattle.rw_watch.specs.Shown.{CanUntell, IsAllowed, IsMark, IsMarked, weight, version_before};
 ghost use Rattle.rw_watch.specs.Machine.{Takes};
 
