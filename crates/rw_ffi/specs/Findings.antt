@@ -1,5 +1,5 @@
 -- What was found in the run of a text: its losses, totals and closings.
-use Rattle.std.specs.Prelude.{◌≡◌, ⊤, ℕ, List, length, Option, Some, None, Result, Ok, Err, unwrap_or, slice_get}
+use Rattle.std.specs.Prelude.{◌≡◌, ⊤, ℕ, List, length, Option, Some, None, Result, Ok, Err, unwrap_or}
 use Rattle.rw_law.specs.Numbers.{numbers}
 use Rattle.rw_journal.specs.Run.{Run}
 use Rattle.rw_text.specs.Reading.{reading_of}
