@@ -33,5 +33,6 @@ least_one_more hs (Live Receiver position) = ap least (values-append Receiver hs
 least_one_more hs (Live kind position) = no_more hs (Live kind position) refl
 least_one_more hs Spent = no_more hs Spent refl
 
-pub least_more : (hs : List (Slot ℕ)) (i : ℕ) (d : Slot ℕ) → i < length hs → least (values Receiver (take (i + 1) hs)) ≡ least_with (least (values Receiver (take i hs))) (get_or hs i d)
+pub least_more : (hs : List (Slot ℕ)) (i : ℕ) (d : Slot ℕ) → i < length hs
+    → least (values Receiver (take (i + 1) hs)) ≡ least_with (least (values Receiver (take i hs))) (get_or hs i d)
 least_more hs i d within = ap (λ l. least (values Receiver l)) (take_more hs i d within) ∙ least_one_more (take i hs) (get_or hs i d)

@@ -63,5 +63,7 @@ unfolding doubled retained_capacity
 retained-bounds asked = power_from-le 16 1 asked (omega arith)
 
 -- what a channel shows at its opening
-pub shown-opened : {V : Type 0} (asked : ℕ) → shown (opening_record {V = V} asked) ≡ record { capacity = retained_capacity asked; sent = 0; window = []; slots = first_slots }
-shown-opened {V} asked = ap (λ w. record { capacity = retained_capacity asked; sent = 0; window = w; slots = first_slots }) (drop-nil (0 - retained_capacity asked))
+pub shown-opened : {V : Type 0} (asked : ℕ) → shown (opening_record {V = V} asked)
+    ≡ record { capacity = retained_capacity asked; sent = 0; window = []; slots = first_slots }
+shown-opened {V} asked = ap (λ w. record { capacity = retained_capacity asked; sent = 0; window = w; slots = first_slots })
+    (drop-nil (0 - retained_capacity asked))

@@ -3,9 +3,11 @@ use Rattle.std.proofs.Common.{◌≡◌, ℕ, List, [], ◌∷◌, take, refl}
 use Rattle.rw_handles.specs.declared.kinds.Kind.TheVariants.{Sender, Receiver, Weak}
 use Rattle.rw_handles.specs.declared.kinds.Slot.TheVariants.{Live, Spent}
 use Rattle.rw_broadcast.specs.declared.calls.BCall.{BCall}
-use Rattle.rw_broadcast.specs.declared.calls.BCall.TheVariants.{Send, Subscribe, CloneSender, Resubscribe, TryRecv, Recv, DropHandle, SenderLen, ReceiverCount, ReceiverLen, Downgrade, Upgrade, CloneWeak}
+use Rattle.rw_broadcast.specs.declared.calls.BCall.TheVariants.{Send, Subscribe, CloneSender, Resubscribe, TryRecv, Recv, DropHandle, SenderLen}
+use Rattle.rw_broadcast.specs.declared.calls.BCall.TheVariants.{ReceiverCount, ReceiverLen, Downgrade, Upgrade, CloneWeak}
 use Rattle.rw_broadcast.specs.declared.calls.BReply.{BReply}
-use Rattle.rw_broadcast.specs.declared.calls.BReply.TheVariants.{Sent, NoReceivers, Value, Lagged, Empty, Closed, Waits, New, Dropped, Count, Unknown, Gone, WrongKind, NoSender}
+use Rattle.rw_broadcast.specs.declared.calls.BReply.TheVariants.{Sent, NoReceivers, Value, Lagged, Empty, Closed, Waits, New}
+use Rattle.rw_broadcast.specs.declared.calls.BReply.TheVariants.{Dropped, Count, Unknown, Gone, WrongKind, NoSender}
 use Rattle.rw_broadcast.specs.Arithmetic.{retained_capacity}
 use Rattle.rw_broadcast.specs.Record.{opening_record, replies, after}
 use Rattle.rw_broadcast.specs.Shown.{Shown, shown}
@@ -24,15 +26,18 @@ overrun_walked_back-replies : replies_of 2 overrun_walked_back ≡ Sent 1 ∷ Se
 unfolding retained_capacity
 overrun_walked_back-replies = refl
 
-overrun_walked_back-at_2 : shown_after 2 (take 2 overrun_walked_back) ≡ record { capacity = 2; sent = 2; window = 1 ∷ 2 ∷ []; slots = Live Sender 0 ∷ Live Receiver 0 ∷ [] }
+overrun_walked_back-at_2 : shown_after 2 (take 2 overrun_walked_back)
+    ≡ record { capacity = 2; sent = 2; window = 1 ∷ 2 ∷ []; slots = Live Sender 0 ∷ Live Receiver 0 ∷ [] }
 unfolding retained_capacity
 overrun_walked_back-at_2 = refl
 
-overrun_walked_back-at_3 : shown_after 2 (take 3 overrun_walked_back) ≡ record { capacity = 2; sent = 3; window = 2 ∷ 3 ∷ []; slots = Live Sender 0 ∷ Live Receiver 0 ∷ [] }
+overrun_walked_back-at_3 : shown_after 2 (take 3 overrun_walked_back)
+    ≡ record { capacity = 2; sent = 3; window = 2 ∷ 3 ∷ []; slots = Live Sender 0 ∷ Live Receiver 0 ∷ [] }
 unfolding retained_capacity
 overrun_walked_back-at_3 = refl
 
-overrun_walked_back-at_7 : shown_after 2 overrun_walked_back ≡ record { capacity = 2; sent = 3; window = 2 ∷ 3 ∷ []; slots = Live Sender 0 ∷ Live Receiver 3 ∷ [] }
+overrun_walked_back-at_7 : shown_after 2 overrun_walked_back
+    ≡ record { capacity = 2; sent = 3; window = 2 ∷ 3 ∷ []; slots = Live Sender 0 ∷ Live Receiver 3 ∷ [] }
 unfolding retained_capacity
 overrun_walked_back-at_7 = refl
 
@@ -43,11 +48,13 @@ capacity_is_rounded_up-replies : replies_of 3 capacity_is_rounded_up ≡ Sent 1 
 unfolding retained_capacity
 capacity_is_rounded_up-replies = refl
 
-capacity_is_rounded_up-at_5 : shown_after 3 (take 5 capacity_is_rounded_up) ≡ record { capacity = 4; sent = 5; window = 2 ∷ 3 ∷ 4 ∷ 5 ∷ []; slots = Live Sender 0 ∷ Live Receiver 0 ∷ [] }
+capacity_is_rounded_up-at_5 : shown_after 3 (take 5 capacity_is_rounded_up)
+    ≡ record { capacity = 4; sent = 5; window = 2 ∷ 3 ∷ 4 ∷ 5 ∷ []; slots = Live Sender 0 ∷ Live Receiver 0 ∷ [] }
 unfolding retained_capacity
 capacity_is_rounded_up-at_5 = refl
 
-capacity_is_rounded_up-at_6 : shown_after 3 capacity_is_rounded_up ≡ record { capacity = 4; sent = 5; window = 2 ∷ 3 ∷ 4 ∷ 5 ∷ []; slots = Live Sender 0 ∷ Live Receiver 1 ∷ [] }
+capacity_is_rounded_up-at_6 : shown_after 3 capacity_is_rounded_up
+    ≡ record { capacity = 4; sent = 5; window = 2 ∷ 3 ∷ 4 ∷ 5 ∷ []; slots = Live Sender 0 ∷ Live Receiver 1 ∷ [] }
 unfolding retained_capacity
 capacity_is_rounded_up-at_6 = refl
 
@@ -91,18 +98,21 @@ drop_reads_the_rest-at_5 = refl
 abbrev resubscribe_skips_the_backlog : List (BCall ℕ)
 resubscribe_skips_the_backlog = Send 0 1 ∷ Send 0 2 ∷ Send 0 3 ∷ Send 0 4 ∷ Send 0 5 ∷ Resubscribe 1 ∷ Send 0 6 ∷ ReceiverLen 1 ∷ ReceiverLen 2 ∷ []
 
-resubscribe_skips_the_backlog-replies : replies_of 2 resubscribe_skips_the_backlog ≡ Sent 1 ∷ Sent 1 ∷ Sent 1 ∷ Sent 1 ∷ Sent 1 ∷ New 2 ∷ Sent 2 ∷ Count 6 ∷ Count 1 ∷ []
+resubscribe_skips_the_backlog-replies : replies_of 2 resubscribe_skips_the_backlog
+    ≡ Sent 1 ∷ Sent 1 ∷ Sent 1 ∷ Sent 1 ∷ Sent 1 ∷ New 2 ∷ Sent 2 ∷ Count 6 ∷ Count 1 ∷ []
 unfolding retained_capacity
 resubscribe_skips_the_backlog-replies = refl
 
-resubscribe_skips_the_backlog-at_6 : shown_after 2 (take 6 resubscribe_skips_the_backlog) ≡ record { capacity = 2; sent = 5; window = 4 ∷ 5 ∷ []; slots = Live Sender 0 ∷ Live Receiver 0 ∷ Live Receiver 5 ∷ [] }
+resubscribe_skips_the_backlog-at_6 : shown_after 2 (take 6 resubscribe_skips_the_backlog)
+    ≡ record { capacity = 2; sent = 5; window = 4 ∷ 5 ∷ []; slots = Live Sender 0 ∷ Live Receiver 0 ∷ Live Receiver 5 ∷ [] }
 unfolding retained_capacity
 resubscribe_skips_the_backlog-at_6 = refl
 
 abbrev sender_len_counts_the_slowest : List (BCall ℕ)
 sender_len_counts_the_slowest = Subscribe 0 ∷ Send 0 10 ∷ Send 0 20 ∷ Send 0 30 ∷ SenderLen 0 ∷ Recv 1 ∷ SenderLen 0 ∷ Recv 2 ∷ SenderLen 0 ∷ []
 
-sender_len_counts_the_slowest-replies : replies_of 16 sender_len_counts_the_slowest ≡ New 2 ∷ Sent 2 ∷ Sent 2 ∷ Sent 2 ∷ Count 3 ∷ Value 10 ∷ Count 3 ∷ Value 10 ∷ Count 2 ∷ []
+sender_len_counts_the_slowest-replies : replies_of 16 sender_len_counts_the_slowest
+    ≡ New 2 ∷ Sent 2 ∷ Sent 2 ∷ Sent 2 ∷ Count 3 ∷ Value 10 ∷ Count 3 ∷ Value 10 ∷ Count 2 ∷ []
 unfolding retained_capacity
 sender_len_counts_the_slowest-replies = refl
 
@@ -124,7 +134,8 @@ weak_senders-replies : replies_of 2 weak_senders ≡ New 2 ∷ New 3 ∷ Dropped
 unfolding retained_capacity
 weak_senders-replies = refl
 
-weak_senders-at_1 : shown_after 2 (take 1 weak_senders) ≡ record { capacity = 2; sent = 0; window = []; slots = Live Sender 0 ∷ Live Receiver 0 ∷ Live Weak 0 ∷ [] }
+weak_senders-at_1 : shown_after 2 (take 1 weak_senders)
+    ≡ record { capacity = 2; sent = 0; window = []; slots = Live Sender 0 ∷ Live Receiver 0 ∷ Live Weak 0 ∷ [] }
 unfolding retained_capacity
 weak_senders-at_1 = refl
 

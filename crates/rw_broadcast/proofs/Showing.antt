@@ -1,5 +1,6 @@
 -- A step on what is shown is the documented step of the record.
-use Rattle.std.proofs.Common.{◌≡◌, ℕ, ◌+◌, ◌-◌, ◌<◌, min, Bool, true, false, cond, List, [], ◌∷◌, ◌++◌, length, drop, refl, ap, sym, ◌∙◌, subst, arith, length-drop, length-append}
+use Rattle.std.proofs.Common.{◌≡◌, ℕ, ◌+◌, ◌-◌, ◌<◌, min, Bool, true, false, cond, List, [], ◌∷◌, ◌++◌, length}
+use Rattle.std.proofs.Common.{drop, refl, ap, sym, ◌∙◌, subst, arith, length-drop, length-append}
 use Rattle.std.specs.Prelude.{Option, slice_get, ◌&&◌, nat_lt, nat_le, replicate}
 use Rattle.std.proofs.lemmas.Bool.{ltb-false}
 use Rattle.std.proofs.Math.Seq.{drop-append_seam, drop-nil}
@@ -19,7 +20,8 @@ use Rattle.rw_broadcast.specs.declared.calls.BCall.TheVariants.{TryRecv, Recv}
 use Rattle.rw_broadcast.specs.declared.calls.BReply.{BReply}
 use Rattle.rw_broadcast.specs.declared.calls.BReply.TheVariants.{Empty, Waits, TooManyHandles}
 use Rattle.rw_broadcast.specs.Arithmetic.{lag}
-use Rattle.rw_broadcast.specs.Channel.{Channel, Change, Keep, Append, Make, Move, Leave, oldest, read, receive, effect_with, effect_found, effect, handle_of, wanted_kind, makes}
+use Rattle.rw_broadcast.specs.Channel.{Channel, Change, Keep, Append, Make, Move, Leave, oldest, read, receive}
+use Rattle.rw_broadcast.specs.Channel.{effect_with, effect_found, effect, handle_of, wanted_kind, makes}
 use Rattle.rw_broadcast.specs.Record.{Record, opening_record, after, step}
 use Rattle.rw_broadcast.specs.Record as of_record
 use Rattle.rw_broadcast.specs.Shown.{Shown, shown, IsAllowed, IsPlaced, next}
@@ -48,7 +50,8 @@ module _ {V : Type 0} (r : Record V) where
   same_receive h position nothing =
       by_test (nat_lt 0 (lag (oldest whole) position)) _ (rest.value position) (whole.value position)
       (λ none. value_is position (omega (arith, ltb-false 0 (lag (oldest whole) position) none))) where
-        by_test : (b : Bool) (e : Change V × BReply V) (o p : Option V) → (b ≡ false → o ≡ p) → cond b e (read rest h position o nothing) ≡ cond b e (read whole h position p nothing)
+        by_test : (b : Bool) (e : Change V × BReply V) (o p : Option V) → (b ≡ false → o ≡ p)
+            → cond b e (read rest h position o nothing) ≡ cond b e (read whole h position p nothing)
         by_test true e o p same = refl
         by_test false e o p same = ap (λ o. read whole h position o nothing) (same refl)
 
@@ -59,7 +62,8 @@ module _ {V : Type 0} (r : Record V) where
 
   same_found : (call : BCall V) (f : Found ℕ) → effect_found rest call f ≡ effect_found whole call f
   same_found call (Fault f) = refl
-  same_found call (Handle kind position) = ap (λ e. cond (makes call && nat_le MOST_HANDLES (length r.slots)) (Keep, TooManyHandles) e) (same_with call kind position)
+  same_found call (Handle kind position) = ap (λ e. cond (makes call && nat_le MOST_HANDLES (length r.slots)) (Keep, TooManyHandles) e)
+      (same_with call kind position)
 
   same_effect : (call : BCall V) → effect rest call ≡ effect whole call
   same_effect call = same_found call (lookup (wanted_kind call) r.slots (handle_of call))
@@ -137,9 +141,13 @@ some_record {V} capacity sent [] slots some is =
 some_record {V} capacity sent (v ∷ window) slots some is =
     let before : List V = replicate (sent - capacity) v in
     let many : length before ≡ sent - capacity = length-replicate (sent - capacity) v in
-    let last : drop (sent - capacity) (before ++ v ∷ window) ≡ v ∷ window = ap (λ n. drop n (before ++ v ∷ window)) (sym many) ∙ drop-append_seam before (v ∷ window) in
-    let count : length (before ++ v ∷ window) ≡ sent = omega (arith, length-append before (v ∷ window), is) in
-    (record { capacity = capacity; sent = before ++ v ∷ window; slots = slots }, some, shown_is capacity sent (before ++ v ∷ window) (v ∷ window) slots count last)
+    let last : drop (sent - capacity) (before ++ v ∷ window) ≡ v ∷ window =
+    ap (λ n. drop n (before ++ v ∷ window)) (sym many) ∙ drop-append_seam before (v ∷ window) in
+    let count : length (before ++ v ∷ window) ≡ sent = omega (arith, length-append before (v ∷ window), is) in (
+      record { capacity = capacity; sent = before ++ v ∷ window; slots = slots },
+      some,
+      shown_is capacity sent (before ++ v ∷ window) (v ∷ window) slots count last,
+    )
 
 pub is_shown_by_some : (V : Type 0) → IsShownBySome V
 is_shown_by_some V x ok = some_record x.capacity x.sent x.window x.slots ok.some_capacity ok.retained

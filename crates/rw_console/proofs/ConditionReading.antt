@@ -12,10 +12,12 @@ use Rattle.rw_words.specs.declared.reply_word.ReplyWord.{ReplyWord}
 use Rattle.rw_words.specs.ReplyWords.{reply_word_in, reply_word_text}
 use Rattle.rw_words.proofs.ReplyWordLaws.{found as reply_word_found}
 use Rattle.rw_navigator.specs.declared.worlds.condition.Cond.{Cond}
-use Rattle.rw_navigator.specs.declared.worlds.condition.Cond.TheVariants.{Actor, Channel, ReplyKind, UnreadAtLeast, Lagging, Unseen, VersionAtLeast, Closed, QueueAtLeast}
+use Rattle.rw_navigator.specs.declared.worlds.condition.Cond.TheVariants.{Actor, Channel, ReplyKind, UnreadAtLeast, Lagging, Unseen}
+use Rattle.rw_navigator.specs.declared.worlds.condition.Cond.TheVariants.{VersionAtLeast, Closed, QueueAtLeast}
 use Rattle.rw_console.specs.declared.condition_words.ConditionWord.{ConditionWord}
 use Rattle.rw_console.specs.declared.condition_words.ConditionWord.TheVariants as word
-use Rattle.rw_console.specs.ConditionWords.{◌>>=◌, condition_in, condition_of_word, condition_text, condition_word_text, condition_words, two_numbers_in, three_numbers_in, HasNumerals}
+use Rattle.rw_console.specs.ConditionWords.{◌>>=◌, condition_in, condition_of_word, condition_text, condition_word_text}
+use Rattle.rw_console.specs.ConditionWords.{condition_words, two_numbers_in, three_numbers_in, HasNumerals}
 
 -- ---- steps that returned a value
 
@@ -52,7 +54,11 @@ two_found text p e =
     rw (← same) (rw (← first.0, ← second.0) (cut_parts 32 text a.0 a.1).1, first.1, second.1)
 
 two_again : (a b : ℕ) → a < 2 ^ 64 → b < 2 ^ 64 → two_numbers_in (decimal a ++ 32 ∷ decimal b) ≡ Some (a, b)
-two_again a b small_a small_b = rw (cut_joined 32 (decimal a) (decimal b) (lacks-decimal 32 a refl small_a), only (decimal a) a small_a refl, only (decimal b) b small_b refl) refl
+two_again a b small_a small_b = rw (
+  cut_joined 32 (decimal a) (decimal b) (lacks-decimal 32 a refl small_a),
+  only (decimal a) a small_a refl,
+  only (decimal b) b small_b refl,
+) refl
 
 three_found : (text : List ℕ) (p : ℕ × ℕ × ℕ) → three_numbers_in text ≡ Some p
     → (text ≡ decimal p.0 ++ 32 ∷ (decimal p.1 ++ 32 ∷ decimal p.2)) × (p.0 < 2 ^ 64) × (p.1 < 2 ^ 64) × (p.2 < 2 ^ 64)
@@ -67,7 +73,11 @@ three_found text p e =
 
 three_again : (a b c : ℕ) → a < 2 ^ 64 → b < 2 ^ 64 → c < 2 ^ 64 → three_numbers_in (decimal a ++ 32 ∷ (decimal b ++ 32 ∷ decimal c)) ≡ Some (a, b, c)
 three_again a b c small_a small_b small_c =
-    rw (cut_joined 32 (decimal a) (decimal b ++ 32 ∷ decimal c) (lacks-decimal 32 a refl small_a), only (decimal a) a small_a refl, two_again b c small_b small_c) refl
+    rw (
+      cut_joined 32 (decimal a) (decimal b ++ 32 ∷ decimal c) (lacks-decimal 32 a refl small_a),
+      only (decimal a) a small_a refl,
+      two_again b c small_b small_c,
+    ) refl
 
 -- ---- the condition of a word and of what follows it
 
@@ -129,7 +139,8 @@ found text c e =
     let a = bind_some (cut 32 text) (λ p. find (λ w. bytes_eq (condition_word_text w) p.0) condition_words >>= λ w. condition_of_word w p.1) c e in
     let b = bind_some (find (λ w. bytes_eq (condition_word_text w) a.0.0) condition_words) (λ w. condition_of_word w a.0.1) c a.2 in
     let m = made_found b.0 a.0.1 c b.2 in
-    let word_is : condition_word_text b.0 ≡ a.0.0 = (bytes_eq-Decides _ _).0 (find_some (λ w. bytes_eq (condition_word_text w) a.0.0) condition_words b.0 b.1) in
+    let word_is : condition_word_text b.0 ≡ a.0.0 =
+    (bytes_eq-Decides _ _).0 (find_some (λ w. bytes_eq (condition_word_text w) a.0.0) condition_words b.0 b.1) in
     ((cut_parts 32 text a.0 a.1).1 ∙ ap (λ (t : List ℕ). t ++ 32 ∷ a.0.1) (sym word_is) ∙ sym m.0, m.1)
 
 pub found_if : (text : List ℕ) (o : Option Cond) → o ≡ condition_in text → IfSome o (λ c. (text ≡ condition_text c) × HasNumerals c)

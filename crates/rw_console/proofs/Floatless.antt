@@ -15,7 +15,8 @@ use Rattle.rw_watch.specs.Machine.{mark_at}
 use Rattle.rw_watch.specs.Shown.{Shown as Watch}
 use Rattle.rw_world.specs.Kinds.{broadcast_shown, watch_shown}
 use Rattle.rw_world.specs.Machines.{ChanShown}
-use Rattle.rw_console.specs.Json.{natural, handle_json, handles_json, receiver_json, receivers_json, watcher_json, watchers_json, weak_member, broadcast_with, channel_json, world_json}
+use Rattle.rw_console.specs.Json.{natural, handle_json, handles_json, receiver_json, receivers_json, watcher_json}
+use Rattle.rw_console.specs.Json.{watchers_json, weak_member, broadcast_with, channel_json, world_json}
 
 abbrev is_floatless : List Data → Type 0
 is_floatless ds = items_have_float (items_of ds) ≡ false

@@ -30,9 +30,11 @@ of_one None = refl
 of_one (Some d) = refl
 
 of_handles-more : (f : ℕ → Option Data) (n : ℕ) → of_handles f (n + 1) ≡ of_handles f n ++ option_to_list (f n)
-of_handles-more f n = ap (filter_map f) (first_more n) ∙ filter_map-append f (range_with_len 0 n) (n ∷ []) ∙ ap (λ (ds : List Data). of_handles f n ++ ds) (of_one (f n))
+of_handles-more f n = ap (filter_map f) (first_more n) ∙ filter_map-append f (range_with_len 0 n) (n ∷ [])
+    ∙ ap (λ (ds : List Data). of_handles f n ++ ds) (of_one (f n))
 
-pub handles_json-more : {X : Type 0} (kind : Kind) (slots : List (Slot X)) (n : ℕ) → handles_json kind slots (n + 1) ≡ handles_json kind slots n ++ option_to_list (handle_json kind n (kind_at (slice_get slots n)))
+pub handles_json-more : {X : Type 0} (kind : Kind) (slots : List (Slot X)) (n : ℕ)
+    → handles_json kind slots (n + 1) ≡ handles_json kind slots n ++ option_to_list (handle_json kind n (kind_at (slice_get slots n)))
 unfolding handles_json
 handles_json-more kind slots n = of_handles-more (λ h. handle_json kind h (kind_at (slice_get slots h))) n
 
@@ -40,7 +42,8 @@ pub handles_json-none : {X : Type 0} (kind : Kind) (slots : List (Slot X)) → h
 unfolding handles_json
 handles_json-none kind slots = refl
 
-pub readers_json-more : (x : Broadcast ℕ) (n : ℕ) → receivers_json x (n + 1) ≡ receivers_json x n ++ option_to_list (option_map (receiver_json x n) (position_at (slice_get x.slots n)))
+pub readers_json-more : (x : Broadcast ℕ) (n : ℕ)
+    → receivers_json x (n + 1) ≡ receivers_json x n ++ option_to_list (option_map (receiver_json x n) (position_at (slice_get x.slots n)))
 unfolding receivers_json
 readers_json-more x n = of_handles-more (λ h. option_map (receiver_json x h) (position_at (slice_get x.slots h))) n
 
@@ -48,7 +51,8 @@ pub readers_json-none : (x : Broadcast ℕ) → receivers_json x 0 ≡ []
 unfolding receivers_json
 readers_json-none x = refl
 
-pub watchers_json-more : (x : Watch ℕ) (n : ℕ) → watchers_json x (n + 1) ≡ watchers_json x n ++ option_to_list (option_map (watcher_json x n) (mark_at (slice_get x.slots n)))
+pub watchers_json-more : (x : Watch ℕ) (n : ℕ)
+    → watchers_json x (n + 1) ≡ watchers_json x n ++ option_to_list (option_map (watcher_json x n) (mark_at (slice_get x.slots n)))
 unfolding watchers_json
 watchers_json-more x n = of_handles-more (λ h. option_map (watcher_json x h) (mark_at (slice_get x.slots h))) n
 

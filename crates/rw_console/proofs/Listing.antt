@@ -1,5 +1,6 @@
 -- Entries that are written one by one.
-use Rattle.std.proofs.Common.{◌≡◌, ◌++◌, ◌∷◌, [], ◌+◌, ◌<◌, ◌≤◌, ◌-◌, ℕ, zero, suc, List, Option, Some, None, refl, sym, ap, subst, ◌∙◌, length, drop, arith, add-one, append_assoc}
+use Rattle.std.proofs.Common.{◌≡◌, ◌++◌, ◌∷◌, [], ◌+◌, ◌<◌, ◌≤◌, ◌-◌, ℕ, zero, suc, List, Option, Some, None, refl}
+use Rattle.std.proofs.Common.{sym, ap, subst, ◌∙◌, length, drop, arith, add-one, append_assoc}
 use Rattle.std.specs.Prelude.{slice_get, nat_lt}
 use Rattle.std.specs.Io.KnownBytes.{Appends}
 use Rattle.std.proofs.lemmas.Bool.{cond-true, lt-ltb}
@@ -40,7 +41,8 @@ lines_more run i lt =
     ap (entry_lines (i + 1)) (h.2 ∙ ap (λ (k : ℕ). h.0 ∷ drop k run.entries) (sym (add-one i)))
     ∙ sym (ap (λ (o : Option (WorldEntry ℕ)). step_line (i + 1) o ++ entry_lines (i + 1 + 1) (drop (i + 1) run.entries)) (entry_to-next run i ∙ h.1))
 
-pub more : {w w1 w2 : Option (List ℕ)} {run : Run ℕ} {i : ℕ} → i < length run.entries → Listing w w1 run i → Appends w1 w2 (step_line (i + 1) (entry_to run (i + 1))) → Listing w w2 run (i + 1)
+pub more : {w w1 w2 : Option (List ℕ)} {run : Run ℕ} {i : ℕ} → i < length run.entries → Listing w w1 run i
+    → Appends w1 w2 (step_line (i + 1) (entry_to run (i + 1))) → Listing w w2 run (i + 1)
 more {w = w} {w1 = w1} {w2 = w2} {run = run} {i = i} lt l put =
     let line : List ℕ = step_line (i + 1) (entry_to run (i + 1)) in
     record {
@@ -49,7 +51,8 @@ more {w = w} {w1 = w1} {w2 = w2} {run = run} {i = i} lt l put =
       rest = append_assoc l.text line _ ∙ ap (λ (x : List ℕ). l.text ++ x) (sym (lines_more run i lt)) ∙ l.rest;
     }
 
-pub stops : {w w1 w2 : Option (List ℕ)} {run : Run ℕ} {i : ℕ} (e : StreamFault) → i < length run.entries → Listing w w1 run i → StopsWriting w1 w2 (step_line (i + 1) (entry_to run (i + 1))) e
+pub stops : {w w1 w2 : Option (List ℕ)} {run : Run ℕ} {i : ℕ} (e : StreamFault) → i < length run.entries → Listing w w1 run i
+    → StopsWriting w1 w2 (step_line (i + 1) (entry_to run (i + 1))) e
     → StopsWriting w w2 (entry_lines 1 run.entries) e
 stops {w = w} {w1 = w1} {w2 = w2} {run = run} {i = i} e lt l put =
     let line : List ℕ = step_line (i + 1) (entry_to run (i + 1)) in
@@ -60,7 +63,8 @@ stops {w = w} {w1 = w1} {w2 = w2} {run = run} {i = i} e lt l put =
         rest = put.1.rest ++ behind;
         written = Appends-then w w1 w2 l.text put.1.text l.written put.1.written;
         prefix = append_assoc l.text put.1.text (put.1.rest ++ behind)
-            ∙ ap (λ (x : List ℕ). l.text ++ x) (sym (append_assoc put.1.text put.1.rest behind) ∙ ap (λ (x : List ℕ). x ++ behind) put.1.prefix ∙ sym (lines_more run i lt))
+            ∙ ap (λ (x : List ℕ). l.text ++ x) (sym (append_assoc put.1.text put.1.rest behind) ∙ ap (λ (x : List ℕ). x ++ behind) put.1.prefix
+            ∙ sym (lines_more run i lt))
             ∙ l.rest;
       },
     )

@@ -18,7 +18,8 @@ taken_all (x ∷ xs) zero none = absurd cc
 taken_all (x ∷ xs) (suc i) none = ap (λ ys. x ∷ ys) (taken_all xs i none)
 
 -- a list to which an element was pushed
-pub pushed : {A B : Type 0} (f : A → B) (old new : List A) (x : A) (ys : List B) (y : B) → new ≡ old ++ x ∷ [] → map f old ≡ ys → f x ≡ y → map f new ≡ ys ++ y ∷ []
+pub pushed : {A B : Type 0} (f : A → B) (old new : List A) (x : A) (ys : List B) (y : B) → new ≡ old ++ x ∷ [] → map f old ≡ ys → f x ≡ y
+    → map f new ≡ ys ++ y ∷ []
 pushed f old new x ys y grown so is = ap (map f) grown ∙ map-append f old (x ∷ []) ∙ rw (so, is) refl
 
 pub map_map : {A B C : Type 0} (f : A → B) (g : B → C) (xs : List A) → map g (map f xs) ≡ map (λ x. g (f x)) xs

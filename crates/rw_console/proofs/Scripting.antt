@@ -1,5 +1,6 @@
 -- A script whose first lines were read.
-use Rattle.std.proofs.Common.{◌≡◌, ◌++◌, ◌∷◌, [], ◌+◌, ◌<◌, ◌≤◌, ℕ, true, false, List, Option, Result, Ok, Err, refl, sym, ap, ◌∙◌, length, All, arith, append_assoc, inl, inr}
+use Rattle.std.proofs.Common.{◌≡◌, ◌++◌, ◌∷◌, [], ◌+◌, ◌<◌, ◌≤◌, ℕ, true, false, List, Option, Result, Ok, Err}
+use Rattle.std.proofs.Common.{refl, sym, ap, ◌∙◌, length, All, arith, append_assoc, inl, inr}
 use Rattle.std.specs.List.{list_any}
 use Rattle.std.specs.Io.KnownBytes.{Consumes}
 use Rattle.std.proofs.lemmas.Bool.{cond-true, cond-false}
@@ -56,16 +57,20 @@ at_mark s text more e = cond-true (is_mark text) (script_at_end s) (after_line s
 rest_at_mark : (text : List ℕ) (more : List (List ℕ)) → is_mark text ≡ true → after_mark (text ∷ more) ≡ more
 rest_at_mark text more e = cond-true (is_mark text) more (after_mark more) e
 
-at_line_said : (s : ScriptReader) (said : Result ScriptReader ScriptFault) (text : List ℕ) (more : List (List ℕ)) → is_mark text ≡ false → after_line s text ≡ said → script_from s (text ∷ more) ≡ (said >>= λ t. script_from t more)
-at_line_said s said text more e a = cond-false (is_mark text) (script_at_end s) (after_line s text >>= λ t. script_from t more) e ∙ ap (λ (r : Result ScriptReader ScriptFault). r >>= λ t. script_from t more) a
+at_line_said : (s : ScriptReader) (said : Result ScriptReader ScriptFault) (text : List ℕ) (more : List (List ℕ)) → is_mark text ≡ false
+    → after_line s text ≡ said → script_from s (text ∷ more) ≡ (said >>= λ t. script_from t more)
+at_line_said s said text more e a = cond-false (is_mark text) (script_at_end s) (after_line s text >>= λ t. script_from t more) e
+    ∙ ap (λ (r : Result ScriptReader ScriptFault). r >>= λ t. script_from t more) a
 
 rest_at_line : (text : List ℕ) (more : List (List ℕ)) → is_mark text ≡ false → after_mark (text ∷ more) ≡ after_mark more
 rest_at_line text more e = cond-false (is_mark text) more (after_mark more) e
 
 -- ---- the loop
 
-pub more_line : {r0 r r' : Option (List ℕ)} {before allowed allowed' : ℕ} {reading : ScriptReader} {line : List ℕ} → (s : Scripting r0 r before allowed reading) (l : GivesLine r r' allowed allowed' line)
-    (plain : is_mark line ≡ false) (reading' : ScriptReader) (taken : (after_line reading line ≡ Ok reading') × (reading'.lines ≡ reading.lines + 1)) → Scripting r0 r' before allowed' reading'
+pub more_line : {r0 r r' : Option (List ℕ)} {before allowed allowed' : ℕ} {reading : ScriptReader} {line : List ℕ}
+    → (s : Scripting r0 r before allowed reading) (l : GivesLine r r' allowed allowed' line)
+    (plain : is_mark line ≡ false) (reading' : ScriptReader) (taken : (after_line reading line ≡ Ok reading') × (reading'.lines ≡ reading.lines + 1))
+    → Scripting r0 r' before allowed' reading'
 more_line {r0 = r0} {r = r} {r' = r'} {reading = reading} s l plain reading' taken =
     let m : is_mark l.text ≡ false = sym (mark_of _ l.text l.fits) ∙ plain in
     let t : after_line reading l.text ≡ Ok reading' = reading_after reading _ l.text l.fits ∙ taken.0 in
@@ -73,7 +78,14 @@ more_line {r0 = r0} {r = r} {r' = r'} {reading = reading} s l plain reading' tak
       ls = s.ls ++ l.text ∷ [];
       each = All-push IsUnbroken s.ls l.text s.each l.unbroken;
       read = rw (unlines_push s.ls l.text) (Consumes-then r0 r r' (unlines s.ls) (l.text ++ 10 ∷ []) s.read l.read);
-      count = omega (arith, ap length (unlines_push s.ls l.text), length-append (unlines s.ls) (l.text ++ 10 ∷ []), length-append l.text (10 ∷ []), l.count, s.count);
+      count = omega (
+        arith,
+        ap length (unlines_push s.ls l.text),
+        length-append (unlines s.ls) (l.text ++ 10 ∷ []),
+        length-append l.text (10 ∷ []),
+        l.count,
+        s.count,
+      );
       lines_fit = omega (arith, l.count, s.lines_fit, taken.1);
       unmarked = list_any-append is_mark s.ls (l.text ∷ []) ∙ rw (s.unmarked, m) refl;
       script = λ more. ap script_in (append_assoc s.ls (l.text ∷ []) more) ∙ s.script (l.text ∷ more) ∙ at_line_said reading (Ok reading') l.text more m t;
@@ -81,7 +93,8 @@ more_line {r0 = r0} {r = r} {r' = r'} {reading = reading} s l plain reading' tak
     }
 
 -- at the mark
-pub ends_at_mark : {r0 r r' : Option (List ℕ)} {before allowed allowed' : ℕ} {reading : ScriptReader} {line : List ℕ} → (s : Scripting r0 r before allowed reading) (l : GivesLine r r' allowed allowed' line)
+pub ends_at_mark : {r0 r r' : Option (List ℕ)} {before allowed allowed' : ℕ} {reading : ScriptReader} {line : List ℕ}
+    → (s : Scripting r0 r before allowed reading) (l : GivesLine r r' allowed allowed' line)
     (mark : is_mark line ≡ true) → GivesScript r0 r' before allowed' (script_at_end reading) × (reading.lines ≤ before)
 ends_at_mark {r0 = r0} {r = r} {r' = r'} {reading = reading} s l mark =
     let m : is_mark l.text ≡ true = sym (mark_of _ l.text l.fits) ∙ mark in (
@@ -89,7 +102,14 @@ ends_at_mark {r0 = r0} {r = r} {r' = r'} {reading = reading} s l mark =
         ls = s.ls ++ l.text ∷ [];
         each = All-push IsUnbroken s.ls l.text s.each l.unbroken;
         read = rw (unlines_push s.ls l.text) (Consumes-then r0 r r' (unlines s.ls) (l.text ++ 10 ∷ []) s.read l.read);
-        count = omega (arith, ap length (unlines_push s.ls l.text), length-append (unlines s.ls) (l.text ++ 10 ∷ []), length-append l.text (10 ∷ []), l.count, s.count);
+        count = omega (
+          arith,
+          ap length (unlines_push s.ls l.text),
+          length-append (unlines s.ls) (l.text ++ 10 ∷ []),
+          length-append l.text (10 ∷ []),
+          l.count,
+          s.count,
+        );
         script = λ more. ap script_in (append_assoc s.ls (l.text ∷ []) more) ∙ s.script (l.text ∷ more) ∙ at_mark reading l.text more m;
         rest = λ more. ap after_mark (append_assoc s.ls (l.text ∷ []) more) ∙ s.rest (l.text ∷ more) ∙ rest_at_mark l.text more m;
       },
@@ -97,7 +117,9 @@ ends_at_mark {r0 = r0} {r = r} {r' = r'} {reading = reading} s l mark =
     )
 
 -- at the reader's end
-pub ends : {r0 r r' : Option (List ℕ)} {before allowed allowed' : ℕ} {reading : ScriptReader} → (s : Scripting r0 r before allowed reading) (l : GivesNone r r' allowed allowed') → GivesAll r0 r' before (script_at_end reading) × (reading.lines ≤ before)
+pub ends : {r0 r r' : Option (List ℕ)} {before allowed allowed' : ℕ} {reading : ScriptReader}
+    → (s : Scripting r0 r before allowed reading) (l : GivesNone r r' allowed allowed')
+    → GivesAll r0 r' before (script_at_end reading) × (reading.lines ≤ before)
 ends {r0 = r0} {r = r} {r' = r'} s l = (
   record {
     bytes = unlines s.ls ++ [];
@@ -114,7 +136,8 @@ last_lines : (ls : List (List ℕ)) (text : List ℕ) → All IsUnbroken ls → 
 last_lines ls text each u some = lines_unlines ls text each ∙ ap (λ (x : List (List ℕ)). ls ++ x) (lines_last text u some)
 
 -- at a mark without LF
-pub ends_at_last_mark : {r0 r r' : Option (List ℕ)} {before allowed allowed' : ℕ} {reading : ScriptReader} {line : List ℕ} → (s : Scripting r0 r before allowed reading) (l : GivesLast r r' allowed allowed' line)
+pub ends_at_last_mark : {r0 r r' : Option (List ℕ)} {before allowed allowed' : ℕ} {reading : ScriptReader} {line : List ℕ}
+    → (s : Scripting r0 r before allowed reading) (l : GivesLast r r' allowed allowed' line)
     (mark : is_mark line ≡ true) → GivesAll r0 r' before (script_at_end reading) × (reading.lines ≤ before)
 ends_at_last_mark {r0 = r0} {r = r} {r' = r'} {reading = reading} s l mark =
     let m : is_mark l.text ≡ true = sym (mark_of _ l.text l.fits) ∙ mark in
@@ -131,8 +154,10 @@ ends_at_last_mark {r0 = r0} {r = r} {r' = r'} {reading = reading} s l mark =
     )
 
 -- after the last line
-pub ends_at_last_line : {r0 r r' : Option (List ℕ)} {before allowed allowed' : ℕ} {reading : ScriptReader} {line : List ℕ} → (s : Scripting r0 r before allowed reading) (l : GivesLast r r' allowed allowed' line)
-    (plain : is_mark line ≡ false) (reading' : ScriptReader) (taken : (after_line reading line ≡ Ok reading') × (reading'.lines ≡ reading.lines + 1)) → GivesAll r0 r' before (script_at_end reading') × (reading'.lines ≤ before)
+pub ends_at_last_line : {r0 r r' : Option (List ℕ)} {before allowed allowed' : ℕ} {reading : ScriptReader} {line : List ℕ}
+    → (s : Scripting r0 r before allowed reading) (l : GivesLast r r' allowed allowed' line)
+    (plain : is_mark line ≡ false) (reading' : ScriptReader) (taken : (after_line reading line ≡ Ok reading') × (reading'.lines ≡ reading.lines + 1))
+    → GivesAll r0 r' before (script_at_end reading') × (reading'.lines ≤ before)
 ends_at_last_line {r0 = r0} {r = r} {r' = r'} {reading = reading} s l plain reading' taken =
     let m : is_mark l.text ≡ false = sym (mark_of _ l.text l.fits) ∙ plain in
     let t : after_line reading l.text ≡ Ok reading' = reading_after reading _ l.text l.fits ∙ taken.0 in
@@ -149,7 +174,8 @@ ends_at_last_line {r0 = r0} {r = r} {r' = r'} {reading = reading} s l plain read
     )
 
 -- at a line with a fault
-pub fault_last : {r0 r r' : Option (List ℕ)} {before allowed allowed' : ℕ} {reading : ScriptReader} {line : List ℕ} → (s : Scripting r0 r before allowed reading) (l : GivesLast r r' allowed allowed' line)
+pub fault_last : {r0 r r' : Option (List ℕ)} {before allowed allowed' : ℕ} {reading : ScriptReader} {line : List ℕ}
+    → (s : Scripting r0 r before allowed reading) (l : GivesLast r r' allowed allowed' line)
     (plain : is_mark line ≡ false) (f : ScriptFault) (refused : after_line reading line ≡ Err f) → GivesFault r0 r' before f
 fault_last {r0 = r0} {r = r} {r' = r'} {reading = reading} s l plain f refused =
     let m : is_mark l.text ≡ false = sym (mark_of _ l.text l.fits) ∙ plain in
@@ -162,7 +188,8 @@ fault_last {r0 = r0} {r = r} {r' = r'} {reading = reading} s l plain f refused =
       whole = inl l.ended;
     }
 
-pub fault_line : {r0 r r' : Option (List ℕ)} {before allowed allowed' : ℕ} {reading : ScriptReader} {line : List ℕ} → (s : Scripting r0 r before allowed reading) (l : GivesLine r r' allowed allowed' line)
+pub fault_line : {r0 r r' : Option (List ℕ)} {before allowed allowed' : ℕ} {reading : ScriptReader} {line : List ℕ}
+    → (s : Scripting r0 r before allowed reading) (l : GivesLine r r' allowed allowed' line)
     (plain : is_mark line ≡ false) (f : ScriptFault) (refused : after_line reading line ≡ Err f) → GivesFault r0 r' before f
 fault_line {r0 = r0} {r = r} {r' = r'} {reading = reading} s l plain f refused =
     let m : is_mark l.text ≡ false = sym (mark_of _ l.text l.fits) ∙ plain in
@@ -181,7 +208,8 @@ fault_line {r0 = r0} {r = r} {r' = r'} {reading = reading} s l plain f refused =
 no_mark : (ls : List (List ℕ)) → list_any is_mark ls ≡ false → HasMark ls → ⊥
 no_mark ls e h = cc
 
-explains : {r0 r : Option (List ℕ)} {before allowed : ℕ} {reading : ScriptReader} → (s : Scripting r0 r before allowed reading) (part : List ℕ) (e : StreamFault) (why : StopsBecause part allowed e)
+explains : {r0 r : Option (List ℕ)} {before allowed : ℕ} {reading : ScriptReader}
+    → (s : Scripting r0 r before allowed reading) (part : List ℕ) (e : StreamFault) (why : StopsBecause part allowed e)
     → ExplainsScript before (unlines s.ls ++ part) e
 explains s part Read why = (s.ls, part, s.each, why.0, refl, no_mark s.ls s.unmarked, omega (arith, s.count, length-append (unlines s.ls) part, why.1))
 explains s part TooMuch why = omega (arith, s.count, length-append (unlines s.ls) part)
@@ -189,7 +217,8 @@ explains s part Write why = absurd why
 explains s part NoMemory why = omega (arith, s.count, length-append (unlines s.ls) part, why.1)
 
 -- where reading stopped
-pub stops_reading : {r0 r r' : Option (List ℕ)} {before allowed : ℕ} {reading : ScriptReader} → (s : Scripting r0 r before allowed reading) (e : StreamFault) (p : StopsInLine r r' allowed e)
+pub stops_reading : {r0 r r' : Option (List ℕ)} {before allowed : ℕ} {reading : ScriptReader}
+    → (s : Scripting r0 r before allowed reading) (e : StreamFault) (p : StopsInLine r r' allowed e)
     → StopsInScript r0 r' before e
 stops_reading {r0 = r0} {r = r} {r' = r'} s e p = record {
   bytes = unlines s.ls ++ p.text;
@@ -198,7 +227,8 @@ stops_reading {r0 = r0} {r = r} {r' = r'} s e p = record {
 }
 
 -- where memory runs out
-pub stops_line : {r0 r r' : Option (List ℕ)} {before allowed allowed' : ℕ} {reading : ScriptReader} {line : List ℕ} → (s : Scripting r0 r before allowed reading) (l : GivesLine r r' allowed allowed' line)
+pub stops_line : {r0 r r' : Option (List ℕ)} {before allowed allowed' : ℕ} {reading : ScriptReader} {line : List ℕ}
+    → (s : Scripting r0 r before allowed reading) (l : GivesLine r r' allowed allowed' line)
     → StopsInScript r0 r' before NoMemory
 stops_line {r0 = r0} {r = r} {r' = r'} s l = record {
   bytes = unlines s.ls ++ (l.text ++ 10 ∷ []);
@@ -206,7 +236,8 @@ stops_line {r0 = r0} {r = r} {r' = r'} s l = record {
   why = omega (arith, length-append (unlines s.ls) (l.text ++ 10 ∷ []), length-append l.text (10 ∷ []), l.count, s.count);
 }
 
-pub stops_last : {r0 r r' : Option (List ℕ)} {before allowed allowed' : ℕ} {reading : ScriptReader} {line : List ℕ} → (s : Scripting r0 r before allowed reading) (l : GivesLast r r' allowed allowed' line)
+pub stops_last : {r0 r r' : Option (List ℕ)} {before allowed allowed' : ℕ} {reading : ScriptReader} {line : List ℕ}
+    → (s : Scripting r0 r before allowed reading) (l : GivesLast r r' allowed allowed' line)
     → StopsInScript r0 r' before NoMemory
 stops_last {r0 = r0} {r = r} {r' = r'} s l = record {
   bytes = unlines s.ls ++ l.text;

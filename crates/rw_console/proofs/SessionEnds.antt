@@ -27,11 +27,13 @@ unlines-append a b = flat_map-append (λ (l : List ℕ). l ++ 10 ∷ []) a b
 
 -- ---- from what the lines mean
 
-script_at : {r0 r1 : Option (List ℕ)} {before after : ℕ} {said : Result Script ScriptFault} → (h : GivesScript r0 r1 before after said) (bs : List ℕ) → script_in (lines (unlines h.ls ++ bs)) ≡ said
+script_at : {r0 r1 : Option (List ℕ)} {before after : ℕ} {said : Result Script ScriptFault} → (h : GivesScript r0 r1 before after said) (bs : List ℕ)
+    → script_in (lines (unlines h.ls ++ bs)) ≡ said
 script_at h bs = ap script_in (lines_unlines h.ls bs h.each) ∙ h.script (lines bs)
 
 -- a script that ends with its mark, and has a fault as a whole
-pub fault_at_mark : {r0 r1 : Option (List ℕ)} {before after : ℕ} (said : Result Script ScriptFault) (f : ScriptFault) → said ≡ Err f → GivesScript r0 r1 before after said → GivesFault r0 r1 before f
+pub fault_at_mark : {r0 r1 : Option (List ℕ)} {before after : ℕ} (said : Result Script ScriptFault) (f : ScriptFault) → said ≡ Err f
+    → GivesScript r0 r1 before after said → GivesFault r0 r1 before f
 fault_at_mark said f e h = record {
   bytes = unlines h.ls;
   few = omega (arith, h.count);
@@ -50,7 +52,8 @@ said s = waiting_line (run_of s).waits
 abbrev answered : Script → List ℕ → List ℕ
 answered s bs = commands_report (recording_of s) (last_place (recording_of s)) bs
 
-report_at : {r0 r1 : Option (List ℕ)} {before after : ℕ} {s : Script} → (h : GivesScript r0 r1 before after (Ok s)) (bs : List ℕ) → report (unlines h.ls ++ bs) ≡ said s ++ answered s bs
+report_at : {r0 r1 : Option (List ℕ)} {before after : ℕ} {s : Script} → (h : GivesScript r0 r1 before after (Ok s)) (bs : List ℕ)
+    → report (unlines h.ls ++ bs) ≡ said s ++ answered s bs
 report_at {s = s} h bs =
     ap (λ (x : List (List ℕ)). answer (script_in x) (after_mark x)) (lines_unlines h.ls bs h.each)
     ∙ ap (λ (r : Result Script ScriptFault). answer r (after_mark (h.ls ++ lines bs))) (h.script (lines bs))
@@ -63,12 +66,17 @@ whole_at : {r0 r1 : Option (List ℕ)} {before after : ℕ} {s : Script} → (r2
     → (IsAtEnd r2 ⊎ ((more : List ℕ) → answered s (bs ++ more) ≡ answered s bs))
     → IsAtEnd r2 ⊎ ((more : List ℕ) → report ((unlines h.ls ++ bs) ++ more) ≡ report (unlines h.ls ++ bs))
 whole_at r2 h bs (inl e) = inl e
-whole_at {s = s} r2 h bs (inr m) = inr (λ more. ap report (append_assoc (unlines h.ls) bs more) ∙ report_at h (bs ++ more) ∙ ap (λ (x : List ℕ). said s ++ x) (m more) ∙ sym (report_at h bs))
+whole_at {s = s} r2 h bs (inr m) = inr (λ more. ap report (append_assoc (unlines h.ls) bs more) ∙ report_at h (bs ++ more)
+    ∙ ap (λ (x : List ℕ). said s ++ x) (m more) ∙ sym (report_at h bs))
 
-pub done : {r0 r1 r2 w0 w1 w2 : Option (List ℕ)} {before after : ℕ} {s : Script} → (h : GivesScript r0 r1 before after (Ok s)) (first : Appends w0 w1 (said s)) (run : Run ℕ) (same : run ≡ recording_of s)
-    (place : ℕ) (p : place ≡ last_place run) (waits : Option ℕ) (e : waits ≡ (run_of s).waits) (d : Answers r1 r2 w1 w2 (commands_report run place) after) → (done : Answers r0 r2 w0 w2 report before) × (outcome done.bytes ≡ outcome_at waits)
+pub done : {r0 r1 r2 w0 w1 w2 : Option (List ℕ)} {before after : ℕ} {s : Script}
+    → (h : GivesScript r0 r1 before after (Ok s)) (first : Appends w0 w1 (said s)) (run : Run ℕ) (same : run ≡ recording_of s)
+    (place : ℕ) (p : place ≡ last_place run) (waits : Option ℕ) (e : waits ≡ (run_of s).waits) (d : Answers r1 r2 w1 w2 (commands_report run place) after)
+    → (done : Answers r0 r2 w0 w2 report before) × (outcome done.bytes ≡ outcome_at waits)
 done {r0 = r0} {r1 = r1} {r2 = r2} {w0 = w0} {w1 = w1} {w2 = w2} {after = after} {s = s} h first run same place p waits e d' =
-    let d : Answers r1 r2 w1 w2 (answered s) after = subst (λ (t : Run ℕ). Answers r1 r2 w1 w2 (commands_report t (last_place t)) after) same (subst (λ (q : ℕ). Answers r1 r2 w1 w2 (commands_report run q) after) p d') in (
+    let d : Answers r1 r2 w1 w2 (answered s) after =
+    subst (λ (t : Run ℕ). Answers r1 r2 w1 w2 (commands_report t (last_place t)) after) same
+    (subst (λ (q : ℕ). Answers r1 r2 w1 w2 (commands_report run q) after) p d') in (
       record {
         bytes = unlines h.ls ++ d.bytes;
         few = omega (arith, h.count, d.few, length-append (unlines h.ls) d.bytes);
@@ -86,7 +94,8 @@ explains {s = s} h bytes text Read why = (
   why.1,
   All-append IsUnbroken h.ls why.0 h.each why.2,
   why.3,
-  ap (λ (x : List ℕ). unlines h.ls ++ x) why.4 ∙ sym (append_assoc (unlines h.ls) (unlines why.0) why.1) ∙ ap (λ (x : List ℕ). x ++ why.1) (sym (unlines-append h.ls why.0)),
+  ap (λ (x : List ℕ). unlines h.ls ++ x) why.4 ∙ sym (append_assoc (unlines h.ls) (unlines why.0) why.1)
+      ∙ ap (λ (x : List ℕ). x ++ why.1) (sym (unlines-append h.ls why.0)),
   λ _. ap (λ (x : List ℕ). said s ++ x) (why.5 tt) ∙ sym (report_at h (unlines why.0)) ∙ ap report (sym (unlines-append h.ls why.0)),
   omega (arith, h.count, why.6, length-append (unlines h.ls) bytes),
 )
@@ -94,11 +103,14 @@ explains h bytes text TooMuch why = omega (arith, h.count, why, length-append (u
 explains h bytes text Write why = omega (arith, h.count, why, length-append (unlines h.ls) bytes)
 explains h bytes text NoMemory why = omega (arith, h.count, why, length-append (unlines h.ls) bytes)
 
-pub stops : {r0 r1 r2 w0 w1 w2 : Option (List ℕ)} {before after : ℕ} {s : Script} → (h : GivesScript r0 r1 before after (Ok s)) (first : Appends w0 w1 (said s)) (run : Run ℕ) (same : run ≡ recording_of s)
-    (place : ℕ) (p : place ≡ last_place run) (e : StreamFault) (d : Stops r1 r2 w1 w2 (commands_report run place) Always after e) → Stops r0 r2 w0 w2 report HasMark before e
+pub stops : {r0 r1 r2 w0 w1 w2 : Option (List ℕ)} {before after : ℕ} {s : Script}
+    → (h : GivesScript r0 r1 before after (Ok s)) (first : Appends w0 w1 (said s)) (run : Run ℕ) (same : run ≡ recording_of s)
+    (place : ℕ) (p : place ≡ last_place run) (e : StreamFault) (d : Stops r1 r2 w1 w2 (commands_report run place) Always after e)
+    → Stops r0 r2 w0 w2 report HasMark before e
 stops {r0 = r0} {r1 = r1} {r2 = r2} {w0 = w0} {w1 = w1} {w2 = w2} {after = after} {s = s} h first run same place p e d' =
     let d : Stops r1 r2 w1 w2 (answered s) Always after e =
-    subst (λ (t : Run ℕ). Stops r1 r2 w1 w2 (commands_report t (last_place t)) Always after e) same (subst (λ (q : ℕ). Stops r1 r2 w1 w2 (commands_report run q) Always after e) p d') in
+    subst (λ (t : Run ℕ). Stops r1 r2 w1 w2 (commands_report t (last_place t)) Always after e) same
+    (subst (λ (q : ℕ). Stops r1 r2 w1 w2 (commands_report run q) Always after e) p d') in
     record {
       bytes = unlines h.ls ++ d.bytes;
       text = said s ++ d.text;
@@ -116,7 +128,9 @@ explains_writing limit bytes text few Write why = few
 explains_writing limit bytes text few NoMemory why = few
 
 -- a prefix of the report of these bytes was written
-stops_writing : {r0 r1 w0 w1 : Option (List ℕ)} → (limit : ℕ) (bytes output : List ℕ) (few : length bytes ≤ limit) (read : Consumes r0 r1 bytes) (here : report bytes ≡ output) (e : StreamFault) (put : StopsWriting w0 w1 output e)
+stops_writing : {r0 r1 w0 w1 : Option (List ℕ)}
+    → (limit : ℕ) (bytes output : List ℕ) (few : length bytes ≤ limit) (read : Consumes r0 r1 bytes) (here : report bytes ≡ output) (e : StreamFault)
+    (put : StopsWriting w0 w1 output e)
     → Stops r0 r1 w0 w1 report HasMark limit e
 stops_writing limit bytes output few read here e put = record {
   bytes = bytes;
@@ -129,7 +143,8 @@ stops_writing limit bytes output few read here e put = record {
 }
 
 -- before the first command
-pub stops_at_begin : {r0 r1 w0 w1 : Option (List ℕ)} {before after : ℕ} {s : Script} → (h : GivesScript r0 r1 before after (Ok s)) (e : StreamFault) (put : StopsWriting w0 w1 (said s) e) → Stops r0 r1 w0 w1 report HasMark before e
+pub stops_at_begin : {r0 r1 w0 w1 : Option (List ℕ)} {before after : ℕ} {s : Script}
+    → (h : GivesScript r0 r1 before after (Ok s)) (e : StreamFault) (put : StopsWriting w0 w1 (said s) e) → Stops r0 r1 w0 w1 report HasMark before e
 stops_at_begin {before = before} {s = s} h e put = stops_writing before (unlines h.ls) (said s) (omega (arith, h.count)) h.read (report_before h) e put
 
 -- ---- a script alone
@@ -140,7 +155,8 @@ explains_script limit bytes TooMuch why = why
 explains_script limit bytes Write why = absurd why
 explains_script limit bytes NoMemory why = why
 
-pub stops_in_script : {r0 r1 : Option (List ℕ)} {limit : ℕ} → (w : Option (List ℕ)) (e : StreamFault) (s : StopsInScript r0 r1 limit e) → Stops r0 r1 w w report HasMark limit e
+pub stops_in_script : {r0 r1 : Option (List ℕ)} {limit : ℕ} → (w : Option (List ℕ)) (e : StreamFault) (s : StopsInScript r0 r1 limit e)
+    → Stops r0 r1 w w report HasMark limit e
 stops_in_script {limit = limit} w e s = record {
   bytes = s.bytes;
   text = [];
@@ -153,9 +169,11 @@ stops_in_script {limit = limit} w e s = record {
 
 report_alone : {r0 r1 : Option (List ℕ)} {limit : ℕ} {s : Script} → (h : GivesAll r0 r1 limit (Ok s)) → report h.bytes ≡ said s
 report_alone {s = s} h =
-    ap (λ (r : Result Script ScriptFault). answer r (after_mark (lines h.bytes))) h.script ∙ ap (λ (x : List (List ℕ)). answer (Ok s) x) h.rest ∙ append-nil (said s)
+    ap (λ (r : Result Script ScriptFault). answer r (after_mark (lines h.bytes))) h.script ∙ ap (λ (x : List (List ℕ)). answer (Ok s) x) h.rest
+    ∙ append-nil (said s)
 
-pub ended : {r0 r1 w0 w1 : Option (List ℕ)} {limit : ℕ} {s : Script} → (h : GivesAll r0 r1 limit (Ok s)) (first : Appends w0 w1 (said s)) (waits : Option ℕ) (e : waits ≡ (run_of s).waits)
+pub ended : {r0 r1 w0 w1 : Option (List ℕ)} {limit : ℕ} {s : Script}
+    → (h : GivesAll r0 r1 limit (Ok s)) (first : Appends w0 w1 (said s)) (waits : Option ℕ) (e : waits ≡ (run_of s).waits)
     → (done : Answers r0 r1 w0 w1 report limit) × (outcome done.bytes ≡ outcome_at waits)
 ended {w0 = w0} {w1 = w1} {s = s} h first waits e = (
   record {
@@ -168,7 +186,8 @@ ended {w0 = w0} {w1 = w1} {s = s} h first waits e = (
   ap outcome_of h.script ∙ ap outcome_at (sym e),
 )
 
-pub ended_stops : {r0 r1 w0 w1 : Option (List ℕ)} {s : Script} → (limit : ℕ) (h : GivesAll r0 r1 limit (Ok s)) (e : StreamFault) (put : StopsWriting w0 w1 (said s) e) → Stops r0 r1 w0 w1 report HasMark limit e
+pub ended_stops : {r0 r1 w0 w1 : Option (List ℕ)} {s : Script}
+    → (limit : ℕ) (h : GivesAll r0 r1 limit (Ok s)) (e : StreamFault) (put : StopsWriting w0 w1 (said s) e) → Stops r0 r1 w0 w1 report HasMark limit e
 ended_stops {s = s} limit h e put = stops_writing limit h.bytes (said s) h.few h.read (report_alone h) e put
 
 -- ---- a fault
@@ -176,12 +195,14 @@ ended_stops {s = s} limit h e put = stops_writing limit h.bytes (said s) h.few h
 fault_at : (f : ScriptFault) (bytes : List ℕ) → script_in (lines bytes) ≡ Err f → report bytes ≡ fault_line f
 fault_at f bytes e = ap (λ (r : Result Script ScriptFault). answer r (after_mark (lines bytes))) e
 
-whole_fault : (r1 : Option (List ℕ)) (f : ScriptFault) (bytes : List ℕ) → script_in (lines bytes) ≡ Err f → (IsAtEnd r1 ⊎ ((more : List ℕ) → script_in (lines (bytes ++ more)) ≡ Err f))
+whole_fault : (r1 : Option (List ℕ)) (f : ScriptFault) (bytes : List ℕ) → script_in (lines bytes) ≡ Err f
+    → (IsAtEnd r1 ⊎ ((more : List ℕ) → script_in (lines (bytes ++ more)) ≡ Err f))
     → IsAtEnd r1 ⊎ ((more : List ℕ) → report (bytes ++ more) ≡ report bytes)
 whole_fault r1 f bytes here (inl e) = inl e
 whole_fault r1 f bytes here (inr m) = inr (λ more. fault_at f (bytes ++ more) (m more) ∙ sym (fault_at f bytes here))
 
-pub refused : {r0 r1 w0 w1 : Option (List ℕ)} {limit : ℕ} → (f : ScriptFault) (h : GivesFault r0 r1 limit f) (put : Appends w0 w1 (fault_line f)) → (done : Answers r0 r1 w0 w1 report limit) × (outcome done.bytes ≡ Refused f)
+pub refused : {r0 r1 w0 w1 : Option (List ℕ)} {limit : ℕ} → (f : ScriptFault) (h : GivesFault r0 r1 limit f) (put : Appends w0 w1 (fault_line f))
+    → (done : Answers r0 r1 w0 w1 report limit) × (outcome done.bytes ≡ Refused f)
 refused {r1 = r1} {w0 = w0} {w1 = w1} f h put = (
   record {
     bytes = h.bytes;
@@ -193,5 +214,7 @@ refused {r1 = r1} {w0 = w0} {w1 = w1} f h put = (
   ap outcome_of h.script,
 )
 
-pub refused_stops : {r0 r1 w0 w1 : Option (List ℕ)} → (limit : ℕ) (f : ScriptFault) (h : GivesFault r0 r1 limit f) (e : StreamFault) (put : StopsWriting w0 w1 (fault_line f) e) → Stops r0 r1 w0 w1 report HasMark limit e
+pub refused_stops : {r0 r1 w0 w1 : Option (List ℕ)}
+    → (limit : ℕ) (f : ScriptFault) (h : GivesFault r0 r1 limit f) (e : StreamFault) (put : StopsWriting w0 w1 (fault_line f) e)
+    → Stops r0 r1 w0 w1 report HasMark limit e
 refused_stops limit f h e put = stops_writing limit h.bytes (fault_line f) h.few h.read (fault_at f h.bytes h.script) e put

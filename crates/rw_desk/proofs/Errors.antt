@@ -39,7 +39,8 @@ pub memory_is_not_full : {T : Type 0} → IsErrOf {T = T} (Err desk.NoMemory) de
 memory_is_not_full h = cc
 
 -- a refusal to make room isn't the fault of a stray call
-pub room_fault_is_no_stray : {T U : Type 0} (e : DeskFault) → (IsErrOf {T = T} (Err e) desk.JournalFull ⊎ IsErrOf {T = T} (Err e) desk.NoMemory) → IsErrOf {T = U} (Err e) desk.NoChannel → ⊥
+pub room_fault_is_no_stray : {T U : Type 0} (e : DeskFault) → (IsErrOf {T = T} (Err e) desk.JournalFull ⊎ IsErrOf {T = T} (Err e) desk.NoMemory)
+    → IsErrOf {T = U} (Err e) desk.NoChannel → ⊥
 room_fault_is_no_stray e (inl full) stray = cc
 room_fault_is_no_stray e (inr memory) stray = cc
 
@@ -49,7 +50,8 @@ copy_fault_names_nobody (Strayed a i) h = tt
 copy_fault_names_nobody NoMemory h = tt
 
 module _ {V : Type 0} where
-  pub settle_fault_names_nobody : (js : List (List (ChanEntry V))) (passes : List (Pass V)) (fault : CloseFault) → IsSettleFaultOf js passes fault → IsNoStranger fault
+  pub settle_fault_names_nobody : (js : List (List (ChanEntry V))) (passes : List (Pass V)) (fault : CloseFault) → IsSettleFaultOf js passes fault
+      → IsNoStranger fault
   settle_fault_names_nobody js passes (Stranger a) h = h
   settle_fault_names_nobody js passes (Strayed a i) h = tt
   settle_fault_names_nobody js passes NoMemory h = tt

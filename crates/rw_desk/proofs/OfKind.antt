@@ -37,24 +37,28 @@ module _ {V : Type 0} where
   kind_of_book spec book opened = kind_after ((of_chan {V = V}).shown book.opening) book.entries ∙ (ap channel_kind opened ∙ kind_opened spec)
 
   -- whether a call strays at a book depends only on the spec that the book was opened from
-  pub strays_by_spec : (spec : Spec V) (book : Books V) (c : ChanCall V) → IsOpenedFrom spec book → (of_chan {V = V}).is_straying (reply_to of_chan book c) ≡ strays_at (spec_kind spec) c
+  pub strays_by_spec : (spec : Spec V) (book : Books V) (c : ChanCall V) → IsOpenedFrom spec book
+      → (of_chan {V = V}).is_straying (reply_to of_chan book c) ≡ strays_at (spec_kind spec) c
   strays_by_spec spec book c opened =
       strays_by_kind of_broadcast of_watch (state_of of_chan book) c ∙ ap (λ k. strays_at k c) (kind_of_book spec book opened)
 
-  kind_of_reply : (x : ChanShown V) (c : ChanCall V) → (of_chan {V = V}).is_straying ((of_chan {V = V}).reply_of x c) ≡ false → IsOfKind c ((of_chan {V = V}).reply_of x c)
+  kind_of_reply : (x : ChanShown V) (c : ChanCall V) → (of_chan {V = V}).is_straying ((of_chan {V = V}).reply_of x c) ≡ false
+      → IsOfKind c ((of_chan {V = V}).reply_of x c)
   kind_of_reply (broadcast_shown x) (call.B c) stays = tt
   kind_of_reply (broadcast_shown x) (call.W c) stays = absurd (cc)
   kind_of_reply (watch_shown x) (call.B c) stays = absurd (cc)
   kind_of_reply (watch_shown x) (call.W c) stays = tt
 
   -- a recorded call adds its receipt
-  pub has_receipt : (spec : Spec V) (old new : Pass V) (before now : Books V) (channel : ℕ) (c : ChanCall V) (r : ChanReply V) → IsOpenedFrom spec before → IsBook of_chan (opening_of of_chan before) before.entries
+  pub has_receipt : (spec : Spec V) (old new : Pass V) (before now : Books V) (channel : ℕ) (c : ChanCall V) (r : ChanReply V) → IsOpenedFrom spec before
+      → IsBook of_chan (opening_of of_chan before) before.entries
       → IsRecorded of_chan old new before now channel c r → HasReceipt (Some spec) old new channel c r
   has_receipt spec old new before now channel c r opened book recorded =
       let taken = recorded.taken in
       let x : ChanShown V = after_all of_chan (opened_channel spec) before.entries in
       let reply_is : r ≡ (of_chan {V = V}).reply_of x c = taken.reply_is ∙ ap (λ s. (of_chan {V = V}).reply_of (after_all of_chan s before.entries) c) opened in
-      let stays : (of_chan {V = V}).is_straying ((of_chan {V = V}).reply_of x c) ≡ false = subst (λ s. (of_chan {V = V}).is_straying s ≡ false) reply_is taken.no_stray in
+      let stays : (of_chan {V = V}).is_straying ((of_chan {V = V}).reply_of x c) ≡ false =
+      subst (λ s. (of_chan {V = V}).is_straying s ≡ false) reply_is taken.no_stray in
       record {
         opened = spec;
         spec_is = refl;
@@ -70,15 +74,18 @@ module _ {V : Type 0} where
 
   -- no call changes what the book was opened from
   pub opened_still : (spec : Spec V) (old new : Pass V) (before now : Books V) (channel : ℕ) (c : ChanCall V) (answer : Result (ChanReply V) DeskFault)
-      → IsOpenedFrom spec before → IfOk answer (λ r. IsRecorded of_chan old new before now channel c r) → OnErr answer (IsUnchanged before now) → IsOpenedFrom spec now
+      → IsOpenedFrom spec before → IfOk answer (λ r. IsRecorded of_chan old new before now channel c r) → OnErr answer (IsUnchanged before now)
+      → IsOpenedFrom spec now
   opened_still spec old new before now channel c (Ok r) opened recorded unchanged = ap (of_chan {V = V}).shown recorded.taken.opening ∙ opened
   opened_still spec old new before now channel c (Err fault) opened recorded unchanged = ap (of_chan {V = V}).shown unchanged.opening ∙ opened
 
-  pub receipt_given : (spec : Spec V) (old new : Pass V) (before now : Books V) (channel : ℕ) (c : ChanCall V) (answer : Result (ChanReply V) DeskFault) → IsOpenedFrom spec before → IsBook of_chan (opening_of of_chan before) before.entries
+  pub receipt_given : (spec : Spec V) (old new : Pass V) (before now : Books V) (channel : ℕ) (c : ChanCall V) (answer : Result (ChanReply V) DeskFault)
+      → IsOpenedFrom spec before → IsBook of_chan (opening_of of_chan before) before.entries
       → IfOk answer (λ r. IsRecorded of_chan old new before now channel c r) → IfOk answer (λ r. HasReceipt (Some spec) old new channel c r)
   receipt_given spec old new before now channel c (Ok r) opened book recorded = has_receipt spec old new before now channel c r opened book recorded
   receipt_given spec old new before now channel c (Err fault) opened book recorded = tt
 
   -- a call that isn't stray by the spec isn't stray at the book
-  pub never_strays : (spec own : Spec V) (book : Books V) (c : ChanCall V) → IsOpenedFrom own book → own ≡ spec → strays_at (spec_kind spec) c ≡ false → (of_chan {V = V}).is_straying (reply_to of_chan book c) ≡ false
+  pub never_strays : (spec own : Spec V) (book : Books V) (c : ChanCall V) → IsOpenedFrom own book → own ≡ spec → strays_at (spec_kind spec) c ≡ false
+      → (of_chan {V = V}).is_straying (reply_to of_chan book c) ≡ false
   never_strays spec own book c opened same stays = strays_by_spec own book c opened ∙ (ap (λ s. strays_at (spec_kind s) c) same ∙ stays)

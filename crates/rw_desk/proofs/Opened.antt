@@ -21,7 +21,8 @@ slice_get-last (x ∷ xs) y zero at = absurd (omega arith)
 slice_get-last (x ∷ xs) y (suc i) at = slice_get-last xs y i (omega arith)
 
 -- a list of f 0, f 1, .. with one more element
-pub one_more : {X : Type 0} (f : ℕ → Option X) (xs more : List X) (x : X) (n : ℕ) → length xs ≡ n → ((a : ℕ) → a < n → slice_get xs a ≡ f a) → Some x ≡ f n → more ≡ xs ++ x ∷ []
+pub one_more : {X : Type 0} (f : ℕ → Option X) (xs more : List X) (x : X) (n : ℕ) → length xs ≡ n → ((a : ℕ) → a < n → slice_get xs a ≡ f a) → Some x ≡ f n
+    → more ≡ xs ++ x ∷ []
     → (length more ≡ n + 1) × ((a : ℕ) → a < n + 1 → slice_get more a ≡ f a)
 one_more f xs more x n len each new is = rw is (
   omega (arith, length_push xs x, len),

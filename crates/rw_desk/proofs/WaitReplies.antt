@@ -1,5 +1,6 @@
 -- The replies to the calls of a wait for a value.
-use Rattle.std.proofs.Common.{◌≡◌, ◌⊎◌, ℕ, zero, suc, Bool, true, false, Option, List, [], ◌∷◌, Result, Ok, Err, OnErr, Some, None, refl, sym, ◌∙◌, ap, subst, inl, inr}
+use Rattle.std.proofs.Common.{◌≡◌, ◌⊎◌, ℕ, zero, suc, Bool, true, false, Option, List, [], ◌∷◌, Result, Ok}
+use Rattle.std.proofs.Common.{Err, OnErr, Some, None, refl, sym, ◌∙◌, ap, subst, inl, inr}
 use Rattle.std.specs.Prelude.{map, ◌↔◌, IsErrAnd, IsErrOf, IsTrue, MatchOption}
 use Rattle.std.proofs.lemmas.Bool.{true≢false}
 use Rattle.rw_law.specs.Journal.{after_all}
@@ -41,7 +42,8 @@ module _ {V : Type 0} where
   abbrev pub IsChange : WReply V → Type 0
   IsChange r = (r ≡ Done) ⊎ (r ≡ Closed) ⊎ IsHandleRefusal r
 
-  change : (y : Shown V) (h : ℕ) (f : Found (Option ℕ)) → (of_watch {V = V}).is_waiting ((effect_found y (Changed h) f).1) ≡ false → IsChange ((effect_found y (Changed h) f).1)
+  change : (y : Shown V) (h : ℕ) (f : Found (Option ℕ)) → (of_watch {V = V}).is_waiting ((effect_found y (Changed h) f).1) ≡ false
+      → IsChange ((effect_found y (Changed h) f).1)
   change y h (Fault fault) no_wait = inr (inr (fault, refl))
   change y h (Handle kind mark) no_wait = go (is_unseen y.version mark) refl
     where
@@ -58,7 +60,8 @@ module _ {V : Type 0} where
     where
       go : (s : ChanShown V) → (of_chan {V = V}).reply_of s (call.W (Update h)) ≡ reply.W r → IsRead r
       go (broadcast_shown x) is = absurd (cc)
-      go (watch_shown y) is = let same : (effect_found y (Update h) (lookup (wanted_kind {V = V} (Update h)) y.slots h)).1 ≡ r = cc in subst IsRead same (read y h (lookup (wanted_kind {V = V} (Update h)) y.slots h))
+      go (watch_shown y) is = let same : (effect_found y (Update h) (lookup (wanted_kind {V = V} (Update h)) y.slots h)).1 ≡ r = cc in
+          subst IsRead same (read y h (lookup (wanted_kind {V = V} (Update h)) y.slots h))
 
   pub of_change : (spec : Option (Spec V)) (old new : Pass V) (channel h : ℕ) (r : WReply V) → HasChanged spec channel h old new r → IsChange r
   of_change spec old new channel h r receipt = go (after_all of_chan (opened_channel receipt.opened) receipt.journal) receipt.replied
@@ -72,14 +75,16 @@ module _ {V : Type 0} where
           subst IsChange same (change y h (lookup (wanted_kind {V = V} (Changed h)) y.slots h) no_wait)
 
   -- a watch's call strays exactly if there is no watch
-  pub strays_alike : (specs : List (Spec V)) (channel : ℕ) (c : WCall V) → stray_of strays_at (map spec_kind specs) (row_call channel (call.W c)) ≡ has_no_watch specs channel
+  pub strays_alike : (specs : List (Spec V)) (channel : ℕ) (c : WCall V)
+      → stray_of strays_at (map spec_kind specs) (row_call channel (call.W c)) ≡ has_no_watch specs channel
   strays_alike [] channel c = refl
   strays_alike (spec.Broadcast n ∷ specs) zero c = refl
   strays_alike (spec.Watch v ∷ specs) zero c = refl
   strays_alike (s ∷ specs) (suc channel) c = strays_alike specs channel c
 
   -- if a watch's call found a channel, that is a watch
-  pub watch_found : (specs : List (Spec V)) (channel : ℕ) (c : WCall V) → (IsTrue (stray_of strays_at (map spec_kind specs) (row_call channel (call.W c))) → true ≡ false) → IsTrue (has_no_watch specs channel) → ⊥
+  pub watch_found : (specs : List (Spec V)) (channel : ℕ) (c : WCall V)
+      → (IsTrue (stray_of strays_at (map spec_kind specs) (row_call channel (call.W c))) → true ≡ false) → IsTrue (has_no_watch specs channel) → ⊥
   watch_found specs channel c found none = true≢false (found (subst IsTrue (sym (strays_alike specs channel c)) none))
 
   pub watch_there : (s : Spec V) (c : WCall V) → strays_at (spec_kind s) (call.W c) ≡ false → spec_kind s ≡ kinds.Watch
@@ -103,7 +108,8 @@ error_is : {T E : Type 0} (r : Result T E) (e f : E) → IsErrAnd r (λ g. g ≡
 error_is (Ok x) e f told h = absurd told
 error_is (Err g) e f told h = let same : g ≡ f = cc in sym same ∙ told
 
-module _ {V T : Type 0} (specs : List (Spec V)) (channel : ℕ) (c : WCall V) (x : T) (told : IsErrOf (Ok x) NoChannel ↔ IsTrue (stray_of strays_at (map spec_kind specs) (row_call channel (call.W c)))) where
+module _ {V T : Type 0} (specs : List (Spec V)) (channel : ℕ) (c : WCall V) (x : T)
+    (told : IsErrOf (Ok x) NoChannel ↔ IsTrue (stray_of strays_at (map spec_kind specs) (row_call channel (call.W c)))) where
   there_is : IsTrue (has_no_watch specs channel) → ⊥
   there_is none = no_fault x NoChannel (told.1 (subst IsTrue (sym (strays_alike specs channel c)) none))
 
@@ -112,7 +118,8 @@ module _ {V T : Type 0} (specs : List (Spec V)) (channel : ℕ) (c : WCall V) (x
   answered_there y = (λ h. absurd (no_fault y NoChannel h), λ none. absurd (there_is none))
 
   -- and at each fault
-  pub broken_there : {U : Type 0} (d : WCall V) (e : DeskFault) (r : Result U DeskFault) → IsErrAnd r (λ f. f ≡ e) → (IsErrOf {T = T} (Err e) NoChannel ↔ IsTrue (stray_of strays_at (map spec_kind specs) (row_call channel (call.W d))))
+  pub broken_there : {U : Type 0} (d : WCall V) (e : DeskFault) (r : Result U DeskFault) → IsErrAnd r (λ f. f ≡ e)
+      → (IsErrOf {T = T} (Err e) NoChannel ↔ IsTrue (stray_of strays_at (map spec_kind specs) (row_call channel (call.W d))))
       → (IsErrOf r NoChannel ↔ IsTrue (has_no_watch specs channel))
   broken_there d e r is told2 = (
     λ h. subst IsTrue (strays_alike specs channel d) (told2.0 (ap (λ f. Err f) (sym (error_is r e NoChannel is h)))),

@@ -32,12 +32,14 @@ patch_send : IsSend (CP.the_row u64)
 patch_send = search (sendable, crosses, Patch.the_send) depth 20
 
 recorded_book_send : IsSend (Book.the_row (C.the_row u64) (CC.the_row u64) (CR.the_row u64) (CP.the_row u64) (chan.ghosts u64 number.ghosts chan.no_dict))
-recorded_book_send = book_send (C.the_row u64) (CC.the_row u64) (CR.the_row u64) (CP.the_row u64) (chan.ghosts u64 number.ghosts chan.no_dict) chan_send call_send reply_send patch_send
+recorded_book_send = book_send (C.the_row u64) (CC.the_row u64) (CR.the_row u64) (CP.the_row u64) (chan.ghosts u64 number.ghosts chan.no_dict) chan_send
+    call_send reply_send patch_send
 
 inside_send : IsSend Inside.the_row
 inside_send =
     recorded_send (Inside.the_field).row _ _ (Inside.the_type).to_one
-    (struct_send (Declared.shape Inside.the_type) (search sendable depth 20, (search (sendable, recorded_book_send) depth 20, (search (sendable, crosses, Ended.the_send) depth 20, tt))))
+    (struct_send (Declared.shape Inside.the_type)
+    (search sendable depth 20, (search (sendable, recorded_book_send) depth 20, (search (sendable, crosses, Ended.the_send) depth 20, tt))))
 
 pub recording_send : IsSend Recording.the_row
 recording_send = view_send Inside.the_row _ _ _ _ inside_send

@@ -18,14 +18,16 @@ lag_from_same t u same (Some p) = omega (arith, same.capacity, same.sent)
 
 -- a receiver with its lag among its losses, which is its greatest or not
 abbrev settled_by : BroadcastTally → Reader → Bool → Reader
-settled_by t r b = cond b (record r { lost = r.lost + lag_of_reader t r; worst = lag_of_reader t r; worst_place = t.last_send }) (record r { lost = r.lost + lag_of_reader t r })
+settled_by t r b = cond b (record r { lost = r.lost + lag_of_reader t r; worst = lag_of_reader t r; worst_place = t.last_send })
+    (record r { lost = r.lost + lag_of_reader t r })
 
 pub settled_parts : (t : BroadcastTally) (r : Reader)
     → ((settled t r).received ≡ r.received) × ((settled t r).told ≡ r.told) × ((settled t r).lost ≡ r.lost + lag_of_reader t r)
     × ((settled t r).worst ≡ cond (nat_lt r.worst (lag_of_reader t r)) (lag_of_reader t r) r.worst)
     × ((settled t r).worst_place ≡ cond (nat_lt r.worst (lag_of_reader t r)) t.last_send r.worst_place)
 settled_parts t r = by_test (nat_lt r.worst (lag_of_reader t r)) where
-  by_test : (b : Bool) → ((settled_by t r b).received ≡ r.received) × ((settled_by t r b).told ≡ r.told) × ((settled_by t r b).lost ≡ r.lost + lag_of_reader t r)
+  by_test : (b : Bool) → ((settled_by t r b).received ≡ r.received) × ((settled_by t r b).told ≡ r.told)
+      × ((settled_by t r b).lost ≡ r.lost + lag_of_reader t r)
       × ((settled_by t r b).worst ≡ cond b (lag_of_reader t r) r.worst) × ((settled_by t r b).worst_place ≡ cond b t.last_send r.worst_place)
   by_test true = (refl, refl, refl, refl, refl)
   by_test false = (refl, refl, refl, refl, refl)
@@ -86,7 +88,8 @@ module _ (lag : ℕ → Option ℕ) (received told : ℕ → ℕ) where
     few_received = omega (arith, is.few_received);
     few_told = omega (arith, is.few_told);
     stands = subst (λ now. Stands lag_or_0 (n + 1) u.last_send r.lost r.worst r.worst_place now) (sym (lag_from_same t u same r.position))
-        (stays lag_or_0 n t.last_send r.lost r.worst r.worst_place (lag_of_reader t r) is.stands u.last_send (inl same.last_send) (ap (λ o. unwrap_or o 0) lag_is ∙ is.stands.now_is));
+        (stays lag_or_0 n t.last_send r.lost r.worst r.worst_place (lag_of_reader t r) is.stands u.last_send (inl same.last_send)
+        (ap (λ o. unwrap_or o 0) lag_is ∙ is.stands.now_is));
   }
 
   -- one more value was sent
@@ -95,7 +98,8 @@ module _ (lag : ℕ → Option ℕ) (received told : ℕ → ℕ) where
     pub sent : u.sent ≡ t.sent + 1
     pub last_send : u.last_send ≡ n + 1
 
-  pub is_sent : (n : ℕ) (t u : BroadcastTally) (o : Option Reader) → IsSentTo t u n → IsIdle n → ((r : Reader) → o ≡ Some r → lag (n + 1) ≡ option_map (λ p. oldest_of u - p) r.position) → (o ≡ None → lag (n + 1) ≡ None)
+  pub is_sent : (n : ℕ) (t u : BroadcastTally) (o : Option Reader) → IsSentTo t u n → IsIdle n
+      → ((r : Reader) → o ≡ Some r → lag (n + 1) ≡ option_map (λ p. oldest_of u - p) r.position) → (o ≡ None → lag (n + 1) ≡ None)
       → IsCounted n t o → IsCounted (n + 1) u o
   is_sent n t u None sent idle then none is = still_uncounted n idle is (none refl)
   is_sent n t u (Some r) sent idle then none is = record {
@@ -104,9 +108,11 @@ module _ (lag : ℕ → Option ℕ) (received told : ℕ → ℕ) where
     told_is = is.told_is ∙ sym idle.told_is;
     few_received = omega (arith, is.few_received);
     few_told = omega (arith, is.few_told);
-    stands = subst (λ step. Stands lag_or_0 (n + 1) step r.lost r.worst r.worst_place (lag_of_reader u r)) (sym sent.last_send) (by_position r.position refl is.stands);
+    stands = subst (λ step. Stands lag_or_0 (n + 1) step r.lost r.worst r.worst_place (lag_of_reader u r)) (sym sent.last_send)
+        (by_position r.position refl is.stands);
   } where
-    by_position : (o : Option ℕ) → r.position ≡ o → Stands lag_or_0 n t.last_send r.lost r.worst r.worst_place (lag_from t r.position) → Stands lag_or_0 (n + 1) (n + 1) r.lost r.worst r.worst_place (lag_from u r.position)
+    by_position : (o : Option ℕ) → r.position ≡ o → Stands lag_or_0 n t.last_send r.lost r.worst r.worst_place (lag_from t r.position)
+        → Stands lag_or_0 (n + 1) (n + 1) r.lost r.worst r.worst_place (lag_from u r.position)
     by_position None at stands =
         let now_none : lag_from t r.position ≡ 0 = ap (lag_from t) at in
         let then_none : lag_from u r.position ≡ 0 = ap (lag_from u) at in
@@ -149,7 +155,8 @@ module _ (lag : ℕ → Option ℕ) (received told : ℕ → ℕ) where
 
   module _ (n : ℕ) (t u : BroadcastTally) (r : Reader) (same : IsSameOf t u) (is : Counted n t r) where
     -- it receives a value
-    pub is_read : (p : ℕ) → r.position ≡ Some p → oldest_of t - p ≡ 0 → received (n + 1) ≡ received n + 1 → told (n + 1) ≡ told n → lag_or_0 (n + 1) ≡ 0 → Counted (n + 1) u (after_value t r)
+    pub is_read : (p : ℕ) → r.position ≡ Some p → oldest_of t - p ≡ 0 → received (n + 1) ≡ received n + 1 → told (n + 1) ≡ told n → lag_or_0 (n + 1) ≡ 0
+        → Counted (n + 1) u (after_value t r)
     is_read p at none more_received told_same lag_none =
         let next = λ (o : Option ℕ). option_map (λ position. cond (nat_lt position t.sent) (position + 1) position) o in
         let now_none : lag_of_reader t r ≡ 0 = ap (lag_from t) at ∙ none in
@@ -162,7 +169,8 @@ module _ (lag : ℕ → Option ℕ) (received told : ℕ → ℕ) where
           few_received = omega (arith, is.few_received);
           few_told = omega (arith, is.few_told);
           stands = subst (λ now. Stands lag_or_0 (n + 1) u.last_send r.lost r.worst r.worst_place now) (now_none ∙ sym after_none)
-              (stays lag_or_0 n t.last_send r.lost r.worst r.worst_place (lag_of_reader t r) is.stands u.last_send (inl same.last_send) (lag_none ∙ sym now_none));
+              (stays lag_or_0 n t.last_send r.lost r.worst r.worst_place (lag_of_reader t r) is.stands u.last_send (inl same.last_send)
+              (lag_none ∙ sym now_none));
         } where
           by_test : (b : Bool) → oldest_of t - cond b (p + 1) p ≡ 0
           by_test true = omega (arith, none)
@@ -176,7 +184,8 @@ module _ (lag : ℕ → Option ℕ) (received told : ℕ → ℕ) where
         subst (λ now. Stands lag_or_0 (n + 1) u.last_send (settled t r).lost (settled t r).worst (settled t r).worst_place now) (sym none)
         (subst (λ lost. Stands lag_or_0 (n + 1) u.last_send lost (settled t r).worst (settled t r).worst_place 0) (sym (settled_parts t r).2)
         (subst (λ worst. Stands lag_or_0 (n + 1) u.last_send (r.lost + lag_of_reader t r) worst (settled t r).worst_place 0) (sym (settled_parts t r).3)
-        (subst (λ place. Stands lag_or_0 (n + 1) u.last_send (r.lost + lag_of_reader t r) (cond (nat_lt r.worst (lag_of_reader t r)) (lag_of_reader t r) r.worst) place 0) (sym (settled_parts t r).4) stands)))
+        (subst (λ place. Stands lag_or_0 (n + 1) u.last_send (r.lost + lag_of_reader t r)
+        (cond (nat_lt r.worst (lag_of_reader t r)) (lag_of_reader t r) r.worst) place 0) (sym (settled_parts t r).4) stands)))
 
     -- it is told that it lags
     pub is_told : received (n + 1) ≡ received n → told (n + 1) ≡ told n + 1 → lag_or_0 (n + 1) ≡ 0 → Counted (n + 1) u (after_lag t r)

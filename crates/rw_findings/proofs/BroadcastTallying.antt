@@ -1,5 +1,6 @@
 -- One call of a broadcast, and what is kept of all its receivers.
-use Rattle.std.proofs.Common.{◌≡◌, ◌≢◌, ℕ, zero, suc, ◌+◌, ◌-◌, ◌<◌, ◌≤◌, ◌⊎◌, Bool, true, false, cond, List, [], ◌∷◌, ◌++◌, length, map, get_or, set, inl, inr, refl, ap, sym, ◌∙◌, subst, arith}
+use Rattle.std.proofs.Common.{◌≡◌, ◌≢◌, ℕ, zero, suc, ◌+◌, ◌-◌, ◌<◌, ◌≤◌, ◌⊎◌, Bool, true, false, cond, List, [], ◌∷◌}
+use Rattle.std.proofs.Common.{◌++◌, length, map, get_or, set, inl, inr, refl, ap, sym, ◌∙◌, subst, arith}
 use Rattle.std.specs.Prelude.{Option, Some, None, unwrap_or, slice_get, option_map, option_and_then, nat_eq, nat_lt}
 use Rattle.std.proofs.lemmas.Bool.{cases_order}
 use Rattle.std.proofs.lemmas.Bool.Decides.{nat_tests}
@@ -12,7 +13,8 @@ use Rattle.rw_handles.specs.declared.kinds.Slot.{Slot}
 use Rattle.rw_handles.specs.declared.kinds.Slot.TheVariants.{Live, Spent}
 use Rattle.rw_broadcast.specs.declared.calls.BCall.{BCall}
 use Rattle.rw_broadcast.specs.declared.calls.BReply.{BReply}
-use Rattle.rw_broadcast.specs.declared.calls.BReply.TheVariants.{Sent, NoReceivers, Value, Lagged, Empty, Closed, Waits, New, Count, Unknown, Gone, WrongKind, TooManyHandles, NoSender}
+use Rattle.rw_broadcast.specs.declared.calls.BReply.TheVariants.{Sent, NoReceivers, Value, Lagged, Empty, Closed, Waits, New, Count}
+use Rattle.rw_broadcast.specs.declared.calls.BReply.TheVariants.{Unknown, Gone, WrongKind, TooManyHandles, NoSender}
 use Rattle.rw_broadcast.specs.declared.calls.BReply.TheVariants as reply
 use Rattle.rw_broadcast.specs.Channel.{Change, Append, Make, Move, Leave, oldest}
 use Rattle.rw_broadcast.specs.Machine.{position_at}
@@ -23,7 +25,8 @@ use Rattle.rw_findings.specs.LossTracks.{subject}
 use Rattle.rw_findings.specs.Totals.{receiver_in, receives, is_told}
 use Rattle.rw_navigator.specs.Conditions.{has}
 use Rattle.rw_findings.specs.declared.totals.broadcast.Reader.{Reader}
-use Rattle.rw_findings.specs.BroadcastTallies.{BroadcastTally, new_reader, oldest_of, after_value, after_lag, after_drop, reader_in, made_reader, with_reader, with_call}
+use Rattle.rw_findings.specs.BroadcastTallies.{BroadcastTally, new_reader, oldest_of, after_value, after_lag}
+use Rattle.rw_findings.specs.BroadcastTallies.{after_drop, reader_in, made_reader, with_reader, with_call}
 use Rattle.rw_findings.proofs.LossSteps.{position_of, position, lag as lag_at_position, positions_at}
 use Rattle.rw_findings.proofs.Greatest.{lt_is}
 use Rattle.rw_findings.proofs.BroadcastSteps.{IsQuiet, IsOf, StepsTo, keeps, sends, makes_receiver, makes_other, reads, tells, leaves}
@@ -128,7 +131,8 @@ module _ {V : Type 0} where
         pub received_is : (h : ℕ) → received h (n + 1) ≡ cond (receives h (call_of.B call) (reply_of.B r)) (received h n + 1) (received h n)
         pub told_is : (h : ℕ) → told h (n + 1) ≡ cond (is_told h (call_of.B call) (reply_of.B r)) (told h n + 1) (told h n)
 
-      idle : (r : BReply V) → Counts r → (h : ℕ) → receives h (call_of.B call) (reply_of.B r) ≡ false → is_told h (call_of.B call) (reply_of.B r) ≡ false → IsIdle (lag h) (received h) (told h) n
+      idle : (r : BReply V) → Counts r → (h : ℕ) → receives h (call_of.B call) (reply_of.B r) ≡ false → is_told h (call_of.B call) (reply_of.B r) ≡ false
+          → IsIdle (lag h) (received h) (told h) n
       idle r counts h one other = record {
         received_is = counts.received_is h ∙ ap (λ b. cond b (received h n + 1) (received h n)) one;
         told_is = counts.told_is h ∙ ap (λ b. cond b (told h n + 1) (told h n)) other;
@@ -146,32 +150,44 @@ module _ {V : Type 0} where
                 (idle r counts h (quiet_receives h call r quiet) (quiet_told h call r quiet)) (then h ∙ sym (now h)) (are.counted h);
           })
 
-      on_send : (v : V) (k : ℕ) → Counts (Sent k) → LagsAs lag received told (n + 1) (with_change x (Append v)) → AreCounted lag received told (n + 1) (with_change x (Append v)) (with_call t call (Sent k) (n + 1))
+      on_send : (v : V) (k : ℕ) → Counts (Sent k) → LagsAs lag received told (n + 1) (with_change x (Append v))
+          → AreCounted lag received told (n + 1) (with_change x (Append v)) (with_call t call (Sent k) (n + 1))
       on_send v k counts then =
           let y = with_change x (Append v) in
           let u = with_call t call (Sent k) (n + 1) in
           let old : oldest_of u ≡ oldest (channel_of y) = omega (arith, are.tally.sent, are.tally.capacity) in
           let lags : (h : ℕ) → lag h (n + 1) ≡ option_map (λ p. oldest_of u - p) (reader_position (reader_in t h)) =
-          λ h. then h ∙ ap (λ o. option_map (λ p. oldest (channel_of y) - p) o) (sym (position_is x t n are.tally h)) ∙ ap (λ k. option_map (λ p. k - p) (reader_position (reader_in t h))) (sym old) in
+          λ h. then h ∙ ap (λ o. option_map (λ p. oldest (channel_of y) - p) o) (sym (position_is x t n are.tally h))
+          ∙ ap (λ k. option_map (λ p. k - p) (reader_position (reader_in t h))) (sym old) in
           record {
-            tally = record { capacity = are.tally.capacity; sent = omega (arith, are.tally.sent); few = omega (arith, are.tally.few); positions = are.tally.positions };
-            counted = λ h. is_sent (lag h) (received h) (told h) n t u (reader_in t h) (record { capacity = refl; sent = refl; last_send = refl }) (idle (Sent k) counts h refl refl)
+            tally = record {
+              capacity = are.tally.capacity;
+              sent = omega (arith, are.tally.sent);
+              few = omega (arith, are.tally.few);
+              positions = are.tally.positions;
+            };
+            counted = λ h. is_sent (lag h) (received h) (told h) n t u (reader_in t h) (record { capacity = refl; sent = refl; last_send = refl })
+                (idle (Sent k) counts h refl refl)
                 (λ r here. lags h ∙ ap (λ o. option_map (λ p. oldest_of u - p) (reader_position o)) here)
                 (λ none. lags h ∙ ap (λ o. option_map (λ p. oldest_of u - p) (reader_position o)) none) (are.counted h);
           }
 
       -- a receiver of which nothing changes
-      untouched : (y : Shown V) (u : BroadcastTally) (h : ℕ) → IsSameOf t u → IsTallyOf y u (n + 1) → reader_in u h ≡ reader_in t h → IsIdle (lag h) (received h) (told h) n
+      untouched : (y : Shown V) (u : BroadcastTally) (h : ℕ) → IsSameOf t u → IsTallyOf y u (n + 1) → reader_in u h ≡ reader_in t h
+          → IsIdle (lag h) (received h) (told h) n
           → lag h (n + 1) ≡ option_map (λ p. lag_at_position x p) (position y h) → IsCounted (lag h) (received h) (told h) (n + 1) u (reader_in u h)
       untouched y u h same tally here quiet then =
           let there : position y h ≡ position x h = sym (position_is y u (n + 1) tally h) ∙ ap reader_position here ∙ position_is x t n are.tally h in
           subst (λ o. IsCounted (lag h) (received h) (told h) (n + 1) u o) (sym here)
-          (rests (lag h) (received h) (told h) n t u (reader_in t h) same quiet (then ∙ ap (λ o. option_map (λ p. lag_at_position x p) o) there ∙ sym (now h)) (are.counted h))
+          (rests (lag h) (received h) (told h) n t u (reader_in t h) same quiet (then ∙ ap (λ o. option_map (λ p. lag_at_position x p) o) there ∙ sym (now h))
+          (are.counted h))
 
       -- a handle is made, with this receiver or none
-      module _ (kind : Kind) (start k : ℕ) (reader : Option Reader) (made_is : made_reader t call ≡ reader) (fits : reader_position reader ≡ position_of (Live kind start)) (counts : Counts (New k))
+      module _ (kind : Kind) (start k : ℕ) (reader : Option Reader) (made_is : made_reader t call ≡ reader)
+          (fits : reader_position reader ≡ position_of (Live kind start)) (counts : Counts (New k))
           (then : LagsAs lag received told (n + 1) (with_change x (Make kind start)))
-          (makes : (h : ℕ) → IsIdle (lag h) (received h) (told h) n → lag h (n + 1) ≡ option_map (λ p. oldest_of t - p) (reader_position reader) → Uncounted (lag h) (received h) (told h) n
+          (makes : (h : ℕ) → IsIdle (lag h) (received h) (told h) n → lag h (n + 1) ≡ option_map (λ p. oldest_of t - p) (reader_position reader)
+          → Uncounted (lag h) (received h) (told h) n
           → IsCounted (lag h) (received h) (told h) (n + 1) (with_call t call (New k) (n + 1)) reader) where
         abbrev made_shown : Shown V
         made_shown = with_change x (Make kind start)
@@ -196,14 +212,18 @@ module _ {V : Type 0} where
             let same : IsSameOf t made_tally = record { capacity = refl; sent = refl; last_send = refl } in
             elim (cases_order h (length t.readers)) [
               | inl last ↦ let before : reader_in t h ≡ None = get_or_past t.readers h None (omega (arith, last)) in
-                  let after : reader_in made_tally h ≡ reader = ap (λ j. get_or (t.readers ++ made_reader t call ∷ []) j None) last ∙ get_or-append_seam t.readers (made_reader t call) [] None ∙ made_is in
+                  let after : reader_in made_tally h ≡ reader =
+                  ap (λ j. get_or (t.readers ++ made_reader t call ∷ []) j None) last ∙ get_or-append_seam t.readers (made_reader t call) [] None
+                  ∙ made_is in
                   let old : oldest (channel_of x) ≡ oldest_of t = omega (arith, are.tally.sent, are.tally.capacity) in
                   let lag_is : lag h (n + 1) ≡ option_map (λ p. oldest_of t - p) (reader_position reader) =
-                  then h ∙ ap (λ o. option_map (λ p. oldest (channel_of x) - p) o) (sym (position_is made_shown made_tally (n + 1) tally_made h) ∙ ap reader_position after)
+                  then h ∙ ap (λ o. option_map (λ p. oldest (channel_of x) - p) o)
+                  (sym (position_is made_shown made_tally (n + 1) tally_made h) ∙ ap reader_position after)
                   ∙ ap (λ k. option_map (λ p. k - p) (reader_position reader)) old in
                   subst (λ o. IsCounted (lag h) (received h) (told h) (n + 1) made_tally o) (sym after)
                   (makes h quiet lag_is (subst (λ o. IsCounted (lag h) (received h) (told h) n t o) before (are.counted h)))
-              | inr (inl below) ↦ untouched made_shown made_tally h same tally_made (get_or_append_left t.readers (made_reader t call ∷ []) None h below) quiet (then h)
+              | inr (inl below) ↦ untouched made_shown made_tally h same tally_made (get_or_append_left t.readers (made_reader t call ∷ []) None h below) quiet
+                  (then h)
               | inr (inr above) ↦ untouched made_shown made_tally h same tally_made
                   (get_or_push_past t.readers h (made_reader t call) None above ∙ sym (get_or_past t.readers h None (omega (arith, above)))) quiet (then h)
             ]
@@ -213,8 +233,10 @@ module _ {V : Type 0} where
 
       -- what is under a number changes
       module _ (g : ℕ) (slot was : Slot ℕ) (after : Option Reader) (here : slice_get x.slots g ≡ Some was) (fits : reader_position after ≡ position_of slot)
-          (then : LagsAs lag received told (n + 1) (record x { slots = set x.slots g slot })) (others : (h : ℕ) → h ≢ g → IsIdle (lag h) (received h) (told h) n)
-          (own : lag g (n + 1) ≡ option_map (λ p. oldest_of t - p) (reader_position after) → IsCounted (lag g) (received g) (told g) (n + 1) (record t { readers = set t.readers g after }) after) where
+          (then : LagsAs lag received told (n + 1) (record x { slots = set x.slots g slot }))
+          (others : (h : ℕ) → h ≢ g → IsIdle (lag h) (received h) (told h) n)
+          (own : lag g (n + 1) ≡ option_map (λ p. oldest_of t - p) (reader_position after)
+          → IsCounted (lag g) (received g) (told g) (n + 1) (record t { readers = set t.readers g after }) after) where
         abbrev set_shown : Shown V
         set_shown = record x { slots = set x.slots g slot }
 
@@ -226,7 +248,8 @@ module _ {V : Type 0} where
           capacity = are.tally.capacity;
           sent = are.tally.sent;
           few = few_on;
-          positions = map-set reader_position t.readers g after ∙ ap (λ ps. set ps g (reader_position after)) are.tally.positions ∙ ap (λ o. set (map position_of x.slots) g o) fits
+          positions = map-set reader_position t.readers g after ∙ ap (λ ps. set ps g (reader_position after)) are.tally.positions
+              ∙ ap (λ o. set (map position_of x.slots) g o) fits
               ∙ sym (map-set position_of x.slots g slot);
         }
 
@@ -237,11 +260,13 @@ module _ {V : Type 0} where
                   let there : reader_in set_tally g ≡ after = get_or-set_same t.readers g after None within in
                   let old : oldest (channel_of x) ≡ oldest_of t = omega (arith, are.tally.sent, are.tally.capacity) in
                   let lag_is : lag g (n + 1) ≡ option_map (λ p. oldest_of t - p) (reader_position after) =
-                  then g ∙ ap (λ o. option_map (λ p. oldest (channel_of x) - p) o) (sym (position_is set_shown set_tally (n + 1) tally_set g) ∙ ap reader_position there)
+                  then g ∙ ap (λ o. option_map (λ p. oldest (channel_of x) - p) o)
+                  (sym (position_is set_shown set_tally (n + 1) tally_set g) ∙ ap reader_position there)
                   ∙ ap (λ k. option_map (λ p. k - p) (reader_position after)) old in
                   subst (λ j. IsCounted (lag j) (received j) (told j) (n + 1) set_tally (reader_in set_tally j)) (sym same)
                   (subst (λ o. IsCounted (lag g) (received g) (told g) (n + 1) set_tally o) (sym there) (own lag_is))
-              | inr apart ↦ untouched set_shown set_tally h (record { capacity = refl; sent = refl; last_send = refl }) tally_set (get_or-set_apart t.readers g h after None apart) (others h apart) (then h)
+              | inr apart ↦ untouched set_shown set_tally h (record { capacity = refl; sent = refl; last_send = refl }) tally_set
+                  (get_or-set_apart t.readers g h after None apart) (others h apart) (then h)
             ]
 
         on_set : AreCounted lag received told (n + 1) set_shown set_tally
@@ -255,13 +280,16 @@ module _ {V : Type 0} where
         by_reader (Some r) found at = (r, found, at)
 
       -- a reply to handle g isn't one to another
-      to_others : (g : ℕ) → IsOf call g → (r : BReply V) → Counts r → (h : ℕ) → h ≢ g → (has (λ k. nat_eq k h) (receiver_in call) ≡ false → receives h (call_of.B call) (reply_of.B r) ≡ false)
+      to_others : (g : ℕ) → IsOf call g → (r : BReply V) → Counts r → (h : ℕ) → h ≢ g
+          → (has (λ k. nat_eq k h) (receiver_in call) ≡ false → receives h (call_of.B call) (reply_of.B r) ≡ false)
           → (has (λ k. nat_eq k h) (receiver_in call) ≡ false → is_told h (call_of.B call) (reply_of.B r) ≡ false) → IsIdle (lag h) (received h) (told h) n
       to_others g of r counts h apart one other =
-          let not_h : has (λ k. nat_eq k h) (receiver_in call) ≡ false = ap (λ o. has (λ k. nat_eq k h) o) of.receiver ∙ eq_not g h (λ same. apart (sym same)) in
+          let not_h : has (λ k. nat_eq k h) (receiver_in call) ≡ false =
+          ap (λ o. has (λ k. nat_eq k h) o) of.receiver ∙ eq_not g h (λ same. apart (sym same)) in
           idle r counts h (one not_h) (other not_h)
 
-      on_read : (g p : ℕ) (v : V) → IsOf call g → slice_get x.slots g ≡ Some (Live Receiver p) → lag_at_position x p ≡ 0 → p < x.sent → Counts (Value v) → LagsAs lag received told (n + 1) (with_change x (Move g p (p + 1)))
+      on_read : (g p : ℕ) (v : V) → IsOf call g → slice_get x.slots g ≡ Some (Live Receiver p) → lag_at_position x p ≡ 0 → p < x.sent → Counts (Value v)
+          → LagsAs lag received told (n + 1) (with_change x (Move g p (p + 1)))
           → AreCounted lag received told (n + 1) (with_change x (Move g p (p + 1))) (with_call t call (Value v) (n + 1))
       on_read g p v of here none some counts then =
           let found = reader_there g p (ap position_at here) in
@@ -269,7 +297,8 @@ module _ {V : Type 0} where
           let old : oldest_of t - p ≡ 0 = omega (arith, are.tally.sent, are.tally.capacity, none) in
           let counted : Counted (lag g) (received g) (told g) n t r = subst (λ o. IsCounted (lag g) (received g) (told g) n t o) found.1 (are.counted g) in
           let call_is : with_call t call (Value v) (n + 1) ≡ record t { readers = set t.readers g (Some (after_value t r)) } =
-          ap (λ o. with_reader t o (option_map (after_value t) (option_and_then (λ h. reader_in t h) o))) of.subject ∙ ap (λ o. with_reader t (Some g) (option_map (after_value t) o)) found.1 in
+          ap (λ o. with_reader t o (option_map (after_value t) (option_and_then (λ h. reader_in t h) o))) of.subject
+          ∙ ap (λ o. with_reader t (Some g) (option_map (after_value t) o)) found.1 in
           let sent_test : nat_lt p t.sent ≡ true = lt_is p t.sent (omega (arith, are.tally.sent, some)) in
           let moved : reader_position (Some (after_value t r)) ≡ Some (p + 1) =
           ap (λ o. option_map (λ position. cond (nat_lt position t.sent) (position + 1) position) o) found.2 ∙ ap (λ b. Some (cond b (p + 1) p)) sent_test in
@@ -278,11 +307,13 @@ module _ {V : Type 0} where
           (on_set g (Live Receiver (p + 1)) (Live Receiver p) (Some (after_value t r)) here moved then
           (λ h apart. to_others g of (Value v) counts h apart (λ not_h. not_h) (λ not_h. refl))
           (λ lag_is. let at_next : lag g (n + 1) ≡ Some (oldest_of t - (p + 1)) = lag_is ∙ ap (λ o. option_map (λ q. oldest_of t - q) o) moved in
-          is_read (lag g) (received g) (told g) n t (record t { readers = set t.readers g (Some (after_value t r)) }) r (record { capacity = refl; sent = refl; last_send = refl }) counted p found.2 old
+          is_read (lag g) (received g) (told g) n t (record t { readers = set t.readers g (Some (after_value t r)) }) r
+          (record { capacity = refl; sent = refl; last_send = refl }) counted p found.2 old
           (counts.received_is g ∙ ap (λ b. cond b (received g n + 1) (received g n)) own_test) (counts.told_is g)
           (ap (λ o. unwrap_or o 0) at_next ∙ omega (arith, old))))
 
-      on_tell : (g p k : ℕ) → IsOf call g → slice_get x.slots g ≡ Some (Live Receiver p) → Counts (Lagged k) → LagsAs lag received told (n + 1) (with_change x (Move g p (oldest (channel_of x))))
+      on_tell : (g p k : ℕ) → IsOf call g → slice_get x.slots g ≡ Some (Live Receiver p) → Counts (Lagged k)
+          → LagsAs lag received told (n + 1) (with_change x (Move g p (oldest (channel_of x))))
           → AreCounted lag received told (n + 1) (with_change x (Move g p (oldest (channel_of x)))) (with_call t call (Lagged k) (n + 1))
       on_tell g p k of here counts then =
           let found = reader_there g p (ap position_at here) in
@@ -290,16 +321,19 @@ module _ {V : Type 0} where
           let old : oldest_of t ≡ oldest (channel_of x) = omega (arith, are.tally.sent, are.tally.capacity) in
           let counted : Counted (lag g) (received g) (told g) n t r = subst (λ o. IsCounted (lag g) (received g) (told g) n t o) found.1 (are.counted g) in
           let call_is : with_call t call (Lagged k) (n + 1) ≡ record t { readers = set t.readers g (Some (after_lag t r)) } =
-          ap (λ o. with_reader t o (option_map (after_lag t) (option_and_then (λ h. reader_in t h) o))) of.subject ∙ ap (λ o. with_reader t (Some g) (option_map (after_lag t) o)) found.1 in
+          ap (λ o. with_reader t o (option_map (after_lag t) (option_and_then (λ h. reader_in t h) o))) of.subject
+          ∙ ap (λ o. with_reader t (Some g) (option_map (after_lag t) o)) found.1 in
           let own_test : has (λ k. nat_eq k g) (receiver_in call) ≡ true = ap (λ o. has (λ k. nat_eq k g) o) of.receiver ∙ eq_is g g refl in
           subst (λ u. AreCounted lag received told (n + 1) (with_change x (Move g p (oldest (channel_of x)))) u) (sym call_is)
           (on_set g (Live Receiver (oldest (channel_of x))) (Live Receiver p) (Some (after_lag t r)) here (ap Some old) then
           (λ h apart. to_others g of (Lagged k) counts h apart (λ not_h. refl) (λ not_h. not_h))
-          (λ lag_is. readers.is_told (lag g) (received g) (told g) n t (record t { readers = set t.readers g (Some (after_lag t r)) }) r (record { capacity = refl; sent = refl; last_send = refl }) counted
+          (λ lag_is. readers.is_told (lag g) (received g) (told g) n t (record t { readers = set t.readers g (Some (after_lag t r)) }) r
+          (record { capacity = refl; sent = refl; last_send = refl }) counted
           (counts.received_is g) (counts.told_is g ∙ ap (λ b. cond b (told g n + 1) (told g n)) own_test)
           (ap (λ o. unwrap_or o 0) lag_is ∙ omega arith)))
 
-      on_leave : (g : ℕ) (kind : Kind) (p : ℕ) → subject call ≡ Some g → slice_get x.slots g ≡ Some (Live kind p) → Counts reply.Dropped → LagsAs lag received told (n + 1) (with_change x (Leave g kind p))
+      on_leave : (g : ℕ) (kind : Kind) (p : ℕ) → subject call ≡ Some g → slice_get x.slots g ≡ Some (Live kind p) → Counts reply.Dropped
+          → LagsAs lag received told (n + 1) (with_change x (Leave g kind p))
           → AreCounted lag received told (n + 1) (with_change x (Leave g kind p)) (with_call t call reply.Dropped (n + 1))
       on_leave g kind p of here counts then =
           let call_is : with_call t call reply.Dropped (n + 1) ≡ record t { readers = set t.readers g (option_map (after_drop t) (reader_in t g)) } =
@@ -307,24 +341,29 @@ module _ {V : Type 0} where
           let quiet : (h : ℕ) → IsIdle (lag h) (received h) (told h) n = λ h. idle reply.Dropped counts h refl refl in
           subst (λ u. AreCounted lag received told (n + 1) (with_change x (Leave g kind p)) u) (sym call_is)
           (on_set g Spent (Live kind p) (option_map (after_drop t) (reader_in t g)) here (gone (reader_in t g)) then (λ h apart. quiet h)
-          (λ lag_is. ended (record t { readers = set t.readers g (option_map (after_drop t) (reader_in t g)) }) (reader_in t g) (record { capacity = refl; sent = refl; last_send = refl })
+          (λ lag_is. ended (record t { readers = set t.readers g (option_map (after_drop t) (reader_in t g)) }) (reader_in t g)
+          (record { capacity = refl; sent = refl; last_send = refl })
           (lag_is ∙ ap (λ o. option_map (λ q. oldest_of t - q) o) (gone (reader_in t g))) (quiet g) (are.counted g))) where
             gone : (o : Option Reader) → reader_position (option_map (after_drop t) o) ≡ None
             gone None = refl
             gone (Some r) = refl
 
-            ended : (u : BroadcastTally) (o : Option Reader) → IsSameOf t u → lag g (n + 1) ≡ None → IsIdle (lag g) (received g) (told g) n → IsCounted (lag g) (received g) (told g) n t o
+            ended : (u : BroadcastTally) (o : Option Reader) → IsSameOf t u → lag g (n + 1) ≡ None → IsIdle (lag g) (received g) (told g) n
+                → IsCounted (lag g) (received g) (told g) n t o
                 → IsCounted (lag g) (received g) (told g) (n + 1) u (option_map (after_drop t) o)
-            ended u None same none quiet counted = rests (lag g) (received g) (told g) n t u None same quiet (none ∙ sym (counted.absent n (omega arith))) counted
+            ended u None same none quiet counted = rests (lag g) (received g) (told g) n t u None same quiet (none ∙ sym (counted.absent n (omega arith)))
+                counted
             ended u (Some r) same none quiet counted = is_dropped (lag g) (received g) (told g) n t u r same counted quiet (ap (λ o. unwrap_or o 0) none)
 
     -- any call
-    pub counted_on : (x : Shown V) (t : BroadcastTally) (call : BCall V) (change : Change V) (r : BReply V) → AreCounted lag received told n x t → LagsAs lag received told n x → StepsTo x call change r
+    pub counted_on : (x : Shown V) (t : BroadcastTally) (call : BCall V) (change : Change V) (r : BReply V) → AreCounted lag received told n x t
+        → LagsAs lag received told n x → StepsTo x call change r
         → ((h : ℕ) → received h (n + 1) ≡ cond (receives h (call_of.B call) (reply_of.B r)) (received h n + 1) (received h n))
         → ((h : ℕ) → told h (n + 1) ≡ cond (is_told h (call_of.B call) (reply_of.B r)) (told h n + 1) (told h n))
         → LagsAs lag received told (n + 1) (with_change x change) → AreCounted lag received told (n + 1) (with_change x change) (with_call t call r (n + 1))
     counted_on x t call change r are now steps one other then = by_step steps (record { received_is = one; told_is = other }) then where
-      by_step : {call : BCall V} {change : Change V} {r : BReply V} → StepsTo x call change r → Counts x t call are now r → LagsAs lag received told (n + 1) (with_change x change) → AreCounted lag received told (n + 1) (with_change x change) (with_call t call r (n + 1))
+      by_step : {call : BCall V} {change : Change V} {r : BReply V} → StepsTo x call change r → Counts x t call are now r
+          → LagsAs lag received told (n + 1) (with_change x change) → AreCounted lag received told (n + 1) (with_change x change) (with_call t call r (n + 1))
       by_step (keeps {call = call} {reply = r} quiet) counts then = on_keep x t call are now r quiet counts then
       by_step (sends {call = call} {v = v} {n = k}) counts then = on_send x t call are now v k counts then
       by_step (makes_receiver {call = call} {n = k} makes) counts then =
@@ -332,7 +371,8 @@ module _ {V : Type 0} where
           (λ h quiet lag_is uncounted. is_made (lag h) (received h) (told h) n (with_call t call (New k) (n + 1)) quiet lag_is uncounted)
       by_step (makes_other {call = call} {kind = kind} {n = k} nobody makes) counts then =
           on_make x t call are now kind 0 k None (makes t) (sym nobody) counts then
-          (λ h quiet lag_is uncounted. rests (lag h) (received h) (told h) n t (with_call t call (New k) (n + 1)) None (record { capacity = refl; sent = refl; last_send = refl }) quiet
+          (λ h quiet lag_is uncounted. rests (lag h) (received h) (told h) n t (with_call t call (New k) (n + 1)) None
+          (record { capacity = refl; sent = refl; last_send = refl }) quiet
           (lag_is ∙ sym (uncounted.absent n (omega arith))) uncounted)
       by_step (reads {call = call} {h = g} {p = p} {v = v} of here none some) counts then = on_read x t call are now g p v of here none some counts then
       by_step (tells {call = call} {h = g} {p = p} {n = k} of here lags) counts then = on_tell x t call are now g p k of here counts then

@@ -33,17 +33,20 @@ goes last from to within = ap (λ b. unwrap_or (cond b (Some to) None) from) (le
 
 module _ {V : Type 0} where
   -- one entry of a run, where this is shown after it
-  pub kept_entry : ShowsAtPlaces V → (run : Run V) (n place : ℕ) (e : WorldEntry V) (xs : List (ChanShown V)) (ks : List (Option ClosedChannel)) → place ≡ n + 1 → xs ≡ shown_at run place → n < length run.entries → e ≡ get_or run.entries n e
+  pub kept_entry : ShowsAtPlaces V → (run : Run V) (n place : ℕ) (e : WorldEntry V) (xs : List (ChanShown V)) (ks : List (Option ClosedChannel)) → place ≡ n + 1
+      → xs ≡ shown_at run place → n < length run.entries → e ≡ get_or run.entries n e
       → AreKept (at_place run) run.entries n ks → AreKept (at_place run) run.entries (n + 1) (with_entry xs ks e place)
   kept_entry shows run n place e xs ks place_is shown within read kept =
       let next : at_place run (n + 1) ≡ (of_world {V = V}).next (at_place run n) e.call =
-      after_more of_world (opening_row run.specs) run.entries n e within ∙ ap (λ (f : WorldEntry V). (of_world {V = V}).next (at_place run n) f.call) (sym read) in
+      after_more of_world (opening_row run.specs) run.entries n e within
+      ∙ ap (λ (f : WorldEntry V). (of_world {V = V}).next (at_place run n) f.call) (sym read) in
       let xs_is : at_place run (n + 1) ≡ xs = shows run.specs run.entries (n + 1) ∙ ap (λ p. shown_at run p) (sym place_is) ∙ sym shown in
       subst (λ ys. AreKept (at_place run) run.entries (n + 1) (with_entry ys ks e place)) xs_is
       (kept_on (at_place run) run.entries n place e ks place_is within read (allowed_at run (n + 1)) next kept)
 
   -- what is kept after the last entry makes the lists, by what is documented
-  pub are_closings : ShowsAtPlaces V → (run : Run V) (ks : List (Option ClosedChannel)) (closings : List Closing) (readers : List LateReader) → AreKept (at_place run) run.entries (last_place run) ks
+  pub are_closings : ShowsAtPlaces V → (run : Run V) (ks : List (Option ClosedChannel)) (closings : List Closing) (readers : List LateReader)
+      → AreKept (at_place run) run.entries (last_place run) ks
       → closings ≡ with_closings [] ks (length ks) → readers ≡ with_all_readers [] ks (length ks) → AreClosings run closings readers
   are_closings shows run ks closings readers kept closings_are readers_are =
       let same : at_place run ≡ shown_at run = fun_ext (λ n. shows run.specs run.entries n) in

@@ -7,7 +7,8 @@ count_same on back none = none
 count_same on back (one {n = n} rest here) =
     one (count_same (λ v below. on v (omega (arith, below))) (λ v below. back v (omega (arith, below))) rest) (on (suc n) (omega arith) here)
 count_same on back (other {n = n} rest not_here) =
-    other (count_same (λ v below. on v (omega (arith, below))) (λ v below. back v (omega (arith, below))) rest) (λ here. not_here (back (suc n) (omega arith) here))
+    other (count_same (λ v below. on v (omega (arith, below))) (λ v below. back v (omega (arith, below))) rest)
+    (λ here. not_here (back (suc n) (omega arith) here))
 
 pub count_none : {P : ℕ → Type 0} → ((v : ℕ) → P v → ⊥) → (n : ℕ) → IsCount P n 0
 count_none never zero = none
@@ -31,4 +32,5 @@ count_all {P = P} {a = a} {count = count} is n within all =
     subst (λ m. IsCount P m (count + (n - a))) whole (count_up is (n - a) (λ v above below. all v above (omega (arith, below, whole))))
 
 pub count_other : {P : ℕ → Type 0} {n count : ℕ} → IsCount P n count → (P (n + 1) → ⊥) → IsCount P (n + 1) count
-count_other {P = P} {n = n} {count = count} is not_here = subst (λ m. IsCount P m count) (sym (add-one n)) (other is (λ here. not_here (subst P (sym (add-one n)) here)))
+count_other {P = P} {n = n} {count = count} is not_here =
+    subst (λ m. IsCount P m count) (sym (add-one n)) (other is (λ here. not_here (subst P (sym (add-one n)) here)))

@@ -21,7 +21,8 @@ use Rattle.rw_findings.proofs.LossRuns.{allowed_at, at_place}
 
 module _ {V : Type 0} where
   module _ (shows : ShowsAtPlaces V) (run : Run V) where
-    pub shown_next : (p : ℕ) (e : WorldEntry V) → p < length run.entries → e ≡ get_or run.entries p e → shown_at run (p + 1) ≡ (of_world {V = V}).next (shown_at run p) e.call
+    pub shown_next : (p : ℕ) (e : WorldEntry V) → p < length run.entries → e ≡ get_or run.entries p e
+        → shown_at run (p + 1) ≡ (of_world {V = V}).next (shown_at run p) e.call
     shown_next p e within read =
         sym (shows run.specs run.entries (p + 1))
         ∙ after_more of_world (opening_row run.specs) run.entries p e within
@@ -30,12 +31,14 @@ module _ {V : Type 0} where
 
     pub allowed_is : (c p : ℕ) (x : ChanShown V) → slice_get (shown_at run p) c ≡ Some x → (of_chan {V = V}).allowed x
     allowed_is c p x here =
-        let all : (of_world {V = V}).allowed (shown_at run p) = subst (λ xs. (of_world {V = V}).allowed xs) (shows run.specs run.entries p) (allowed_at run p) in
+        let all : (of_world {V = V}).allowed (shown_at run p) =
+        subst (λ xs. (of_world {V = V}).allowed xs) (shows run.specs run.entries p) (allowed_at run p) in
         let one : MatchOption (slice_get (shown_at run p) c) (Unit {0}) (of_chan {V = V}).allowed = each_at (of_chan {V = V}).allowed (shown_at run p) c all in
         subst (λ o. MatchOption o (Unit {0}) (of_chan {V = V}).allowed) here one
 
     module _ (c p : ℕ) (e : WorldEntry V) (within : p < length run.entries) (read : e ≡ get_or run.entries p e) where
-      pub channel_here : (x : ChanShown V) → slice_get (shown_at run p) c ≡ Some x → e.call.channel ≡ c → slice_get (shown_at run (p + 1)) c ≡ Some ((of_chan {V = V}).next x e.call.call)
+      pub channel_here : (x : ChanShown V) → slice_get (shown_at run p) c ≡ Some x → e.call.channel ≡ c
+          → slice_get (shown_at run (p + 1)) c ≡ Some ((of_chan {V = V}).next x e.call.call)
       channel_here x here on =
           ap (λ xs. slice_get xs c) (shown_next p e within read)
           ∙ ap (λ k. slice_get (map_at (λ y. (of_chan {V = V}).next y e.call.call) (shown_at run p) k) c) on
@@ -47,12 +50,15 @@ module _ {V : Type 0} where
           ∙ get-modified_other (λ y. (of_chan {V = V}).next y e.call.call) (shown_at run p) e.call.channel c apart
 
       -- the machine makes the call
-      pub stands_here : (m n : Chan V) → Stands run c m p → e.call.channel ≡ c → (of_chan {V = V}).shown n ≡ (of_chan {V = V}).next ((of_chan {V = V}).shown m) e.call.call
+      pub stands_here : (m n : Chan V) → Stands run c m p → e.call.channel ≡ c
+          → (of_chan {V = V}).shown n ≡ (of_chan {V = V}).next ((of_chan {V = V}).shown m) e.call.call
           → (of_chan {V = V}).reserved n ≡ (of_chan {V = V}).reserved m → Stands run c n (p + 1)
       stands_here m n stands on view room =
           let x = (of_chan {V = V}).shown m in
-          let rises : (of_chan {V = V}).weigh ((of_chan {V = V}).next x e.call.call) ≤ (of_chan {V = V}).weigh x + 1 = chan_laws.weight_rises x e.call.call (allowed_is c p x stands.shows) in
-          let weight : (of_chan {V = V}).weigh ((of_chan {V = V}).shown n) ≤ (of_chan {V = V}).weigh x + 1 = subst (λ y. (of_chan {V = V}).weigh y ≤ (of_chan {V = V}).weigh x + 1) (sym view) rises in
+          let rises : (of_chan {V = V}).weigh ((of_chan {V = V}).next x e.call.call) ≤ (of_chan {V = V}).weigh x + 1 =
+          chan_laws.weight_rises x e.call.call (allowed_is c p x stands.shows) in
+          let weight : (of_chan {V = V}).weigh ((of_chan {V = V}).shown n) ≤ (of_chan {V = V}).weigh x + 1 =
+          subst (λ y. (of_chan {V = V}).weigh y ≤ (of_chan {V = V}).weigh x + 1) (sym view) rises in
           record {
             shows = channel_here x stands.shows on ∙ ap Some (sym view);
             room = omega (arith, stands.room, weight, room, within);
@@ -63,7 +69,8 @@ module _ {V : Type 0} where
       stands_there m stands apart = record { shows = channel_there apart ∙ stands.shows; room = omega (arith, stands.room) }
 
     -- at its opening
-    pub stands_first : (c : ℕ) (spec : Spec V) (m : Chan V) → c < length run.specs → spec ≡ get_or run.specs c spec → (of_chan {V = V}).shown m ≡ opened_channel spec
+    pub stands_first : (c : ℕ) (spec : Spec V) (m : Chan V) → c < length run.specs → spec ≡ get_or run.specs c spec
+        → (of_chan {V = V}).shown m ≡ opened_channel spec
         → (of_chan {V = V}).weigh ((of_chan {V = V}).shown m) + last_place run ≤ (of_chan {V = V}).reserved m → Stands run c m 0
     stands_first c spec m within read opened room = record {
       shows =

@@ -48,7 +48,8 @@ module _ {V : Type 0} where
   own_read c h p (Some v) nothing = refl
 
   own_receive : (c : b.Channel V) (h p : ℕ) (nothing : BReply V) → IsOwn h (b.receive c h p nothing).0
-  own_receive c h p nothing = cond_both (nat_lt 0 (b.oldest c - p)) _ _ (λ (e : b.Change V × BReply V). IsOwn h e.0) (λ _. refl) (λ _. own_read c h p (c.value p) nothing)
+  own_receive c h p nothing = cond_both (nat_lt 0 (b.oldest c - p)) _ _ (λ (e : b.Change V × BReply V). IsOwn h e.0) (λ _. refl)
+      (λ _. own_read c h p (c.value p) nothing)
 
   own_with : (c : b.Channel V) (call : BCall V) (kind : Kind) (p : ℕ) → IsOwn (b.handle_of call) (b.effect_with c call kind p).0
   own_with c (bcall.Send h v) kind p = cond_both (b.receivers c == 0) _ _ (λ (e : b.Change V × BReply V). IsOwn h e.0) (λ _. tt) (λ _. tt)
@@ -67,7 +68,8 @@ module _ {V : Type 0} where
 
   pub own : (c : b.Channel V) (call : BCall V) → IsOwn (b.handle_of call) (b.effect c call).0
   own c call =
-      of_checked (λ (e : b.Change V × BReply V). IsOwn (b.handle_of call) e.0) (λ f. (b.Keep, b.fault_reply f)) (b.Keep, breply.TooManyHandles) (b.makes call) (length c.slots) (b.effect_with c call)
+      of_checked (λ (e : b.Change V × BReply V). IsOwn (b.handle_of call) e.0) (λ f. (b.Keep, b.fault_reply f)) (b.Keep, breply.TooManyHandles) (b.makes call)
+      (length c.slots) (b.effect_with c call)
       (lookup (b.wanted_kind call) c.slots (b.handle_of call)) (λ f. tt) tt (λ kind p found few. own_with c call kind p)
 
   -- from x to y, what is measured of this receiver doesn't fall
@@ -98,7 +100,8 @@ module _ {V : Type 0} where
   own_mark_with c (wcall.Borrow h) kind mark = tt
   own_mark_with c (wcall.Update h) kind mark = refl
   own_mark_with c (wcall.HasChanged h) kind mark = tt
-  own_mark_with c (wcall.Changed h) kind mark = cond_both (w.is_unseen c.version mark) _ _ (λ (e : w.Change V × WReply V). IsOwnMark h e.0) (λ _. refl) (λ _. tt)
+  own_mark_with c (wcall.Changed h) kind mark =
+      cond_both (w.is_unseen c.version mark) _ _ (λ (e : w.Change V × WReply V). IsOwnMark h e.0) (λ _. refl) (λ _. tt)
   own_mark_with c (wcall.MarkChanged h) kind mark = refl
   own_mark_with c (wcall.MarkUnchanged h) kind mark = refl
   own_mark_with c (wcall.DropHandle h) kind mark = refl
@@ -108,7 +111,8 @@ module _ {V : Type 0} where
 
   pub own_mark : (c : w.Channel V) (call : WCall V) → IsOwnMark (w.handle_of call) (w.effect c call).0
   own_mark c call =
-      of_checked (λ (e : w.Change V × WReply V). IsOwnMark (w.handle_of call) e.0) (λ f. (w.Keep, w.fault_reply f)) (w.Keep, wreply.TooManyHandles) (w.makes call) (length c.slots) (w.effect_with c call)
+      of_checked (λ (e : w.Change V × WReply V). IsOwnMark (w.handle_of call) e.0) (λ f. (w.Keep, w.fault_reply f)) (w.Keep, wreply.TooManyHandles)
+      (w.makes call) (length c.slots) (w.effect_with c call)
       (lookup (w.wanted_kind call) c.slots (w.handle_of call)) (λ f. tt) tt (λ kind mark found few. own_mark_with c call kind mark)
 
   abbrev pub GrowsMarked : (x y : ws.Shown V) → ℕ → Type 0

@@ -1,5 +1,6 @@
 -- The lives of a channel's handles, from place to place.
-use Rattle.std.proofs.Common.{◌≡◌, ◌≢◌, ℕ, zero, suc, ◌+◌, ◌-◌, ◌<◌, ◌≤◌, ◌⊎◌, Bool, true, false, cond, List, [], ◌∷◌, ◌++◌, length, get_or, add-one, inl, inr, refl, ap, sym, ◌∙◌, subst, arith}
+use Rattle.std.proofs.Common.{◌≡◌, ◌≢◌, ℕ, zero, suc, ◌+◌, ◌-◌, ◌<◌, ◌≤◌, ◌⊎◌, Bool, true, false, cond, List, [], ◌∷◌}
+use Rattle.std.proofs.Common.{◌++◌, length, get_or, add-one, inl, inr, refl, ap, sym, ◌∙◌, subst, arith}
 use Rattle.std.specs.Prelude.{IsSome, Option, Some, None, ◌&&◌, nat_eq, nat_lt, option_and_then, option_map, slice_get, slice_index_or}
 use Rattle.std.specs.List.{count_by, range_with_len}
 use Rattle.std.specs.Option.{option_map_or}
@@ -18,7 +19,8 @@ use Rattle.rw_world.specs.Records.{ShowsAtPlaces}
 use Rattle.rw_world.specs.Specified.{WorldEntry}
 use Rattle.rw_world.specs.declared.opening.Spec.{Spec}
 use Rattle.rw_world.specs.declared.opening.Spec.TheVariants.{Broadcast, Watch}
-use Rattle.rw_findings.specs.Lives.{AreLivesTo, Counted, EndsAt, IsLife, Life, TookCall, TookMade, born, calls_after, calls_to, dropped_by, is_call_with, kind_in, kind_then, made_at, made_in, with_kind}
+use Rattle.rw_findings.specs.Lives.{AreLivesTo, Counted, EndsAt, IsLife, Life, TookCall, TookMade, born, calls_after, calls_to}
+use Rattle.rw_findings.specs.Lives.{dropped_by, is_call_with, kind_in, kind_then, made_at, made_in, with_kind}
 use Rattle.rw_navigator.specs.Places.{last_place, shown_at}
 use Rattle.rw_world.specs.Channel.{handle_of}
 use Rattle.rw_findings.proofs.FollowedPlaces.{channel_here, channel_there}
@@ -117,7 +119,8 @@ module _ {V : Type 0} (run : Run V) (c : ℕ) where
           ∙ four
 
       -- a life goes on, where its handle keeps its kind and nobody calls with it
-      life_on : (h : ℕ) (life : Life) → IsLife run c h p life → kind_then run c h (p + 1) ≡ kind_then run c h p → ((actor : ℕ) → calls_after run c h actor p ≡ false) → IsLife run c h (p + 1) life
+      life_on : (h : ℕ) (life : Life) → IsLife run c h p life → kind_then run c h (p + 1) ≡ kind_then run c h p
+          → ((actor : ℕ) → calls_after run c h actor p ≡ false) → IsLife run c h (p + 1) life
       life_on h life is same none = record {
         made = is.made;
         fresh = is.fresh;
@@ -132,7 +135,8 @@ module _ {V : Type 0} (run : Run V) (c : ℕ) where
         ends (Some place) end = (end.0, omega (arith, end.1), end.2, end.3)
 
       -- the life of the handle that is called with
-      life_called : (life mid : Life) → IsLife run c (handle_of e.call.call) p life → e.call.channel ≡ c → handle_of e.call.call < made_at run c p → Counted life mid e.actor
+      life_called : (life mid : Life) → IsLife run c (handle_of e.call.call) p life → e.call.channel ≡ c → handle_of e.call.call < made_at run c p
+          → Counted life mid e.actor
           → IsLife run c (handle_of e.call.call) (p + 1) (with_kind mid (kind_then run c (handle_of e.call.call) (p + 1)) (p + 1))
       life_called life mid is here there counted = record {
         made = subst (λ m. handle_of e.call.call < made_at run c m) (sym counted.made) is.made;
@@ -140,15 +144,23 @@ module _ {V : Type 0} (run : Run V) (c : ℕ) where
         inside = omega (arith, is.inside, counted.made);
         kind = ap (λ m. kind_then run c (handle_of e.call.call) m) counted.made ∙ is.kind ∙ ap Some (sym counted.kind);
         maker = counted.maker ∙ is.maker ∙ ap (λ m. option_map (λ f. f.actor) (entry_to_place m)) (sym counted.made);
-        end = ends mid.dropped (kind_then run c (handle_of e.call.call) (p + 1)) refl (subst (EndsAt run c (handle_of e.call.call) p) (sym counted.dropped) is.end);
+        end = ends mid.dropped (kind_then run c (handle_of e.call.call) (p + 1)) refl
+            (subst (EndsAt run c (handle_of e.call.call) p) (sym counted.dropped) is.end);
         calls = λ actor. counted.calls actor ∙ by_actor actor;
       } where
         entry_to_place : ℕ → Option (WorldEntry V)
         entry_to_place m = cond (nat_lt 0 m) (slice_get run.entries (m - 1)) None
 
-        ends : (dropped : Option ℕ) (kind : Option Kind) → kind_then run c (handle_of e.call.call) (p + 1) ≡ kind → EndsAt run c (handle_of e.call.call) p dropped
+        ends : (dropped : Option ℕ) (kind : Option Kind) → kind_then run c (handle_of e.call.call) (p + 1) ≡ kind
+            → EndsAt run c (handle_of e.call.call) p dropped
             → EndsAt run c (handle_of e.call.call) (p + 1) (dropped_by dropped kind (p + 1))
-        ends None None none end = (omega arith, omega arith, let back : p + 1 - 1 ≡ p = omega arith in subst (λ q. IsSome (kind_then run c (handle_of e.call.call) q)) (sym back) end, none)
+        ends None None none end = (
+          omega arith,
+          omega arith,
+          let back : p + 1 - 1 ≡ p =
+              omega arith in subst (λ q. IsSome (kind_then run c (handle_of e.call.call) q)) (sym back) end,
+          none,
+        )
         ends None (Some kind) is_kind end = subst (λ o. IsSome o) (sym is_kind) refl
         ends (Some place) kind is_kind end = (end.0, omega (arith, end.1), end.2, end.3)
 
@@ -156,11 +168,15 @@ module _ {V : Type 0} (run : Run V) (c : ℕ) where
         by_actor actor =
             elim (cases_eq actor e.actor) [
               | inl same ↦ let yes : nat_eq actor e.actor ≡ true = grind (arith, nat_tests) in
-                  let called : calls_after run c (handle_of e.call.call) actor p ≡ true = ap (λ a. calls_after run c (handle_of e.call.call) a p) same ∙ the_call here there in
-                  ap (λ k. slice_index_or life.calls actor 0 + cond k 1 0) yes ∙ ap (λ n. n + 1) (is.calls actor) ∙ sym (call_more (handle_of e.call.call) actor p called)
+                  let called : calls_after run c (handle_of e.call.call) actor p ≡ true =
+                  ap (λ a. calls_after run c (handle_of e.call.call) a p) same ∙ the_call here there in
+                  ap (λ k. slice_index_or life.calls actor 0 + cond k 1 0) yes ∙ ap (λ n. n + 1) (is.calls actor)
+                  ∙ sym (call_more (handle_of e.call.call) actor p called)
               | inr apart ↦ let no : nat_eq actor e.actor ≡ false = grind (arith, nat_tests) in
-                  let not_called : calls_after run c (handle_of e.call.call) actor p ≡ false = other_actor (handle_of e.call.call) actor (λ same. apart (sym same)) in
-                  ap (λ k. slice_index_or life.calls actor 0 + cond k 1 0) no ∙ omega (arith, is.calls actor, no_call (handle_of e.call.call) actor p not_called)
+                  let not_called : calls_after run c (handle_of e.call.call) actor p ≡ false =
+                  other_actor (handle_of e.call.call) actor (λ same. apart (sym same)) in
+                  ap (λ k. slice_index_or life.calls actor 0 + cond k 1 0) no
+                  ∙ omega (arith, is.calls actor, no_call (handle_of e.call.call) actor p not_called)
             ]
 
       -- what a call on another channel leaves
@@ -169,11 +185,13 @@ module _ {V : Type 0} (run : Run V) (c : ℕ) where
           let same = channel_there shows run c p e within read apart in
           record {
             many = are.many ∙ sym (ap (λ o. option_map_or made_in o 0) same);
-            each = λ h life here. life_on h life (are.each h life here) (ap (λ o. option_and_then (λ y. kind_in y h) o) same) (λ actor. other_channel h actor apart);
+            each = λ h life here. life_on h life (are.each h life here) (ap (λ o. option_and_then (λ y. kind_in y h) o) same)
+                (λ actor. other_channel h actor apart);
           }
 
     -- the lives of the handles that a channel opens with
-    first_life : (x : ChanShown V) (h : ℕ) (kind : Kind) → slice_get (shown_at run 0) c ≡ Some x → kind_in x h ≡ Some kind → h < made_in x → IsLife run c h 0 (born kind 0 None)
+    first_life : (x : ChanShown V) (h : ℕ) (kind : Kind) → slice_get (shown_at run 0) c ≡ Some x → kind_in x h ≡ Some kind → h < made_in x
+        → IsLife run c h 0 (born kind 0 None)
     first_life x h kind here is made = record {
       made = omega (arith, made, made_is 0 x here);
       fresh = inl refl;
@@ -192,21 +210,27 @@ module _ {V : Type 0} (run : Run V) (c : ℕ) where
       by_spec : (o : Option (Spec V)) → slice_get run.specs c ≡ o → AreLivesTo run c 0 first_lives
       by_spec None none =
           let e : ◌≡◌ {A = Option (ChanShown V)} None (Some x) =
-          ap (option_map opened_channel) (sym none) ∙ sym (slice_get-map opened_channel run.specs c) ∙ ap (λ xs. slice_get xs c) (shows run.specs run.entries 0) ∙ here in
+          ap (option_map opened_channel) (sym none) ∙ sym (slice_get-map opened_channel run.specs c) ∙ ap (λ xs. slice_get xs c) (shows run.specs run.entries 0)
+          ∙ here in
           absurd cc
       by_spec (Some spec) found =
           opened_lives spec
-          (ap (λ xs. slice_get xs c) (sym (shows run.specs run.entries 0)) ∙ slice_get-map opened_channel run.specs c ∙ ap (option_map opened_channel) found) where
+          (ap (λ xs. slice_get xs c) (sym (shows run.specs run.entries 0)) ∙ slice_get-map opened_channel run.specs c
+          ∙ ap (option_map opened_channel) found) where
             opened_lives : (s : Spec V) → slice_get (shown_at run 0) c ≡ Some (opened_channel s) → AreLivesTo run c 0 first_lives
             opened_lives (Broadcast capacity) there = record { many = sym (made_is 0 (opened_channel (Broadcast capacity)) there); each = each } where
               each : (h : ℕ) (life : Life) → slice_get first_lives h ≡ Some life → IsLife run c h 0 life
-              each zero life is = let same : born Sender 0 None ≡ life = cc in subst (IsLife run c 0 0) same (first_life (opened_channel (Broadcast capacity)) 0 Sender there refl (omega arith))
-              each (suc zero) life is = let same : born Receiver 0 None ≡ life = cc in subst (IsLife run c 1 0) same (first_life (opened_channel (Broadcast capacity)) 1 Receiver there refl (omega arith))
+              each zero life is = let same : born Sender 0 None ≡ life = cc in
+                  subst (IsLife run c 0 0) same (first_life (opened_channel (Broadcast capacity)) 0 Sender there refl (omega arith))
+              each (suc zero) life is = let same : born Receiver 0 None ≡ life = cc in
+                  subst (IsLife run c 1 0) same (first_life (opened_channel (Broadcast capacity)) 1 Receiver there refl (omega arith))
               each (suc (suc h)) life is = absurd cc
             opened_lives (Watch init) there = record { many = sym (made_is 0 (opened_channel (Watch init)) there); each = each } where
               each : (h : ℕ) (life : Life) → slice_get first_lives h ≡ Some life → IsLife run c h 0 life
-              each zero life is = let same : born Sender 0 None ≡ life = cc in subst (IsLife run c 0 0) same (first_life (opened_channel (Watch init)) 0 Sender there refl (omega arith))
-              each (suc zero) life is = let same : born Receiver 0 None ≡ life = cc in subst (IsLife run c 1 0) same (first_life (opened_channel (Watch init)) 1 Receiver there refl (omega arith))
+              each zero life is = let same : born Sender 0 None ≡ life = cc in
+                  subst (IsLife run c 0 0) same (first_life (opened_channel (Watch init)) 0 Sender there refl (omega arith))
+              each (suc zero) life is = let same : born Receiver 0 None ≡ life = cc in
+                  subst (IsLife run c 1 0) same (first_life (opened_channel (Watch init)) 1 Receiver there refl (omega arith))
               each (suc (suc h)) life is = absurd cc
 
     -- a channel that isn't there has no handles
@@ -216,7 +240,8 @@ module _ {V : Type 0} (run : Run V) (c : ℕ) where
     -- handles are only made
     made_rises : (p : ℕ) → p < length run.entries → made_at run c p ≤ made_at run c (p + 1)
     made_rises p within = by_channel (slice_get (shown_at run p) c) refl where
-      here_or_there : (x : ChanShown V) → slice_get (shown_at run p) c ≡ Some x → (e : WorldEntry V) → e ≡ get_or run.entries p e → made_at run c p ≤ made_at run c (p + 1)
+      here_or_there : (x : ChanShown V) → slice_get (shown_at run p) c ≡ Some x → (e : WorldEntry V) → e ≡ get_or run.entries p e
+          → made_at run c p ≤ made_at run c (p + 1)
       here_or_there x here e read =
           elim (cases_eq e.call.channel c) [
             | inl on ↦ let then = channel_here shows run c p e within read x here on in
@@ -226,7 +251,8 @@ module _ {V : Type 0} (run : Run V) (c : ℕ) where
                   | inl same ↦ omega (arith, before, after, same)
                   | inr more ↦ omega (arith, before, after, more.0)
                 ]
-            | inr apart ↦ let same : made_at run c (p + 1) ≡ made_at run c p = ap (λ o. option_map_or made_in o 0) (channel_there shows run c p e within read apart) in omega (arith, same)
+            | inr apart ↦ let same : made_at run c (p + 1) ≡ made_at run c p =
+                ap (λ o. option_map_or made_in o 0) (channel_there shows run c p e within read apart) in omega (arith, same)
           ]
 
       by_channel : (o : Option (ChanShown V)) → slice_get (shown_at run p) c ≡ o → made_at run c p ≤ made_at run c (p + 1)
@@ -242,11 +268,13 @@ module _ {V : Type 0} (run : Run V) (c : ℕ) where
         let past_then : made_at run c (p + 1) ≤ h = subst (λ q. made_at run c q ≤ h) next past in
         let past_before : made_at run c p ≤ h = omega (arith, made_rises p within, past_then) in
         let one = element run.entries p within in
-        ap (calls_to run c h actor) next ∙ no_call h actor p (unmade p one.0 within one.1 h actor past_before) ∙ no_calls_yet h actor p (omega arith) past_before
+        ap (calls_to run c h actor) next ∙ no_call h actor p (unmade p one.0 within one.1 h actor past_before)
+        ∙ no_calls_yet h actor p (omega arith) past_before
 
     module _ (p : ℕ) (e : WorldEntry V) (within : p < length run.entries) (read : e ≡ get_or run.entries p e) where
       -- the life of a handle that the call makes
-      life_born : (h : ℕ) (kind : Kind) → made_at run c p ≡ h → h < made_at run c (p + 1) → kind_then run c h (p + 1) ≡ Some kind → IsLife run c h (p + 1) (born kind (p + 1) (Some e.actor))
+      life_born : (h : ℕ) (kind : Kind) → made_at run c p ≡ h → h < made_at run c (p + 1) → kind_then run c h (p + 1) ≡ Some kind
+          → IsLife run c h (p + 1) (born kind (p + 1) (Some e.actor))
       life_born h kind before after is =
           let back : p + 1 - 1 ≡ p = omega arith in
           record {
@@ -260,7 +288,8 @@ module _ {V : Type 0} (run : Run V) (c : ℕ) where
                 ∙ ap (λ q. option_map (λ (f : WorldEntry V). f.actor) (slice_get run.entries q)) back
                 ∙ ap (λ o. option_map (λ (f : WorldEntry V). f.actor) o) (entry_is p e within read));
             end = subst (λ o. IsSome o) (sym is) refl;
-            calls = λ actor. sym (no_call h actor p (unmade p e within read h actor (omega (arith, before))) ∙ no_calls_yet h actor p (omega (arith, within)) (omega (arith, before)));
+            calls = λ actor. sym (no_call h actor p (unmade p e within read h actor (omega (arith, before)))
+                ∙ no_calls_yet h actor p (omega (arith, within)) (omega (arith, before)));
           }
 
       -- what a call on the channel leaves
@@ -303,7 +332,8 @@ module _ {V : Type 0} (run : Run V) (c : ℕ) where
                   subst (λ k. IsLife run c k (p + 1) life) (sym same) (subst (IsLife run c h (p + 1)) life_is lived)
               | inr apart ↦
                   let was : slice_get lives g ≡ Some life = sym (call.others g apart) ∙ found in
-                  let same_kind : kind_then run c g (p + 1) ≡ kind_then run c g p = kind_is (p + 1) y g there ∙ step.others g apart made_before ∙ sym (kind_is p x g here) in
+                  let same_kind : kind_then run c g (p + 1) ≡ kind_then run c g p =
+                  kind_is (p + 1) y g there ∙ step.others g apart made_before ∙ sym (kind_is p x g here) in
                   life_on p e within read g life (are.each g life was) same_kind (λ actor. other_handle p e within read g actor apart)
             ]
 
@@ -332,7 +362,8 @@ module _ {V : Type 0} (run : Run V) (c : ℕ) where
               many = ap length one.3 ∙ length_push mid (born one.0 (p + 1) (Some e.actor)) ∙ omega (arith, long, longer, after);
               each = λ g life found.
                   elim (cases_lt g (length mid)) [
-                    | inl below ↦ old_life g life (sym (before_push mid g (born one.0 (p + 1) (Some e.actor)) below) ∙ ap (λ ls. slice_get ls g) (sym one.3) ∙ found)
+                    | inl below ↦ old_life g life (sym (before_push mid g (born one.0 (p + 1) (Some e.actor)) below) ∙ ap (λ ls. slice_get ls g) (sym one.3)
+                        ∙ found)
                     | inr above ↦
                         let within_new : g < length new = slice_get_within new g life found in
                         let last : g ≡ length mid = omega (arith, above, within_new, ap length one.3, length_push mid (born one.0 (p + 1) (Some e.actor))) in

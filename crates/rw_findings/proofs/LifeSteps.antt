@@ -35,7 +35,8 @@ longer_set : {X : Type 0} (slots : List (Slot X)) (h : ℕ) (slot : Slot X) → 
 longer_set slots h slot = inl (length-set slots h slot)
 
 -- a slot that was there is the same
-kept_there : {X : Type 0} (before after : List (Slot X)) (g : ℕ) (d : Slot X) → g < length before → IsKept (slice_get before g) (slice_get after g) → kind_at (slice_get after g) ≡ kind_at (slice_get before g)
+kept_there : {X : Type 0} (before after : List (Slot X)) (g : ℕ) (d : Slot X) → g < length before → IsKept (slice_get before g) (slice_get after g)
+    → kind_at (slice_get after g) ≡ kind_at (slice_get before g)
 kept_there before after g d within (inr same) = ap kind_at same
 kept_there before after g d within (inl none) =
     let there = slice_get-get_or before g d within in
@@ -69,7 +70,8 @@ module _ {V : Type 0} where
   steps (broadcast_shown x) (call_of.B call) =
       let e = (b.effect (bs.channel_of x) call).0 in
       record {
-        others = λ g apart within. kept_there x.slots (bs.with_change x e).slots g Spent within (grows x e (b.handle_of call) g (own (bs.channel_of x) call) apart).2;
+        others = λ g apart within. kept_there x.slots (bs.with_change x e).slots g Spent within
+            (grows x e (b.handle_of call) g (own (bs.channel_of x) call) apart).2;
         made = longer_broadcast x e;
       }
   steps (broadcast_shown x) (call_of.W call) = idle (broadcast_shown x) (w.handle_of call)
@@ -77,6 +79,7 @@ module _ {V : Type 0} where
   steps (watch_shown x) (call_of.W call) =
       let e = (w.effect x call).0 in
       record {
-        others = λ g apart within. kept_there x.slots (ws.with_change x e).slots g Spent within (grows_marked x e (w.handle_of call) g (own_mark x call) apart).1;
+        others = λ g apart within. kept_there x.slots (ws.with_change x e).slots g Spent within
+            (grows_marked x e (w.handle_of call) g (own_mark x call) apart).1;
         made = longer_watch x e;
       }

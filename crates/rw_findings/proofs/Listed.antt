@@ -46,7 +46,8 @@ module _ {T : Type 0} (channel receiver : T → ℕ) (Fits : T → Type 0) (Want
   pub skipped : (c h : ℕ) (xs : List T) → (Wanted c h → ⊥) → IsListed c h xs → IsListed c (suc h) xs
   skipped c h xs nobody is = record {
     each = is.each;
-    before = All-weaker (λ t. IsBefore c h (channel t) (receiver t)) (λ t. IsBefore c (suc h) (channel t) (receiver t)) (λ t before. up_to c h (channel t) (receiver t) before) xs is.before;
+    before = All-weaker (λ t. IsBefore c h (channel t) (receiver t)) (λ t. IsBefore c (suc h) (channel t) (receiver t))
+        (λ t before. up_to c h (channel t) (receiver t) before) xs is.before;
     all = λ d g before wanted.
         elim (more_receivers c h d g before) [
           | inl old ↦ is.all d g old wanted
@@ -55,7 +56,8 @@ module _ {T : Type 0} (channel receiver : T → ℕ) (Fits : T → Type 0) (Want
     ordered = is.ordered;
   }
 
-  ordered_push : (c h : ℕ) (xs : List T) (new : T) → channel new ≡ c → receiver new ≡ h → IsListed c h xs → (i j : ℕ) (d : T) → i < j → j < length (xs ++ new ∷ []) → Precedes (get_or (xs ++ new ∷ []) i d) (get_or (xs ++ new ∷ []) j d)
+  ordered_push : (c h : ℕ) (xs : List T) (new : T) → channel new ≡ c → receiver new ≡ h → IsListed c h xs → (i j : ℕ) (d : T) → i < j
+      → j < length (xs ++ new ∷ []) → Precedes (get_or (xs ++ new ∷ []) i d) (get_or (xs ++ new ∷ []) j d)
   ordered_push c h xs new channel_is receiver_is is i j d below within =
       let longer : length (xs ++ new ∷ []) ≡ length xs + 1 = length_push xs new in
       let first : get_or (xs ++ new ∷ []) i d ≡ get_or xs i d = get_or_append_left xs (new ∷ []) d i (omega (arith, longer, below, within)) in
@@ -64,7 +66,8 @@ module _ {T : Type 0} (channel receiver : T → ℕ) (Fits : T → Type 0) (Want
         | inl inside ↦ subst (λ b. Precedes (get_or xs i d) b) (sym (get_or_append_left xs (new ∷ []) d j inside)) (is.ordered i j d below inside)
         | inr past ↦ let end : j ≡ length xs = omega (arith, longer, past, within) in
             let second : get_or (xs ++ new ∷ []) j d ≡ new = ap (λ k. get_or (xs ++ new ∷ []) k d) end ∙ get_or-append_seam xs new [] d in
-            let was : IsBefore c h (channel (get_or xs i d)) (receiver (get_or xs i d)) = All-get_or (λ t. IsBefore c h (channel t) (receiver t)) xs i d (omega (arith, below, end)) is.before in
+            let was : IsBefore c h (channel (get_or xs i d)) (receiver (get_or xs i d)) =
+            All-get_or (λ t. IsBefore c h (channel t) (receiver t)) xs i d (omega (arith, below, end)) is.before in
             let precedes : Precedes (get_or xs i d) new = elim was [
               | inl smaller ↦ inl (omega (arith, smaller, channel_is))
               | inr this ↦ inr (omega (arith, this.0, channel_is), omega (arith, this.1, receiver_is))
@@ -77,7 +80,8 @@ module _ {T : Type 0} (channel receiver : T → ℕ) (Fits : T → Type 0) (Want
   pushed c h xs new channel_is receiver_is fits is = record {
     each = All-push Fits xs new is.each fits;
     before = All-push (λ t. IsBefore c (suc h) (channel t) (receiver t)) xs new
-        (All-weaker (λ t. IsBefore c h (channel t) (receiver t)) (λ t. IsBefore c (suc h) (channel t) (receiver t)) (λ t before. up_to c h (channel t) (receiver t) before) xs is.before)
+        (All-weaker (λ t. IsBefore c h (channel t) (receiver t)) (λ t. IsBefore c (suc h) (channel t) (receiver t))
+        (λ t before. up_to c h (channel t) (receiver t) before) xs is.before)
         (inr (channel_is, omega (arith, receiver_is)));
     all = λ d g before wanted.
         elim (more_receivers c h d g before) [

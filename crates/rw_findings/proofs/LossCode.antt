@@ -31,14 +31,16 @@ past_at f (x ∷ xs) (suc i) past = ap (λ zs. x ∷ zs) (past_at f xs i (omega 
 
 module _ {V : Type 0} where
   -- the track of a channel is written
-  pub taken : (ts : List (Option Track)) (c : ℕ) (call : ChanCall V) (reply : ChanReply V) (b : BCall V) (r : BReply V) (place : ℕ) (was new : Option Track) → call ≡ call_of.B b → reply ≡ reply_of.B r → c < length ts
+  pub taken : (ts : List (Option Track)) (c : ℕ) (call : ChanCall V) (reply : ChanReply V) (b : BCall V) (r : BReply V) (place : ℕ) (was new : Option Track)
+      → call ≡ call_of.B b → reply ≡ reply_of.B r → c < length ts
       → was ≡ get_or ts c was → new ≡ option_map (λ t. with_call t b r place) was → set ts c new ≡ with_call_on ts c call reply place
   taken ts c call reply b r place was new call_is reply_is within read is =
       set_at (option_map (λ t. with_call t b r place)) ts c was new within (is ∙ ap (option_map (λ t. with_call t b r place)) read)
       ∙ ap (λ k. with_call_on ts c k (reply_of.B r) place) (sym call_is) ∙ ap (λ k. with_call_on ts c call k place) (sym reply_is)
 
   -- there is no such channel
-  pub not_taken : (ts : List (Option Track)) (c : ℕ) (call : ChanCall V) (reply : ChanReply V) (b : BCall V) (r : BReply V) (place : ℕ) → call ≡ call_of.B b → reply ≡ reply_of.B r → length ts ≤ c
+  pub not_taken : (ts : List (Option Track)) (c : ℕ) (call : ChanCall V) (reply : ChanReply V) (b : BCall V) (r : BReply V) (place : ℕ) → call ≡ call_of.B b
+      → reply ≡ reply_of.B r → length ts ≤ c
       → ts ≡ with_call_on ts c call reply place
   not_taken ts c call reply b r place call_is reply_is past =
       past_at (option_map (λ t. with_call t b r place)) ts c past

@@ -24,7 +24,8 @@ use Rattle.rw_findings.proofs.LossStretches.{IsOpenSince, open_on, opens_now}
 
 module _ (of : (channel receiver place : ℕ) → Option ℕ) (last : ℕ) where
   -- a stretch that ends at place n + 1
-  ends_now : (n : ℕ) (loss : Loss) → IsOpenSince of loss.channel loss.receiver loss.from n → stop_of last loss.end ≡ n + 1 → EndsAs of last loss.channel loss.receiver loss.end
+  ends_now : (n : ℕ) (loss : Loss) → IsOpenSince of loss.channel loss.receiver loss.from n → stop_of last loss.end ≡ n + 1
+      → EndsAs of last loss.channel loss.receiver loss.end
       → lag_of of loss.channel loss.receiver n ≡ loss.lost → IsStretch of last loss
   ends_now n loss begun stop ends lost = record {
     before = begun.before;
@@ -37,7 +38,8 @@ module _ (of : (channel receiver place : ℕ) → Option ℕ) (last : ℕ) where
   -- what ends at place n + 1: none of a channel's losses, or this one
   abbrev pub Ends : ℕ → ℕ → Option Loss → Type 0
   Ends c n None = (h : ℕ) → 0 < lag_of of c h n → 0 < lag_of of c h (n + 1)
-  Ends c n (Some loss) = IsStretch of last loss × (loss.channel ≡ c) × (stop_of last loss.end ≡ n + 1) × ((h : ℕ) → h ≢ loss.receiver → 0 < lag_of of c h n → 0 < lag_of of c h (n + 1))
+  Ends c n (Some loss) = IsStretch of last loss × (loss.channel ≡ c) × (stop_of last loss.end ≡ n + 1)
+      × ((h : ℕ) → h ≢ loss.receiver → 0 < lag_of of c h n → 0 < lag_of of c h (n + 1))
 
   nobody_lags : (c n : ℕ) → ((h : ℕ) → of c h n ≡ None) → Ends c n None
   nobody_lags c n now h lags = let none : lag_of of c h n ≡ 0 = ap (λ k. unwrap_or k 0) (now h) in absurd (omega (arith, none, lags))
@@ -75,11 +77,13 @@ module _ {V : Type 0} where
   module _ (of : (channel receiver place : ℕ) → Option ℕ) (last : ℕ) where
     -- where each receiver that lags at place n began to lag
     abbrev pub Since : ℕ → ℕ → Option (ChanShown V) → Option (Option Track) → Type 0
-    Since c n (Some (broadcast_shown x)) (Some (Some t)) = (h p : ℕ) → position x h ≡ Some p → 0 < lag x p → IsOpenSince of c h (get_or t.sends (x.sent - lag x p) 0) n
+    Since c n (Some (broadcast_shown x)) (Some (Some t)) =
+        (h p : ℕ) → position x h ≡ Some p → 0 < lag x p → IsOpenSince of c h (get_or t.sends (x.sent - lag x p) 0) n
     Since c n _ _ = Unit {0}
 
     -- one call of a broadcast
-    module _ (c n : ℕ) (x : Shown V) (t : Track) (call : BCall V) (e : Change V × BReply V) (inside : n + 1 ≤ last) (steps : Tracks x t call c (n + 1) e) (is : IsTrackOf x t)
+    module _ (c n : ℕ) (x : Shown V) (t : Track) (call : BCall V) (e : Change V × BReply V) (inside : n + 1 ≤ last) (steps : Tracks x t call c (n + 1) e)
+        (is : IsTrackOf x t)
         (now : (h : ℕ) → of c h n ≡ option_map (λ p. lag x p) (position x h))
         (then : (h : ℕ) → of c h (n + 1) ≡ option_map (λ p. lag (with_change x e.0) p) (position (with_change x e.0) h))
         (since : (h p : ℕ) → position x h ≡ Some p → 0 < lag x p → IsOpenSince of c h (get_or t.sends (x.sent - lag x p) 0) n) where
@@ -102,7 +106,8 @@ module _ {V : Type 0} where
           elim steps.sends [
             | inl same ↦ let lag_is : lag y p ≡ lag x p = omega (arith, same.0, steps.capacity) in
                 let start : get_or u.sends (y.sent - lag y p) 0 ≡ get_or t.sends (x.sent - lag x p) 0 =
-                ap (λ s. get_or s (y.sent - lag y p) 0) same.1 ∙ ap (λ s. get_or t.sends (s - lag y p) 0) same.0 ∙ ap (λ k. get_or t.sends (x.sent - k) 0) lag_is in
+                ap (λ s. get_or s (y.sent - lag y p) 0) same.1 ∙ ap (λ s. get_or t.sends (s - lag y p) 0) same.0
+                ∙ ap (λ k. get_or t.sends (x.sent - k) 0) lag_is in
                 subst (λ f. IsOpenSince of c h f (n + 1)) (sym start) (open_on of c h _ n (since h p here (omega (arith, lag_is))) more)
             | inr sent ↦ elim (cases_lt 0 (lag x p)) [
               | inl lagged ↦ let lag_is : lag y p ≡ lag x p + 1 = omega (arith, sent.0, steps.capacity) in
@@ -113,7 +118,8 @@ module _ {V : Type 0} where
                   subst (λ f. IsOpenSince of c h f (n + 1)) (sym start) (open_on of c h _ n (since h p here lagged) more)
               | inr rested ↦ let index : y.sent - lag y p ≡ length t.sends = omega (arith, sent.0, steps.capacity, is.sends) in
                   let start : get_or u.sends (y.sent - lag y p) 0 ≡ n + 1 =
-                  ap (λ s. get_or s (y.sent - lag y p) 0) sent.1 ∙ ap (λ k. get_or (t.sends ++ (n + 1) ∷ []) k 0) index ∙ get_or-append_seam t.sends (n + 1) [] 0 in
+                  ap (λ s. get_or s (y.sent - lag y p) 0) sent.1 ∙ ap (λ k. get_or (t.sends ++ (n + 1) ∷ []) k 0) index
+                  ∙ get_or-append_seam t.sends (n + 1) [] 0 in
                   let none : lag_of of c h n ≡ 0 = lag_now h p here ∙ omega arith in
                   subst (λ f. IsOpenSince of c h f (n + 1)) (sym start) (opens_now of c h n none more)
             ]
@@ -123,7 +129,8 @@ module _ {V : Type 0} where
       still_lags : (h : ℕ) → Stays x y h → 0 < lag_of of c h n → 0 < lag_of of c h (n + 1)
       still_lags h stays lags = by_position (position x h) refl where
         by_position : (o : Option ℕ) → position x h ≡ o → 0 < lag_of of c h (n + 1)
-        by_position None here = let none : lag_of of c h n ≡ 0 = ap (λ o. unwrap_or o 0) (now h ∙ ap (λ o. option_map (λ q. lag x q) o) here) in absurd (omega (arith, none, lags))
+        by_position None here = let none : lag_of of c h n ≡ 0 = ap (λ o. unwrap_or o 0) (now h ∙ ap (λ o. option_map (λ q. lag x q) o) here) in
+            absurd (omega (arith, none, lags))
         by_position (Some p) here =
             let lagged : 0 < lag x p = omega (arith, lag_now h p here, lags) in
             let there : position y h ≡ Some p = stays p here lagged in
@@ -132,7 +139,8 @@ module _ {V : Type 0} where
               | inr sent ↦ omega (arith, lag_then h p there, sent.0, steps.capacity, lagged)
             ]
 
-      ends_is : (loss : Loss) (q : ℕ) → IsEnded x y t c (n + 1) loss → stop_of last loss.end ≡ n + 1 → EndsAs of last loss.channel loss.receiver loss.end → Ends of last c n (Some loss)
+      ends_is : (loss : Loss) (q : ℕ) → IsEnded x y t c (n + 1) loss → stop_of last loss.end ≡ n + 1 → EndsAs of last loss.channel loss.receiver loss.end
+          → Ends of last c n (Some loss)
       ends_is loss q ended stop ends =
           let p : ℕ = ended.from_position in
           let begun : IsOpenSince of c loss.receiver loss.from n =
@@ -146,9 +154,11 @@ module _ {V : Type 0} where
 
       one_ends : (loss : Loss) → IsEnded x y t c (n + 1) loss → Ends of last c n (Some loss)
       one_ends loss ended =
-          let at_end : of loss.channel loss.receiver (n + 1) ≡ option_map (λ p. lag y p) (position y loss.receiver) = ap (λ k. of k loss.receiver (n + 1)) ended.channel_is ∙ then loss.receiver in
+          let at_end : of loss.channel loss.receiver (n + 1) ≡ option_map (λ p. lag y p) (position y loss.receiver) =
+          ap (λ k. of k loss.receiver (n + 1)) ended.channel_is ∙ then loss.receiver in
           elim ended.end_is [
-            | inl told ↦ let rested : of loss.channel loss.receiver (n + 1) ≡ Some 0 = at_end ∙ ap (λ o. option_map (λ p. lag y p) o) told.1.1 ∙ ap Some told.1.2 in
+            | inl told ↦ let rested : of loss.channel loss.receiver (n + 1) ≡ Some 0 =
+                at_end ∙ ap (λ o. option_map (λ p. lag y p) o) told.1.1 ∙ ap Some told.1.2 in
                 ends_is loss 0 ended (ap (stop_of last) told.0) (subst (λ end. EndsAs of last loss.channel loss.receiver end) (sym told.0) (inside, rested))
             | inr dropped ↦ let gone : of loss.channel loss.receiver (n + 1) ≡ None = at_end ∙ ap (λ o. option_map (λ p. lag y p) o) dropped.1 in
                 ends_is loss 0 ended (ap (stop_of last) dropped.0) (subst (λ end. EndsAs of last loss.channel loss.receiver end) (sym dropped.0) (inside, gone))
@@ -163,7 +173,8 @@ module _ {V : Type 0} where
     -- ---- one call of a channel of either kind
 
     -- a channel that stays as it is
-    pub idle_since : (c n : ℕ) (o : Option (ChanShown V)) (to : Option (Option Track)) → ((h : ℕ) → of c h (n + 1) ≡ lag_in_channel o h) → Since c n o to → Since c (n + 1) o to
+    pub idle_since : (c n : ℕ) (o : Option (ChanShown V)) (to : Option (Option Track)) → ((h : ℕ) → of c h (n + 1) ≡ lag_in_channel o h) → Since c n o to
+        → Since c (n + 1) o to
     idle_since c n (Some (broadcast_shown x)) (Some (Some t)) then since = λ h p here lags.
         let lag_is : lag_of of c h (n + 1) ≡ lag x p = ap (λ o. unwrap_or o 0) (then h ∙ ap (λ o. option_map (λ q. lag x q) o) here) in
         open_on of c h _ n (since h p here lags) (omega (arith, lag_is, lags))
@@ -172,8 +183,10 @@ module _ {V : Type 0} where
     idle_since c n (Some (watch_shown y)) to then since = tt
     idle_since c n None to then since = tt
 
-    pub idle_ends : (c n : ℕ) (o : Option (ChanShown V)) → ((h : ℕ) → of c h n ≡ lag_in_channel o h) → ((h : ℕ) → of c h (n + 1) ≡ lag_in_channel o h) → Ends of last c n None
-    idle_ends c n o now then h lags = let same : lag_of of c h n ≡ lag_of of c h (n + 1) = ap (λ k. unwrap_or k 0) (now h ∙ sym (then h)) in omega (arith, same, lags)
+    pub idle_ends : (c n : ℕ) (o : Option (ChanShown V)) → ((h : ℕ) → of c h n ≡ lag_in_channel o h) → ((h : ℕ) → of c h (n + 1) ≡ lag_in_channel o h)
+        → Ends of last c n None
+    idle_ends c n o now then h lags = let same : lag_of of c h n ≡ lag_of of c h (n + 1) = ap (λ k. unwrap_or k 0) (now h ∙ sym (then h)) in
+        omega (arith, same, lags)
 
     pub record StepsOn (c n : ℕ) (o : Option (ChanShown V)) (to : Option (Option Track)) (call : ChanCall V) : Type 0 where
       pub tracked : IsTracked (shown_then o call) (track_then to call (reply_to o call) (n + 1))
@@ -199,8 +212,10 @@ module _ {V : Type 0} where
       steps_on (Some (broadcast_shown x)) (Some None) call ok is since now then = absurd is
       steps_on (Some (broadcast_shown x)) None call ok is since now then = absurd is
       steps_on (Some (watch_shown y)) (Some (Some t)) call ok is since now then = absurd is
-      steps_on (Some (watch_shown y)) (Some None) (call_of.B call) ok is since now then = record { tracked = tt; since = tt; ends = nobody_lags of last c n now }
-      steps_on (Some (watch_shown y)) (Some None) (call_of.W call) ok is since now then = record { tracked = tt; since = tt; ends = nobody_lags of last c n now }
+      steps_on (Some (watch_shown y)) (Some None) (call_of.B call) ok is since now then =
+          record { tracked = tt; since = tt; ends = nobody_lags of last c n now }
+      steps_on (Some (watch_shown y)) (Some None) (call_of.W call) ok is since now then =
+          record { tracked = tt; since = tt; ends = nobody_lags of last c n now }
       steps_on (Some (watch_shown y)) None call ok is since now then = absurd is
       steps_on None (Some to) call ok is since now then = absurd is
       steps_on None None (call_of.B call) ok is since now then = record { tracked = tt; since = tt; ends = nobody_lags of last c n now }

@@ -1,5 +1,6 @@
 -- The search for losses over a run: its beginning, its entries, its end, and the order of the list.
-use Rattle.std.proofs.Common.{◌≡◌, ◌≢◌, ℕ, zero, suc, ◌+◌, ◌-◌, ◌<◌, ◌≤◌, ◌⊎◌, Bool, true, false, cond, List, [], ◌∷◌, length, get_or, set, length-set, take, inl, inr, refl, ap, sym, ◌∙◌, subst, arith}
+use Rattle.std.proofs.Common.{◌≡◌, ◌≢◌, ℕ, zero, suc, ◌+◌, ◌-◌, ◌<◌, ◌≤◌, ◌⊎◌, Bool, true, false, cond, List, [], ◌∷◌, length}
+use Rattle.std.proofs.Common.{get_or, set, length-set, take, inl, inr, refl, ap, sym, ◌∙◌, subst, arith}
 use Rattle.std.specs.Prelude.{Option, Some, None, MatchOption, unwrap_or, slice_get, option_map, nat_eq, nat_lt}
 use Rattle.std.specs.List as lists
 use Rattle.std.specs.List.{All}
@@ -79,7 +80,8 @@ one_place a b k l i j (inr (inr p)) (inl q) same = absurd (p.1 (omega (arith, p.
 one_place a b k l i j (inr (inr p)) (inr (inl q)) same = absurd (p.0 (omega (arith, p.2, q.1, same)))
 one_place a b k l i j (inr (inr p)) (inr (inr q)) same = omega (arith, p.2, q.2, same)
 
-differ_swapped : {X : Type 0} (xs : List X) (a b : ℕ) → a < length xs → b < length xs → Differ xs → length (lists.swap xs a b) ≡ length xs → Differ (lists.swap xs a b)
+differ_swapped : {X : Type 0} (xs : List X) (a b : ℕ) → a < length xs → b < length xs → Differ xs → length (lists.swap xs a b) ≡ length xs
+    → Differ (lists.swap xs a b)
 differ_swapped xs a b first second differ long d i j one other apart same =
     let swapped = swapped_from_swap xs (lists.swap xs a b) a b d first second refl in
     let k = was_at (λ n. get_or xs n d) (λ n. get_or (lists.swap xs a b) n d) (length xs) a b i swapped first second (omega (arith, one, long)) in
@@ -91,7 +93,8 @@ length_swap [] a b = refl
 length_swap (x ∷ xs) a b = length-set (set (x ∷ xs) a (get_or (x ∷ xs) b x)) b (get_or (x ∷ xs) a x) ∙ length-set (x ∷ xs) a (get_or (x ∷ xs) b x)
 
 -- where the lags are the same, so are the stretches
-again : (of og : (channel receiver place : ℕ) → Option ℕ) (last : ℕ) → ((c h p : ℕ) → of c h p ≡ og c h p) → (loss : Loss) → IsStretch of last loss → IsStretch og last loss
+again : (of og : (channel receiver place : ℕ) → Option ℕ) (last : ℕ) → ((c h p : ℕ) → of c h p ≡ og c h p) → (loss : Loss) → IsStretch of last loss
+    → IsStretch og last loss
 again of og last same loss is =
     let lag_same : (c h p : ℕ) → lag_of of c h p ≡ lag_of og c h p = λ c h p. ap (λ o. unwrap_or o 0) (same c h p) in
     record {
@@ -140,7 +143,8 @@ module _ {V : Type 0} where
   tracked_first (Watch init ∷ specs) zero = tt
   tracked_first (spec ∷ specs) (suc c) = tracked_first specs c
 
-  since_first : (of : (channel receiver place : ℕ) → Option ℕ) (last c : ℕ) (specs : List (Spec V)) (k : ℕ) → Since of last c 0 (slice_get (opening_row specs) k) (slice_get (opened_tracks specs) k)
+  since_first : (of : (channel receiver place : ℕ) → Option ℕ) (last c : ℕ) (specs : List (Spec V)) (k : ℕ)
+      → Since of last c 0 (slice_get (opening_row specs) k) (slice_get (opened_tracks specs) k)
   since_first of last c [] k = tt
   since_first of last c (Broadcast capacity ∷ specs) zero = λ h p here lags. absurd (omega (arith, lags))
   since_first of last c (Watch init ∷ specs) zero = tt
@@ -157,25 +161,31 @@ module _ {V : Type 0} where
 
   -- ---- an entry
 
-  pub passed_entry : (run : Run V) (n : ℕ) (e : WorldEntry V) (ts : List (Option Track)) (losses : List Loss) → IsLegal of_world (opening_row run.specs) run.entries → n < length run.entries → e ≡ get_or run.entries n e
-      → IsPassed (at_place run) (last_place run) n ts losses → IsPassed (at_place run) (last_place run) (n + 1) (with_entry ts e (n + 1)) (with_loss losses (loss_of_entry ts e (n + 1)))
+  pub passed_entry : (run : Run V) (n : ℕ) (e : WorldEntry V) (ts : List (Option Track)) (losses : List Loss)
+      → IsLegal of_world (opening_row run.specs) run.entries → n < length run.entries → e ≡ get_or run.entries n e
+      → IsPassed (at_place run) (last_place run) n ts losses
+      → IsPassed (at_place run) (last_place run) (n + 1) (with_entry ts e (n + 1)) (with_loss losses (loss_of_entry ts e (n + 1)))
   passed_entry run n e ts losses legal within read passed =
       let next : at_place run (n + 1) ≡ (of_world {V = V}).next (at_place run n) e.call =
-      after_more of_world (opening_row run.specs) run.entries n e within ∙ ap (λ (f : WorldEntry V). (of_world {V = V}).next (at_place run n) f.call) (sym read) in
+      after_more of_world (opening_row run.specs) run.entries n e within
+      ∙ ap (λ (f : WorldEntry V). (of_world {V = V}).next (at_place run n) f.call) (sym read) in
       let step : IsStep of_world (at_place run n) e =
       subst (λ f. IsStep of_world (at_place run n) f) (sym read) (step_at of_world (opening_row run.specs) run.entries n e legal within) in
       passed_on (at_place run) (last_place run) n ts losses e.call e.reply (omega (arith, within)) (allowed_at run n) next step.reply passed
 
   -- ---- the end
 
-  module _ (run : Run V) (ts : List (Option Track)) (losses : List Loss) (opens : refusal run.specs ≡ None) (passed : IsPassed (at_place run) (last_place run) (last_place run) ts losses) where
+  module _ (run : Run V) (ts : List (Option Track)) (losses : List Loss) (opens : refusal run.specs ≡ None)
+      (passed : IsPassed (at_place run) (last_place run) (last_place run) ts losses) where
     -- each track is that of a channel
     few_tracks_of : (n : ℕ) → length ts ≡ n → n ≤ MOST_CHANNELS
     few_tracks_of zero long = omega arith
     few_tracks_of (suc n) long =
-        let there : n < length (at_place run (last_place run)) = by_channel (slice_get (at_place run (last_place run)) n) (slice_get ts n) refl refl (passed.tracked n) in
+        let there : n < length (at_place run (last_place run)) =
+        by_channel (slice_get (at_place run (last_place run)) n) (slice_get ts n) refl refl (passed.tracked n) in
         omega (arith, there, length_at run (last_place run), few_specs run.specs opens) where
-          by_channel : (o : Option (ChanShown V)) (to : Option (Option Track)) → slice_get (at_place run (last_place run)) n ≡ o → slice_get ts n ≡ to → IsTracked o to → n < length (at_place run (last_place run))
+          by_channel : (o : Option (ChanShown V)) (to : Option (Option Track)) → slice_get (at_place run (last_place run)) n ≡ o → slice_get ts n ≡ to
+              → IsTracked o to → n < length (at_place run (last_place run))
           by_channel (Some x) to here there is = slice_get_within (at_place run (last_place run)) n x here
           by_channel None (Some to) here there is = absurd is
           by_channel None None here there is =
@@ -187,36 +197,44 @@ module _ {V : Type 0} where
     few_tracks = few_tracks_of (length ts) refl
 
     pub few_handles : HasFewHandles ts
-    few_handles c t there = by_channel (slice_get (at_place run (last_place run)) c) (slice_get ts c) there (passed.tracked c) (each_at (of_chan {V = V}).allowed (at_place run (last_place run)) c (allowed_at run (last_place run))) where
-      by_channel : (o : Option (ChanShown V)) (to : Option (Option Track)) → to ≡ Some (Some t) → IsTracked o to → MatchOption o (Unit {0}) (of_chan {V = V}).allowed → length t.positions ≤ MOST_HANDLES
-      by_channel (Some (broadcast_shown x)) (Some (Some u)) same is ok =
-          let u_is : u ≡ t = cc in
-          let many : length u.positions ≡ length x.slots = ap length is.positions ∙ length-map x.slots position_of in
-          let few : length x.slots ≤ MOST_HANDLES = ok.few_slots in
-          subst (λ v. length v.positions ≤ MOST_HANDLES) u_is (omega (arith, many, few))
-      by_channel (Some (broadcast_shown x)) (Some None) same is ok = absurd is
-      by_channel (Some (broadcast_shown x)) None same is ok = absurd is
-      by_channel (Some (watch_shown y)) (Some (Some u)) same is ok = absurd is
-      by_channel (Some (watch_shown y)) (Some None) same is ok = absurd cc
-      by_channel (Some (watch_shown y)) None same is ok = absurd is
-      by_channel None (Some u) same is ok = absurd is
-      by_channel None None same is ok = absurd cc
+    few_handles c t there = by_channel (slice_get (at_place run (last_place run)) c) (slice_get ts c) there (passed.tracked c)
+        (each_at (of_chan {V = V}).allowed (at_place run (last_place run)) c (allowed_at run (last_place run))) where
+          by_channel : (o : Option (ChanShown V)) (to : Option (Option Track)) → to ≡ Some (Some t) → IsTracked o to
+              → MatchOption o (Unit {0}) (of_chan {V = V}).allowed → length t.positions ≤ MOST_HANDLES
+          by_channel (Some (broadcast_shown x)) (Some (Some u)) same is ok =
+              let u_is : u ≡ t = cc in
+              let many : length u.positions ≡ length x.slots = ap length is.positions ∙ length-map x.slots position_of in
+              let few : length x.slots ≤ MOST_HANDLES = ok.few_slots in
+              subst (λ v. length v.positions ≤ MOST_HANDLES) u_is (omega (arith, many, few))
+          by_channel (Some (broadcast_shown x)) (Some None) same is ok = absurd is
+          by_channel (Some (broadcast_shown x)) None same is ok = absurd is
+          by_channel (Some (watch_shown y)) (Some (Some u)) same is ok = absurd is
+          by_channel (Some (watch_shown y)) (Some None) same is ok = absurd cc
+          by_channel (Some (watch_shown y)) None same is ok = absurd is
+          by_channel None (Some u) same is ok = absurd is
+          by_channel None None same is ok = absurd cc
 
     -- the channel and the receiver of a loss are there
     there_at : (c h p : ℕ) → 0 < lag_of (lags_at (at_place run) (last_place run)) c h p → (c < MOST_CHANNELS) × (h < MOST_HANDLES)
     there_at c h p lags = by_channel (slice_get (at_place run p) c) refl (each_at (of_chan {V = V}).allowed (at_place run p) c (allowed_at run p)) where
-      by_channel : (o : Option (ChanShown V)) → slice_get (at_place run p) c ≡ o → MatchOption o (Unit {0}) (of_chan {V = V}).allowed → (c < MOST_CHANNELS) × (h < MOST_HANDLES)
+      by_channel : (o : Option (ChanShown V)) → slice_get (at_place run p) c ≡ o → MatchOption o (Unit {0}) (of_chan {V = V}).allowed
+          → (c < MOST_CHANNELS) × (h < MOST_HANDLES)
       by_channel (Some (broadcast_shown x)) here ok =
           let lags_here : 0 < unwrap_or (option_map (λ q. lag x q) (position x h)) 0 = subst (λ o. 0 < unwrap_or (lag_in_channel o h) 0) here lags in
-          let few : length x.slots ≤ MOST_HANDLES = ok.few_slots in
-          (omega (arith, slice_get_within (at_place run p) c (broadcast_shown x) here, length_at run p, few_specs run.specs opens), omega (arith, within_slots x h lags_here, few))
-      by_channel (Some (watch_shown y)) here ok = let none : lag_of (lags_at (at_place run) (last_place run)) c h p ≡ 0 = ap (λ o. unwrap_or (lag_in_channel o h) 0) here in absurd (omega (arith, none, lags))
-      by_channel None here ok = let none : lag_of (lags_at (at_place run) (last_place run)) c h p ≡ 0 = ap (λ o. unwrap_or (lag_in_channel o h) 0) here in absurd (omega (arith, none, lags))
+          let few : length x.slots ≤ MOST_HANDLES = ok.few_slots in (
+            omega (arith, slice_get_within (at_place run p) c (broadcast_shown x) here, length_at run p, few_specs run.specs opens),
+            omega (arith, within_slots x h lags_here, few),
+          )
+      by_channel (Some (watch_shown y)) here ok = let none : lag_of (lags_at (at_place run) (last_place run)) c h p ≡ 0 =
+          ap (λ o. unwrap_or (lag_in_channel o h) 0) here in absurd (omega (arith, none, lags))
+      by_channel None here ok = let none : lag_of (lags_at (at_place run) (last_place run)) c h p ≡ 0 = ap (λ o. unwrap_or (lag_in_channel o h) 0) here in
+          absurd (omega (arith, none, lags))
 
     -- ---- the order
 
     -- losses that are sorted in order and differ
-    comes_before : (a b : Loss) → IsStretch (lags_at (at_place run) (last_place run)) (last_place run) a → IsStretch (lags_at (at_place run) (last_place run)) (last_place run) b
+    comes_before : (a b : Loss) → IsStretch (lags_at (at_place run) (last_place run)) (last_place run) a
+        → IsStretch (lags_at (at_place run) (last_place run)) (last_place run) b
         → order_of a ≤ order_of b → a ≢ b → ComesBefore a b
     comes_before a b is_a is_b order apart =
         let a_there = there_at a.channel a.receiver a.from (is_a.lags a.from (omega arith) is_a.some) in
@@ -250,14 +268,17 @@ module _ {V : Type 0} where
       is_stretch loss is = again documented (lags_at (at_place run) (last_place run)) (last_place run) (λ c h p. sym (lag_same c h p)) loss is
 
       -- what the search found, sorted
-      pub are_losses : (found sorted : List Loss) → found ≡ with_open losses ts (length ts) → IsPermutation found sorted → IsNonDecreasingBy order_of sorted → AreLosses run sorted
+      pub are_losses : (found sorted : List Loss) → found ≡ with_open losses ts (length ts) → IsPermutation found sorted → IsNonDecreasingBy order_of sorted
+          → AreLosses run sorted
       are_losses found sorted found_is moved order =
           let are : AreThose (lags_at (at_place run) (last_place run)) (last_place run) (λ loss. Unit {0}) found =
-          subst (AreThose (lags_at (at_place run) (last_place run)) (last_place run) (λ loss. Unit {0})) (sym found_is) (all_found (at_place run) (last_place run) ts losses passed) in
+          subst (AreThose (lags_at (at_place run) (last_place run)) (last_place run) (λ loss. Unit {0})) (sym found_is)
+          (all_found (at_place run) (last_place run) ts losses passed) in
           let each : All (λ loss. IsStretch (lags_at (at_place run) (last_place run)) (last_place run) loss) sorted =
           All-permutation (λ loss. IsStretch (lags_at (at_place run) (last_place run)) (last_place run) loss) found sorted moved are.each in
           let differ : Differ sorted =
-          IsPermutation-keeps found (λ xs. Differ xs) (differ_from found are.distinct) (λ xs a b first second apart. differ_swapped xs a b first second apart (length_swap xs a b)) sorted moved in
+          IsPermutation-keeps found (λ xs. Differ xs) (differ_from found are.distinct)
+          (λ xs a b first second apart. differ_swapped xs a b first second apart (length_swap xs a b)) sorted moved in
           record {
             each = All-weaker (λ loss. IsStretch (lags_at (at_place run) (last_place run)) (last_place run) loss) (λ loss. IsLoss run loss) is_loss sorted each;
             all = λ loss is. Contains-permutation found sorted loss moved (are.all loss (is_stretch loss is) tt);

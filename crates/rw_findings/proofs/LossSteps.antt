@@ -1,5 +1,6 @@
 -- One call of a broadcast, and the track of the broadcast.
-use Rattle.std.proofs.Common.{◌≡◌, ◌≢◌, ℕ, zero, suc, ◌+◌, ◌-◌, ◌<◌, ◌≤◌, ◌⊎◌, true, false, cond, List, [], ◌∷◌, ◌++◌, length, map, get_or, set, inl, inr, refl, ap, sym, ◌∙◌, subst, arith}
+use Rattle.std.proofs.Common.{◌≡◌, ◌≢◌, ℕ, zero, suc, ◌+◌, ◌-◌, ◌<◌, ◌≤◌, ◌⊎◌, true, false, cond, List, [], ◌∷◌, ◌++◌}
+use Rattle.std.proofs.Common.{length, map, get_or, set, inl, inr, refl, ap, sym, ◌∙◌, subst, arith}
 use Rattle.std.specs.Prelude.{Option, Some, None, slice_get, nat_lt, nat_eq, ◌==◌, option_map, option_and_then}
 use Rattle.std.proofs.lemmas.Bool.{ltb-true, ltb-false, cases_order, cases_lt, cond_both}
 use Rattle.std.proofs.lemmas.Bool.Decides.{nat_tests}
@@ -16,17 +17,20 @@ use Rattle.rw_handles.specs.Slots.{lookup}
 use Rattle.rw_handles.proofs.Checks.{of_checked}
 use Rattle.rw_handles.proofs.SlotLaws.{found_at_is, found_at_wanted, slice_get-set}
 use Rattle.rw_broadcast.specs.declared.calls.BCall.{BCall}
-use Rattle.rw_broadcast.specs.declared.calls.BCall.TheVariants.{Send, Subscribe, CloneSender, Resubscribe, TryRecv, Recv, DropHandle, SenderLen, ReceiverCount, ReceiverLen, Downgrade, Upgrade, CloneWeak}
+use Rattle.rw_broadcast.specs.declared.calls.BCall.TheVariants.{Send, Subscribe, CloneSender, Resubscribe, TryRecv, Recv, DropHandle, SenderLen}
+use Rattle.rw_broadcast.specs.declared.calls.BCall.TheVariants.{ReceiverCount, ReceiverLen, Downgrade, Upgrade, CloneWeak}
 use Rattle.rw_broadcast.specs.declared.calls.BReply.{BReply}
 use Rattle.rw_broadcast.specs.declared.calls.BReply.TheVariants.{Sent, Value, Lagged, Empty, Waits, New, TooManyHandles}
 use Rattle.rw_broadcast.specs.declared.calls.BReply.TheVariants as reply
-use Rattle.rw_broadcast.specs.Channel.{Change, Keep, Append, Make, Move, Leave, handle_of, wanted_kind, makes, fault_reply, is_closed, oldest, receivers, read, receive, effect_with, effect}
+use Rattle.rw_broadcast.specs.Channel.{Change, Keep, Append, Make, Move, Leave, handle_of, wanted_kind, makes, fault_reply}
+use Rattle.rw_broadcast.specs.Channel.{is_closed, oldest, receivers, read, receive, effect_with, effect}
 use Rattle.rw_broadcast.specs.Machine.{position_at}
 use Rattle.rw_broadcast.specs.Shown.{Shown, channel_of, with_change, IsAllowed}
 use Rattle.rw_findings.specs.declared.losses.loss.Loss.{Loss}
 use Rattle.rw_findings.specs.declared.losses.loss.LossEnd.{LossEnd}
 use Rattle.rw_findings.specs.declared.losses.loss.LossEnd.TheVariants.{Told, Dropped}
-use Rattle.rw_findings.specs.LossTracks.{Track, position_in, lag_in, oldest_in, loss_in, loss_from, loss_by, subject, first_position, next_position, with_position, with_call}
+use Rattle.rw_findings.specs.LossTracks.{Track, position_in, lag_in, oldest_in, loss_in, loss_from, loss_by, subject}
+use Rattle.rw_findings.specs.LossTracks.{first_position, next_position, with_position, with_call}
 
 -- ---- lists
 
@@ -139,7 +143,8 @@ module _ {V : Type 0} where
     lag_is : (p : ℕ) → lag_in t p ≡ lag x p
     lag_is p = omega (arith, is.sends, is.capacity)
 
-    keeps : (call : BCall V) (reply : BReply V) → with_call t call reply place ≡ t → loss_by t channel call reply place ≡ None → Tracks x t call channel place (Keep, reply)
+    keeps : (call : BCall V) (reply : BReply V) → with_call t call reply place ≡ t → loss_by t channel call reply place ≡ None
+        → Tracks x t call channel place (Keep, reply)
     keeps call reply same none = record {
       track = subst (λ u. IsTrackOf x u) (sym same) is;
       capacity = refl;
@@ -157,13 +162,15 @@ module _ {V : Type 0} where
       ended = λ h p here lags. here;
     }
 
-    makes_one : (call : BCall V) (kind : Kind) (start n : ℕ) → first_position t call ≡ position_of (Live kind start) → ((p : ℕ) → position_of (Live kind start) ≡ Some p → x.sent ≤ p)
+    makes_one : (call : BCall V) (kind : Kind) (start n : ℕ) → first_position t call ≡ position_of (Live kind start)
+        → ((p : ℕ) → position_of (Live kind start) ≡ Some p → x.sent ≤ p)
         → Tracks x t call channel place (Make kind start, New n)
     makes_one call kind start n first fresh = record {
       track = record {
         capacity = is.capacity;
         sends = is.sends;
-        positions = ap (λ ps. ps ++ first_position t call ∷ []) is.positions ∙ ap (λ o. map position_of x.slots ++ o ∷ []) first ∙ sym (map-append position_of x.slots (Live kind start ∷ []));
+        positions = ap (λ ps. ps ++ first_position t call ∷ []) is.positions ∙ ap (λ o. map position_of x.slots ++ o ∷ []) first
+            ∙ sym (map-append position_of x.slots (Live kind start ∷ []));
       };
       capacity = refl;
       sends = inl (refl, refl);
@@ -191,7 +198,8 @@ module _ {V : Type 0} where
         → position_at (slice_get (set x.slots h slot) g) ≡ Some q → 0 < lag x q → position x g ≡ Some q
     behind_put h p g q slot was here none there lags =
         elim (cases_order g h) [
-          | inl same ↦ let at : position_of slot ≡ Some q = sym (own h slot was here) ∙ ap (λ k. position_at (slice_get (set x.slots h slot) k)) (sym same) ∙ there in
+          | inl same ↦ let at : position_of slot ≡ Some q =
+              sym (own h slot was here) ∙ ap (λ k. position_at (slice_get (set x.slots h slot) k)) (sym same) ∙ there in
               absurd (omega (arith, none q at, lags))
           | inr apart ↦ sym (other h g slot (λ same. elim apart [ inl below ↦ omega (arith, same, below) | inr above ↦ omega (arith, same, above) ])) ∙ there
         ]
@@ -202,7 +210,8 @@ module _ {V : Type 0} where
     -- where receiver h doesn't lag, all that lag stay where they are when it moves
     all_stay_put : (h p : ℕ) (slot : Slot ℕ) → position x h ≡ Some p → lag x p ≡ 0 → (g : ℕ) → Stays x (record x { slots = set x.slots h slot }) g
     all_stay_put h p slot at none g q here lags =
-        stays_put h g slot (λ same. let p_is : Some p ≡ Some q = sym at ∙ ap (λ k. position x k) (sym same) ∙ here in let e : p ≡ q = cc in omega (arith, e, none, lags)) q here lags
+        stays_put h g slot (λ same. let p_is : Some p ≡ Some q = sym at ∙ ap (λ k. position x k) (sym same) ∙ here in let e : p ≡ q = cc in
+        omega (arith, e, none, lags)) q here lags
 
     -- the loss of a receiver at this position
     abbrev pub the_loss : (h p : ℕ) → LossEnd → Loss
@@ -210,7 +219,8 @@ module _ {V : Type 0} where
 
     loss_at : (h p : ℕ) (end : LossEnd) → position x h ≡ Some p → loss_in t channel h end ≡ cond (nat_eq (lag x p) 0) None (Some (the_loss h p end))
     loss_at h p end here =
-        let with_lag = λ (n : ℕ) (m : ℕ). cond {A = Option Loss} (nat_eq n 0) None (Some (record { channel = channel; receiver = h; from = get_or t.sends (m - n) 0; lost = n; end = end })) in
+        let with_lag = λ (n : ℕ) (m : ℕ). cond {A = Option Loss} (nat_eq n 0) None
+        (Some (record { channel = channel; receiver = h; from = get_or t.sends (m - n) 0; lost = n; end = end })) in
         ap (λ o. option_and_then (loss_from t channel h end) o) (position_is h ∙ here)
         ∙ ap (λ n. with_lag n (length t.sends)) (lag_is p)
         ∙ ap (λ m. with_lag (lag x p) m) is.sends
@@ -225,8 +235,10 @@ module _ {V : Type 0} where
     loss_nobody h end nobody = ap (λ o. option_and_then (loss_from t channel h end) o) (position_is h ∙ nobody)
 
     -- a track with another position in it
-    put_track : (h : ℕ) (slot : Slot ℕ) (u : Track) → u ≡ record t { positions = set t.positions h (position_of slot) } → IsTrackOf (record x { slots = set x.slots h slot }) u
-    put_track h slot u same = subst (λ w. IsTrackOf (record x { slots = set x.slots h slot }) w) (sym same) (record { capacity = is.capacity; sends = is.sends; positions = put_is h slot })
+    put_track : (h : ℕ) (slot : Slot ℕ) (u : Track) → u ≡ record t { positions = set t.positions h (position_of slot) }
+        → IsTrackOf (record x { slots = set x.slots h slot }) u
+    put_track h slot u same = subst (λ w. IsTrackOf (record x { slots = set x.slots h slot }) w) (sym same)
+        (record { capacity = is.capacity; sends = is.sends; positions = put_is h slot })
 
     -- a receiver receives the value at its position
     reads : (call : BCall V) (h p : ℕ) (v : V) → subject call ≡ Some h → slice_get x.slots h ≡ Some (Live Receiver p) → lag x p ≡ 0 → p < x.sent
@@ -242,7 +254,8 @@ module _ {V : Type 0} where
           track = put_track h (Live Receiver (p + 1)) _ same;
           capacity = refl;
           sends = inl (refl, ap (λ (u : Track). u.sends) same);
-          behind = λ g q there lags. behind_put h p g q (Live Receiver (p + 1)) (Live Receiver p) here (λ r e. let e2 : p + 1 ≡ r = cc in omega (arith, e2, none)) there lags;
+          behind = λ g q there lags. behind_put h p g q (Live Receiver (p + 1)) (Live Receiver p) here
+              (λ r e. let e2 : p + 1 ≡ r = cc in omega (arith, e2, none)) there lags;
           ended = all_stay_put h p (Live Receiver (p + 1)) (ap position_at here) none;
         }
 
@@ -276,7 +289,8 @@ module _ {V : Type 0} where
         }
 
     -- a handle is dropped, by whether it is a receiver that lags
-    leaves_behind : (h p : ℕ) → slice_get x.slots h ≡ Some (Live Receiver p) → 0 < lag x p → EndsOne x (record x { slots = set x.slots h Spent }) t channel place (Some (the_loss h p (Dropped place)))
+    leaves_behind : (h p : ℕ) → slice_get x.slots h ≡ Some (Live Receiver p) → 0 < lag x p
+        → EndsOne x (record x { slots = set x.slots h Spent }) t channel place (Some (the_loss h p (Dropped place)))
     leaves_behind h p here lags = record {
       from_position = p;
       here = ap position_at here;
@@ -289,13 +303,15 @@ module _ {V : Type 0} where
     }
 
     leaves_nobody : (h : ℕ) → position x h ≡ None → (g : ℕ) → Stays x (record x { slots = set x.slots h Spent }) g
-    leaves_nobody h nobody g q there lags = stays_put h g Spent (λ same. let e : None ≡ Some q = sym nobody ∙ ap (λ k. position x k) (sym same) ∙ there in absurd cc) q there lags
+    leaves_nobody h nobody g q there lags = stays_put h g Spent
+        (λ same. let e : None ≡ Some q = sym nobody ∙ ap (λ k. position x k) (sym same) ∙ there in absurd cc) q there lags
 
     -- a handle is dropped
     left_track : (h : ℕ) → IsTrackOf (record x { slots = set x.slots h Spent }) (record t { positions = set t.positions h None })
     left_track h = record { capacity = is.capacity; sends = is.sends; positions = put_is h Spent }
 
-    drops_with : (h : ℕ) (kind : Kind) (p : ℕ) (was : Slot ℕ) → slice_get x.slots h ≡ Some was → EndsOne x (record x { slots = set x.slots h Spent }) t channel place (loss_in t channel h (Dropped place))
+    drops_with : (h : ℕ) (kind : Kind) (p : ℕ) (was : Slot ℕ) → slice_get x.slots h ≡ Some was
+        → EndsOne x (record x { slots = set x.slots h Spent }) t channel place (loss_in t channel h (Dropped place))
         → Tracks x t (DropHandle h) channel place (Leave h kind p, reply.Dropped)
     drops_with h kind p was here ended = record {
       track = left_track h;
@@ -307,39 +323,52 @@ module _ {V : Type 0} where
 
     drops : (h : ℕ) (kind : Kind) (p : ℕ) → slice_get x.slots h ≡ Some (Live kind p) → Tracks x t (DropHandle h) channel place (Leave h kind p, reply.Dropped)
     drops h Sender p here =
-        drops_with h Sender p (Live Sender p) here (subst (λ o. EndsOne x (record x { slots = set x.slots h Spent }) t channel place o) (sym (loss_nobody h (Dropped place) (ap position_at here))) (leaves_nobody h (ap position_at here)))
+        drops_with h Sender p (Live Sender p) here (subst (λ o. EndsOne x (record x { slots = set x.slots h Spent }) t channel place o)
+        (sym (loss_nobody h (Dropped place) (ap position_at here))) (leaves_nobody h (ap position_at here)))
     drops h Weak p here =
-        drops_with h Weak p (Live Weak p) here (subst (λ o. EndsOne x (record x { slots = set x.slots h Spent }) t channel place o) (sym (loss_nobody h (Dropped place) (ap position_at here))) (leaves_nobody h (ap position_at here)))
+        drops_with h Weak p (Live Weak p) here (subst (λ o. EndsOne x (record x { slots = set x.slots h Spent }) t channel place o)
+        (sym (loss_nobody h (Dropped place) (ap position_at here))) (leaves_nobody h (ap position_at here)))
     drops h Receiver p here =
         drops_with h Receiver p (Live Receiver p) here
         (elim (cases_lt 0 (lag x p)) [
-          | inl lags ↦ subst (λ o. EndsOne x (record x { slots = set x.slots h Spent }) t channel place o) (sym (loss_found h p (Dropped place) (ap position_at here) lags)) (leaves_behind h p here lags)
+          | inl lags ↦ subst (λ o. EndsOne x (record x { slots = set x.slots h Spent }) t channel place o)
+              (sym (loss_found h p (Dropped place) (ap position_at here) lags)) (leaves_behind h p here lags)
           | inr none ↦ let zero_is : lag x p ≡ 0 = omega arith in
-              subst (λ o. EndsOne x (record x { slots = set x.slots h Spent }) t channel place o) (sym (loss_none h p (Dropped place) (ap position_at here) zero_is)) (all_stay_put h p Spent (ap position_at here) zero_is)
+              subst (λ o. EndsOne x (record x { slots = set x.slots h Spent }) t channel place o)
+              (sym (loss_none h p (Dropped place) (ap position_at here) zero_is)) (all_stay_put h p Spent (ap position_at here) zero_is)
         ])
 
     module _ (ok : IsAllowed x) where
-      reads_or_not : (call : BCall V) (h p : ℕ) (o : Option V) (nothing : BReply V) → subject call ≡ Some h → slice_get x.slots h ≡ Some (Live Receiver p) → lag x p ≡ 0
+      reads_or_not : (call : BCall V) (h p : ℕ) (o : Option V) (nothing : BReply V) → subject call ≡ Some h → slice_get x.slots h ≡ Some (Live Receiver p)
+          → lag x p ≡ 0
           → (channel_of x).value p ≡ o → Tracks x t call channel place (Keep, nothing) → Tracks x t call channel place (read (channel_of x) h p o nothing)
-      reads_or_not call h p None nothing who here none at idle = cond_both (is_closed (channel_of x)) reply.Closed nothing (λ r. Tracks x t call channel place (Keep, r)) (λ _. keeps call reply.Closed refl refl) (λ _. idle)
+      reads_or_not call h p None nothing who here none at idle =
+          cond_both (is_closed (channel_of x)) reply.Closed nothing (λ r. Tracks x t call channel place (Keep, r)) (λ _. keeps call reply.Closed refl refl)
+          (λ _. idle)
       reads_or_not call h p (Some v) nothing who here none at idle =
           let within : p - oldest (channel_of x) < length x.window = slice_get_within x.window (p - oldest (channel_of x)) v at in
           reads call h p v who here none (omega (arith, ok.retained))
 
-      receives : (call : BCall V) (h p : ℕ) (nothing : BReply V) → subject call ≡ Some h → slice_get x.slots h ≡ Some (Live Receiver p) → Tracks x t call channel place (Keep, nothing)
+      receives : (call : BCall V) (h p : ℕ) (nothing : BReply V) → subject call ≡ Some h → slice_get x.slots h ≡ Some (Live Receiver p)
+          → Tracks x t call channel place (Keep, nothing)
           → Tracks x t call channel place (receive (channel_of x) h p nothing)
       receives call h p nothing who here idle =
           cond_both (nat_lt 0 (lag x p)) _ _ (Tracks x t call channel place)
           (λ lags. tells call h p (lag x p) who here (ltb-true 0 (lag x p) lags))
-          (λ none. let none_is : lag x p ≡ 0 = omega (arith, ltb-false 0 (lag x p) none) in reads_or_not call h p ((channel_of x).value p) nothing who here none_is refl idle)
+          (λ none. let none_is : lag x p ≡ 0 = omega (arith, ltb-false 0 (lag x p) none) in
+          reads_or_not call h p ((channel_of x).value p) nothing who here none_is refl idle)
 
       -- each call, with the handle that was found
-      tracks_with : (call : BCall V) (kind : Kind) (p : ℕ) → lookup (wanted_kind call) x.slots (handle_of call) ≡ Handle kind p → Tracks x t call channel place (effect_with (channel_of x) call kind p)
+      tracks_with : (call : BCall V) (kind : Kind) (p : ℕ) → lookup (wanted_kind call) x.slots (handle_of call) ≡ Handle kind p
+          → Tracks x t call channel place (effect_with (channel_of x) call kind p)
       tracks_with (Send h v) kind p found =
-          cond_both (receivers (channel_of x) == 0) _ _ (Tracks x t (Send h v) channel place) (λ _. keeps (Send h v) (reply.NoReceivers v) refl refl) (λ _. appends (Send h v) v (receivers (channel_of x)))
-      tracks_with (Subscribe h) kind p found = makes_one (Subscribe h) Receiver x.sent (length x.slots) (ap Some is.sends) (λ q e. let same : x.sent ≡ q = cc in omega (arith, same))
+          cond_both (receivers (channel_of x) == 0) _ _ (Tracks x t (Send h v) channel place) (λ _. keeps (Send h v) (reply.NoReceivers v) refl refl)
+          (λ _. appends (Send h v) v (receivers (channel_of x)))
+      tracks_with (Subscribe h) kind p found = makes_one (Subscribe h) Receiver x.sent (length x.slots) (ap Some is.sends)
+          (λ q e. let same : x.sent ≡ q = cc in omega (arith, same))
       tracks_with (CloneSender h) kind p found = makes_one (CloneSender h) Sender 0 (length x.slots) refl (λ q e. absurd cc)
-      tracks_with (Resubscribe h) kind p found = makes_one (Resubscribe h) Receiver x.sent (length x.slots) (ap Some is.sends) (λ q e. let same : x.sent ≡ q = cc in omega (arith, same))
+      tracks_with (Resubscribe h) kind p found = makes_one (Resubscribe h) Receiver x.sent (length x.slots) (ap Some is.sends)
+          (λ q e. let same : x.sent ≡ q = cc in omega (arith, same))
       tracks_with (TryRecv h) kind p found = receives (TryRecv h) h p Empty refl (found_at_wanted Receiver _ kind p found) (keeps (TryRecv h) Empty refl refl)
       tracks_with (Recv h) kind p found = receives (Recv h) h p Waits refl (found_at_wanted Receiver _ kind p found) (keeps (Recv h) Waits refl refl)
       tracks_with (DropHandle h) kind p found = drops h kind p (found_at_is None _ kind p found)
@@ -348,7 +377,8 @@ module _ {V : Type 0} where
       tracks_with (ReceiverLen h) kind p found = keeps (ReceiverLen h) _ refl refl
       tracks_with (Downgrade h) kind p found = makes_one (Downgrade h) Weak 0 (length x.slots) refl (λ q e. absurd cc)
       tracks_with (Upgrade h) kind p found =
-          cond_both (is_closed (channel_of x)) _ _ (Tracks x t (Upgrade h) channel place) (λ _. keeps (Upgrade h) reply.NoSender refl refl) (λ _. makes_one (Upgrade h) Sender 0 (length x.slots) refl (λ q e. absurd cc))
+          cond_both (is_closed (channel_of x)) _ _ (Tracks x t (Upgrade h) channel place) (λ _. keeps (Upgrade h) reply.NoSender refl refl)
+          (λ _. makes_one (Upgrade h) Sender 0 (length x.slots) refl (λ q e. absurd cc))
       tracks_with (CloneWeak h) kind p found = makes_one (CloneWeak h) Weak 0 (length x.slots) refl (λ q e. absurd cc)
 
       faulty : (call : BCall V) (f : HandleFault) → Tracks x t call channel place (Keep, fault_reply f)
@@ -358,6 +388,7 @@ module _ {V : Type 0} where
 
       pub tracks : (call : BCall V) → Tracks x t call channel place (effect (channel_of x) call)
       tracks call =
-          of_checked (Tracks x t call channel place) (λ f. (Keep, fault_reply f)) (Keep, TooManyHandles) (makes call) (length x.slots) (effect_with (channel_of x) call)
+          of_checked (Tracks x t call channel place) (λ f. (Keep, fault_reply f)) (Keep, TooManyHandles) (makes call) (length x.slots)
+          (effect_with (channel_of x) call)
           (lookup (wanted_kind call) x.slots (handle_of call))
           (faulty call) (keeps call TooManyHandles refl refl) (λ kind p found few. tracks_with call kind p found)

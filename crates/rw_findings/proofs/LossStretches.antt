@@ -32,7 +32,8 @@ module _ (lag : (channel receiver place : ℕ) → Option ℕ) where
     pub before : lag_of lag channel receiver (from - 1) ≡ 0
     pub lags : (place : ℕ) → from ≤ place → place ≤ n → 0 < lag_of lag channel receiver place
 
-  pub open_on : (channel receiver from n : ℕ) → IsOpenSince channel receiver from n → 0 < lag_of lag channel receiver (n + 1) → IsOpenSince channel receiver from (n + 1)
+  pub open_on : (channel receiver from n : ℕ) → IsOpenSince channel receiver from n → 0 < lag_of lag channel receiver (n + 1)
+      → IsOpenSince channel receiver from (n + 1)
   open_on channel receiver from n is more = record {
     within = omega (arith, is.within);
     before = is.before;
@@ -43,7 +44,8 @@ module _ (lag : (channel receiver place : ℕ) → Option ℕ) where
         ];
   }
 
-  pub opens_now : (channel receiver n : ℕ) → lag_of lag channel receiver n ≡ 0 → 0 < lag_of lag channel receiver (n + 1) → IsOpenSince channel receiver (n + 1) (n + 1)
+  pub opens_now : (channel receiver n : ℕ) → lag_of lag channel receiver n ≡ 0 → 0 < lag_of lag channel receiver (n + 1)
+      → IsOpenSince channel receiver (n + 1) (n + 1)
   opens_now channel receiver n none more = record {
     within = omega arith;
     before = let back : n + 1 - 1 ≡ n = omega arith in ap (λ p. lag_of lag channel receiver p) back ∙ none;
@@ -64,7 +66,8 @@ module _ (lag : (channel receiver place : ℕ) → Option ℕ) where
 
   module _ (last : ℕ) where
     -- at its end the receiver doesn't lag
-    pub rests : (channel receiver : ℕ) (end : LossEnd) → EndsAs lag last channel receiver end → stop_of last end ≤ last → lag_of lag channel receiver (stop_of last end) ≡ 0
+    pub rests : (channel receiver : ℕ) (end : LossEnd) → EndsAs lag last channel receiver end → stop_of last end ≤ last
+        → lag_of lag channel receiver (stop_of last end) ≡ 0
     rests channel receiver (Told place) ends inside = ap (λ o. unwrap_or o 0) ends.1
     rests channel receiver (Dropped place) ends inside = ap (λ o. unwrap_or o 0) ends.1
     rests channel receiver Open ends inside = absurd (omega (arith, inside))
@@ -74,11 +77,14 @@ module _ (lag : (channel receiver place : ℕ) → Option ℕ) where
     stops channel receiver (Dropped place) ends = omega (arith, ends.0)
     stops channel receiver Open ends = omega arith
 
-    same_end : (channel receiver : ℕ) (a b : LossEnd) → EndsAs lag last channel receiver a → EndsAs lag last channel receiver b → stop_of last a ≡ stop_of last b → a ≡ b
+    same_end : (channel receiver : ℕ) (a b : LossEnd) → EndsAs lag last channel receiver a → EndsAs lag last channel receiver b
+        → stop_of last a ≡ stop_of last b → a ≡ b
     same_end channel receiver (Told p) (Told q) ia ib same = ap Told same
-    same_end channel receiver (Told p) (Dropped q) ia ib same = let e : ◌≡◌ {A = Option ℕ} (Some 0) None = sym ia.1 ∙ ap (λ k. lag channel receiver k) same ∙ ib.1 in absurd cc
+    same_end channel receiver (Told p) (Dropped q) ia ib same =
+        let e : ◌≡◌ {A = Option ℕ} (Some 0) None = sym ia.1 ∙ ap (λ k. lag channel receiver k) same ∙ ib.1 in absurd cc
     same_end channel receiver (Told p) Open ia ib same = absurd (omega (arith, ia.0, same))
-    same_end channel receiver (Dropped p) (Told q) ia ib same = let e : ◌≡◌ {A = Option ℕ} None (Some 0) = sym ia.1 ∙ ap (λ k. lag channel receiver k) same ∙ ib.1 in absurd cc
+    same_end channel receiver (Dropped p) (Told q) ia ib same =
+        let e : ◌≡◌ {A = Option ℕ} None (Some 0) = sym ia.1 ∙ ap (λ k. lag channel receiver k) same ∙ ib.1 in absurd cc
     same_end channel receiver (Dropped p) (Dropped q) ia ib same = ap Dropped same
     same_end channel receiver (Dropped p) Open ia ib same = absurd (omega (arith, ia.0, same))
     same_end channel receiver Open (Told q) ia ib same = absurd (omega (arith, ib.0, same))
@@ -86,11 +92,13 @@ module _ (lag : (channel receiver place : ℕ) → Option ℕ) where
     same_end channel receiver Open Open ia ib same = refl
 
     -- a loss at a place of its stretch is open since its beginning
-    pub open_at : (loss : Loss) (n : ℕ) → IsStretch lag last loss → loss.from ≤ n → n < stop_of last loss.end → IsOpenSince loss.channel loss.receiver loss.from n
+    pub open_at : (loss : Loss) (n : ℕ) → IsStretch lag last loss → loss.from ≤ n → n < stop_of last loss.end
+        → IsOpenSince loss.channel loss.receiver loss.from n
     open_at loss n is above below = record { within = above; before = is.before; lags = λ place over under. is.lags place over (omega arith) }
 
     -- losses of a receiver with one beginning have one end
-    no_sooner : (c h from : ℕ) (a b : LossEnd) → EndsAs lag last c h a → EndsAs lag last c h b → from < stop_of last a → ((place : ℕ) → from ≤ place → place < stop_of last b → 0 < lag_of lag c h place) → stop_of last b ≤ stop_of last a
+    no_sooner : (c h from : ℕ) (a b : LossEnd) → EndsAs lag last c h a → EndsAs lag last c h b → from < stop_of last a
+        → ((place : ℕ) → from ≤ place → place < stop_of last b → 0 < lag_of lag c h place) → stop_of last b ≤ stop_of last a
     no_sooner c h from a b ia ib some lags =
         elim (cases_lt (stop_of last a) (stop_of last b)) [
           | inl sooner ↦ absurd (omega (arith, lags (stop_of last a) (omega (arith, some)) sooner, rests c h a ia (omega (arith, sooner, stops c h b ib))))
@@ -129,7 +137,8 @@ module _ (lag : (channel receiver place : ℕ) → Option ℕ) where
     }
 
     -- where the test comes to mean the same of losses
-    pub those_again : (p q : Loss → Type 0) (losses : List Loss) → ((loss : Loss) → p loss → q loss) → ((loss : Loss) → IsStretch lag last loss → q loss → p loss) → AreThose p losses → AreThose q losses
+    pub those_again : (p q : Loss → Type 0) (losses : List Loss) → ((loss : Loss) → p loss → q loss)
+        → ((loss : Loss) → IsStretch lag last loss → q loss → p loss) → AreThose p losses → AreThose q losses
     those_again p q losses on back are = record {
       each = are.each;
       inside = All-weaker p q on losses are.inside;
@@ -138,7 +147,8 @@ module _ (lag : (channel receiver place : ℕ) → Option ℕ) where
     }
 
     -- where it comes to mean one loss more
-    pub one_more : (p q : Loss → Type 0) (losses : List Loss) (more : Loss) → IsStretch lag last more → (p more → ⊥) → q more → ((loss : Loss) → p loss → q loss)
+    pub one_more : (p q : Loss → Type 0) (losses : List Loss) (more : Loss) → IsStretch lag last more → (p more → ⊥) → q more
+        → ((loss : Loss) → p loss → q loss)
         → ((loss : Loss) → IsStretch lag last loss → q loss → p loss ⊎ (more ≡ loss)) → AreThose p losses → AreThose q (losses ++ more ∷ [])
     one_more p q losses more is new now on back are = record {
       each = All-push (λ loss. IsStretch lag last loss) losses more are.each is;

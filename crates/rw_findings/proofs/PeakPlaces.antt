@@ -31,9 +31,11 @@ use Rattle.rw_findings.proofs.PeakSteps.{kept}
 
 module _ {V : Type 0} where
   -- what is measured of a receiver depends on its channel alone
-  pub measured_is : (measure : Measure) (xs : List (ChanShown V)) (c h : ℕ) (x : ChanShown V) → slice_get xs c ≡ Some x → measured measure xs c h ≡ measured_of measure x h
+  pub measured_is : (measure : Measure) (xs : List (ChanShown V)) (c h : ℕ) (x : ChanShown V) → slice_get xs c ≡ Some x
+      → measured measure xs c h ≡ measured_of measure x h
   measured_is Lag xs c h x here =
-      ap (λ o. unwrap_or (option_and_then (λ y. option_map (lag (broadcast.oldest (channel_of y))) (position_at (slice_get y.slots h))) (option_and_then as_broadcast o)) 0) here
+      ap (λ o. unwrap_or (option_and_then (λ y. option_map (lag (broadcast.oldest (channel_of y))) (position_at (slice_get y.slots h)))
+      (option_and_then as_broadcast o)) 0) here
   measured_is Unread xs c h x here =
       ap (λ o. unwrap_or (option_and_then (λ y. option_map (unread y.sent) (position_at (slice_get y.slots h))) (option_and_then as_broadcast o)) 0) here
   measured_is Unseen xs c h x here =
@@ -41,7 +43,8 @@ module _ {V : Type 0} where
 
   pub measured_none : (measure : Measure) (xs : List (ChanShown V)) (c h : ℕ) → slice_get xs c ≡ None → measured measure xs c h ≡ 0
   measured_none Lag xs c h none =
-      ap (λ o. unwrap_or (option_and_then (λ y. option_map (lag (broadcast.oldest (channel_of y))) (position_at (slice_get y.slots h))) (option_and_then as_broadcast o)) 0) none
+      ap (λ o. unwrap_or (option_and_then (λ y. option_map (lag (broadcast.oldest (channel_of y))) (position_at (slice_get y.slots h)))
+      (option_and_then as_broadcast o)) 0) none
   measured_none Unread xs c h none =
       ap (λ o. unwrap_or (option_and_then (λ y. option_map (unread y.sent) (position_at (slice_get y.slots h))) (option_and_then as_broadcast o)) 0) none
   measured_none Unseen xs c h none =
@@ -74,7 +77,10 @@ module _ {V : Type 0} where
               inl (ap (λ k. cond (k && nat_eq h (handle_of call.call)) (measured_of measure x h) 0) one ∙ ap (λ k. cond k (measured_of measure x h) 0) two)
           | inr apart ↦ let one : nat_eq call.channel c ≡ true = grind (arith, nat_tests) in
               let two : nat_eq h (handle_of call.call) ≡ false = grind (arith, nat_tests) in
-              inr (ap (λ k. cond (k && nat_eq h (handle_of call.call)) (measured_of measure x h) 0) one ∙ ap (λ k. cond k (measured_of measure x h) 0) two, inr apart)
+              inr (
+                ap (λ k. cond (k && nat_eq h (handle_of call.call)) (measured_of measure x h) 0) one ∙ ap (λ k. cond k (measured_of measure x h) 0) two,
+                inr apart,
+              )
         ]
         | inr apart ↦ let one : nat_eq call.channel c ≡ false = grind (arith, nat_tests) in
             inr (ap (λ k. cond (k && nat_eq h (handle_of call.call)) (measured_of measure x h) 0) one, inl apart)
@@ -83,10 +89,12 @@ module _ {V : Type 0} where
   module _ (shows : ShowsAtPlaces V) (run : Run V) where
     module _ (c p : ℕ) (e : WorldEntry V) (within : p < length run.entries) (read : e ≡ get_or run.entries p e) where
       -- what is measured of a receiver doesn't fall, unless the call names it
-      rises_there : (measure : Measure) (h : ℕ) (x : ChanShown V) → slice_get (shown_at run p) c ≡ Some x → e.call.channel ≢ c → measured_at measure run c h p ≤ measured_at measure run c h (p + 1)
+      rises_there : (measure : Measure) (h : ℕ) (x : ChanShown V) → slice_get (shown_at run p) c ≡ Some x → e.call.channel ≢ c
+          → measured_at measure run c h p ≤ measured_at measure run c h (p + 1)
       rises_there measure h x here apart =
           let before : measured_at measure run c h p ≡ measured_of measure x h = measured_is measure (shown_at run p) c h x here in
-          let then : measured_at measure run c h (p + 1) ≡ measured_of measure x h = measured_is measure (shown_at run (p + 1)) c h x (channel_there shows run c p e within read apart ∙ here) in
+          let then : measured_at measure run c h (p + 1) ≡ measured_of measure x h =
+          measured_is measure (shown_at run (p + 1)) c h x (channel_there shows run c p e within read apart ∙ here) in
           omega (arith, before, then)
 
       pub rises : (measure : Measure) (h : ℕ) (x : ChanShown V) → slice_get (shown_at run p) c ≡ Some x → (e.call.channel ≢ c) ⊎ (h ≢ handle_of e.call.call)

@@ -43,7 +43,8 @@ abbrev unseen : (version : ℕ) → Option (Slot (Option ℕ)) → ℕ
 unseen version o = cond (has not (is_seen_at version o)) 1 0
 
 -- what was not seen before is not seen after later versions
-later_unseen : (mark before after : ℕ) → mark ≤ before → before ≤ after → unseen before (Some (Live Receiver (Some mark))) ≤ unseen after (Some (Live Receiver (Some mark)))
+later_unseen : (mark before after : ℕ) → mark ≤ before → before ≤ after
+    → unseen before (Some (Live Receiver (Some mark))) ≤ unseen after (Some (Live Receiver (Some mark)))
 later_unseen mark before after small later =
     elim (cases_order mark before) [
       | inl same ↦ let seen : (mark == before) ≡ true = grind (arith, nat_tests) in
@@ -57,7 +58,8 @@ later_unseen mark before after small later =
       | inr (inr above) ↦ absurd (omega (arith, small, above))
     ]
 
-unseen_later : (before after : ℕ) (o : Option (Slot (Option ℕ))) → ((s : Slot (Option ℕ)) → o ≡ Some s → ws.IsMarked before s) → before ≤ after → unseen before o ≤ unseen after o
+unseen_later : (before after : ℕ) (o : Option (Slot (Option ℕ))) → ((s : Slot (Option ℕ)) → o ≡ Some s → ws.IsMarked before s) → before ≤ after
+    → unseen before o ≤ unseen after o
 unseen_later before after None marked later = omega arith
 unseen_later before after (Some Spent) marked later = omega arith
 unseen_later before after (Some (Live Sender mark)) marked later = omega arith
@@ -65,28 +67,35 @@ unseen_later before after (Some (Live Weak mark)) marked later = omega arith
 unseen_later before after (Some (Live Receiver None)) marked later = omega arith
 unseen_later before after (Some (Live Receiver (Some mark))) marked later = later_unseen mark before after (marked (Live Receiver (Some mark)) refl) later
 
-unseen_kept : (before after : ℕ) (o o' : Option (Slot (Option ℕ))) → ((s : Slot (Option ℕ)) → o ≡ Some s → ws.IsMarked before s) → before ≤ after → IsKept o o' → unseen before o ≤ unseen after o'
+unseen_kept : (before after : ℕ) (o o' : Option (Slot (Option ℕ))) → ((s : Slot (Option ℕ)) → o ≡ Some s → ws.IsMarked before s) → before ≤ after → IsKept o o'
+    → unseen before o ≤ unseen after o'
 unseen_kept before after o o' marked later (inl none) = let nothing : unseen before o ≡ 0 = ap (unseen before) none in omega (arith, nothing)
 unseen_kept before after o o' marked later (inr same) = subst (λ k. unseen before o ≤ unseen after k) (sym same) (unseen_later before after o marked later)
 
 module _ {V : Type 0} where
   -- ---- a broadcast
 
-  broadcast_kept : (measure : Measure) (x y : bs.Shown V) (g : ℕ) → Grows x y g → measured_of measure (broadcast_shown x) g ≤ measured_of measure (broadcast_shown y) g
-  broadcast_kept Lag x y g more = level_kept (λ p. x.sent - x.capacity - p) (λ p. y.sent - y.capacity - p) (slice_get x.slots g) (slice_get y.slots g) (λ p. omega (arith, more.0, more.1)) more.2
-  broadcast_kept Unread x y g more = level_kept (λ p. x.sent - p) (λ p. y.sent - p) (slice_get x.slots g) (slice_get y.slots g) (λ p. omega (arith, more.0)) more.2
+  broadcast_kept : (measure : Measure) (x y : bs.Shown V) (g : ℕ) → Grows x y g
+      → measured_of measure (broadcast_shown x) g ≤ measured_of measure (broadcast_shown y) g
+  broadcast_kept Lag x y g more = level_kept (λ p. x.sent - x.capacity - p) (λ p. y.sent - y.capacity - p) (slice_get x.slots g) (slice_get y.slots g)
+      (λ p. omega (arith, more.0, more.1)) more.2
+  broadcast_kept Unread x y g more = level_kept (λ p. x.sent - p) (λ p. y.sent - p) (slice_get x.slots g) (slice_get y.slots g) (λ p. omega (arith, more.0))
+      more.2
   broadcast_kept Unseen x y g more = omega arith
 
   -- ---- a watch
 
-  watch_kept : (measure : Measure) (x y : ws.Shown V) (g : ℕ) → ws.IsAllowed x → GrowsMarked x y g → measured_of measure (watch_shown x) g ≤ measured_of measure (watch_shown y) g
+  watch_kept : (measure : Measure) (x y : ws.Shown V) (g : ℕ) → ws.IsAllowed x → GrowsMarked x y g
+      → measured_of measure (watch_shown x) g ≤ measured_of measure (watch_shown y) g
   watch_kept Lag x y g ok more = omega arith
   watch_kept Unread x y g ok more = omega arith
-  watch_kept Unseen x y g ok more = unseen_kept x.version y.version (slice_get x.slots g) (slice_get y.slots g) (λ s here. all_at (ws.IsMarked x.version) x.slots g s ok.marked here) more.0 more.1
+  watch_kept Unseen x y g ok more = unseen_kept x.version y.version (slice_get x.slots g) (slice_get y.slots g)
+      (λ s here. all_at (ws.IsMarked x.version) x.slots g s ok.marked here) more.0 more.1
 
   -- ---- a channel of either kind
 
-  pub kept : (measure : Measure) (x : ChanShown V) (call : ChanCall V) (g : ℕ) → (of_chan {V = V}).allowed x → g ≢ handle_of call → measured_of measure x g ≤ measured_of measure ((of_chan {V = V}).next x call) g
+  pub kept : (measure : Measure) (x : ChanShown V) (call : ChanCall V) (g : ℕ) → (of_chan {V = V}).allowed x → g ≢ handle_of call
+      → measured_of measure x g ≤ measured_of measure ((of_chan {V = V}).next x call) g
   kept measure (broadcast_shown x) (call_of.B call) g ok apart =
       broadcast_kept measure x (bs.next x call) g (grows x (b.effect (bs.channel_of x) call).0 (b.handle_of call) g (own (bs.channel_of x) call) apart)
   kept measure (broadcast_shown x) (call_of.W call) g ok apart = omega arith

@@ -1,5 +1,6 @@
 -- Rows of peaks that are raised, and the greatest number at some places.
-use Rattle.std.proofs.Common.{◌≡◌, ◌≢◌, ℕ, zero, suc, ◌+◌, ◌-◌, ◌*◌, ◌<◌, ◌≤◌, ◌⊎◌, max, min, Bool, true, false, cond, List, [], ◌∷◌, ◌++◌, length, inl, inr, refl, ap, sym, ◌∙◌, subst, add-mul, one-mul, arith}
+use Rattle.std.proofs.Common.{◌≡◌, ◌≢◌, ℕ, zero, suc, ◌+◌, ◌-◌, ◌*◌, ◌<◌, ◌≤◌, ◌⊎◌, max, min, Bool, true, false, cond, List, []}
+use Rattle.std.proofs.Common.{◌∷◌, ◌++◌, length, inl, inr, refl, ap, sym, ◌∙◌, subst, add-mul, one-mul, arith}
 use Rattle.std.specs.Prelude.{nat_eq, nat_lt, slice_index_or, slice_set}
 use Rattle.std.proofs.lemmas.Bool.{cases_eq, cases_lt}
 use Rattle.std.proofs.lemmas.Bool.Decides.{nat_tests}
@@ -45,7 +46,8 @@ raised_by_none stretch other before = by_test (nat_eq other stretch) where
   by_test true = omega arith
   by_test false = refl
 
-raised_twice : (stretch other before level more : ℕ) → raised_to stretch other (raised_to stretch other before level) more ≡ raised_to stretch other before (max level more)
+raised_twice : (stretch other before level more : ℕ)
+    → raised_to stretch other (raised_to stretch other before level) more ≡ raised_to stretch other before (max level more)
 raised_twice stretch other before level more = by_test (nat_eq other stretch) where
   by_test : (k : Bool) → cond k (max (cond k (max before level) before) more) (cond k (max before level) before) ≡ cond k (max before (max level more)) before
   by_test true = omega arith
@@ -56,11 +58,14 @@ not_raised rows stretch level none receiver other =
     sym (ap (raised_to stretch other (peak_in rows receiver other)) (none receiver) ∙ raised_by_none stretch other (peak_in rows receiver other))
 
 -- the same levels in another form
-pub raised_same : (old new : List (List ℕ)) (stretch : ℕ) (level same : ℕ → ℕ) → ((receiver : ℕ) → level receiver ≡ same receiver) → Raised old new stretch level → Raised old new stretch same
-raised_same old new stretch level same are raised receiver other = raised receiver other ∙ ap (raised_to stretch other (peak_in old receiver other)) (are receiver)
+pub raised_same : (old new : List (List ℕ)) (stretch : ℕ) (level same : ℕ → ℕ) → ((receiver : ℕ) → level receiver ≡ same receiver)
+    → Raised old new stretch level → Raised old new stretch same
+raised_same old new stretch level same are raised receiver other =
+    raised receiver other ∙ ap (raised_to stretch other (peak_in old receiver other)) (are receiver)
 
 -- raised once more
-pub raised_more : (old mid new : List (List ℕ)) (stretch : ℕ) (level more both : ℕ → ℕ) → ((receiver : ℕ) → max (level receiver) (more receiver) ≡ both receiver)
+pub raised_more : (old mid new : List (List ℕ)) (stretch : ℕ) (level more both : ℕ → ℕ)
+    → ((receiver : ℕ) → max (level receiver) (more receiver) ≡ both receiver)
     → Raised old mid stretch level → Raised mid new stretch more → Raised old new stretch both
 raised_more old mid new stretch level more both are first second receiver other =
     second receiver other
@@ -69,7 +74,8 @@ raised_more old mid new stretch level more both are first second receiver other 
     ∙ ap (raised_to stretch other (peak_in old receiver other)) (are receiver)
 
 -- a row with one peak raised
-pub raised_at : (before mid : List ℕ) (stretch level value : ℕ) → ((other : ℕ) → slice_index_or mid other 0 ≡ slice_index_or before other 0) → stretch < length mid → value ≡ max (slice_index_or mid stretch 0) level
+pub raised_at : (before mid : List ℕ) (stretch level value : ℕ) → ((other : ℕ) → slice_index_or mid other 0 ≡ slice_index_or before other 0)
+    → stretch < length mid → value ≡ max (slice_index_or mid stretch 0) level
     → (other : ℕ) → slice_index_or (slice_set mid stretch value) other 0 ≡ raised_to stretch other (slice_index_or before other 0) level
 raised_at before mid stretch level value same within is other =
     elim (cases_eq other stretch) [
@@ -92,8 +98,10 @@ alone_none receiver level other none = by_test (nat_eq other receiver) where
   by_test false = refl
 
 -- rows with one row raised
-pub raised_rows : (before mid : List (List ℕ)) (receiver stretch level : ℕ) (row : List ℕ) → ((other : ℕ) → slice_index_or mid other [] ≡ slice_index_or before other []) → receiver < length mid
-    → ((other : ℕ) → slice_index_or row other 0 ≡ raised_to stretch other (peak_in mid receiver other) level) → Raised before (slice_set mid receiver row) stretch (alone receiver level)
+pub raised_rows : (before mid : List (List ℕ)) (receiver stretch level : ℕ) (row : List ℕ)
+    → ((other : ℕ) → slice_index_or mid other [] ≡ slice_index_or before other []) → receiver < length mid
+    → ((other : ℕ) → slice_index_or row other 0 ≡ raised_to stretch other (peak_in mid receiver other) level)
+    → Raised before (slice_set mid receiver row) stretch (alone receiver level)
 raised_rows before mid receiver stretch level row same within is reader other =
     elim (cases_eq reader receiver) [
       | inl here ↦
@@ -131,7 +139,8 @@ one_more_level level n receiver =
             values (nat_lt receiver n) (nat_eq receiver n) (nat_lt receiver (n + 1)) (level receiver) (level n) false false false one two three (omega arith)
       ]
     ] where
-      values : (a b c : Bool) (x y : ℕ) (p q r : Bool) → a ≡ p → b ≡ q → c ≡ r → max (cond p x 0) (cond q y 0) ≡ cond r x 0 → max (cond a x 0) (cond b y 0) ≡ cond c x 0
+      values : (a b c : Bool) (x y : ℕ) (p q r : Bool) → a ≡ p → b ≡ q → c ≡ r → max (cond p x 0) (cond q y 0) ≡ cond r x 0
+          → max (cond a x 0) (cond b y 0) ≡ cond c x 0
       values a b c x y p q r one two three is =
           subst (λ k. max (cond k x 0) (cond b y 0) ≡ cond c x 0) (sym one)
           (subst (λ k. max (cond p x 0) (cond k y 0) ≡ cond c x 0) (sym two)
@@ -146,7 +155,8 @@ one_more_level level n receiver =
 pub no_levels : (level : ℕ → ℕ) (receiver : ℕ) → first_levels level 0 receiver ≡ 0
 no_levels level receiver = let none : nat_lt receiver 0 ≡ false = grind (arith, nat_tests) in ap (λ k. cond k (level receiver) 0) none
 
-pub all_levels : (level : ℕ → ℕ) (n : ℕ) → ((receiver : ℕ) → n ≤ receiver → level receiver ≡ 0) → (receiver : ℕ) → first_levels level n receiver ≡ level receiver
+pub all_levels : (level : ℕ → ℕ) (n : ℕ) → ((receiver : ℕ) → n ≤ receiver → level receiver ≡ 0) → (receiver : ℕ)
+    → first_levels level n receiver ≡ level receiver
 all_levels level n none receiver =
     elim (cases_lt receiver n) [
       | inl below ↦ let is : nat_lt receiver n ≡ true = grind (arith, nat_tests) in ap (λ k. cond k (level receiver) 0) is
@@ -163,7 +173,8 @@ module _ (at : ℕ → ℕ) where
   }
 
   -- one place more, where the number rose, or the last one was taken in
-  pub so_far_on : (from place greatest more level : ℕ) → from ≤ place → IsSoFar at from place greatest → more ≡ max greatest level → (level ≡ at place) ⊎ ((level ≡ 0) × (at place ≤ at (place + 1))) → IsSoFar at from (place + 1) more
+  pub so_far_on : (from place greatest more level : ℕ) → from ≤ place → IsSoFar at from place greatest → more ≡ max greatest level
+      → (level ≡ at place) ⊎ ((level ≡ 0) × (at place ≤ at (place + 1))) → IsSoFar at from (place + 1) more
   so_far_on from place greatest more level within far is how = record {
     most = λ other above below.
         elim (cases_lt place other) [
@@ -186,7 +197,8 @@ module _ (at : ℕ → ℕ) where
   }
 
   -- the last place is taken in
-  pub greatest_is : (last from place greatest more : ℕ) → from ≤ place → place ≤ last → IsSoFar at from place greatest → more ≡ max greatest (at place) → IsGreatest at last from (place + 1) more
+  pub greatest_is : (last from place greatest more : ℕ) → from ≤ place → place ≤ last → IsSoFar at from place greatest → more ≡ max greatest (at place)
+      → IsGreatest at last from (place + 1) more
   greatest_is last from place greatest more within inside far is = record {
     most = λ other old above below. omega (arith, far.most other above (omega (arith, below)), is);
     reached = elim (cases_eq more greatest) [
@@ -199,7 +211,8 @@ module _ (at : ℕ → ℕ) where
   }
 
   -- places past the last are none
-  pub greatest_wide : (last from to wide greatest : ℕ) → to ≤ wide → ((to ≡ wide) ⊎ (last < to)) → IsGreatest at last from to greatest → IsGreatest at last from wide greatest
+  pub greatest_wide : (last from to wide greatest : ℕ) → to ≤ wide → ((to ≡ wide) ⊎ (last < to)) → IsGreatest at last from to greatest
+      → IsGreatest at last from wide greatest
   greatest_wide last from to wide greatest wider cut is = record {
     most = λ place old above below. is.most place old above (elim cut [ inl same ↦ omega (arith, same, below) | inr past ↦ omega (arith, past, old) ]);
     reached = elim is.reached [

@@ -33,7 +33,8 @@ module _ {V : Type 0} (at : ℕ → List (ChanShown V)) (es : List (WorldEntry V
     sent = omega (arith, kept.0.tally.few, few);
     readers = λ h r found. by_reader h r found (broadcast.reader_in t h) refl (kept.0.counted h);
   } where
-    by_reader : (h : ℕ) (r : Reader) → broadcast.reader_in t h ≡ Some r → (o : Option Reader) → broadcast.reader_in t h ≡ o → IsCounted (lag_on at es c h) (received_on at es c h) (told_on at es c h) n t o → broadcast.HasRoomFor t r
+    by_reader : (h : ℕ) (r : Reader) → broadcast.reader_in t h ≡ Some r → (o : Option Reader) → broadcast.reader_in t h ≡ o
+        → IsCounted (lag_on at es c h) (received_on at es c h) (told_on at es c h) n t o → broadcast.HasRoomFor t r
     by_reader h r found None is counted = let e : None ≡ Some r = sym is ∙ found in absurd cc
     by_reader h r found (Some s) is counted =
         let same : s ≡ r = let e : Some s ≡ Some r = sym is ∙ found in cc in
@@ -50,7 +51,8 @@ module _ {V : Type 0} (at : ℕ → List (ChanShown V)) (es : List (WorldEntry V
     version_is : t.version ≡ version_there at c n
     version_is = kept.0.tally.version ∙ sym (ap version_in_channel here)
 
-    by_watcher : (h : ℕ) (w : Watcher) → watch.watcher_in t h ≡ Some w → (o : Option Watcher) → watch.watcher_in t h ≡ o → IsWatched (mark_there at c h) (version_there at c) (notified_on at es c h) n o → watch.HasRoomFor t w
+    by_watcher : (h : ℕ) (w : Watcher) → watch.watcher_in t h ≡ Some w → (o : Option Watcher) → watch.watcher_in t h ≡ o
+        → IsWatched (mark_there at c h) (version_there at c) (notified_on at es c h) n o → watch.HasRoomFor t w
     by_watcher h w found None is watched = let e : None ≡ Some w = sym is ∙ found in absurd cc
     by_watcher h w found (Some v) is watched =
         let same : v ≡ w = let e : Some v ≡ Some w = sym is ∙ found in cc in
@@ -66,21 +68,27 @@ module _ {V : Type 0} (at : ℕ → List (ChanShown V)) (es : List (WorldEntry V
   pub have_room : (ts : List Tally) → AreKept at es n ts → HaveRoom ts
   have_room ts kept c t there = room_of c (slice_get (at n) c) t refl (subst (λ k. IsKept at es c n (slice_get (at n) c) k) there (kept c))
 
-  handles_of : (c : ℕ) (o : Option (ChanShown V)) (t : Tally) → MatchOption o (Unit {0}) (of_chan {V = V}).allowed → IsKept at es c n o (Some t) → made_in t ≤ MOST_HANDLES
-  handles_of c (Some (broadcast_shown x)) (Broadcast t) ok kept = let few_slots : length x.slots ≤ MOST_HANDLES = ok.few_slots in omega (arith, made_same x t n kept.0.tally, few_slots)
+  handles_of : (c : ℕ) (o : Option (ChanShown V)) (t : Tally) → MatchOption o (Unit {0}) (of_chan {V = V}).allowed → IsKept at es c n o (Some t)
+      → made_in t ≤ MOST_HANDLES
+  handles_of c (Some (broadcast_shown x)) (Broadcast t) ok kept = let few_slots : length x.slots ≤ MOST_HANDLES = ok.few_slots in
+      omega (arith, made_same x t n kept.0.tally, few_slots)
   handles_of c (Some (broadcast_shown x)) (Watch t) ok kept = absurd kept
-  handles_of c (Some (watch_shown y)) (Watch t) ok kept = let few_slots : length y.slots ≤ MOST_HANDLES = ok.few_slots in omega (arith, kept.0.tally.made, few_slots)
+  handles_of c (Some (watch_shown y)) (Watch t) ok kept = let few_slots : length y.slots ≤ MOST_HANDLES = ok.few_slots in
+      omega (arith, kept.0.tally.made, few_slots)
   handles_of c (Some (watch_shown y)) (Broadcast t) ok kept = absurd kept
   handles_of c None t ok kept = absurd kept
 
   pub few_handles : (ts : List Tally) → (of_world {V = V}).allowed (at n) → AreKept at es n ts → HaveFewHandles ts
   few_handles ts allowed kept c t there =
-      handles_of c (slice_get (at n) c) t (each_at (of_chan {V = V}).allowed (at n) c allowed) (subst (λ k. IsKept at es c n (slice_get (at n) c) k) there (kept c))
+      handles_of c (slice_get (at n) c) t (each_at (of_chan {V = V}).allowed (at n) c allowed)
+      (subst (λ k. IsKept at es c n (slice_get (at n) c) k) there (kept c))
 
   -- each tally is that of a channel
   pub few_tallies : (ts : List Tally) → length (at n) ≤ MOST_CHANNELS → AreKept at es n ts → length ts ≤ MOST_CHANNELS
-  few_tallies ts channels kept = by_channel (slice_get (at n) (length (at n))) (slice_get ts (length (at n))) (slice_get_past (at n) (length (at n)) (omega arith)) refl (kept (length (at n))) where
-    by_channel : (o : Option (ChanShown V)) (k : Option Tally) → o ≡ None → slice_get ts (length (at n)) ≡ k → IsKept at es (length (at n)) n o k → length ts ≤ MOST_CHANNELS
-    by_channel None None none there kept = omega (arith, past_end ts (length (at n)) there, channels)
-    by_channel None (Some t) none there kept = absurd kept
-    by_channel (Some x) k none there kept = absurd cc
+  few_tallies ts channels kept = by_channel (slice_get (at n) (length (at n))) (slice_get ts (length (at n)))
+      (slice_get_past (at n) (length (at n)) (omega arith)) refl (kept (length (at n))) where
+        by_channel : (o : Option (ChanShown V)) (k : Option Tally) → o ≡ None → slice_get ts (length (at n)) ≡ k → IsKept at es (length (at n)) n o k
+            → length ts ≤ MOST_CHANNELS
+        by_channel None None none there kept = omega (arith, past_end ts (length (at n)) there, channels)
+        by_channel None (Some t) none there kept = absurd kept
+        by_channel (Some x) k none there kept = absurd cc

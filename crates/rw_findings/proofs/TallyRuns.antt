@@ -38,7 +38,8 @@ module _ {V : Type 0} where
 
   -- one entry more, in a count
   pub count_next : (c n : ℕ) (test : ChanCall V → ChanReply V → Bool) (es : List (WorldEntry V)) (e : WorldEntry V) → n < length es → e ≡ get_or es n e
-      → count_on c test (take (n + 1) es) ≡ cond (nat_eq e.call.channel c && test e.call.call e.reply) (count_on c test (take n es) + 1) (count_on c test (take n es))
+      → count_on c test (take (n + 1) es) ≡ cond (nat_eq e.call.channel c && test e.call.call e.reply) (count_on c test (take n es) + 1)
+      (count_on c test (take n es))
   count_next c n test es e within read = by_test (passes e) refl where
     passes : WorldEntry V → Bool
     passes f = nat_eq f.call.channel c && test f.call.call f.reply
@@ -63,8 +64,10 @@ module _ {V : Type 0} where
 
     -- what is kept of channel c at place n, if it is there
     abbrev pub IsKept : (c n : ℕ) → Option (ChanShown V) → Option Tally → Type 0
-    IsKept c n (Some (broadcast_shown x)) (Some (Broadcast t)) = AreCounted (lag_on c) (received_on c) (told_on c) n x t × ((h place : ℕ) → place ≤ n → mark_there at c h place ≡ None)
-    IsKept c n (Some (watch_shown y)) (Some (Watch t)) = AreWatched (mark_there at c) (version_there at c) (notified_on c) n y t × ((h place : ℕ) → place ≤ n → lag_on c h place ≡ None)
+    IsKept c n (Some (broadcast_shown x)) (Some (Broadcast t)) =
+        AreCounted (lag_on c) (received_on c) (told_on c) n x t × ((h place : ℕ) → place ≤ n → mark_there at c h place ≡ None)
+    IsKept c n (Some (watch_shown y)) (Some (Watch t)) =
+        AreWatched (mark_there at c) (version_there at c) (notified_on c) n y t × ((h place : ℕ) → place ≤ n → lag_on c h place ≡ None)
     IsKept c n None None = Unit {0}
     IsKept c n _ _ = ⊥
 
@@ -85,10 +88,16 @@ module _ {V : Type 0} where
       pub notified_is : (h : ℕ) → notified_on c h (n + 1) ≡ notified_on c h n
 
     -- a channel that stays as it is
-    idle_kept : (c n : ℕ) (o : Option (ChanShown V)) (k : Option Tally) → slice_get (at n) c ≡ o → slice_get (at (n + 1)) c ≡ o → AreIdle c n → IsKept c n o k → IsKept c (n + 1) o k
+    idle_kept : (c n : ℕ) (o : Option (ChanShown V)) (k : Option Tally) → slice_get (at n) c ≡ o → slice_get (at (n + 1)) c ≡ o → AreIdle c n → IsKept c n o k
+        → IsKept c (n + 1) o k
     idle_kept c n (Some (broadcast_shown x)) (Some (Broadcast t)) now then idle kept = (
       record {
-        tally = record { capacity = kept.0.tally.capacity; sent = kept.0.tally.sent; few = omega (arith, kept.0.tally.few); positions = kept.0.tally.positions };
+        tally = record {
+          capacity = kept.0.tally.capacity;
+          sent = kept.0.tally.sent;
+          few = omega (arith, kept.0.tally.few);
+          positions = kept.0.tally.positions;
+        };
         counted = λ h. readers.rests (lag_on c h) (received_on c h) (told_on c h) n t t _ (record { capacity = refl; sent = refl; last_send = refl })
             (record { received_is = idle.received_is h; told_is = idle.told_is h }) (ap (λ o. lag_in_channel o h) (then ∙ sym now)) (kept.0.counted h);
       },
@@ -100,8 +109,10 @@ module _ {V : Type 0} where
         let same : version_there at c (n + 1) ≡ version_there at c n = ap version_in_channel (then ∙ sym now) in (
           record {
             tally = record { version = kept.0.tally.version; few = omega (arith, kept.0.tally.few); made = kept.0.tally.made };
-            rises = below_next (λ place. version_there at c place ≤ version_there at c (n + 1)) n (λ place within. omega (arith, kept.0.rises place within, same)) (omega arith);
-            watched = λ h. watchers.rests (mark_there at c h) (version_there at c) (notified_on c h) n _ kept.0.rises (idle.notified_is h) (ap (λ o. mark_in_channel o h) (then ∙ sym now)) (inl same) (kept.0.watched h);
+            rises = below_next (λ place. version_there at c place ≤ version_there at c (n + 1)) n
+                (λ place within. omega (arith, kept.0.rises place within, same)) (omega arith);
+            watched = λ h. watchers.rests (mark_there at c h) (version_there at c) (notified_on c h) n _ kept.0.rises (idle.notified_is h)
+                (ap (λ o. mark_in_channel o h) (then ∙ sym now)) (inl same) (kept.0.watched h);
           },
           λ h. below_next (λ place. lag_on c h place ≡ None) n (kept.1 h) (ap (λ o. lag_in_channel o h) then),
         )
@@ -117,15 +128,19 @@ module _ {V : Type 0} where
       pub notified_is : (h : ℕ) → notified_on c h (n + 1) ≡ cond (is_notified h call reply) (notified_on c h n + 1) (notified_on c h n)
 
     -- the channel of the entry
-    step_kept : (c n : ℕ) (o : Option (ChanShown V)) (k : Option Tally) (call : ChanCall V) → slice_get (at n) c ≡ o → slice_get (at (n + 1)) c ≡ shown_then o call → MatchOption o (Unit {0}) (of_chan {V = V}).allowed
-        → AreCountsOf c n call (reply_to o call) → IsKept c n o k → IsKept c (n + 1) (shown_then o call) (option_map (λ t. with_reply t call (reply_to o call) (n + 1)) k)
+    step_kept : (c n : ℕ) (o : Option (ChanShown V)) (k : Option Tally) (call : ChanCall V) → slice_get (at n) c ≡ o
+        → slice_get (at (n + 1)) c ≡ shown_then o call → MatchOption o (Unit {0}) (of_chan {V = V}).allowed
+        → AreCountsOf c n call (reply_to o call) → IsKept c n o k
+        → IsKept c (n + 1) (shown_then o call) (option_map (λ t. with_reply t call (reply_to o call) (n + 1)) k)
     step_kept c n (Some (broadcast_shown x)) (Some (Broadcast t)) (call_of.B call) now then ok counts kept =
         let e = broadcast_effect (channel_of x) call in (
-          counted_on (lag_on c) (received_on c) (told_on c) n x t call e.0 e.1 kept.0 (λ h. ap (λ o. lag_in_channel o h) now) (broadcast.steps x ok call) counts.received_is counts.told_is (λ h. ap (λ o. lag_in_channel o h) then),
+          counted_on (lag_on c) (received_on c) (told_on c) n x t call e.0 e.1 kept.0 (λ h. ap (λ o. lag_in_channel o h) now) (broadcast.steps x ok call)
+              counts.received_is counts.told_is (λ h. ap (λ o. lag_in_channel o h) then),
           λ h. below_next (λ place. mark_there at c h place ≡ None) n (kept.1 h) (ap (λ o. mark_in_channel o h) then),
         )
     step_kept c n (Some (broadcast_shown x)) (Some (Broadcast t)) (call_of.W call) now then ok counts kept =
-        idle_kept c n (Some (broadcast_shown x)) (Some (Broadcast t)) now then (record { received_is = counts.received_is; told_is = counts.told_is; notified_is = counts.notified_is }) kept
+        idle_kept c n (Some (broadcast_shown x)) (Some (Broadcast t)) now then
+        (record { received_is = counts.received_is; told_is = counts.told_is; notified_is = counts.notified_is }) kept
     step_kept c n (Some (broadcast_shown x)) (Some (Watch t)) call now then ok counts kept = absurd kept
     step_kept c n (Some (broadcast_shown x)) None call now then ok counts kept = absurd kept
     step_kept c n (Some (watch_shown y)) (Some (Watch t)) (call_of.W call) now then ok counts kept =
@@ -136,7 +151,8 @@ module _ {V : Type 0} where
           λ h. below_next (λ place. lag_on c h place ≡ None) n (kept.1 h) (ap (λ o. lag_in_channel o h) then),
         )
     step_kept c n (Some (watch_shown y)) (Some (Watch t)) (call_of.B call) now then ok counts kept =
-        idle_kept c n (Some (watch_shown y)) (Some (Watch t)) now then (record { received_is = counts.received_is; told_is = counts.told_is; notified_is = counts.notified_is }) kept
+        idle_kept c n (Some (watch_shown y)) (Some (Watch t)) now then
+        (record { received_is = counts.received_is; told_is = counts.told_is; notified_is = counts.notified_is }) kept
     step_kept c n (Some (watch_shown y)) (Some (Broadcast t)) call now then ok counts kept = absurd kept
     step_kept c n (Some (watch_shown y)) None call now then ok counts kept = absurd kept
     step_kept c n None (Some k) call now then ok counts kept = absurd kept
@@ -144,7 +160,8 @@ module _ {V : Type 0} where
 
     -- ---- an entry
 
-    pub kept_on : (n : ℕ) (e : WorldEntry V) (ts : List Tally) → n < length es → e ≡ get_or es n e → (of_world {V = V}).allowed (at n) → at (n + 1) ≡ (of_world {V = V}).next (at n) e.call
+    pub kept_on : (n : ℕ) (e : WorldEntry V) (ts : List Tally) → n < length es → e ≡ get_or es n e → (of_world {V = V}).allowed (at n)
+        → at (n + 1) ≡ (of_world {V = V}).next (at n) e.call
         → e.reply ≡ (of_world {V = V}).reply_of (at n) e.call → AreKept n ts → AreKept (n + 1) (with_entry ts e (n + 1))
     kept_on n e ts within read allowed next reply_is kept c =
         elim (same_or_apart e.call.channel c) [
@@ -157,11 +174,16 @@ module _ {V : Type 0} where
           own : IsKept e.call.channel (n + 1) (slice_get (at (n + 1)) e.call.channel) (slice_get (with_entry ts e (n + 1)) e.call.channel)
           own =
               let k = e.call.channel in
-              let shown : slice_get (at (n + 1)) k ≡ shown_then (slice_get (at n) k) e.call.call = ap (λ xs. slice_get xs k) next ∙ get-modified step_of (at n) k in
-              let tally : slice_get (with_entry ts e (n + 1)) k ≡ option_map (λ t. with_reply t e.call.call (reply_to (slice_get (at n) k) e.call.call) (n + 1)) (slice_get ts k) =
-              get-modified (λ t. with_reply t e.call.call e.reply (n + 1)) ts k ∙ ap (λ r. option_map (λ t. with_reply t e.call.call r (n + 1)) (slice_get ts k)) reply_is in
+              let shown : slice_get (at (n + 1)) k ≡ shown_then (slice_get (at n) k) e.call.call =
+              ap (λ xs. slice_get xs k) next ∙ get-modified step_of (at n) k in
+              let tally : slice_get (with_entry ts e (n + 1)) k
+              ≡ option_map (λ t. with_reply t e.call.call (reply_to (slice_get (at n) k) e.call.call) (n + 1)) (slice_get ts k) =
+              get-modified (λ t. with_reply t e.call.call e.reply (n + 1)) ts k
+              ∙ ap (λ r. option_map (λ t. with_reply t e.call.call r (n + 1)) (slice_get ts k)) reply_is in
               let test_is : nat_eq k k ≡ true = eq_is k k refl in
-              let counted = λ (test : ChanCall V → ChanReply V → Bool). let step : count_on k test (take (n + 1) es) ≡ cond (nat_eq k k && test e.call.call e.reply) (count_on k test (take n es) + 1) (count_on k test (take n es)) = count_next k n test es e within read in
+              let counted = λ (test : ChanCall V → ChanReply V → Bool). let step : count_on k test (take (n + 1) es)
+              ≡ cond (nat_eq k k && test e.call.call e.reply) (count_on k test (take n es) + 1) (count_on k test (take n es)) =
+              count_next k n test es e within read in
               step ∙ ap (λ b. cond (b && test e.call.call e.reply) (count_on k test (take n es) + 1) (count_on k test (take n es))) test_is
               ∙ ap (λ r. cond (test e.call.call r) (count_on k test (take n es) + 1) (count_on k test (take n es))) reply_is in
               subst (λ o. IsKept k (n + 1) o (slice_get (with_entry ts e (n + 1)) k)) (sym shown)
@@ -171,11 +193,17 @@ module _ {V : Type 0} where
 
           other : (c : ℕ) → e.call.channel ≢ c → IsKept c (n + 1) (slice_get (at (n + 1)) c) (slice_get (with_entry ts e (n + 1)) c)
           other c apart =
-              let shown : slice_get (at (n + 1)) c ≡ slice_get (at n) c = ap (λ xs. slice_get xs c) next ∙ get-modified_other step_of (at n) e.call.channel c apart in
-              let tally : slice_get (with_entry ts e (n + 1)) c ≡ slice_get ts c = get-modified_other (λ t. with_reply t e.call.call e.reply (n + 1)) ts e.call.channel c apart in
+              let shown : slice_get (at (n + 1)) c ≡ slice_get (at n) c =
+              ap (λ xs. slice_get xs c) next ∙ get-modified_other step_of (at n) e.call.channel c apart in
+              let tally : slice_get (with_entry ts e (n + 1)) c ≡ slice_get ts c =
+              get-modified_other (λ t. with_reply t e.call.call e.reply (n + 1)) ts e.call.channel c apart in
               let test_is : nat_eq e.call.channel c ≡ false = eq_not e.call.channel c apart in
-              let counted = λ (test : ChanCall V → ChanReply V → Bool). let step : count_on c test (take (n + 1) es) ≡ cond (nat_eq e.call.channel c && test e.call.call e.reply) (count_on c test (take n es) + 1) (count_on c test (take n es)) = count_next c n test es e within read in
+              let counted = λ (test : ChanCall V → ChanReply V → Bool). let step : count_on c test (take (n + 1) es)
+              ≡ cond (nat_eq e.call.channel c && test e.call.call e.reply) (count_on c test (take n es) + 1) (count_on c test (take n es)) =
+              count_next c n test es e within read in
               step ∙ ap (λ b. cond (b && test e.call.call e.reply) (count_on c test (take n es) + 1) (count_on c test (take n es))) test_is in
               subst (λ o. IsKept c (n + 1) o (slice_get (with_entry ts e (n + 1)) c)) (sym shown)
               (subst (λ o. IsKept c (n + 1) (slice_get (at n) c) o) (sym tally)
-              (idle_kept c n (slice_get (at n) c) (slice_get ts c) refl shown (record { received_is = λ h. counted (receives h); told_is = λ h. counted (is_told h); notified_is = λ h. counted (is_notified h) }) (kept c)))
+              (idle_kept c n (slice_get (at n) c) (slice_get ts c) refl shown
+              (record { received_is = λ h. counted (receives h); told_is = λ h. counted (is_told h); notified_is = λ h. counted (is_notified h) })
+              (kept c)))

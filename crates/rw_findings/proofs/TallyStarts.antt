@@ -36,10 +36,12 @@ module _ {V : Type 0} (at : ℕ → List (ChanShown V)) (es : List (WorldEntry V
     },
     λ h. at_0 (λ place. mark_there at c h place ≡ None) (ap (λ o. mark_in_channel o h) here),
   ) where
-    counted : (h : ℕ) → IsCounted (lag_on at es c h) (received_on at es c h) (told_on at es c h) 0 (broadcast.opened_broadcast capacity) (broadcast.reader_in (broadcast.opened_broadcast capacity) h)
+    counted : (h : ℕ) → IsCounted (lag_on at es c h) (received_on at es c h) (told_on at es c h) 0 (broadcast.opened_broadcast capacity)
+        (broadcast.reader_in (broadcast.opened_broadcast capacity) h)
     counted zero = uncounted c zero (ap (λ o. lag_in_channel o zero) here)
     counted (suc zero) =
-        let start : lag_on at es c 1 0 ≡ Some (broadcast.lag_of_reader (broadcast.opened_broadcast capacity) (broadcast.new_reader 0)) = ap (λ o. lag_in_channel o 1) here in
+        let start : lag_on at es c 1 0 ≡ Some (broadcast.lag_of_reader (broadcast.opened_broadcast capacity) (broadcast.new_reader 0)) =
+        ap (λ o. lag_in_channel o 1) here in
         let none : broadcast.lag_of_reader (broadcast.opened_broadcast capacity) (broadcast.new_reader 0) ≡ 0 = omega arith in
         let lag_none : lag_or_0 (lag_on at es c 1) (received_on at es c 1) (told_on at es c 1) 0 ≡ 0 = ap (λ o. unwrap_or o 0) start ∙ none in
         record {
@@ -89,11 +91,13 @@ module _ {V : Type 0} (at : ℕ → List (ChanShown V)) (es : List (WorldEntry V
   first_kept specs opened c = by_spec (slice_get specs c) refl where
     by_spec : (o : Option (Spec V)) → slice_get specs c ≡ o → IsKept at es c 0 (slice_get (at 0) c) (slice_get (opened_tallies specs) c)
     by_spec (Some spec) found =
-        let shown : slice_get (at 0) c ≡ Some (opened_channel spec) = ap (λ xs. slice_get xs c) opened ∙ slice_get-map opened_channel specs c ∙ ap (option_map opened_channel) found in
+        let shown : slice_get (at 0) c ≡ Some (opened_channel spec) =
+        ap (λ xs. slice_get xs c) opened ∙ slice_get-map opened_channel specs c ∙ ap (option_map opened_channel) found in
         let tally : slice_get (opened_tallies specs) c ≡ Some (tally_of spec) = slice_get-map tally_of specs c ∙ ap (option_map tally_of) found in
         subst (λ o. IsKept at es c 0 o (slice_get (opened_tallies specs) c)) (sym shown)
         (subst (λ k. IsKept at es c 0 (Some (opened_channel spec)) k) (sym tally) (opened_kept c spec shown))
     by_spec None found =
-        let shown : slice_get (at 0) c ≡ None = ap (λ xs. slice_get xs c) opened ∙ slice_get-map opened_channel specs c ∙ ap (option_map opened_channel) found in
+        let shown : slice_get (at 0) c ≡ None = ap (λ xs. slice_get xs c) opened ∙ slice_get-map opened_channel specs c
+        ∙ ap (option_map opened_channel) found in
         let tally : slice_get (opened_tallies specs) c ≡ None = slice_get-map tally_of specs c ∙ ap (option_map tally_of) found in
         subst (λ o. IsKept at es c 0 o (slice_get (opened_tallies specs) c)) (sym shown) (subst (λ k. IsKept at es c 0 None k) (sym tally) tt)

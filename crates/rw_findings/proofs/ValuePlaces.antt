@@ -1,5 +1,6 @@
 -- The values of a channel, from place to place.
-use Rattle.std.proofs.Common.{◌≡◌, ◌≢◌, ℕ, zero, suc, ◌+◌, ◌-◌, ◌<◌, ◌≤◌, ◌⊎◌, true, false, cond, List, [], ◌∷◌, ◌++◌, length, get_or, inl, inr, refl, ap, sym, ◌∙◌, subst, arith}
+use Rattle.std.proofs.Common.{◌≡◌, ◌≢◌, ℕ, zero, suc, ◌+◌, ◌-◌, ◌<◌, ◌≤◌, ◌⊎◌, true, false, cond, List, [], ◌∷◌}
+use Rattle.std.proofs.Common.{◌++◌, length, get_or, inl, inr, refl, ap, sym, ◌∙◌, subst, arith}
 use Rattle.std.specs.Prelude.{Option, Some, None, nat_eq, nat_lt, option_and_then, option_map, slice_get}
 use Rattle.std.specs.Option.{option_map_or}
 use Rattle.std.proofs.lemmas.Bool.{cases_eq, cases_lt, cond_both}
@@ -22,7 +23,8 @@ use Rattle.rw_world.specs.declared.opening.Spec.{Spec}
 use Rattle.rw_world.specs.declared.opening.Spec.TheVariants.{Broadcast, Watch}
 use Rattle.rw_world.proofs.Modifying.{get-modified, get-modified_other, length-modified}
 use Rattle.rw_navigator.specs.Places.{last_place, shown_at}
-use Rattle.rw_findings.specs.Values.{AreValuesTo, GoesAt, IsValue, TookState, come, count_at, count_in, gone, has_had, oldest_at, oldest_in, value_at, value_in, with_gone}
+use Rattle.rw_findings.specs.Values.{AreValuesTo, GoesAt, IsValue, TookState, come, count_at, count_in, gone}
+use Rattle.rw_findings.specs.Values.{has_had, oldest_at, oldest_in, value_at, value_in, with_gone}
 use Rattle.rw_findings.specs.declared.values.value.ChannelValue.{ChannelValue}
 use Rattle.rw_findings.proofs.FollowedPlaces.{allowed_is, channel_here, channel_there}
 
@@ -111,7 +113,8 @@ module _ {V : Type 0} where
     value_is p n x here = ap (λ o. option_and_then (λ y. value_in y n) o) here
 
     -- the entry after a place, on this channel or another
-    passed : (p : ℕ) (x y : ChanShown V) → p < length run.entries → slice_get (shown_at run p) c ≡ Some x → slice_get (shown_at run (p + 1)) c ≡ Some y → Comes x y
+    passed : (p : ℕ) (x y : ChanShown V) → p < length run.entries → slice_get (shown_at run p) c ≡ Some x → slice_get (shown_at run (p + 1)) c ≡ Some y
+        → Comes x y
     passed p x y within here there =
         let one = element run.entries p within in
         let e = one.0 in
@@ -127,14 +130,22 @@ module _ {V : Type 0} where
     -- ---- values
 
     -- a value is there on, where the oldest isn't past it
-    value_on : (n p : ℕ) (value : ChannelValue V) → IsValue run c n p value → (oldest_at run c p ≤ n → oldest_at run c (p + 1) ≤ n) → IsValue run c n (p + 1) value
-    value_on n p value is on = record { inside = omega (arith, is.inside); came = is.came; fresh = is.fresh; is = is.is; goes = goes value.overwritten is.goes } where
+    value_on : (n p : ℕ) (value : ChannelValue V) → IsValue run c n p value → (oldest_at run c p ≤ n → oldest_at run c (p + 1) ≤ n)
+        → IsValue run c n (p + 1) value
+    value_on n p value is on = record {
+      inside = omega (arith, is.inside);
+      came = is.came;
+      fresh = is.fresh;
+      is = is.is;
+      goes = goes value.overwritten is.goes;
+    } where
       goes : (o : Option ℕ) → GoesAt run c n p o → GoesAt run c n (p + 1) o
       goes None old = on old
       goes (Some place) old = (old.0, omega (arith, old.1), old.2, old.3)
 
     -- a value is overwritten
-    value_gone : (n p : ℕ) (value : ChannelValue V) → IsValue run c n p value → oldest_at run c p ≤ n → n < oldest_at run c (p + 1) → IsValue run c n (p + 1) (gone (p + 1) value)
+    value_gone : (n p : ℕ) (value : ChannelValue V) → IsValue run c n p value → oldest_at run c p ≤ n → n < oldest_at run c (p + 1)
+        → IsValue run c n (p + 1) (gone (p + 1) value)
     value_gone n p value is before after =
         let back : p + 1 - 1 ≡ p = omega arith in
         record {
@@ -146,7 +157,8 @@ module _ {V : Type 0} where
         }
 
     -- what is found of one number, where one of them may have been overwritten
-    found_gone : (values : List (ChannelValue V)) (oldest place n : ℕ) (value : ChannelValue V) → slice_get (with_gone values oldest place) n ≡ Some value → n < length values
+    found_gone : (values : List (ChannelValue V)) (oldest place n : ℕ) (value : ChannelValue V) → slice_get (with_gone values oldest place) n ≡ Some value
+        → n < length values
         → (was : ChannelValue V) × (slice_get values n ≡ Some was) × (((n + 1 ≡ oldest) × (value ≡ gone place was)) ⊎ ((n + 1 ≢ oldest) × (value ≡ was)))
     found_gone values oldest place n value found within =
         let one = element values n within in
@@ -154,7 +166,8 @@ module _ {V : Type 0} where
         elim (cases_lt 0 oldest) [
           | inl some ↦
               let test : nat_lt 0 oldest ≡ true = grind (arith, nat_tests) in
-              let got : slice_get (map_at (gone place) values (oldest - 1)) n ≡ Some value = ap (λ k. slice_get (cond k (map_at (gone place) values (oldest - 1)) values) n) (sym test) ∙ found in
+              let got : slice_get (map_at (gone place) values (oldest - 1)) n ≡ Some value =
+              ap (λ k. slice_get (cond k (map_at (gone place) values (oldest - 1)) values) n) (sym test) ∙ found in
               elim (cases_eq (n + 1) oldest) [
                 | inl same ↦
                     let at : oldest - 1 ≡ n = omega (arith, same) in
@@ -194,7 +207,8 @@ module _ {V : Type 0} where
       }
 
       -- one came
-      more : Came x y → (v : V) → value_in y (length old) ≡ Some v → new ≡ with_gone (old ++ come v (p + 1) ∷ []) (oldest_in y) (p + 1) → AreValuesTo run c (p + 1) new
+      more : Came x y → (v : V) → value_in y (length old) ≡ Some v → new ≡ with_gone (old ++ come v (p + 1) ∷ []) (oldest_in y) (p + 1)
+          → AreValuesTo run c (p + 1) new
       more came v value_here is = record { many = many; each = each } where
         pushed : List (ChannelValue V)
         pushed = old ++ come v (p + 1) ∷ []
@@ -222,7 +236,8 @@ module _ {V : Type 0} where
         each : (n : ℕ) (value : ChannelValue V) → slice_get new n ≡ Some value → IsValue run c n (p + 1) value
         each n value found =
             let inside : n < length new = slice_get_within new n value found in
-            let one = found_gone pushed (oldest_in y) (p + 1) n value (ap (λ vs. slice_get vs n) (sym is) ∙ found) (omega (arith, inside, new_long, pushed_long)) in
+            let one = found_gone pushed (oldest_in y) (p + 1) n value (ap (λ vs. slice_get vs n) (sym is) ∙ found)
+            (omega (arith, inside, new_long, pushed_long)) in
             elim (cases_lt n (length old)) [
               | inl below ↦
                   let was : IsValue run c n p one.0 = are.each n one.0 (sym (before_push old n (come v (p + 1)) below) ∙ one.1) in
@@ -239,7 +254,8 @@ module _ {V : Type 0} where
                   let is_fresh : one.0 ≡ come v (p + 1) = same_element (sym one.1 ∙ ap (slice_get pushed) last ∙ at_push old (come v (p + 1))) in
                   elim one.2 [
                     | inl gone_now ↦ absurd (omega (arith, gone_now.0, last, came.behind, long))
-                    | inr other ↦ subst (λ k. IsValue run c k (p + 1) value) (sym last) (subst (IsValue run c (length old) (p + 1)) (sym (other.1 ∙ is_fresh)) fresh_value)
+                    | inr other ↦ subst (λ k. IsValue run c k (p + 1) value) (sym last)
+                        (subst (IsValue run c (length old) (p + 1)) (sym (other.1 ∙ is_fresh)) fresh_value)
                   ]
             ] where
               past : n + 1 ≢ oldest_in y → oldest_in y - 1 ≤ n → oldest_at run c (p + 1) ≤ n

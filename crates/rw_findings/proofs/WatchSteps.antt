@@ -12,11 +12,13 @@ use Rattle.rw_handles.specs.Slots.{lookup}
 use Rattle.rw_handles.proofs.Checks.{of_checked}
 use Rattle.rw_handles.proofs.SlotLaws.{found_at_is, found_at_wanted, All-slice_get}
 use Rattle.rw_watch.specs.declared.calls.WCall.{WCall}
-use Rattle.rw_watch.specs.declared.calls.WCall.TheVariants.{Send, SendReplace, Modify, Subscribe, CloneSender, CloneReceiver, Borrow, Update, HasChanged, Changed, MarkChanged, MarkUnchanged, DropHandle, ReceiverCount, IsClosed, AwaitClosed}
+use Rattle.rw_watch.specs.declared.calls.WCall.TheVariants.{Send, SendReplace, Modify, Subscribe, CloneSender, CloneReceiver, Borrow, Update, HasChanged}
+use Rattle.rw_watch.specs.declared.calls.WCall.TheVariants.{Changed, MarkChanged, MarkUnchanged, DropHandle, ReceiverCount, IsClosed, AwaitClosed}
 use Rattle.rw_watch.specs.declared.calls.WReply.{WReply}
 use Rattle.rw_watch.specs.declared.calls.WReply.TheVariants as reply
 use Rattle.rw_watch.specs.declared.calls.WReply.TheVariants.{New, Done, TooManyHandles}
-use Rattle.rw_watch.specs.Channel.{Change, Keep, Write, Make, Mark, Leave, handle_of, wanted_kind, makes, fault_reply, is_closed, is_unseen, has_no_receiver, effect_with, effect}
+use Rattle.rw_watch.specs.Channel.{Change, Keep, Write, Make, Mark, Leave, handle_of, wanted_kind, makes, fault_reply}
+use Rattle.rw_watch.specs.Channel.{is_closed, is_unseen, has_no_receiver, effect_with, effect}
 use Rattle.rw_watch.specs.Shown.{Shown, IsAllowed, IsMark, IsMarked}
 use Rattle.rw_world.specs.declared.channels.ChanCall.TheVariants as call_of
 use Rattle.rw_world.specs.declared.channels.ChanReply.TheVariants as reply_of
@@ -44,11 +46,14 @@ module _ {V : Type 0} where
   -- what a call changes where this is shown, and its reply
   pub data StepsTo (y : Shown V) : WCall V → Change V → WReply V → Type 0 where
     keeps : {call : WCall V} {r : WReply V} → IsSilent call r → ((t : WatchTally) → with_call t call r ≡ t) → StepsTo y call Keep r
-    writes : {call : WCall V} {v : V} {told : Bool} {r : WReply V} → IsSilent call r → ((t : WatchTally) → with_call t call r ≡ record t { version = cond told (t.version + 1) t.version }) → StepsTo y call (Write v told) r
-    makes_receiver : {call : WCall V} {mark : Option ℕ} {n : ℕ} → IsUpTo y.version mark → ((t : WatchTally) → made_watcher t call ≡ Some (new_watcher t.version)) → StepsTo y call (Make Receiver mark) (New n)
+    writes : {call : WCall V} {v : V} {told : Bool} {r : WReply V} → IsSilent call r
+        → ((t : WatchTally) → with_call t call r ≡ record t { version = cond told (t.version + 1) t.version }) → StepsTo y call (Write v told) r
+    makes_receiver : {call : WCall V} {mark : Option ℕ} {n : ℕ} → IsUpTo y.version mark
+        → ((t : WatchTally) → made_watcher t call ≡ Some (new_watcher t.version)) → StepsTo y call (Make Receiver mark) (New n)
     makes_other : {call : WCall V} {n : ℕ} → ((t : WatchTally) → made_watcher t call ≡ None) → StepsTo y call (Make Sender None) (New n)
     looks : {call : WCall V} {h : ℕ} {from : Option ℕ} {r : WReply V} → slice_get y.slots h ≡ Some (Live Receiver from) → IsSilent call r
-        → ((t : WatchTally) → with_call t call r ≡ with_watcher t h (option_map (after_look t.version) (watcher_in t h))) → StepsTo y call (Mark h from (Some y.version)) r
+        → ((t : WatchTally) → with_call t call r ≡ with_watcher t h (option_map (after_look t.version) (watcher_in t h)))
+        → StepsTo y call (Mark h from (Some y.version)) r
     changes : {h : ℕ} {from : Option ℕ} → slice_get y.slots h ≡ Some (Live Receiver from) → StepsTo y (Changed h) (Mark h from (Some y.version)) Done
     unmarks : {h : ℕ} {from : Option ℕ} → slice_get y.slots h ≡ Some (Live Receiver from) → StepsTo y (MarkChanged h) (Mark h from None) Done
     leaves : {h : ℕ} {kind : Kind} {mark : Option ℕ} → slice_get y.slots h ≡ Some (Live kind mark) → StepsTo y (DropHandle h) (Leave h kind mark) reply.Dropped
@@ -59,26 +64,32 @@ module _ {V : Type 0} where
 
   module _ (y : Shown V) (ok : IsAllowed y) where
     -- each call, with the handle that was found
-    steps_with : (call : WCall V) (kind : Kind) (mark : Option ℕ) → lookup (wanted_kind call) y.slots (handle_of call) ≡ Handle kind mark → Steps y call (effect_with y call kind mark)
-    steps_with (Send h v) kind mark found = cond_both (has_no_receiver y) _ _ (Steps y (Send h v)) (λ _. keeps (λ h. refl) (λ t. refl)) (λ _. writes (λ h. refl) (λ t. refl))
+    steps_with : (call : WCall V) (kind : Kind) (mark : Option ℕ) → lookup (wanted_kind call) y.slots (handle_of call) ≡ Handle kind mark
+        → Steps y call (effect_with y call kind mark)
+    steps_with (Send h v) kind mark found = cond_both (has_no_receiver y) _ _ (Steps y (Send h v)) (λ _. keeps (λ h. refl) (λ t. refl))
+        (λ _. writes (λ h. refl) (λ t. refl))
     steps_with (SendReplace h v) kind mark found = writes (λ h. refl) (λ t. refl)
     steps_with (Modify told h v) kind mark found = writes (λ h. refl) (λ t. refl)
     steps_with (Subscribe h) kind mark found = makes_receiver (newest y.version) (λ t. refl)
     steps_with (CloneSender h) kind mark found = makes_other (λ t. refl)
     steps_with (CloneReceiver h) kind mark found =
-        makes_receiver (up_to y.version mark (All-slice_get (IsMarked y.version) y.slots h (Live Receiver mark) (found_at_wanted Receiver _ kind mark found) ok.marked)) (λ t. refl)
+        makes_receiver (up_to y.version mark (All-slice_get (IsMarked y.version) y.slots h (Live Receiver mark) (found_at_wanted Receiver _ kind mark found)
+        ok.marked)) (λ t. refl)
     steps_with (Borrow h) kind mark found = keeps (λ h. refl) (λ t. refl)
     steps_with (Update h) kind mark found = looks (found_at_wanted Receiver _ kind mark found) (λ h. refl) (λ t. refl)
-    steps_with (HasChanged h) kind mark found = cond_both (is_closed y) _ _ (λ r. Steps y (HasChanged h) (Keep, r)) (λ _. keeps (λ h. refl) (λ t. refl)) (λ _. keeps (λ h. refl) (λ t. refl))
+    steps_with (HasChanged h) kind mark found = cond_both (is_closed y) _ _ (λ r. Steps y (HasChanged h) (Keep, r)) (λ _. keeps (λ h. refl) (λ t. refl))
+        (λ _. keeps (λ h. refl) (λ t. refl))
     steps_with (Changed h) kind mark found =
         cond_both (is_unseen y.version mark) _ _ (Steps y (Changed h)) (λ _. changes (found_at_wanted Receiver _ kind mark found))
-        (λ _. cond_both (is_closed y) reply.Closed reply.Waits (λ r. Steps y (Changed h) (Keep, r)) (λ _. keeps (λ h. refl) (λ t. refl)) (λ _. keeps (λ h. refl) (λ t. refl)))
+        (λ _. cond_both (is_closed y) reply.Closed reply.Waits (λ r. Steps y (Changed h) (Keep, r)) (λ _. keeps (λ h. refl) (λ t. refl))
+        (λ _. keeps (λ h. refl) (λ t. refl)))
     steps_with (MarkChanged h) kind mark found = unmarks (found_at_wanted Receiver _ kind mark found)
     steps_with (MarkUnchanged h) kind mark found = looks (found_at_wanted Receiver _ kind mark found) (λ h. refl) (λ t. refl)
     steps_with (DropHandle h) kind mark found = leaves (found_at_is None _ kind mark found)
     steps_with (ReceiverCount h) kind mark found = keeps (λ h. refl) (λ t. refl)
     steps_with (IsClosed h) kind mark found = keeps (λ h. refl) (λ t. refl)
-    steps_with (AwaitClosed h) kind mark found = cond_both (has_no_receiver y) Done reply.Waits (λ r. Steps y (AwaitClosed h) (Keep, r)) (λ _. keeps (λ h. refl) (λ t. refl)) (λ _. keeps (λ h. refl) (λ t. refl))
+    steps_with (AwaitClosed h) kind mark found = cond_both (has_no_receiver y) Done reply.Waits (λ r. Steps y (AwaitClosed h) (Keep, r))
+        (λ _. keeps (λ h. refl) (λ t. refl)) (λ _. keeps (λ h. refl) (λ t. refl))
 
     faulty : (call : WCall V) (f : HandleFault) → Steps y call (Keep, fault_reply f)
     faulty call fault.Unknown = keeps (λ h. refl) (λ t. unknown t call) where

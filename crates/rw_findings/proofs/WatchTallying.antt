@@ -1,5 +1,6 @@
 -- One call of a watch, and what is kept of all its receivers.
-use Rattle.std.proofs.Common.{◌≡◌, ◌≢◌, ℕ, zero, suc, ◌+◌, ◌<◌, ◌≤◌, ◌⊎◌, Bool, true, false, cond, List, [], ◌∷◌, ◌++◌, length, get_or, set, length-set, inl, inr, refl, ap, sym, ◌∙◌, subst, arith}
+use Rattle.std.proofs.Common.{◌≡◌, ◌≢◌, ℕ, zero, suc, ◌+◌, ◌<◌, ◌≤◌, ◌⊎◌, Bool, true, false, cond, List, [], ◌∷◌, ◌++◌}
+use Rattle.std.proofs.Common.{length, get_or, set, length-set, inl, inr, refl, ap, sym, ◌∙◌, subst, arith}
 use Rattle.std.specs.Prelude.{Option, Some, None, slice_get, option_map}
 use Rattle.std.proofs.lemmas.Bool.{cases_order, cases_lt}
 use Rattle.std.proofs.lemmas.List.{length_push, get_or_append_left}
@@ -68,7 +69,8 @@ module _ {V : Type 0} where
           ]
 
       -- the version rises or not, and nothing else changes
-      on_version : (z : Shown V) (u : WatchTally) → z.slots ≡ y.slots → u.watchers ≡ t.watchers → u.version ≡ z.version → (z.version ≡ y.version) ⊎ (z.version ≡ y.version + 1) → ShowsAt mark version notified (n + 1) z
+      on_version : (z : Shown V) (u : WatchTally) → z.slots ≡ y.slots → u.watchers ≡ t.watchers → u.version ≡ z.version
+          → (z.version ≡ y.version) ⊎ (z.version ≡ y.version + 1) → ShowsAt mark version notified (n + 1) z
           → ((h : ℕ) → notified h (n + 1) ≡ notified h n) → AreWatched mark version notified (n + 1) z u
       on_version z u slots watchers version_is rise then idle =
           let risen : (version (n + 1) ≡ version n) ⊎ (version (n + 1) ≡ version n + 1) =
@@ -79,17 +81,24 @@ module _ {V : Type 0} where
           record {
             tally = record {
               version = version_is;
-              few = elim rise [ inl same ↦ omega (arith, version_is, same, are.tally.version, are.tally.few) | inr up ↦ omega (arith, version_is, up, are.tally.version, are.tally.few) ];
+              few = elim rise [
+                | inl same ↦ omega (arith, version_is, same, are.tally.version, are.tally.few)
+                | inr up ↦ omega
+                    (arith, version_is, up, are.tally.version, are.tally.few)
+              ];
               made = ap length watchers ∙ are.tally.made ∙ ap length (sym slots);
             };
             rises = rises_on (elim risen [ inl same ↦ omega (arith, same) | inr up ↦ omega (arith, up) ]);
             watched = λ h. subst (λ ws. IsWatched (mark h) version (notified h) (n + 1) (get_or ws h None)) (sym watchers)
-                (rests (mark h) version (notified h) n (watcher_in t h) are.rises (idle h) (then.marks h ∙ ap (λ s. mark_at (slice_get s h)) slots ∙ sym (now.marks h)) risen (are.watched h));
+                (rests (mark h) version (notified h) n (watcher_in t h) are.rises (idle h)
+                (then.marks h ∙ ap (λ s. mark_at (slice_get s h)) slots ∙ sym (now.marks h)) risen (are.watched h));
           }
 
       -- a handle is made
-      on_make : (kind : Kind) (m : Option ℕ) (w : Option Watcher) → ShowsAt mark version notified (n + 1) (with_change y (Make kind m)) → ((h : ℕ) → notified h (n + 1) ≡ notified h n)
-          → ((h : ℕ) → mark h (n + 1) ≡ mark_at (Some (Live kind m)) → version (n + 1) ≡ version n → Unwatched (mark h) version (notified h) n → IsWatched (mark h) version (notified h) (n + 1) w)
+      on_make : (kind : Kind) (m : Option ℕ) (w : Option Watcher) → ShowsAt mark version notified (n + 1) (with_change y (Make kind m))
+          → ((h : ℕ) → notified h (n + 1) ≡ notified h n)
+          → ((h : ℕ) → mark h (n + 1) ≡ mark_at (Some (Live kind m)) → version (n + 1) ≡ version n → Unwatched (mark h) version (notified h) n
+          → IsWatched (mark h) version (notified h) (n + 1) w)
           → AreWatched mark version notified (n + 1) (with_change y (Make kind m)) (record t { watchers = t.watchers ++ w ∷ [] })
       on_make kind m w then idle makes =
           let same : version (n + 1) ≡ version n = then.version_is ∙ sym now.version_is in
@@ -102,9 +111,11 @@ module _ {V : Type 0} where
             rises = rises_on (omega (arith, same));
             watched = λ h. elim (same_or_apart h (length t.watchers)) [
               | inl last ↦ let before : watcher_in t h ≡ None = get_or_past t.watchers h None (omega (arith, last)) in
-                  let after : get_or (t.watchers ++ w ∷ []) h None ≡ w = ap (λ j. get_or (t.watchers ++ w ∷ []) j None) last ∙ get_or-append_seam t.watchers w [] None in
+                  let after : get_or (t.watchers ++ w ∷ []) h None ≡ w =
+                  ap (λ j. get_or (t.watchers ++ w ∷ []) j None) last ∙ get_or-append_seam t.watchers w [] None in
                   let there : mark h (n + 1) ≡ mark_at (Some (Live kind m)) =
-                  then.marks h ∙ ap (λ j. mark_at (slice_get (y.slots ++ Live kind m ∷ []) j)) (last ∙ are.tally.made) ∙ ap mark_at (get-push_last y.slots (Live kind m)) in
+                  then.marks h ∙ ap (λ j. mark_at (slice_get (y.slots ++ Live kind m ∷ []) j)) (last ∙ are.tally.made)
+                  ∙ ap mark_at (get-push_last y.slots (Live kind m)) in
                   subst (λ o. IsWatched (mark h) version (notified h) (n + 1) o) (sym after)
                   (makes h there same (subst (λ o. IsWatched (mark h) version (notified h) n o) before (are.watched h)))
               | inr apart ↦ let there : mark h (n + 1) ≡ mark h n =
@@ -122,7 +133,8 @@ module _ {V : Type 0} where
                 ]
 
       -- what is under number g changes, and its receiver
-      on_set : (g : ℕ) (slot was : Slot (Option ℕ)) (w : Option Watcher) → slice_get y.slots g ≡ Some was → ShowsAt mark version notified (n + 1) (record y { slots = set y.slots g slot }) → ((h : ℕ) → h ≢ g → notified h (n + 1) ≡ notified h n)
+      on_set : (g : ℕ) (slot was : Slot (Option ℕ)) (w : Option Watcher) → slice_get y.slots g ≡ Some was
+          → ShowsAt mark version notified (n + 1) (record y { slots = set y.slots g slot }) → ((h : ℕ) → h ≢ g → notified h (n + 1) ≡ notified h n)
           → (mark g (n + 1) ≡ mark_at (Some slot) → version (n + 1) ≡ version n → IsWatched (mark g) version (notified g) (n + 1) w)
           → AreWatched mark version notified (n + 1) (record y { slots = set y.slots g slot }) (with_watcher t g w)
       on_set g slot was w here then idle own =
@@ -146,44 +158,57 @@ module _ {V : Type 0} where
           }
 
       -- a receiver that is there is watched
-      on_receiver : (g : ℕ) (from : Option ℕ) (slot : Slot (Option ℕ)) (after : Watcher → Watcher) → slice_get y.slots g ≡ Some (Live Receiver from) → ShowsAt mark version notified (n + 1) (record y { slots = set y.slots g slot })
+      on_receiver : (g : ℕ) (from : Option ℕ) (slot : Slot (Option ℕ)) (after : Watcher → Watcher) → slice_get y.slots g ≡ Some (Live Receiver from)
+          → ShowsAt mark version notified (n + 1) (record y { slots = set y.slots g slot })
           → ((h : ℕ) → h ≢ g → notified h (n + 1) ≡ notified h n)
-          → ((w : Watcher) → mark g n ≡ Some from → mark g (n + 1) ≡ mark_at (Some slot) → version (n + 1) ≡ version n → Watched (mark g) version (notified g) n w → Watched (mark g) version (notified g) (n + 1) (after w))
+          → ((w : Watcher) → mark g n ≡ Some from → mark g (n + 1) ≡ mark_at (Some slot) → version (n + 1) ≡ version n
+          → Watched (mark g) version (notified g) n w → Watched (mark g) version (notified g) (n + 1) (after w))
           → AreWatched mark version notified (n + 1) (record y { slots = set y.slots g slot }) (with_watcher t g (option_map after (watcher_in t g)))
       on_receiver g from slot after here then idle own =
-          on_set g slot (Live Receiver from) (option_map after (watcher_in t g)) here then idle (λ there same. by_watcher (watcher_in t g) (are.watched g) there same) where
+          on_set g slot (Live Receiver from) (option_map after (watcher_in t g)) here then idle
+          (λ there same. by_watcher (watcher_in t g) (are.watched g) there same) where
             at : mark g n ≡ Some from
             at = now.marks g ∙ ap mark_at here
 
-            by_watcher : (o : Option Watcher) → IsWatched (mark g) version (notified g) n o → mark g (n + 1) ≡ mark_at (Some slot) → version (n + 1) ≡ version n → IsWatched (mark g) version (notified g) (n + 1) (option_map after o)
+            by_watcher : (o : Option Watcher) → IsWatched (mark g) version (notified g) n o → mark g (n + 1) ≡ mark_at (Some slot) → version (n + 1) ≡ version n
+                → IsWatched (mark g) version (notified g) (n + 1) (option_map after o)
             by_watcher None is there same = let e : ◌≡◌ {A = Option (Option ℕ)} None (Some from) = sym (is.absent n (omega arith)) ∙ at in absurd cc
             by_watcher (Some w) is there same = own w at there same is
 
-      sender_leaves : (g : ℕ) (kind : Kind) (m : Option ℕ) → slice_get y.slots g ≡ Some (Live kind m) → ShowsAt mark version notified (n + 1) (with_change y (Leave g kind m)) → ((h : ℕ) → notified h (n + 1) ≡ notified h n)
-          → mark_at (Some (Live kind m)) ≡ None → AreWatched mark version notified (n + 1) (with_change y (Leave g kind m)) (with_watcher t g (option_map (after_end t.version) (watcher_in t g)))
+      sender_leaves : (g : ℕ) (kind : Kind) (m : Option ℕ) → slice_get y.slots g ≡ Some (Live kind m)
+          → ShowsAt mark version notified (n + 1) (with_change y (Leave g kind m)) → ((h : ℕ) → notified h (n + 1) ≡ notified h n)
+          → mark_at (Some (Live kind m)) ≡ None → AreWatched mark version notified (n + 1) (with_change y (Leave g kind m))
+          (with_watcher t g (option_map (after_end t.version) (watcher_in t g)))
       sender_leaves g kind m here then idle nobody =
-          on_set g Spent (Live kind m) (option_map (after_end t.version) (watcher_in t g)) here then (λ h apart. idle h) (λ there same. by_watcher (watcher_in t g) (are.watched g) there same) where
+          on_set g Spent (Live kind m) (option_map (after_end t.version) (watcher_in t g)) here then (λ h apart. idle h)
+          (λ there same. by_watcher (watcher_in t g) (are.watched g) there same) where
             at : mark g n ≡ None
             at = now.marks g ∙ ap mark_at here ∙ nobody
 
-            by_watcher : (o : Option Watcher) → IsWatched (mark g) version (notified g) n o → mark g (n + 1) ≡ None → version (n + 1) ≡ version n → IsWatched (mark g) version (notified g) (n + 1) (option_map (after_end t.version) o)
+            by_watcher : (o : Option Watcher) → IsWatched (mark g) version (notified g) n o → mark g (n + 1) ≡ None → version (n + 1) ≡ version n
+                → IsWatched (mark g) version (notified g) (n + 1) (option_map (after_end t.version) o)
             by_watcher None is there same = rests (mark g) version (notified g) n None are.rises (idle g) (there ∙ sym at) (inl same) is
             by_watcher (Some w) is there same = is_gone (mark g) version (notified g) n t.version w are.rises (idle g) at there same is
 
-      on_leave : (g : ℕ) (kind : Kind) (m : Option ℕ) → slice_get y.slots g ≡ Some (Live kind m) → ShowsAt mark version notified (n + 1) (with_change y (Leave g kind m)) → ((h : ℕ) → notified h (n + 1) ≡ notified h n)
+      on_leave : (g : ℕ) (kind : Kind) (m : Option ℕ) → slice_get y.slots g ≡ Some (Live kind m)
+          → ShowsAt mark version notified (n + 1) (with_change y (Leave g kind m)) → ((h : ℕ) → notified h (n + 1) ≡ notified h n)
           → AreWatched mark version notified (n + 1) (with_change y (Leave g kind m)) (with_watcher t g (option_map (after_end t.version) (watcher_in t g)))
       on_leave g Receiver m here then idle =
           on_receiver g m Spent (after_end t.version) here then (λ h apart. idle h)
-          (λ w at gone same is. subst (λ v. Watched (mark g) version (notified g) (n + 1) (after_end v w)) (sym version_now) (is_ended (mark g) version (notified g) n w m (idle g) at gone same is))
+          (λ w at gone same is. subst (λ v. Watched (mark g) version (notified g) (n + 1) (after_end v w)) (sym version_now)
+          (is_ended (mark g) version (notified g) n w m (idle g) at gone same is))
       on_leave g Sender m here then idle = sender_leaves g Sender m here then idle refl
       on_leave g Weak m here then idle = sender_leaves g Weak m here then idle refl
 
     -- any call
-    pub watched_on : (y : Shown V) (t : WatchTally) (call : WCall V) (change : Change V) (r : WReply V) → AreWatched mark version notified n y t → ShowsAt mark version notified n y → StepsTo y call change r
+    pub watched_on : (y : Shown V) (t : WatchTally) (call : WCall V) (change : Change V) (r : WReply V) → AreWatched mark version notified n y t
+        → ShowsAt mark version notified n y → StepsTo y call change r
         → ((h : ℕ) → notified h (n + 1) ≡ cond (is_notified h (call_of.W call) (reply_of.W r)) (notified h n + 1) (notified h n))
         → ShowsAt mark version notified (n + 1) (with_change y change) → AreWatched mark version notified (n + 1) (with_change y change) (with_call t call r)
     watched_on y t call change r are now steps counts then = by_step steps counts then where
-      silent : (call : WCall V) (r : WReply V) → IsSilent call r → ((h : ℕ) → notified h (n + 1) ≡ cond (is_notified h (call_of.W call) (reply_of.W r)) (notified h n + 1) (notified h n)) → (h : ℕ) → notified h (n + 1) ≡ notified h n
+      silent : (call : WCall V) (r : WReply V) → IsSilent call r
+          → ((h : ℕ) → notified h (n + 1) ≡ cond (is_notified h (call_of.W call) (reply_of.W r)) (notified h n + 1) (notified h n)) → (h : ℕ)
+          → notified h (n + 1) ≡ notified h n
       silent call r is counts h = counts h ∙ ap (λ b. cond b (notified h n + 1) (notified h n)) (is h)
 
       version_is : t.version ≡ version n
@@ -196,7 +221,8 @@ module _ {V : Type 0} where
           → ((h : ℕ) → notified h (n + 1) ≡ cond (is_notified h (call_of.W call) (reply_of.W r)) (notified h n + 1) (notified h n))
           → ShowsAt mark version notified (n + 1) (with_change y change) → AreWatched mark version notified (n + 1) (with_change y change) (with_call t call r)
       by_step (keeps {call = call} {r = r} quiet same) counts then =
-          subst (λ u. AreWatched mark version notified (n + 1) y u) (sym (same t)) (on_version y t are now y t refl refl are.tally.version (inl refl) then (silent call r quiet counts))
+          subst (λ u. AreWatched mark version notified (n + 1) y u) (sym (same t))
+          (on_version y t are now y t refl refl are.tally.version (inl refl) then (silent call r quiet counts))
       by_step (writes {call = call} {v = v} {told = told} {r = r} quiet same) counts then =
           subst (λ u. AreWatched mark version notified (n + 1) (with_change y (Write v told)) u) (sym (same t))
           (on_version y t are now (with_change y (Write v told)) (record t { version = cond told (t.version + 1) t.version }) refl refl
@@ -210,9 +236,11 @@ module _ {V : Type 0} where
           (λ h there same unwatched. subst (λ v. Watched (mark h) version (notified h) (n + 1) (new_watcher v)) (same ∙ sym version_is)
           (is_made (mark h) version (notified h) n m (counts h) there (λ v m_is. omega (arith, small v m_is, same, now.version_is)) unwatched)))
       by_step (makes_other {call = call} {n = k} makes) counts then =
-          subst (λ w. AreWatched mark version notified (n + 1) (with_change y (Make Sender None)) (record t { watchers = t.watchers ++ w ∷ [] })) (sym (makes t))
+          subst (λ w. AreWatched mark version notified (n + 1) (with_change y (Make Sender None)) (record t { watchers = t.watchers ++ w ∷ [] }))
+          (sym (makes t))
           (on_make y t are now Sender None None then (λ h. counts h)
-          (λ h there same unwatched. rests (mark h) version (notified h) n None are.rises (counts h) (there ∙ sym (unwatched.absent n (omega arith))) (inl same) unwatched))
+          (λ h there same unwatched. rests (mark h) version (notified h) n None are.rises (counts h) (there ∙ sym (unwatched.absent n (omega arith))) (inl same)
+          unwatched))
       by_step (looks {call = call} {h = g} {from = from} {r = r} here quiet same) counts then =
           subst (λ u. AreWatched mark version notified (n + 1) (with_change y (Mark g from (Some y.version))) u) (sym (same t))
           (on_receiver y t are now g from (Live Receiver (Some y.version)) (after_look t.version) here then (λ h apart. silent call r quiet counts h)
@@ -222,7 +250,8 @@ module _ {V : Type 0} where
           on_receiver y t are now g from (Live Receiver (Some y.version)) (after_change t.version) here then
           (λ h apart. counts h ∙ ap (λ b. cond b (notified h n + 1) (notified h n)) (eq_not g h (λ same. apart (sym same))))
           (λ w at there version_same is. subst (λ v. Watched (mark g) version (notified g) (n + 1) (after_change v w)) (sym version_is)
-          (is_changed (mark g) version (notified g) n w from (counts g ∙ ap (λ b. cond b (notified g n + 1) (notified g n)) (eq_is g g refl)) at (there ∙ to_version from) version_same is))
+          (is_changed (mark g) version (notified g) n w from (counts g ∙ ap (λ b. cond b (notified g n + 1) (notified g n)) (eq_is g g refl)) at
+          (there ∙ to_version from) version_same is))
       by_step (unmarks {h = g} {from = from} here) counts then =
           subst (λ u. AreWatched mark version notified (n + 1) (with_change y (Mark g from None)) u) (put_back t.watchers g)
           (on_receiver y t are now g from (Live Receiver None) (λ w. w) here then (λ h apart. counts h)

@@ -84,9 +84,11 @@ module _ (mark : ℕ → Option (Option ℕ)) (version changes : ℕ → ℕ) wh
   missed_back n v old is = (came_back n v old is.0, λ place within seen. is.1 place (omega (arith, within)) seen)
 
   -- what was settled is settled at the next place
-  settled_on : (n m count : ℕ) → m ≤ version n → ((v : ℕ) → v ≤ m → mark (n + 1) ≡ Some (Some v) → IsMissed mark version n v → ⊥) → IsCount (IsMissed mark version n) m count → IsCount (IsMissed mark version (n + 1)) m count
+  settled_on : (n m count : ℕ) → m ≤ version n → ((v : ℕ) → v ≤ m → mark (n + 1) ≡ Some (Some v) → IsMissed mark version n v → ⊥)
+      → IsCount (IsMissed mark version n) m count → IsCount (IsMissed mark version (n + 1)) m count
   settled_on n m count old apart is =
-      count_same {P = IsMissed mark version n} {Q = IsMissed mark version (n + 1)} (λ v below. missed_on n v (apart v below)) (λ v below. missed_back n v (omega (arith, below, old))) is
+      count_same {P = IsMissed mark version n} {Q = IsMissed mark version (n + 1)} (λ v below. missed_on n v (apart v below))
+      (λ v below. missed_back n v (omega (arith, below, old))) is
 
   -- a mark that is new at the next place is None
   abbrev pub IsSeenBefore : ℕ → Type 0
@@ -95,15 +97,18 @@ module _ (mark : ℕ → Option (Option ℕ)) (version changes : ℕ → ℕ) wh
   seen_apart : (n : ℕ) → IsSeenBefore n → (v : ℕ) → mark (n + 1) ≡ Some (Some v) → IsMissed mark version n v → ⊥
   seen_apart n before v seen is = is.1 n (omega arith) (before v seen)
 
-  marks_on : (n looked : ℕ) → IsSeenBefore n → ((place v : ℕ) → place ≤ n → mark place ≡ Some (Some v) → v ≤ looked) → (place v : ℕ) → place ≤ n + 1 → mark place ≡ Some (Some v) → v ≤ looked
+  marks_on : (n looked : ℕ) → IsSeenBefore n → ((place v : ℕ) → place ≤ n → mark place ≡ Some (Some v) → v ≤ looked) → (place v : ℕ) → place ≤ n + 1
+      → mark place ≡ Some (Some v) → v ≤ looked
   marks_on n looked before marks place v within seen =
       elim (cases_lt place (n + 1)) [
         | inl inside ↦ marks place v (omega (arith, inside)) seen
-        | inr past ↦ let here : place ≡ n + 1 = omega (arith, within, past) in marks n v (omega arith) (before v (subst (λ k. mark k ≡ Some (Some v)) here seen))
+        | inr past ↦ let here : place ≡ n + 1 = omega (arith, within, past) in
+            marks n v (omega arith) (before v (subst (λ k. mark k ≡ Some (Some v)) here seen))
       ]
 
   -- a receiver that is there stays there, and the version may rise
-  alive_on : (n : ℕ) (w : Watcher) → IsSeenBefore n → IsSome (mark (n + 1)) → (version (n + 1) ≡ version n) ⊎ (version (n + 1) ≡ version n + 1) → IsAlive n w → IsAlive (n + 1) w
+  alive_on : (n : ℕ) (w : Watcher) → IsSeenBefore n → IsSome (mark (n + 1)) → (version (n + 1) ≡ version n) ⊎ (version (n + 1) ≡ version n + 1) → IsAlive n w
+      → IsAlive (n + 1) w
   alive_on n w before there rise is = record {
     there = there;
     settled = settled_on n w.looked w.missed is.few_looked (λ v below. seen_apart n before v) is.settled;
@@ -135,22 +140,26 @@ module _ (mark : ℕ → Option (Option ℕ)) (version changes : ℕ → ℕ) wh
         some_none None none some = absurd cc
         some_none (Some m) none some = absurd cc
 
-  ended_on : (n : ℕ) (w : Watcher) → Rises n → mark (n + 1) ≡ None → (version (n + 1) ≡ version n) ⊎ (version (n + 1) ≡ version n + 1) → IsEnded n w → IsEnded (n + 1) w
+  ended_on : (n : ℕ) (w : Watcher) → Rises n → mark (n + 1) ≡ None → (version (n + 1) ≡ version n) ⊎ (version (n + 1) ≡ version n + 1) → IsEnded n w
+      → IsEnded (n + 1) w
   ended_on n w rises gone rise is =
       let settled : IsCount (IsMissed mark version (n + 1)) (version n) w.missed =
-      settled_on n (version n) w.missed (omega arith) (λ v below seen missed. let e : ◌≡◌ {A = Option (Option ℕ)} None (Some (Some v)) = sym gone ∙ seen in absurd cc) is.settled in
+      settled_on n (version n) w.missed (omega arith)
+      (λ v below seen missed. let e : ◌≡◌ {A = Option (Option ℕ)} None (Some (Some v)) = sym gone ∙ seen in absurd cc) is.settled in
       record {
         gone = gone;
         settled = elim rise [
           | inl same ↦ subst (λ m. IsCount (IsMissed mark version (n + 1)) m w.missed) (sym same) settled
-          | inr up ↦ subst (λ m. IsCount (IsMissed mark version (n + 1)) m w.missed) (sym up) (count_other settled (λ missed. never_came n (version n + 1) rises is.gone (omega arith) missed.0))
+          | inr up ↦ subst (λ m. IsCount (IsMissed mark version (n + 1)) m w.missed) (sym up)
+              (count_other settled (λ missed. never_came n (version n + 1) rises is.gone (omega arith) missed.0))
         ];
         few_looked = elim rise [ inl same ↦ omega (arith, same, is.few_looked) | inr up ↦ omega (arith, up, is.few_looked) ];
         few_missed = elim rise [ inl same ↦ omega (arith, same, is.few_missed) | inr up ↦ omega (arith, up, is.few_missed) ];
       }
 
   -- a receiver with which nothing happens, while the version may rise
-  pub rests : (n : ℕ) (o : Option Watcher) → Rises n → changes (n + 1) ≡ changes n → mark (n + 1) ≡ mark n → (version (n + 1) ≡ version n) ⊎ (version (n + 1) ≡ version n + 1) → IsWatched n o → IsWatched (n + 1) o
+  pub rests : (n : ℕ) (o : Option Watcher) → Rises n → changes (n + 1) ≡ changes n → mark (n + 1) ≡ mark n
+      → (version (n + 1) ≡ version n) ⊎ (version (n + 1) ≡ version n + 1) → IsWatched n o → IsWatched (n + 1) o
   rests n None rises idle same rise is = record { absent = absent_on n is.absent (same ∙ is.absent n (omega arith)); changes_is = idle ∙ is.changes_is }
   rests n (Some w) rises idle same rise is = record {
     was_there = there_on n is.was_there;
@@ -170,7 +179,8 @@ module _ (mark : ℕ → Option (Option ℕ)) (version changes : ℕ → ℕ) wh
     by_alive false alive state = let e : ◌≡◌ {A = Option (Option ℕ)} None (Some m) = sym state.gone ∙ here in absurd cc
 
   -- the mark of a receiver is removed
-  pub is_unmarked : (n : ℕ) (w : Watcher) (m : Option ℕ) → changes (n + 1) ≡ changes n → mark n ≡ Some m → mark (n + 1) ≡ Some None → version (n + 1) ≡ version n → Watched n w → Watched (n + 1) w
+  pub is_unmarked : (n : ℕ) (w : Watcher) (m : Option ℕ) → changes (n + 1) ≡ changes n → mark n ≡ Some m → mark (n + 1) ≡ Some None
+      → version (n + 1) ≡ version n → Watched n w → Watched (n + 1) w
   is_unmarked n w m idle here there same is =
       let alive = alive_at n w m here is in
       record {
@@ -178,11 +188,13 @@ module _ (mark : ℕ → Option (Option ℕ)) (version changes : ℕ → ℕ) wh
         changes_is = is.changes_is ∙ sym idle;
         few_changes = omega (arith, is.few_changes);
         state = subst (λ b. IsState (n + 1) b w) (sym alive.0)
-            (alive_on n w (λ v seen. let e : ◌≡◌ {A = Option (Option ℕ)} (Some None) (Some (Some v)) = sym there ∙ seen in absurd cc) (subst (λ o. IsSome o) (sym there) refl) (inl same) alive.1);
+            (alive_on n w (λ v seen. let e : ◌≡◌ {A = Option (Option ℕ)} (Some None) (Some (Some v)) = sym there ∙ seen in absurd cc)
+            (subst (λ o. IsSome o) (sym there) refl) (inl same) alive.1);
       }
 
   -- a receiver is made
-  pub is_made : (n : ℕ) (m : Option ℕ) → changes (n + 1) ≡ changes n → mark (n + 1) ≡ Some m → ((v : ℕ) → m ≡ Some v → v ≤ version (n + 1)) → Unwatched n → Watched (n + 1) (new_watcher (version (n + 1)))
+  pub is_made : (n : ℕ) (m : Option ℕ) → changes (n + 1) ≡ changes n → mark (n + 1) ≡ Some m → ((v : ℕ) → m ≡ Some v → v ≤ version (n + 1)) → Unwatched n
+      → Watched (n + 1) (new_watcher (version (n + 1)))
   is_made n m idle there small is = record {
     was_there = (n + 1, omega arith, subst (λ o. IsSome o) (sym there) refl);
     changes_is = sym (idle ∙ is.changes_is);
@@ -211,20 +223,23 @@ module _ (mark : ℕ → Option (Option ℕ)) (version changes : ℕ → ℕ) wh
     nobody v missed = some_none (mark missed.0.place) (is.absent missed.0.place (omega (arith, missed.0.within))) missed.0.there
 
   -- it looks at the value
-  looked_on : (n : ℕ) (w : Watcher) → mark (n + 1) ≡ Some (Some (version n)) → version (n + 1) ≡ version n → IsAlive n w → IsAlive (n + 1) (after_look (version n) w)
+  looked_on : (n : ℕ) (w : Watcher) → mark (n + 1) ≡ Some (Some (version n)) → version (n + 1) ≡ version n → IsAlive n w
+      → IsAlive (n + 1) (after_look (version n) w)
   looked_on n w there same is =
       elim (cases_lt w.looked (version n)) [
-        | inl new ↦ subst (λ b. IsAlive (n + 1) (cond b (record w { looked = version n; missed = w.missed + (version n - w.looked - 1) }) w)) (sym (lt_is w.looked (version n) new)) (record {
-          there = subst (λ o. IsSome o) (sym there) refl;
-          settled = counted new;
-          not_looked = seen_now (version n) there;
-          came = λ v above below. absurd (omega (arith, above, below, same));
-          marks = marks_now (version n) (omega arith) (is.few_looked);
-          few_looked = omega (arith, same);
-          few_missed = omega (arith, is.few_missed, new);
-        })
+        | inl new ↦ subst (λ b. IsAlive (n + 1) (cond b (record w { looked = version n; missed = w.missed + (version n - w.looked - 1) }) w))
+            (sym (lt_is w.looked (version n) new)) (record {
+              there = subst (λ o. IsSome o) (sym there) refl;
+              settled = counted new;
+              not_looked = seen_now (version n) there;
+              came = λ v above below. absurd (omega (arith, above, below, same));
+              marks = marks_now (version n) (omega arith) (is.few_looked);
+              few_looked = omega (arith, same);
+              few_missed = omega (arith, is.few_missed, new);
+            })
         | inr old ↦ let looked : w.looked ≡ version n = omega (arith, old, is.few_looked) in
-            subst (λ b. IsAlive (n + 1) (cond b (record w { looked = version n; missed = w.missed + (version n - w.looked - 1) }) w)) (sym (not_lt_is w.looked (version n) old)) (record {
+            subst (λ b. IsAlive (n + 1) (cond b (record w { looked = version n; missed = w.missed + (version n - w.looked - 1) }) w))
+            (sym (not_lt_is w.looked (version n) old)) (record {
               there = subst (λ o. IsSome o) (sym there) refl;
               settled = settled_on n w.looked w.missed is.few_looked (λ v below seen missed.
                   let v_is : version n ≡ v = seen_is v seen in is.not_looked (subst (IsMissed mark version n) (sym v_is ∙ sym looked) missed)) is.settled;
@@ -245,18 +260,21 @@ module _ (mark : ℕ → Option (Option ℕ)) (version changes : ℕ → ℕ) wh
         marks_now looked fits more place v within seen =
             elim (cases_lt place (n + 1)) [
               | inl inside ↦ omega (arith, is.marks place v (omega (arith, inside)) seen, more)
-              | inr past ↦ let here : place ≡ n + 1 = omega (arith, within, past) in omega (arith, seen_is v (subst (λ k. mark k ≡ Some (Some v)) here seen), fits)
+              | inr past ↦ let here : place ≡ n + 1 = omega (arith, within, past) in
+                  omega (arith, seen_is v (subst (λ k. mark k ≡ Some (Some v)) here seen), fits)
             ]
 
         counted : w.looked < version n → IsCount (IsMissed mark version (n + 1)) (version n) (w.missed + (version n - w.looked - 1))
         counted new =
             let below : IsCount (IsMissed mark version n) (version n - 1) (w.missed + (version n - 1 - w.looked)) =
-            count_all is.settled (version n - 1) (omega (arith, new)) (λ v above under. (is.came v above (omega (arith, under, new)), λ place within seen. omega (arith, is.marks place v within seen, above))) in
+            count_all is.settled (version n - 1) (omega (arith, new))
+            (λ v above under. (is.came v above (omega (arith, under, new)), λ place within seen. omega (arith, is.marks place v within seen, above))) in
             let on : IsCount (IsMissed mark version (n + 1)) (version n - 1) (w.missed + (version n - 1 - w.looked)) =
             settled_on n (version n - 1) _ (omega arith) (λ v under seen missed. omega (arith, seen_is v seen, under, new)) below in
             let whole : version n - 1 + 1 ≡ version n = omega (arith, new) in
             let count : w.missed + (version n - 1 - w.looked) ≡ w.missed + (version n - w.looked - 1) = omega arith in
-            subst (λ k. IsCount (IsMissed mark version (n + 1)) (version n) k) count (subst (λ m. IsCount (IsMissed mark version (n + 1)) m (w.missed + (version n - 1 - w.looked))) whole
+            subst (λ k. IsCount (IsMissed mark version (n + 1)) (version n) k) count
+            (subst (λ m. IsCount (IsMissed mark version (n + 1)) m (w.missed + (version n - 1 - w.looked))) whole
             (count_other on (λ missed. seen_now (version n - 1 + 1) (there ∙ ap (λ k. Some (Some k)) (sym whole)) missed)))
 
   look_alive : (v : ℕ) (w : Watcher) → (after_look v w).alive ≡ w.alive
@@ -271,7 +289,8 @@ module _ (mark : ℕ → Option (Option ℕ)) (version changes : ℕ → ℕ) wh
     by_test true = refl
     by_test false = refl
 
-  pub is_looked : (n : ℕ) (w : Watcher) (m : Option ℕ) → changes (n + 1) ≡ changes n → mark n ≡ Some m → mark (n + 1) ≡ Some (Some (version n)) → version (n + 1) ≡ version n → Watched n w → Watched (n + 1) (after_look (version n) w)
+  pub is_looked : (n : ℕ) (w : Watcher) (m : Option ℕ) → changes (n + 1) ≡ changes n → mark n ≡ Some m → mark (n + 1) ≡ Some (Some (version n))
+      → version (n + 1) ≡ version n → Watched n w → Watched (n + 1) (after_look (version n) w)
   is_looked n w m idle here there same is =
       let alive = alive_at n w m here is in
       record {
@@ -282,7 +301,8 @@ module _ (mark : ℕ → Option (Option ℕ)) (version changes : ℕ → ℕ) wh
       }
 
   -- it looks, and is told of the change
-  pub is_changed : (n : ℕ) (w : Watcher) (m : Option ℕ) → changes (n + 1) ≡ changes n + 1 → mark n ≡ Some m → mark (n + 1) ≡ Some (Some (version n)) → version (n + 1) ≡ version n → Watched n w → Watched (n + 1) (after_change (version n) w)
+  pub is_changed : (n : ℕ) (w : Watcher) (m : Option ℕ) → changes (n + 1) ≡ changes n + 1 → mark n ≡ Some m → mark (n + 1) ≡ Some (Some (version n))
+      → version (n + 1) ≡ version n → Watched n w → Watched (n + 1) (after_change (version n) w)
   is_changed n w m more here there same is =
       let alive = alive_at n w m here is in
       let looked : IsAlive (n + 1) (after_look (version n) w) = looked_on n w there same alive.1 in
@@ -304,7 +324,8 @@ module _ (mark : ℕ → Option (Option ℕ)) (version changes : ℕ → ℕ) wh
   -- what one that is there has missed
   alive_count : (n : ℕ) (w : Watcher) → IsAlive n w → IsCount (IsMissed mark version n) (version n) (w.missed + (version n - w.looked))
   alive_count n w is =
-      count_all is.settled (version n) is.few_looked (λ v above under. (is.came v above under, λ place within seen. omega (arith, is.marks place v within seen, above)))
+      count_all is.settled (version n) is.few_looked
+      (λ v above under. (is.came v above under, λ place within seen. omega (arith, is.marks place v within seen, above)))
 
   pub missed_count : (n : ℕ) (w : Watcher) → Watched n w → IsCount (IsMissed mark version n) (version n) (missed_at (version n) w)
   missed_count n w is = by_alive w.alive is.state where
@@ -313,26 +334,30 @@ module _ (mark : ℕ → Option (Option ℕ)) (version changes : ℕ → ℕ) wh
     by_alive false state = state.settled
 
   -- it is dropped
-  pub is_ended : (n : ℕ) (w : Watcher) (m : Option ℕ) → changes (n + 1) ≡ changes n → mark n ≡ Some m → mark (n + 1) ≡ None → version (n + 1) ≡ version n → Watched n w → Watched (n + 1) (after_end (version n) w)
+  pub is_ended : (n : ℕ) (w : Watcher) (m : Option ℕ) → changes (n + 1) ≡ changes n → mark n ≡ Some m → mark (n + 1) ≡ None → version (n + 1) ≡ version n
+      → Watched n w → Watched (n + 1) (after_end (version n) w)
   is_ended n w m idle here gone same is =
       let alive = alive_at n w m here is in
       let missed_is : missed_at (version n) w ≡ w.missed + (version n - w.looked) = ap (λ b. cond b (w.missed + (version n - w.looked)) w.missed) alive.0 in
       let settled : IsCount (IsMissed mark version (n + 1)) (version n) (w.missed + (version n - w.looked)) =
-      settled_on n (version n) _ (omega arith) (λ v below seen missed. let e : ◌≡◌ {A = Option (Option ℕ)} None (Some (Some v)) = sym gone ∙ seen in absurd cc) (alive_count n w alive.1) in
+      settled_on n (version n) _ (omega arith) (λ v below seen missed. let e : ◌≡◌ {A = Option (Option ℕ)} None (Some (Some v)) = sym gone ∙ seen in absurd cc)
+      (alive_count n w alive.1) in
       record {
         was_there = there_on n is.was_there;
         changes_is = is.changes_is ∙ sym idle;
         few_changes = omega (arith, is.few_changes);
         state = record {
           gone = gone;
-          settled = subst (λ k. IsCount (IsMissed mark version (n + 1)) (version (n + 1)) k) (sym missed_is) (subst (λ v. IsCount (IsMissed mark version (n + 1)) v (w.missed + (version n - w.looked))) (sym same) settled);
+          settled = subst (λ k. IsCount (IsMissed mark version (n + 1)) (version (n + 1)) k) (sym missed_is)
+              (subst (λ v. IsCount (IsMissed mark version (n + 1)) v (w.missed + (version n - w.looked))) (sym same) settled);
           few_looked = omega (arith, same, alive.1.few_looked);
           few_missed = omega (arith, same, missed_is, alive.1.few_missed, alive.1.few_looked);
         };
       }
 
   -- one that isn't there is dropped again, which changes nothing
-  pub is_gone : (n v : ℕ) (w : Watcher) → Rises n → changes (n + 1) ≡ changes n → mark n ≡ None → mark (n + 1) ≡ None → version (n + 1) ≡ version n → Watched n w → Watched (n + 1) (after_end v w)
+  pub is_gone : (n v : ℕ) (w : Watcher) → Rises n → changes (n + 1) ≡ changes n → mark n ≡ None → mark (n + 1) ≡ None → version (n + 1) ≡ version n
+      → Watched n w → Watched (n + 1) (after_end v w)
   is_gone n v w rises idle gone still same is = by_alive w.alive refl is.state where
     by_alive : (b : Bool) → w.alive ≡ b → IsState n b w → Watched (n + 1) (after_end v w)
     by_alive true alive state = absurd (some_none (mark n) gone state.there) where

@@ -17,7 +17,8 @@ pub found_at_is : {X : Type 0} (wanted : Option Kind) (o : Option (Slot X)) (kin
 found_at_is wanted None kind x h = cc
 found_at_is wanted (Some Spent) kind x h = cc
 found_at_is wanted (Some (Live own y)) kind x h = found_live (serves wanted own) own y kind x h where
-  found_live : {X : Type 0} (b : Bool) (own : Kind) (y : X) (kind : Kind) (x : X) → cond b (Handle own y) (Fault WrongKind) ≡ Handle kind x → Some (Live own y) ≡ Some (Live kind x)
+  found_live : {X : Type 0} (b : Bool) (own : Kind) (y : X) (kind : Kind) (x : X) → cond b (Handle own y) (Fault WrongKind) ≡ Handle kind x
+      → Some (Live own y) ≡ Some (Live kind x)
   found_live true own y kind x h = cc
   found_live false own y kind x h = cc
 
@@ -34,11 +35,13 @@ same_kind_is Weak Weak h = refl
 same_kind_is _ _ h = cc
 
 -- and where a kind is wanted, the handle is of that kind
-pub found_at_wanted : {X : Type 0} (wanted : Kind) (o : Option (Slot X)) (kind : Kind) (x : X) → lookup_at (Some wanted) o ≡ Handle kind x → o ≡ Some (Live wanted x)
+pub found_at_wanted : {X : Type 0} (wanted : Kind) (o : Option (Slot X)) (kind : Kind) (x : X) → lookup_at (Some wanted) o ≡ Handle kind x
+    → o ≡ Some (Live wanted x)
 found_at_wanted wanted None kind x h = cc
 found_at_wanted wanted (Some Spent) kind x h = cc
 found_at_wanted wanted (Some (Live own y)) kind x h = found_live (same_kind wanted own) (same_kind_is wanted own) y h where
-  found_live : (b : Bool) (same : b ≡ true → wanted ≡ own) (y : _) → cond b (Handle own y) (Fault WrongKind) ≡ Handle kind x → Some (Live own y) ≡ Some (Live wanted x)
+  found_live : (b : Bool) (same : b ≡ true → wanted ≡ own) (y : _) → cond b (Handle own y) (Fault WrongKind) ≡ Handle kind x
+      → Some (Live own y) ≡ Some (Live wanted x)
   found_live true same y h = let e : wanted ≡ own = same refl in cc
   found_live false same y h = cc
 
@@ -53,7 +56,8 @@ pub values-append : {X : Type 0} (kind : Kind) (xs ys : List (Slot X)) → value
 values-append kind [] ys = refl
 values-append kind (Spent ∷ xs) ys = values-append kind xs ys
 values-append kind (Live own x ∷ xs) ys = appended (same_kind kind own) (values-append kind xs ys) where
-  appended : (b : Bool) → values kind (xs ++ ys) ≡ values kind xs ++ values kind ys → cond b (x ∷ values kind (xs ++ ys)) (values kind (xs ++ ys)) ≡ cond b (x ∷ values kind xs) (values kind xs) ++ values kind ys
+  appended : (b : Bool) → values kind (xs ++ ys) ≡ values kind xs ++ values kind ys
+      → cond b (x ∷ values kind (xs ++ ys)) (values kind (xs ++ ys)) ≡ cond b (x ∷ values kind xs) (values kind xs) ++ values kind ys
   appended true h = ap (λ l. x ∷ l) h
   appended false h = h
 
@@ -67,13 +71,15 @@ slice_get-push xs a =
       at_end (x ∷ xs) a = at_end xs a
 
 -- the handle that was made last is alive
-pub live_push : {X : Type 0} (slots : List (Slot X)) (kind : Kind) (x : X) → IsLive (slice_get (slots ++ Live kind x ∷ []) (length (slots ++ Live kind x ∷ []) - 1))
+pub live_push : {X : Type 0} (slots : List (Slot X)) (kind : Kind) (x : X)
+    → IsLive (slice_get (slots ++ Live kind x ∷ []) (length (slots ++ Live kind x ∷ []) - 1))
 live_push slots kind x = is_live (slice_get-push slots (Live kind x)) where
   is_live : {X : Type 0} {o : Option (Slot X)} {kind : Kind} {x : X} → o ≡ Some (Live kind x) → IsLive o
   is_live h = rw h refl
 
 -- a receiver stays one when its value is written
-pub receiver_set : {X : Type 0} (slots : List (Slot X)) (i : ℕ) (x was : X) → slice_get slots i ≡ Some (Live Receiver was) → IsReceiver (slice_get (set slots i (Live Receiver x)) i)
+pub receiver_set : {X : Type 0} (slots : List (Slot X)) (i : ℕ) (x was : X) → slice_get slots i ≡ Some (Live Receiver was)
+    → IsReceiver (slice_get (set slots i (Live Receiver x)) i)
 receiver_set slots i x was at = is_receiver (slice_get-set slots i (Live Receiver x) (Live Receiver was) at) where
   is_receiver : {X : Type 0} {o : Option (Slot X)} {x : X} → o ≡ Some (Live Receiver x) → IsReceiver o
   is_receiver h = rw h tt

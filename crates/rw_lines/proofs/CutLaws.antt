@@ -1,5 +1,6 @@
 -- Where bytes are cut, and what the parts are.
-use Rattle.std.proofs.Common.{◌≡◌, ◌≢◌, ℕ, zero, suc, ◌+◌, ◌-◌, ◌<◌, Bool, true, false, not, cond, List, [], ◌∷◌, ◌++◌, length, take, drop, get_or, Option, Some, None, inl, inr, ◌⊎◌, refl, ap, ◌∙◌, arith, ltb, eqb, add-one}
+use Rattle.std.proofs.Common.{◌≡◌, ◌≢◌, ℕ, zero, suc, ◌+◌, ◌-◌, ◌<◌, Bool, true, false, not, cond, List, [], ◌∷◌, ◌++◌, length, take}
+use Rattle.std.proofs.Common.{drop, get_or, Option, Some, None, inl, inr, ◌⊎◌, refl, ap, ◌∙◌, arith, ltb, eqb, add-one}
 use Rattle.std.specs.Prelude.{position}
 use Rattle.std.proofs.lemmas.Bool.{ltb-false, cond-true, cond-false, and_parts, and_from, not-true, eqb-true, eq-eqb, ne_eqb}
 use Rattle.std.proofs.lemmas.List.{take_rest}
@@ -36,7 +37,8 @@ onto_none : (b : ℕ) (o : Option (List ℕ × List ℕ)) → onto b o ≡ None 
 onto_none b None e = refl
 onto_none b (Some q) e = absurd cc
 
-stop_some : (t : Bool) (bs : List ℕ) (more : Option (List ℕ × List ℕ)) (p : List ℕ × List ℕ) → stop t bs more ≡ Some p → ((t ≡ true) × (([], bs) ≡ p)) ⊎ ((t ≡ false) × (more ≡ Some p))
+stop_some : (t : Bool) (bs : List ℕ) (more : Option (List ℕ × List ℕ)) (p : List ℕ × List ℕ) → stop t bs more ≡ Some p
+    → ((t ≡ true) × (([], bs) ≡ p)) ⊎ ((t ≡ false) × (more ≡ Some p))
 stop_some true bs more p e = inl (refl, cc)
 stop_some false bs more p e = inr (refl, e)
 
@@ -100,7 +102,8 @@ cut_none bytes mark e =
     let all = none_below _ _ e in
     at_none mark bytes (λ k lt. fails_before_first (λ b. eqb b mark) bytes k 0 (omega (arith, ltb-false _ _ all)))
 
-pub cut_some : (bytes : List ℕ) (mark at : ℕ) → position (λ b. eqb b mark) bytes ≡ Some at → cut mark bytes ≡ Some (take at bytes, take (length bytes - (at + 1)) (drop (at + 1) bytes))
+pub cut_some : (bytes : List ℕ) (mark at : ℕ) → position (λ b. eqb b mark) bytes ≡ Some at
+    → cut mark bytes ≡ Some (take at bytes, take (length bytes - (at + 1)) (drop (at + 1) bytes))
 cut_some bytes mark at e =
     let p = position-Some (λ b. eqb b mark) bytes at 0 e in
     rw (take_rest, add-one) (at_index mark bytes at p.0 p.1 p.2)

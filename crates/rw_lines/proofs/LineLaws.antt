@@ -33,8 +33,11 @@ lines_last (b ∷ c ∷ text) h lt =
 pub lines_unlines : (ls : List (List ℕ)) (bs : List ℕ) → All IsUnbroken ls → lines (unlines ls ++ bs) ≡ ls ++ lines bs
 lines_unlines [] bs h = refl
 lines_unlines (l ∷ ls) bs h =
-    let regrouped : unlines (l ∷ ls) ++ bs ≡ l ++ 10 ∷ (unlines ls ++ bs) = ap (λ (x : List ℕ). x ++ bs) (flat_map-cons (λ (l : List ℕ). l ++ 10 ∷ []) l ls) ∙ append_assoc (l ++ 10 ∷ []) (unlines ls) bs ∙ append_assoc l (10 ∷ []) (unlines ls ++ bs) in
-    ap lines regrouped ∙ lines_line l (unlines ls ++ bs) (All-head IsUnbroken l ls h) ∙ ap (λ (x : List (List ℕ)). l ∷ x) (lines_unlines ls bs (All-tail IsUnbroken l ls h))
+    let regrouped : unlines (l ∷ ls) ++ bs ≡ l ++ 10 ∷ (unlines ls ++ bs) =
+    ap (λ (x : List ℕ). x ++ bs) (flat_map-cons (λ (l : List ℕ). l ++ 10 ∷ []) l ls) ∙ append_assoc (l ++ 10 ∷ []) (unlines ls) bs
+    ∙ append_assoc l (10 ∷ []) (unlines ls ++ bs) in
+    ap lines regrouped ∙ lines_line l (unlines ls ++ bs) (All-head IsUnbroken l ls h)
+    ∙ ap (λ (x : List (List ℕ)). l ∷ x) (lines_unlines ls bs (All-tail IsUnbroken l ls h))
 
 -- with one more line
 pub unlines_push : (ls : List (List ℕ)) (l : List ℕ) → unlines (ls ++ l ∷ []) ≡ unlines ls ++ (l ++ 10 ∷ [])

@@ -1,10 +1,12 @@
 -- Numerals are the decimal texts of the numbers below 2^64.
-use Rattle.std.proofs.Common.{◌≡◌, ℕ, ◌+◌, ◌-◌, ◌*◌, ◌^◌, ◌<◌, ◌≤◌, Bool, true, false, cond, ltb, eqb, List, [], ◌∷◌, length, get_or, Option, Some, None, refl, sym, ap, ◌∙◌, arith, inl, inr}
+use Rattle.std.proofs.Common.{◌≡◌, ℕ, ◌+◌, ◌-◌, ◌*◌, ◌^◌, ◌<◌, ◌≤◌, Bool, true, false, cond, ltb, eqb, List, [], ◌∷◌}
+use Rattle.std.proofs.Common.{length, get_or, Option, Some, None, refl, sym, ap, ◌∙◌, arith, inl, inr}
 use Rattle.std.specs.Prelude.{◌&&◌, decimal, IfSome}
 use Rattle.std.specs.Char.{is_ascii_digit, digit_value}
 use Rattle.std.specs.Str.{all_ascii_digits}
 use Rattle.std.specs.Str.Parse.{digits_value, digits_value_after}
-use Rattle.std.proofs.lemmas.Bool.{and_parts, and_from, ltb-true, lt-ltb, ne_eqb, eqb-false, cond-true, cond-false, cases_lt, cases_Bool, and_right, false_from_ne_true, not_from_false}
+use Rattle.std.proofs.lemmas.Bool.{and_parts, and_from, ltb-true, lt-ltb, ne_eqb, eqb-false, cond-true, cond-false}
+use Rattle.std.proofs.lemmas.Bool.{cases_lt, cases_Bool, and_right, false_from_ne_true, not_from_false}
 use Rattle.std.proofs.lemmas.Str.{digit_value_digit}
 use Rattle.std.proofs.lemmas.Str.Parse.{IsNumeralModel, numerals_by_value, tells_all_ascii_digits}
 use Rattle.std.proofs.lemmas.Fmt.{decimal_digit, decimal-digits_value, digits_decimal, digits_value-decimal, first_decimal, decimal_nonempty}
@@ -53,7 +55,8 @@ only [] n lt e = absurd (omega (arith, ap length e, decimal_nonempty n lt))
 only (d ∷ []) n lt e = digits_again (d ∷ []) n lt e
 only (d ∷ c ∷ ds) n lt e =
     elim (cases_lt 0 n) [
-      | inl some ↦ cond-false (eqb d 48) None (digits_in (d ∷ c ∷ ds)) (ne_eqb d 48 (λ z. omega (arith, first_decimal n some lt, ap (λ (x : List ℕ). get_or x 0 0) e))) ∙ digits_again (d ∷ c ∷ ds) n lt e
+      | inl some ↦ cond-false (eqb d 48) None (digits_in (d ∷ c ∷ ds))
+          (ne_eqb d 48 (λ z. omega (arith, first_decimal n some lt, ap (λ (x : List ℕ). get_or x 0 0) e))) ∙ digits_again (d ∷ c ∷ ds) n lt e
       | inr none ↦ let zero_is : n ≡ 0 = omega arith in absurd (omega (arith, ap length (e ∙ ap decimal zero_is ∙ decimal_digit 0 (omega arith))))
     ]
 
@@ -97,12 +100,14 @@ read_from n (d ∷ ds) lt =
           let same : n * 10 + digit_value d ≡ n * 10 + (d - 48) = omega (arith, digit_value_digit d in_range) in
           elim (cases_lt (n * 10 + (d - 48)) (2 ^ 64)) [
             | inl small ↦
-                cond-true (is_ascii_digit d && ltb (n * 10 + (d - 48)) (2 ^ 64)) (digits_from (n * 10 + (d - 48)) ds) None (and_from _ _ digit (lt-ltb _ _ small))
+                cond-true (is_ascii_digit d && ltb (n * 10 + (d - 48)) (2 ^ 64)) (digits_from (n * 10 + (d - 48)) ds) None
+                (and_from _ _ digit (lt-ltb _ _ small))
                 ∙ read_from (n * 10 + (d - 48)) ds small
                 ∙ rw (same, digit) refl
             | inr large ↦
                 let past : 2 ^ 64 ≤ digits_value_after 10 (n * 10 + digit_value d) ds = omega (arith, same, grows (n * 10 + digit_value d) ds) in
-                cond-false (is_ascii_digit d && ltb (n * 10 + (d - 48)) (2 ^ 64)) (digits_from (n * 10 + (d - 48)) ds) None (and_right _ _ (ltb_large (n * 10 + (d - 48)) (2 ^ 64) large))
+                cond-false (is_ascii_digit d && ltb (n * 10 + (d - 48)) (2 ^ 64)) (digits_from (n * 10 + (d - 48)) ds) None
+                (and_right _ _ (ltb_large (n * 10 + (d - 48)) (2 ^ 64) large))
                 ∙ sym (cond-false (all_ascii_digits (d ∷ ds) && ltb (digits_value_after 10 n (d ∷ ds)) (2 ^ 64)) (Some (digits_value_after 10 n (d ∷ ds))) None
                 (and_right _ _ (ltb_large (digits_value_after 10 n (d ∷ ds)) (2 ^ 64) past)))
           ]

@@ -20,27 +20,33 @@ pub record PartLine (old now : Option (List ℕ)) (before allowed : ℕ) (line :
   pub count : length text + allowed ≡ before
 
 -- what is stored of it: all that was read, up to one byte more than the longest line has
-pub kept_of_part : {old now : Option (List ℕ)} {before allowed : ℕ} {line : List ℕ} → PartLine old now before allowed line → length line ≡ min (before - allowed) (LONGEST_LINE + 1)
+pub kept_of_part : {old now : Option (List ℕ)} {before allowed : ℕ} {line : List ℕ} → PartLine old now before allowed line
+    → length line ≡ min (before - allowed) (LONGEST_LINE + 1)
 kept_of_part p = omega (arith, ap length p.fits, length-take (LONGEST_LINE + 1) p.text, p.count)
 
 -- the same where a read failed
-pub kept_at_read : {old now : Option (List ℕ)} {before allowed : ℕ} {line : List ℕ} {fault : StreamFault} → PartLine old now before allowed line → fault ≡ Read → IsKept (before - allowed) (length line) fault
+pub kept_at_read : {old now : Option (List ℕ)} {before allowed : ℕ} {line : List ℕ} {fault : StreamFault} → PartLine old now before allowed line → fault ≡ Read
+    → IsKept (before - allowed) (length line) fault
 kept_at_read {before = before} {allowed = allowed} {line = line} p failed = subst (IsKept (before - allowed) (length line)) (sym failed) (kept_of_part p)
 
 short : (line text : List ℕ) → line ≡ kept_part text → length line ≤ LONGEST_LINE → line ≡ text
 short line text e le = e ∙ take_all (LONGEST_LINE + 1) text (omega (arith, ap length e, length-take (LONGEST_LINE + 1) text))
 
 -- with one more byte, it is again a line that is read in part
-pub next_part : (old now new : Option (List ℕ)) (before allowed : ℕ) (line next : List ℕ) (byte : ℕ) → PartLine old now before allowed line → Consumes now new (byte ∷ []) → byte ≢ 10
-    → 0 < allowed → (length line ≤ LONGEST_LINE → next ≡ line ++ byte ∷ []) → (LONGEST_LINE < length line → next ≡ line) → PartLine old new before (allowed - 1) next
+pub next_part : (old now new : Option (List ℕ)) (before allowed : ℕ) (line next : List ℕ) (byte : ℕ) → PartLine old now before allowed line
+    → Consumes now new (byte ∷ []) → byte ≢ 10
+    → 0 < allowed → (length line ≤ LONGEST_LINE → next ≡ line ++ byte ∷ []) → (LONGEST_LINE < length line → next ≡ line)
+    → PartLine old new before (allowed - 1) next
 next_part old now new before allowed line next byte p read ne some push keep =
     record {
       text = p.text ++ byte ∷ [];
       unbroken = lacks-append 10 p.text (byte ∷ []) p.unbroken (lacks_one 10 byte ne);
       fits = elim (cases_lt LONGEST_LINE (length line)) [
-        | inl lt ↦ keep lt ∙ p.fits ∙ sym (take-append-le (LONGEST_LINE + 1) p.text (byte ∷ []) (omega (arith, ap length p.fits, length-take (LONGEST_LINE + 1) p.text)))
+        | inl lt ↦ keep lt ∙ p.fits ∙ sym (take-append-le (LONGEST_LINE + 1) p.text (byte ∷ [])
+            (omega (arith, ap length p.fits, length-take (LONGEST_LINE + 1) p.text)))
         | inr le ↦ let same = short line p.text p.fits le in
-            push le ∙ ap (λ (t : List ℕ). t ++ byte ∷ []) same ∙ sym (take_all (LONGEST_LINE + 1) (p.text ++ byte ∷ []) (omega (arith, length_push p.text byte, ap length same)))
+            push le ∙ ap (λ (t : List ℕ). t ++ byte ∷ []) same
+            ∙ sym (take_all (LONGEST_LINE + 1) (p.text ++ byte ∷ []) (omega (arith, length_push p.text byte, ap length same)))
       ];
       read = Consumes-then old now new p.text (byte ∷ []) p.read read;
       count = omega (arith, length_push p.text byte, p.count);

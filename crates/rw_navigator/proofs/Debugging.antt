@@ -28,7 +28,8 @@ first_of_next-same t u same p (suc n) = rw (same (p + 1), first_of_next-same t u
 
 module _ {V : Type 0} where
   -- a visit from the opening of the specs
-  pub begun : ShowsAtPlaces V → RecordsAsDocumented V → (specs : List (Spec V)) (visit : Visit V) → start_of of_world visit ≡ opening_row specs → IsLegal of_world (opening_row specs) visit.entries
+  pub begun : ShowsAtPlaces V → RecordsAsDocumented V → (specs : List (Spec V)) (visit : Visit V) → start_of of_world visit ≡ opening_row specs
+      → IsLegal of_world (opening_row specs) visit.entries
       → IsDebugger specs visit
   begun shows recorded specs visit start legal = record {
     shows = λ n. ap (λ x. after of_world x visit.entries n) start ∙ shows specs visit.entries n;
@@ -36,8 +37,10 @@ module _ {V : Type 0} where
   }
 
   -- a visit to a run's entries that is at place p
-  pub stands : ShowsAtPlaces V → (specs : List (Spec V)) (visit : Visit V) (run : Run V) (p : ℕ) → specs ≡ run.specs → visit.entries ≡ run.entries → visit.place ≡ p
-      → (of_world {V = V}).shown visit.machine.state ≡ after of_world (opening_row run.specs) run.entries p → visit.machine.turns ≡ 0 → StandsAt (debugger_at specs visit) run p
+  pub stands : ShowsAtPlaces V → (specs : List (Spec V)) (visit : Visit V) (run : Run V) (p : ℕ) → specs ≡ run.specs → visit.entries ≡ run.entries
+      → visit.place ≡ p
+      → (of_world {V = V}).shown visit.machine.state ≡ after of_world (opening_row run.specs) run.entries p → visit.machine.turns ≡ 0
+      → StandsAt (debugger_at specs visit) run p
   stands shows specs visit run p same_specs same_entries place shown turns = record {
     run_is =
         ap (λ (s : List (Spec V)). as_run s visit.entries) same_specs ∙ ap (as_run run.specs) same_entries;
@@ -47,7 +50,8 @@ module _ {V : Type 0} where
   }
 
   -- after all entries a world is at the last place
-  pub at_last_place : (run : Run V) → after_all of_world (opening_row run.specs) run.entries ≡ after of_world (opening_row run.specs) run.entries (last_place run)
+  pub at_last_place : (run : Run V) → after_all of_world (opening_row run.specs) run.entries
+      ≡ after of_world (opening_row run.specs) run.entries (last_place run)
   at_last_place run = ap (after_all of_world (opening_row run.specs)) (sym (take-length run.entries))
 
   module _ (specs : List (Spec V)) (v w : Visit V) (is : IsDebugger specs v) (p n : ℕ) where
@@ -81,16 +85,19 @@ module _ {V : Type 0} where
       left_on (Err e) left = ap (debugger_at specs) left
 
   -- the hits of the visit are those of the run
-  same_hits : (specs : List (Spec V)) (v : Visit V) → IsDebugger specs v → (on_step : Bool) (step : WorldEntry V → Bool) (state : List (ChanShown V) → Bool) (p : ℕ)
+  same_hits : (specs : List (Spec V)) (v : Visit V) → IsDebugger specs v
+      → (on_step : Bool) (step : WorldEntry V → Bool) (state : List (ChanShown V) → Bool) (p : ℕ)
       → hit of_world on_step step state v p ≡ is_hit (debugger_at specs v).run on_step step state p
   same_hits specs v is true step state p = refl
   same_hits specs v is false step state p = rw (is.shows p, is.shows (p - 1)) refl
 
-  pub found_below : (specs : List (Spec V)) (v : Visit V) → IsDebugger specs v → (on_step : Bool) (step : WorldEntry V → Bool) (state : List (ChanShown V) → Bool)
+  pub found_below : (specs : List (Spec V)) (v : Visit V) → IsDebugger specs v
+      → (on_step : Bool) (step : WorldEntry V → Bool) (state : List (ChanShown V) → Bool)
       → last_below (hit of_world on_step step state v) v.place ≡ hit_below (debugger_at specs v).run on_step step state v.place
   found_below specs v is on_step step state = last_below-same _ _ (same_hits specs v is on_step step state) v.place
 
-  pub found_above : (specs : List (Spec V)) (v : Visit V) → IsDebugger specs v → (on_step : Bool) (step : WorldEntry V → Bool) (state : List (ChanShown V) → Bool)
+  pub found_above : (specs : List (Spec V)) (v : Visit V) → IsDebugger specs v
+      → (on_step : Bool) (step : WorldEntry V → Bool) (state : List (ChanShown V) → Bool)
       → first_above (hit of_world on_step step state v) v.place (length v.entries) ≡ hit_above (debugger_at specs v).run on_step step state v.place
   found_above specs v is on_step step state = first_of_next-same _ _ (same_hits specs v is on_step step state) v.place (length v.entries - v.place)
 

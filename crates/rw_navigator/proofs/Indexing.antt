@@ -1,5 +1,6 @@
 -- The places that are hits as a list, and what a binary search finds there.
-use Rattle.std.proofs.Common.{◌≡◌, ◌≢◌, ℕ, zero, suc, ◌+◌, ◌-◌, ◌<◌, ◌≤◌, Bool, true, false, cond, List, [], ◌∷◌, ◌++◌, length, get_or, Some, None, inl, inr, refl, sym, ◌∙◌, ap, subst, arith, add-one}
+use Rattle.std.proofs.Common.{◌≡◌, ◌≢◌, ℕ, zero, suc, ◌+◌, ◌-◌, ◌<◌, ◌≤◌, Bool, true, false, cond, List, [], ◌∷◌, ◌++◌}
+use Rattle.std.proofs.Common.{length, get_or, Some, None, inl, inr, refl, sym, ◌∙◌, ap, subst, arith, add-one}
 use Rattle.std.specs.Prelude.{nat_lt, nat_le}
 use Rattle.std.specs.List.{All, Contains, filter, range_with_len}
 use Rattle.std.specs.List.Sorted.{IsNonDecreasingBy, IsPartitionPoint}
@@ -34,7 +35,8 @@ hits_to-grow hit n zero h = let same : n ≡ 0 = omega (arith, h) in rw same (om
 hits_to-grow hit n (suc m) h =
     elim (cases_lt m n) [
       | inl last ↦ let same : n ≡ suc m = omega (arith, last, h) in rw same (omega arith)
-      | inr before ↦ let more : hits_to hit (suc m) ≡ hits_to hit m ++ cond (hit (m + 1)) ((m + 1) ∷ []) [] = ap (hits_to hit) (sym (add-one m)) ∙ hits_to-more hit m in
+      | inr before ↦ let more : hits_to hit (suc m) ≡ hits_to hit m ++ cond (hit (m + 1)) ((m + 1) ∷ []) [] =
+          ap (hits_to hit) (sym (add-one m)) ∙ hits_to-more hit m in
           omega (arith, hits_to-grow hit n m before, ap length more, length-append (hits_to hit m) (cond (hit (m + 1)) ((m + 1) ∷ []) []))
     ]
 
@@ -57,7 +59,8 @@ module _ (test : ℕ → Bool) where
   first_of_next-at p zero q above inside passes rest = absurd (omega (arith, above, inside))
   first_of_next-at p (suc n) q above inside passes rest =
       elim (cases_lt (p + 1) q) [
-        | inl over ↦ rw (rest (p + 1) (omega arith) over) (first_of_next-at (p + 1) n q over (omega (arith, inside)) passes (λ k a b. rest k (omega (arith, a)) b))
+        | inl over ↦ rw (rest (p + 1) (omega arith) over)
+            (first_of_next-at (p + 1) n q over (omega (arith, inside)) passes (λ k a b. rest k (omega (arith, a)) b))
         | inr under ↦ let same : p + 1 ≡ q = omega (arith, above, under) in rw (same, passes) refl
       ]
 
@@ -97,8 +100,12 @@ module _ (hit : ℕ → Bool) (last : ℕ) (inside : (p : ℕ) → hit p ≡ tru
       omega (arith, order, get_or-range_with_len 1 last i d (omega (arith, n, order, below)), get_or-range_with_len 1 last j d (omega (arith, n, below)))
 
   in_range : (p : ℕ) → 0 < p → p ≤ last → Contains (range_with_len 1 last) p
-  in_range p above below =
-      (p - 1, omega (arith, above, below, length-range_with_len 1 last), get_or-range_with_len 1 last (p - 1) p (omega (arith, above, below)) ∙ omega (arith, above))
+  in_range p above below = (
+    p - 1,
+    omega (arith, above, below, length-range_with_len 1 last),
+    get_or-range_with_len 1 last (p - 1) p (omega (arith, above, below))
+        ∙ omega (arith, above),
+  )
 
   pub all_hits : IsAllHits hit (hits_to hit last)
   all_hits = record {
@@ -131,7 +138,14 @@ module _ (hit : ℕ → Bool) (last : ℕ) (inside : (p : ℕ) → hit p ≡ tru
           let passes : hit e ≡ true = passes_at (i - 1) e (omega (arith, above, bound)) read in
           let below : e < p = omega (arith, ltb-true (get_or places (i - 1) e) p (cut.0 (i - 1) e (omega arith) (omega (arith, above))), read) in (
             last_below-at hit p e below passes
-                (λ k over under. none_from_cut k under (λ j left. omega (arith, all.rising j (i - 1) e (omega (arith, left)) (omega (arith, above, bound)), read, over, get_or_default places j e k (omega (arith, left, bound))))),
+                (λ k over under. none_from_cut k under (λ j left.
+                omega (
+                  arith,
+                  all.rising j (i - 1) e (omega (arith, left)) (omega (arith, above, bound)),
+                  read,
+                  over,
+                  get_or_default places j e k (omega (arith, left, bound)),
+                ))),
             (inside e passes).0,
             below,
             (inside e passes).1,
@@ -158,7 +172,8 @@ module _ (hit : ℕ → Bool) (last : ℕ) (inside : (p : ℕ) → hit p ≡ tru
           let passes : hit e ≡ true = passes_at i e bound read in
           let above : p < e = omega (arith, leb-false (get_or places i e) p (cut.1 i e (omega arith) bound), read) in (
             first_of_next-at hit p (last - p) e above (omega (arith, (inside e passes).1, above)) passes
-                (λ k over below. none_up_to_cut k over (λ j behind left. omega (arith, all.rising i j e behind left, read, below, get_or_default places j e k left))),
+                (λ k over below. none_up_to_cut k over (λ j behind left.
+                omega (arith, all.rising i j e behind left, read, below, get_or_default places j e k left))),
             above,
             (inside e passes).1,
           )

@@ -1,5 +1,6 @@
 -- One place of a search.
-use Rattle.std.proofs.Common.{◌≡◌, ℕ, zero, suc, ◌+◌, ◌-◌, ◌<◌, ◌≤◌, Bool, true, false, Some, None, List, length, inl, inr, refl, sym, ◌∙◌, ap, arith, add-one, cond}
+use Rattle.std.proofs.Common.{◌≡◌, ℕ, zero, suc, ◌+◌, ◌-◌, ◌<◌, ◌≤◌, Bool, true, false, Some, None, List}
+use Rattle.std.proofs.Common.{length, inl, inr, refl, sym, ◌∙◌, ap, arith, add-one, cond}
 use Rattle.std.specs.Prelude.{not, ◌&&◌, nat_lt, slice_get}
 use Rattle.std.specs.Option.{option_map_or}
 use Rattle.std.proofs.lemmas.Bool.{cases_lt}
@@ -50,7 +51,8 @@ module _ (test : ℕ → Bool) where
       sym (ap (λ t. cond t (Some p) (last_below test p)) (is ∙ (sym answer ∙ passes)))
       ∙ (sym (last_below-next p) ∙ (ap (last_below test) (sym next) ∙ rest))
 
-  pub not_below : (p q n : ℕ) (b r : Bool) → n ≡ p + 1 → test p ≡ b → r ≡ b → r ≡ false → last_below test n ≡ last_below test q → last_below test p ≡ last_below test q
+  pub not_below : (p q n : ℕ) (b r : Bool) → n ≡ p + 1 → test p ≡ b → r ≡ b → r ≡ false → last_below test n ≡ last_below test q
+      → last_below test p ≡ last_below test q
   not_below p q n b r next is answer fails rest =
       sym (ap (λ t. cond t (Some p) (last_below test p)) (is ∙ (sym answer ∙ fails)))
       ∙ (sym (last_below-next p) ∙ (ap (last_below test) (sym next) ∙ rest))

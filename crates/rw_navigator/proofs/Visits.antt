@@ -50,11 +50,13 @@ module _ {M C R P : Type 0} (m : Ghosts M C R P) where
 
   module _ (laws : LawsOf m) where
     -- where the machine shows the state of a place, the journal's start is what undoing leads to
-    start_at : (o : m.View) (v : Navigator M C R P) → m.allowed o → IsLegal m o v.entries → m.shown v.machine.state ≡ after m o v.entries v.place → start_of m v ≡ o
+    start_at : (o : m.View) (v : Navigator M C R P) → m.allowed o → IsLegal m o v.entries → m.shown v.machine.state ≡ after m o v.entries v.place
+        → start_of m v ≡ o
     start_at o v a l h = ap (λ x. before_all m x (take v.place v.entries)) h ∙ before_all-after m laws o v.entries v.place a l
 
     -- a machine that shows the start of a journal, with room for its calls, visits its first place
-    pub at_first : (k : Counted M) (es : List (Entry M C R P)) (x : m.View) → m.shown k.state ≡ x → m.allowed x → IsLegal m x es → m.weigh x + length es ≤ m.reserved k.state → k.turns ≡ 0 → IsNavigator m (visit k es 0)
+    pub at_first : (k : Counted M) (es : List (Entry M C R P)) (x : m.View) → m.shown k.state ≡ x → m.allowed x → IsLegal m x es
+        → m.weigh x + length es ≤ m.reserved k.state → k.turns ≡ 0 → IsNavigator m (visit k es 0)
     at_first k es x shows allowed legal room turns = record {
       allowed = subst m.allowed (sym shows) allowed;
       legal = subst (λ y. IsLegal m y es) (sym shows) legal;
@@ -105,7 +107,8 @@ module _ {M C R P : Type 0} (m : Ghosts M C R P) where
       carried : IsNavigator m (visit k' es q) × MovedTo m (visit k es p) (visit k' es q) q 1
       carried = (still_visit, record { start = start_kept; entries = refl; place = refl; shows = shows; turns = turns })
 
-    module _ (k : Counted M) (es : List (Entry M C R P)) (e : Entry M C R P) (p q : ℕ) (next : q ≡ p + 1) (read : e ≡ get_or es p e) (inside : p < length es) where
+    module _ (k : Counted M) (es : List (Entry M C R P)) (e : Entry M C R P) (p q : ℕ) (next : q ≡ p + 1) (read : e ≡ get_or es p e)
+        (inside : p < length es) where
       -- redoing the entry at the place leads to the next place
       pub advanced : (k' : Counted M) → IsNavigator m (visit k es p) → m.shown k'.state ≡ m.next (m.shown k.state) e.call
           → k'.turns ≡ count_after k.turns 1 → m.reserved k'.state ≡ m.reserved k.state

@@ -22,46 +22,55 @@ numbers_more f n =
     ∙ ap (flat_map f) (range_more 0 n ∙ ap (λ (x : ℕ). range_with_len 0 n ++ x ∷ []) e)
     ∙ sym (flat_map_more f [] (range_with_len 0 n) n)
 
-pub written_more : (f : ℕ → List ℕ) (start out more : List ℕ) (n : ℕ) → out ≡ start ++ flat_map f (range_with_len 0 n) → more ≡ out ++ f n → more ≡ start ++ flat_map f (range_with_len 0 (n + 1))
+pub written_more : (f : ℕ → List ℕ) (start out more : List ℕ) (n : ℕ) → out ≡ start ++ flat_map f (range_with_len 0 n) → more ≡ out ++ f n
+    → more ≡ start ++ flat_map f (range_with_len 0 (n + 1))
 written_more f start out more n so is =
-    is ∙ ap (λ (o : List ℕ). o ++ f n) so ∙ append_assoc start (flat_map f (range_with_len 0 n)) (f n) ∙ ap (λ (t : List ℕ). start ++ t) (sym (numbers_more f n))
+    is ∙ ap (λ (o : List ℕ). o ++ f n) so ∙ append_assoc start (flat_map f (range_with_len 0 n)) (f n)
+    ∙ ap (λ (t : List ℕ). start ++ t) (sym (numbers_more f n))
 
 -- ---- texts that were appended
 
 pub appended_none : (old : List ℕ) (Is : List ℕ → Type 0) → Is [] → Appended old old Is
 appended_none old Is is = ([], sym (append-nil old), is)
 
-pub appended_on : (old mid new : List ℕ) (Is Also Both : List ℕ → Type 0) → ((a b : List ℕ) → Is a → Also b → Both (a ++ b)) → Appended old mid Is → Appended mid new Also → Appended old new Both
+pub appended_on : (old mid new : List ℕ) (Is Also Both : List ℕ → Type 0) → ((a b : List ℕ) → Is a → Also b → Both (a ++ b)) → Appended old mid Is
+    → Appended mid new Also → Appended old new Both
 appended_on old mid new Is Also Both both first second =
     (first.0 ++ second.0, second.1 ∙ ap (λ (t : List ℕ). t ++ second.0) first.1 ∙ append_assoc old first.0 second.0, both first.0 second.0 first.2 second.2)
 
 module _ (run : Run ℕ) (stretches : Stretches) where
   -- one channel more
-  channels_more : (channels : List ℕ) (channel : ℕ) (text last : List ℕ) → AreChannelTexts run stretches channels text → IsChannelText run stretches channel last → AreChannelTexts run stretches (channels ++ channel ∷ []) (text ++ last)
+  channels_more : (channels : List ℕ) (channel : ℕ) (text last : List ℕ) → AreChannelTexts run stretches channels text
+      → IsChannelText run stretches channel last → AreChannelTexts run stretches (channels ++ channel ∷ []) (text ++ last)
   channels_more [] channel text last are is = (last, [], is, refl, ap (λ (t : List ℕ). t ++ last) are ∙ sym (append-nil last))
   channels_more (c ∷ channels) channel text last are is =
       (are.0, are.1 ++ last, are.2, channels_more channels channel are.1 last are.3 is, ap (λ (t : List ℕ). t ++ last) are.4 ∙ append_assoc are.0 are.1 last)
 
-  pub channel_more : (channels : List ℕ) (i : ℕ) (old mid new : List ℕ) → i < length channels → Appended old mid (AreChannelTexts run stretches (take i channels))
+  pub channel_more : (channels : List ℕ) (i : ℕ) (old mid new : List ℕ) → i < length channels
+      → Appended old mid (AreChannelTexts run stretches (take i channels))
       → Appended mid new (IsChannelText run stretches (get_or channels i 0)) → Appended old new (AreChannelTexts run stretches (take (i + 1) channels))
   channel_more channels i old mid new within first second =
       subst (λ cs. Appended old new (AreChannelTexts run stretches cs)) (sym (take_more channels i 0 within))
-      (appended_on old mid new (AreChannelTexts run stretches (take i channels)) (IsChannelText run stretches (get_or channels i 0)) (AreChannelTexts run stretches (take i channels ++ get_or channels i 0 ∷ []))
+      (appended_on old mid new (AreChannelTexts run stretches (take i channels)) (IsChannelText run stretches (get_or channels i 0))
+      (AreChannelTexts run stretches (take i channels ++ get_or channels i 0 ∷ []))
       (λ a b are is. channels_more (take i channels) (get_or channels i 0) a b are is) first second)
 
   -- the three measures of a channel
-  pub three_measures : (channel : ℕ) (old one two new : List ℕ) → Appended old one (IsMeasureText run stretches channel Lag) → Appended one two (IsMeasureText run stretches channel Unread)
+  pub three_measures : (channel : ℕ) (old one two new : List ℕ) → Appended old one (IsMeasureText run stretches channel Lag)
+      → Appended one two (IsMeasureText run stretches channel Unread)
       → Appended two new (IsMeasureText run stretches channel Unseen) → Appended old new (IsChannelText run stretches channel)
   three_measures channel old one two new lag unread unseen = (
     lag.0 ++ unread.0 ++ unseen.0,
-    unseen.1 ∙ ap (λ (t : List ℕ). t ++ unseen.0) (unread.1 ∙ ap (λ (t : List ℕ). t ++ unread.0) lag.1 ∙ append_assoc old lag.0 unread.0) ∙ append_assoc old (lag.0 ++ unread.0) unseen.0,
+    unseen.1 ∙ ap (λ (t : List ℕ). t ++ unseen.0) (unread.1 ∙ ap (λ (t : List ℕ). t ++ unread.0) lag.1 ∙ append_assoc old lag.0 unread.0)
+        ∙ append_assoc old (lag.0 ++ unread.0) unseen.0,
     record { lag = lag.0; unread = unread.0; unseen = unseen.0; lag_is = lag.2; unread_is = unread.2; unseen_is = unseen.2; text_is = refl },
   )
 
 -- ---- lives
 
 -- one channel more
-pub lives_more : (run : Run ℕ) (n : ℕ) (old mid new : List ℕ) → Appended old mid (AreLifeTexts run n) → Appended mid new (IsLifeText run n) → Appended old new (AreLifeTexts run (n + 1))
+pub lives_more : (run : Run ℕ) (n : ℕ) (old mid new : List ℕ) → Appended old mid (AreLifeTexts run n) → Appended mid new (IsLifeText run n)
+    → Appended old new (AreLifeTexts run (n + 1))
 lives_more run n old mid new first second =
     subst (λ k. Appended old new (AreLifeTexts run k)) (sym (add-one n))
     (appended_on old mid new (AreLifeTexts run n) (IsLifeText run n) (AreLifeTexts run (suc n)) (λ a b are is. (a, b, are, is, refl)) first second)

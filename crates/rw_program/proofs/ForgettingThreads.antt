@@ -10,7 +10,8 @@ use Rattle.rw_program.specs.Statuses.{Tells}
 use Rattle.rw_program.specs.Threads.{Plays, RecordsThreads}
 use Rattle.rw_program.proofs.Forgetting.{closes_any, over_any}
 
-plays_any : (w w' : Option (List ℕ)) (line : List ℕ) (status : ℕ) (said : Result Script ScriptFault) → Plays w w' line status said → Plays None None line status said
+plays_any : (w w' : Option (List ℕ)) (line : List ℕ) (status : ℕ) (said : Result Script ScriptFault) → Plays w w' line status said
+    → Plays None None line status said
 plays_any w w' line status (Ok script) (inl p) = inl (p.0, p.1, closes_any w w' line status _ p.2)
 plays_any w w' line status (Ok script) (inr p) = inr (p.0, tt, p.2, p.3)
 plays_any w w' line status (Err fault) p = closes_any w w' line status _ p

@@ -1,5 +1,6 @@
 -- The receipts of passes compared with the lines of a script, and both with a run.
-use Rattle.std.proofs.Common.{◌≡◌, ◌≢◌, ℕ, suc, ◌+◌, ◌<◌, ◌≤◌, cond, List, [], ◌∷◌, ◌++◌, map, length, take, drop, get_or, refl, sym, ap, subst, ◌∙◌, inl, inr, arith, All, append_assoc}
+use Rattle.std.proofs.Common.{◌≡◌, ◌≢◌, ℕ, suc, ◌+◌, ◌<◌, ◌≤◌, cond, List, [], ◌∷◌, ◌++◌, map, length, take, drop}
+use Rattle.std.proofs.Common.{get_or, refl, sym, ap, subst, ◌∙◌, inl, inr, arith, All, append_assoc}
 use Rattle.std.specs.Prelude.{nat_eq}
 use Rattle.std.proofs.lemmas.Bool.{cases_lt, cond-true, cond-false}
 use Rattle.std.proofs.lemmas.Bool.Decides.{eqb_tells}
@@ -46,9 +47,11 @@ other_calls actor made step steps replies other = elim (eqb_tells step.actor act
 -- the receipts before this number are those of the calls of the steps before an index
 pub record Follows (p : Pass ℕ) (steps : List ScriptStep) (index number : ℕ) (made : List ℕ) : Type 0 where
   pub within : number ≤ length p.kept
-  pub rest : calls_by p.actor [] steps (replies_kept p.kept) ≡ calls_kept (take number p.kept) ++ calls_by p.actor made (drop index steps) (replies_kept (drop number p.kept))
+  pub rest : calls_by p.actor [] steps (replies_kept p.kept) ≡ calls_kept (take number p.kept)
+      ++ calls_by p.actor made (drop index steps) (replies_kept (drop number p.kept))
 
-module _ (p : Pass ℕ) (steps : List ScriptStep) (index : ℕ) (step : ScriptStep) (lt : index < length steps) (at : step ≡ get_or steps index step) (number : ℕ) (made : List ℕ) (so_far : Follows p steps index number made) (to : ℕ × ℕ) (moves : Moves p number step made to)
+module _ (p : Pass ℕ) (steps : List ScriptStep) (index : ℕ) (step : ScriptStep) (lt : index < length steps) (at : step ≡ get_or steps index step) (number : ℕ)
+    (made : List ℕ) (so_far : Follows p steps index number made) (to : ℕ × ℕ) (moves : Moves p number step made to)
     (made' : List ℕ) (names : made' ≡ cond step.binds (made ++ to.1 ∷ []) made) where
   abbrev left : List ScriptStep
   left = drop (index + 1) steps
@@ -57,7 +60,8 @@ module _ (p : Pass ℕ) (steps : List ScriptStep) (index : ℕ) (step : ScriptSt
   ks = p.kept
 
   at_step : calls_by p.actor [] steps (replies_kept ks) ≡ calls_kept (take number ks) ++ calls_by p.actor made (step ∷ left) (replies_kept (drop number ks))
-  at_step = so_far.rest ∙ ap (λ ss. calls_kept (take number ks) ++ calls_by p.actor made ss (replies_kept (drop number ks))) (drop_more steps index step lt ∙ ap (λ s. s ∷ left) (sym at))
+  at_step = so_far.rest ∙ ap (λ ss. calls_kept (take number ks) ++ calls_by p.actor made ss (replies_kept (drop number ks)))
+      (drop_more steps index step lt ∙ ap (λ s. s ∷ left) (sym at))
 
   over_own : step.actor ≡ p.actor → Follows p steps (index + 1) to.0 made'
   over_own same =
@@ -69,7 +73,8 @@ module _ (p : Pass ℕ) (steps : List ScriptStep) (index : ℕ) (step : ScriptSt
       let behind : List (Kept ℕ) = drop (number + 1) ks in
       let split : drop number ks ≡ k ∷ behind = drop_more ks number k within ∙ ap (λ x. x ∷ behind) is in
       let before : calls_kept (take (number + 1) ks) ≡ calls_kept (take number ks) ++ c ∷ [] =
-      ap calls_kept (take_more ks number k within ∙ ap (λ x. take number ks ++ x ∷ []) is) ∙ (map-append call_kept (take number ks) (k ∷ []) ∙ ap (λ x. calls_kept (take number ks) ++ x ∷ []) next.call) in
+      ap calls_kept (take_more ks number k within ∙ ap (λ x. take number ks ++ x ∷ []) is)
+      ∙ (map-append call_kept (take number ks) (k ∷ []) ∙ ap (λ x. calls_kept (take number ks) ++ x ∷ []) next.call) in
       let handle : to.1 ≡ made_by k.reply = ap (λ t. t.1) next.to_is in
       let names' : made' ≡ made_after step.binds k.reply made = names ∙ made_is step.binds k.reply made to.1 handle in
       let rest : Calls = calls_by p.actor (made_after step.binds k.reply made) left (replies_kept behind) in
@@ -96,7 +101,8 @@ module _ (p : Pass ℕ) (steps : List ScriptStep) (index : ℕ) (step : ScriptSt
   follows_more = elim (eqb_tells step.actor p.actor) [ inl t ↦ over_own t.1 | inr t ↦ over_other t.1 ]
 
 -- at the step of an index
-pub follows_at : (p : Pass ℕ) (steps : List ScriptStep) (index : ℕ) (d : ScriptStep) → index < length steps → (number : ℕ) (made : List ℕ) → Follows p steps index number made → (to : ℕ × ℕ) → Moves p number (get_or steps index d) made to
+pub follows_at : (p : Pass ℕ) (steps : List ScriptStep) (index : ℕ) (d : ScriptStep) → index < length steps → (number : ℕ) (made : List ℕ)
+    → Follows p steps index number made → (to : ℕ × ℕ) → Moves p number (get_or steps index d) made to
     → (made' : List ℕ) → made' ≡ cond (get_or steps index d).binds (made ++ to.1 ∷ []) made → Follows p steps (index + 1) to.0 made'
 follows_at p steps index d lt number made so_far to moves made' names =
     let step : ScriptStep = get_or steps index d in
@@ -107,7 +113,8 @@ pub follows_none : (p : Pass ℕ) (steps : List ScriptStep) (made : List ℕ) �
 follows_none p steps made none = rw none (record { within = omega arith; rest = refl })
 
 -- after the last step
-pub follows_whole : (p : Pass ℕ) (steps : List ScriptStep) (index number : ℕ) (made : List ℕ) → Follows p steps index number made → length steps ≤ index → length p.kept ≤ number → IsFollowed steps p
+pub follows_whole : (p : Pass ℕ) (steps : List ScriptStep) (index number : ℕ) (made : List ℕ) → Follows p steps index number made → length steps ≤ index
+    → length p.kept ≤ number → IsFollowed steps p
 follows_whole p steps index number made f all whole =
     sym (
     f.rest
@@ -139,7 +146,8 @@ by_pass steps es p kept followed =
     ∙ (ap (λ ks. calls_by p.actor [] steps (replies_kept ks)) kept
     ∙ ap (calls_by p.actor [] steps) (replies_of_receipts mine))))
 
-by_passes : (steps : List ScriptStep) (es : List (WorldEntry ℕ)) (a : ℕ) (ps : List (Pass ℕ)) → 0 < passes_of a ps → Each (λ p. p.kept ≡ projection p.actor es) ps → Each (IsFollowed steps) ps → IsPlayedBy steps es a
+by_passes : (steps : List ScriptStep) (es : List (WorldEntry ℕ)) (a : ℕ) (ps : List (Pass ℕ)) → 0 < passes_of a ps
+    → Each (λ p. p.kept ≡ projection p.actor es) ps → Each (IsFollowed steps) ps → IsPlayedBy steps es a
 by_passes steps es a [] some kept followed = absurd (omega arith)
 by_passes steps es a (p ∷ ps) some kept followed = elim (eqb_tells p.actor a) [
   | inl t ↦ subst (IsPlayedBy steps es) (t.1) (by_pass steps es p kept.0 followed.0)
@@ -157,13 +165,15 @@ no_entries n a (e ∷ es) past known = elim (eqb_tells e.actor a) [
   | inr t ↦ rw (t.0) (no_entries n a es past (λ k d lt. known (suc k) d (omega (arith, lt))))
 ]
 
-no_lines : (specs : List (Spec ℕ)) (n a : ℕ) (made : List ℕ) (steps : List ScriptStep) → n ≤ a → All (IsScriptStep specs n) steps → calls_by a made steps [] ≡ []
+no_lines : (specs : List (Spec ℕ)) (n a : ℕ) (made : List ℕ) (steps : List ScriptStep) → n ≤ a → All (IsScriptStep specs n) steps
+    → calls_by a made steps [] ≡ []
 no_lines specs n a made [] past known = refl
 no_lines specs n a made (s ∷ steps) past known =
     other_calls a made s steps [] (λ same. absurd (omega (arith, same, (known 0 s (omega arith)).actor, past)))
     ∙ no_lines specs n a (made_after s.binds reply.NoChannel made) steps past (λ k d lt. known (suc k) d (omega (arith, lt)))
 
-pub all_played : (specs : List (Spec ℕ)) (n : ℕ) (steps : List ScriptStep) (es : List (WorldEntry ℕ)) (ps : List (Pass ℕ)) → AreAllHere n ps → Agree ps es → Each (IsFollowed steps) ps → All (λ e. e.actor < n) es → All (IsScriptStep specs n) steps
+pub all_played : (specs : List (Spec ℕ)) (n : ℕ) (steps : List ScriptStep) (es : List (WorldEntry ℕ)) (ps : List (Pass ℕ)) → AreAllHere n ps → Agree ps es
+    → Each (IsFollowed steps) ps → All (λ e. e.actor < n) es → All (IsScriptStep specs n) steps
     → IsPlayed steps es
 all_played specs n steps es ps here agree followed known lines a = elim (cases_lt a n) [
   | inl lt ↦ by_passes steps es a ps (omega (arith, here.once a lt)) agree.receipts followed

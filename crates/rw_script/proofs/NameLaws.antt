@@ -1,5 +1,6 @@
 -- Names as keys of a map, and names in the order of binding.
-use Rattle.std.proofs.Common.{◌≡◌, ℕ, ◌<◌, Bool, true, false, cond, ◌&&◌, ◌||◌, List, [], ◌∷◌, ◌++◌, map, length, get_or, Option, Some, None, refl, ap, ◌∙◌, arith, ltb, eqb, inl, inr}
+use Rattle.std.proofs.Common.{◌≡◌, ℕ, ◌<◌, Bool, true, false, cond, ◌&&◌, ◌||◌, List, [], ◌∷◌, ◌++◌, map, length}
+use Rattle.std.proofs.Common.{get_or, Option, Some, None, refl, ap, ◌∙◌, arith, ltb, eqb, inl, inr}
 use Rattle.std.specs.Prelude.{position, is_some, slice_get}
 use Rattle.std.specs.List.{position_or_len, IsDistinct}
 use Rattle.std.specs.Map.{keys_of, values_of, lookup}
@@ -16,7 +17,8 @@ use Rattle.rw_script.specs.StepLines.{Bound, number_of, is_taken}
 
 -- ---- the first position
 
-pub first_at : {X : Type 0} (p : X → Bool) (xs : List X) (i : ℕ) (d : X) → i < length xs → ((k : ℕ) → k < i → p (get_or xs k d) ≡ false) → p (get_or xs i d) ≡ true → position p xs ≡ Some i
+pub first_at : {X : Type 0} (p : X → Bool) (xs : List X) (i : ℕ) (d : X) → i < length xs → ((k : ℕ) → k < i → p (get_or xs k d) ≡ false)
+    → p (get_or xs i d) ≡ true → position p xs ≡ Some i
 first_at p xs i d lt before here =
     let e : position_or_len p xs ≡ i = position_or_len_is p xs i d (omega (arith, lt)) before (λ _. here) in
     rw e (cond-true (ltb i (length xs)) (Some i) None (lt-ltb i (length xs) lt))
@@ -81,7 +83,8 @@ module _ {K X : Type 0} (items : K → List ℕ) (by at : X → ℕ) where
   bound_last (e ∷ es) name key x is free =
       let p = or_false (bytes_eq name (items e.0)) (is_taken (map bound es) name) free in
       let other : same key e.0 ≡ false = rw is p.0 in
-      ap (map bound) (cond-false (same key e.0) ((e.0, x) ∷ es) (e ∷ insert_entry same es key x) other) ∙ ap (λ (bs : List Bound). bound e ∷ bs) (bound_last es name key x is p.1)
+      ap (map bound) (cond-false (same key e.0) ((e.0, x) ∷ es) (e ∷ insert_entry same es key x) other)
+      ∙ ap (λ (bs : List Bound). bound e ∷ bs) (bound_last es name key x is p.1)
 
   module _ (name : List ℕ) (actor channel : ℕ) where
     abbrev is_here : X → Bool
@@ -90,7 +93,8 @@ module _ {K X : Type 0} (items : K → List ℕ) (by at : X → ℕ) where
     abbrev is_found : Bound → Bool
     is_found b = bytes_eq name b.name && (eqb b.actor actor && eqb b.channel channel)
 
-    found_at : (es : List (K × X)) (k : ℕ) (d : K × X) → k < length es → is_found (get_or (map bound es) k (bound d)) ≡ is_it name (get_or (keys_of es) k d.0) && is_here (get_or (values_of es) k d.1)
+    found_at : (es : List (K × X)) (k : ℕ) (d : K × X) → k < length es
+        → is_found (get_or (map bound es) k (bound d)) ≡ is_it name (get_or (keys_of es) k d.0) && is_here (get_or (values_of es) k d.1)
     found_at es k d lt = rw (get_or-map bound es k d (bound d) lt, get_or-map (λ e. e.0) es k d d.0 lt, get_or-map (λ e. e.1) es k d d.1 lt) refl
 
     length-bound : (es : List (K × X)) → length (map bound es) ≡ length es
@@ -123,7 +127,8 @@ module _ {K X : Type 0} (items : K → List ℕ) (by at : X → ℕ) where
     it_is a b h d = let e : name ≡ items a = (bytes_eq-Decides name (items a)).0 h in rw e d
 
     -- another actor bound it, or on another channel
-    pub bound_elsewhere : (es : List (K × X)) (i : ℕ) (x : X) → IsDistinct same (keys_of es) → position (is_it name) (keys_of es) ≡ Some i → slice_get (values_of es) i ≡ Some x → is_here x ≡ false
+    pub bound_elsewhere : (es : List (K × X)) (i : ℕ) (x : X) → IsDistinct same (keys_of es) → position (is_it name) (keys_of es) ≡ Some i
+        → slice_get (values_of es) i ≡ Some x → is_here x ≡ false
         → number_of (map bound es) name actor channel ≡ None
     bound_elsewhere [] i x distinct e at here = absurd cc
     bound_elsewhere (e0 ∷ es) i x distinct e at here =
@@ -136,6 +141,7 @@ module _ {K X : Type 0} (items : K → List ℕ) (by at : X → ℕ) where
           | inl same_position ↦ and_false _ _ (ap (λ j. is_here (get_or (values_of (e0 ∷ es)) j e0.1)) same_position ∙ not_own)
           | inr other ↦ elim other [
             | inl below ↦ both _ _ (p.2 k below)
-            | inr above ↦ both _ _ (it_is (get_or ks i e0.0) (get_or ks k e0.0) p.1 (apart_from_distinct same ks i k e0.0 distinct above (omega (arith, within, length-keys (e0 ∷ es)))))
+            | inr above ↦ both _ _ (it_is (get_or ks i e0.0) (get_or ks k e0.0) p.1
+                (apart_from_distinct same ks i k e0.0 distinct above (omega (arith, within, length-keys (e0 ∷ es)))))
           ]
         ])

@@ -7,7 +7,8 @@ use Rattle.rw_words.specs.Words.{first_part, rest_of}
 use Rattle.rw_script.specs.Fields.{named_call, named_parts, named_in}
 
 -- a word that something follows
-pub named_joined : (word text : List ℕ) → lacks 32 word ≡ true → named_in (word ++ 32 ∷ text) ≡ named_call word (first_part text (cut 32 text)) (rest_of (cut 32 text))
+pub named_joined : (word text : List ℕ) → lacks 32 word ≡ true
+    → named_in (word ++ 32 ∷ text) ≡ named_call word (first_part text (cut 32 text)) (rest_of (cut 32 text))
 unfolding named_in
 named_joined word text plain = ap (named_parts (word ++ 32 ∷ text)) (cut_joined 32 word text plain)
 

@@ -1,5 +1,6 @@
 -- A script whose first lines were read.
-use Rattle.std.proofs.Common.{◌≡◌, ◌≢◌, ◌+◌, ◌<◌, ◌≤◌, ◌⊎◌, ℕ, Bool, true, false, cond, List, [], ◌∷◌, ◌++◌, length, Result, Ok, Err, inl, inr, refl, sym, ap, ◌∙◌, arith, eqb, append_assoc, length-append}
+use Rattle.std.proofs.Common.{◌≡◌, ◌≢◌, ◌+◌, ◌<◌, ◌≤◌, ◌⊎◌, ℕ, Bool, true, false, cond, List, [], ◌∷◌, ◌++◌, length, Result, Ok}
+use Rattle.std.proofs.Common.{Err, inl, inr, refl, sym, ap, ◌∙◌, arith, eqb, append_assoc, length-append}
 use Rattle.std.specs.Prelude.{IfErr}
 use Rattle.std.proofs.lemmas.Bool.{cond-true, cond-false}
 use Rattle.rw_lines.specs.Lines.{lines}
@@ -16,8 +17,10 @@ pub at_mark : (r : ScriptReader) (line : List ℕ) (more : List (List ℕ)) → 
 at_mark r line more e = cond-true (is_mark line) (script_at_end r) (after_line r line >>= λ s. script_from s more) e
 
 -- and continues at any other line
-pub at_other : (r : ScriptReader) (line : List ℕ) (more : List (List ℕ)) (said : Result ScriptReader ScriptFault) → is_mark line ≡ false → after_line r line ≡ said → script_from r (line ∷ more) ≡ (said >>= λ s. script_from s more)
-at_other r line more said e a = cond-false (is_mark line) (script_at_end r) (after_line r line >>= λ s. script_from s more) e ∙ ap (λ (x : Result ScriptReader ScriptFault). x >>= λ s. script_from s more) a
+pub at_other : (r : ScriptReader) (line : List ℕ) (more : List (List ℕ)) (said : Result ScriptReader ScriptFault) → is_mark line ≡ false
+    → after_line r line ≡ said → script_from r (line ∷ more) ≡ (said >>= λ s. script_from s more)
+at_other r line more said e a = cond-false (is_mark line) (script_at_end r) (after_line r line >>= λ s. script_from s more) e
+    ∙ ap (λ (x : Result ScriptReader ScriptFault). x >>= λ s. script_from s more) a
 
 abbrev ended_as : Bool → ℕ → Script → Result Script ScriptFault
 ended_as b n script = cond b (Err (record { line = n; kind = NoChannels })) (Ok script)
@@ -31,7 +34,8 @@ pub record HasRead (bytes rest : List ℕ) (r : ScriptReader) : Type 0 where
   pub number : r.lines ≡ length before
   pub taken : after_lines opening before ≡ Ok r
 
-one_more : (r : ScriptReader) (before : List (List ℕ)) (line : List ℕ) (s t : ScriptReader) → after_lines r before ≡ Ok s → after_line s line ≡ Ok t → after_lines r (before ++ line ∷ []) ≡ Ok t
+one_more : (r : ScriptReader) (before : List (List ℕ)) (line : List ℕ) (s t : ScriptReader) → after_lines r before ≡ Ok s → after_line s line ≡ Ok t
+    → after_lines r (before ++ line ∷ []) ≡ Ok t
 one_more r [] line s t e h = let same : r ≡ s = cc in rw (same, h) refl
 one_more r (b ∷ bs) line s t e h =
     let a = bind_ok (after_line r b) (λ v. after_lines v bs) s e in
@@ -42,7 +46,8 @@ next_lines ls before after more line e h = e ∙ ap (λ (x : List (List ℕ)). b
 
 module _ (bytes rest line next : List ℕ) (r : ScriptReader) (h : HasRead bytes rest r) (first : lines rest ≡ line ∷ lines next) where
   -- one more line was accepted
-  pub read_more : (s : ScriptReader) → is_mark line ≡ false → after_line r line ≡ Ok s → s.lines ≡ r.lines + 1 → length next < length rest → HasRead bytes next s
+  pub read_more : (s : ScriptReader) → is_mark line ≡ false → after_line r line ≡ Ok s → s.lines ≡ r.lines + 1 → length next < length rest
+      → HasRead bytes next s
   read_more s plain said counted shorter = record {
     whole = sym (at_other r line (lines next) (Ok s) plain said) ∙ (ap (script_from r) (sym first) ∙ h.whole);
     count = omega (arith, h.count, shorter, counted);
@@ -53,7 +58,8 @@ module _ (bytes rest line next : List ℕ) (r : ScriptReader) (h : HasRead bytes
   }
 
   -- memory ran out at a line
-  pub wanting : (fault : ScriptFault) → (after_line r line ≡ Err fault) ⊎ ((fault.kind ≡ NoMemory) × Adds r (after_line r line)) → fault.line ≡ r.lines + 1 → fault.kind ≡ NoMemory → AsksMemory (lines bytes) fault.line
+  pub wanting : (fault : ScriptFault) → (after_line r line ≡ Err fault) ⊎ ((fault.kind ≡ NoMemory) × Adds r (after_line r line)) → fault.line ≡ r.lines + 1
+      → fault.kind ≡ NoMemory → AsksMemory (lines bytes) fault.line
   wanting fault (inl said) at want = absurd (spared r line fault said want)
   wanting fault (inr memory) at want = record {
     before = h.before;
@@ -71,6 +77,8 @@ ended_at true n script fault h = λ want. cc
 ended_at false n script fault h = absurd cc
 
 -- ending a script never runs out of memory
-pub ended_spares : (r : ScriptReader) (result : Result Script ScriptFault) → result ≡ script_at_end r → (X : ScriptFault → Type 0) → IfErr result (λ fault. fault.kind ≡ NoMemory → X fault)
+pub ended_spares : (r : ScriptReader) (result : Result Script ScriptFault) → result ≡ script_at_end r → (X : ScriptFault → Type 0)
+    → IfErr result (λ fault. fault.kind ≡ NoMemory → X fault)
 ended_spares r (Ok script) e X = tt
-ended_spares r (Err fault) e X = λ want. absurd (ended_at (eqb (length r.specs) 0) (r.lines + 1) (record { specs = r.specs; actors = actors_of r; steps = r.steps }) fault (sym e) want)
+ended_spares r (Err fault) e X = λ want. absurd
+    (ended_at (eqb (length r.specs) 0) (r.lines + 1) (record { specs = r.specs; actors = actors_of r; steps = r.steps }) fault (sym e) want)

@@ -1,5 +1,6 @@
 -- The invariant of a reader implies that of its script.
-use Rattle.std.proofs.Common.{◌≡◌, ◌<◌, ◌≤◌, ℕ, Bool, zero, suc, false, true, cond, ◌∙◌, List, [], ◌∷◌, length, map, All, Option, Some, None, refl, ap, arith, ltb, eqb}
+use Rattle.std.proofs.Common.{◌≡◌, ◌<◌, ◌≤◌, ℕ, Bool, zero, suc, false, true, cond, ◌∙◌, List, [], ◌∷◌}
+use Rattle.std.proofs.Common.{length, map, All, Option, Some, None, refl, ap, arith, ltb, eqb}
 use Rattle.std.specs.Prelude.{position, slice_get, ◌==◌}
 use Rattle.std.specs.Option.{option_map, option_map_or}
 use Rattle.std.proofs.lemmas.Bool.{cond-false, le-ltb, ne_eqb}
@@ -22,7 +23,8 @@ all_good (s ∷ specs) good = no_position has_bad_capacity (s ∷ specs) s (λ k
 opens_with : (n : ℕ) (o : Option ℕ) → 0 < n → n ≤ 64 → o ≡ None
     → cond (eqb n 0) (Some NoChannels) (cond (ltb 64 n) (Some TooManyChannels) (option_map (λ i. BadCapacity i) o)) ≡ None
 opens_with n o some few none =
-    cond-false (eqb n 0) (Some NoChannels) (cond (ltb 64 n) (Some TooManyChannels) (option_map (λ i. BadCapacity i) o)) (ne_eqb n 0 (λ e. absurd (omega (arith, e, some))))
+    cond-false (eqb n 0) (Some NoChannels) (cond (ltb 64 n) (Some TooManyChannels) (option_map (λ i. BadCapacity i) o))
+    (ne_eqb n 0 (λ e. absurd (omega (arith, e, some))))
     ∙ (cond-false (ltb 64 n) (Some TooManyChannels) (option_map (λ i. BadCapacity i) o) (le-ltb 64 n few) ∙ ap (option_map (λ i. BadCapacity i)) none)
 
 pub opens : (specs : List (Spec ℕ)) → 0 < length specs → length specs ≤ 64 → All (λ s. has_bad_capacity s ≡ false) specs → refusal specs ≡ None
@@ -42,7 +44,8 @@ some_of zero e = absurd cc
 some_of (suc n) e = omega arith
 
 -- a step whose actor and channel exist, and whose channel is of its call's kind
-pub step_holds : (specs : List (Spec ℕ)) (actors line actor channel : ℕ) (c : ChanCall ℕ) (target : Option ℕ) (binds : Bool) (k : ChannelKind) → actor < actors → slice_get (map spec_kind specs) channel ≡ Some k → strays_at k c ≡ false
+pub step_holds : (specs : List (Spec ℕ)) (actors line actor channel : ℕ) (c : ChanCall ℕ) (target : Option ℕ) (binds : Bool) (k : ChannelKind) → actor < actors
+    → slice_get (map spec_kind specs) channel ≡ Some k → strays_at k c ≡ false
     → IsScriptStep specs actors (record { line = line; actor = actor; channel = channel; call = c; target = target; binds = binds })
 step_holds specs actors line actor channel c target binds k known there fits = record {
   actor = known;

@@ -1,5 +1,6 @@
 -- For closing a hand-off.
-use Rattle.std.proofs.Common.{◌≡◌, ◌≢◌, ◌⊎◌, ℕ, zero, suc, ◌<◌, List, [], ◌∷◌, ◌++◌, map, length, get_or, take, All, Option, Some, false, sym, ap, ◌∙◌, subst, inl, inr, ⊎_elim, arith}
+use Rattle.std.proofs.Common.{◌≡◌, ◌≢◌, ◌⊎◌, ℕ, zero, suc, ◌<◌, List, [], ◌∷◌, ◌++◌, map, length, get_or, take, All}
+use Rattle.std.proofs.Common.{Option, Some, false, sym, ap, ◌∙◌, subst, inl, inr, ⊎_elim, arith}
 use Rattle.std.proofs.lemmas.List.{map-append}
 use Rattle.std.proofs.lemmas.List.Elements.{All-pop, All-same, All-nil}
 use Rattle.rw_seat.specs.declared.view.View.{View}
@@ -22,7 +23,8 @@ module _ {S : Type 0} (f : S → ℕ) where
   in_at (y ∷ ys) zero n x low is e = inl (e ∙ ap f is)
   in_at (y ∷ ys) (suc i) n x low is e = inr (in_at ys i n x (omega arith) is e)
 
-  pub not_more : (xs : List S) (i n : ℕ) (x : S) → i < length xs → x ≡ get_or xs i x → f x ≢ n → (IsIn n (map f (take i xs)) → ⊥) → IsIn n (map f (take (suc i) xs)) → ⊥
+  pub not_more : (xs : List S) (i n : ℕ) (x : S) → i < length xs → x ≡ get_or xs i x → f x ≢ n → (IsIn n (map f (take i xs)) → ⊥)
+      → IsIn n (map f (take (suc i) xs)) → ⊥
   not_more [] i n x low is ne out at = absurd (omega arith)
   not_more (y ∷ ys) zero n x low is ne out at = ⊎_elim (λ (e : n ≡ f y). ne (ap f is ∙ sym e)) (λ (b : ⊥). b) at
   not_more (y ∷ ys) (suc i) n x low is ne out at =
@@ -64,8 +66,10 @@ module _ {E S : Type 0} (author : E → ℕ) where
   known_one h v n is k = subst (λ (ns : List ℕ). IsQuiet author ns v.front h) is k.0
 
 -- what is known once all seats are joined
-pub ended : {B E S X : Type 0} (author : E → ℕ) (start : B → S) (journal : B → List E) (o : S) (seats count id : ℕ) (v : View E S) (ws : List ℕ) (xs : List (Option B)) (f : X → ℕ) (all left : List X) → seats ≡ count → v.held ≡ false
-    → left ≡ [] → ((n : ℕ) → IsIn n (map f all) → IsIn n (map f left) ⊎ IsIn n v.numbers) → ((n : ℕ) → n < count → IsIn n (map f all)) → Final (Seen (HasOneBook author start journal o seats) id v) ws xs
+pub ended : {B E S X : Type 0} (author : E → ℕ) (start : B → S) (journal : B → List E) (o : S) (seats count id : ℕ) (v : View E S) (ws : List ℕ)
+    (xs : List (Option B)) (f : X → ℕ) (all left : List X) → seats ≡ count → v.held ≡ false
+    → left ≡ [] → ((n : ℕ) → IsIn n (map f all) → IsIn n (map f left) ⊎ IsIn n v.numbers) → ((n : ℕ) → n < count → IsIn n (map f all))
+    → Final (Seen (HasOneBook author start journal o seats) id v) ws xs
     → (b : B) × (get_elem? xs 0 ≡ some (Some b)) × Fits author (journal b) v × (start b ≡ o)
 ended author start journal o seats count id v ws xs f all left same idle none each has end =
     closes author start journal o seats id v ws xs idle

@@ -11,14 +11,17 @@ from_snoc n zero m e = let same : n ≡ m = omega arith in ap (λ (x : ℕ). x �
 from_snoc n (suc k) m e = ap (λ (l : List ℕ). n ∷ l) (from_snoc (n + 1) k m (omega arith))
 
 -- the next seat that is dealt
-pub deal_next : (n k all : ℕ) → n + k + 1 ≡ all → n < all - 1 → (j : ℕ) × ((n + 1) + j + 1 ≡ all) × (numbers_from (n + 1) k ≡ (n + 1) ∷ numbers_from ((n + 1) + 1) j)
+pub deal_next : (n k all : ℕ) → n + k + 1 ≡ all → n < all - 1
+    → (j : ℕ) × ((n + 1) + j + 1 ≡ all) × (numbers_from (n + 1) k ≡ (n + 1) ∷ numbers_from ((n + 1) + 1) j)
 deal_next n zero all e l = absurd (omega arith)
 deal_next n (suc k) all e l = (k, omega arith, refl)
 
 -- seats made from the numbers 0 to n - 1, and the next
-pub dealt_more : {X : Type 0} (f : ℕ → X) (xs ys : List X) (x : X) (n : ℕ) → ys ≡ xs ++ x ∷ [] → xs ≡ map f (numbers_from 0 n) → x ≡ f n → ys ≡ map f (numbers_from 0 (n + 1))
+pub dealt_more : {X : Type 0} (f : ℕ → X) (xs ys : List X) (x : X) (n : ℕ) → ys ≡ xs ++ x ∷ [] → xs ≡ map f (numbers_from 0 n) → x ≡ f n
+    → ys ≡ map f (numbers_from 0 (n + 1))
 dealt_more f xs ys x n is all new =
-    is ∙ ((λ i. all i ++ new i ∷ []) ∙ (sym (map-append f (numbers_from 0 n) (n ∷ [])) ∙ (ap (map f) (sym (from_snoc 0 n n (omega arith))) ∙ ap (λ (k : ℕ). map f (numbers_from 0 k)) {x = suc n} {y = n + 1} (omega arith))))
+    is ∙ ((λ i. all i ++ new i ∷ []) ∙ (sym (map-append f (numbers_from 0 n) (n ∷ []))
+    ∙ (ap (map f) (sym (from_snoc 0 n n (omega arith))) ∙ ap (λ (k : ℕ). map f (numbers_from 0 k)) {x = suc n} {y = n + 1} (omega arith))))
 
 pub each_popped : {X : Type 0} (P : X → Type 0) (xs ys : List X) (x : X) → ys ≡ xs ++ x ∷ [] → All P xs → P x → All P ys
 each_popped P xs ys x is all here = All-same P ys (xs ++ x ∷ []) is (All-push P xs x all here)

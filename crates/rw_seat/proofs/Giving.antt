@@ -1,5 +1,6 @@
 -- `HandSeat`s that are added to seats one after another, and a desk that is opened channel by channel.
-use Rattle.std.proofs.Common.{◌≡◌, ◌≢◌, ℕ, zero, suc, ◌+◌, ◌<◌, ◌≤◌, List, [], ◌∷◌, ◌++◌, map, length, get_or, set, take, drop, All, Some, Result, Ok, Err, IfSome, OnOk, refl, sym, ap, ◌∙◌, subst, inl, inr, arith, append_assoc, append-nil}
+use Rattle.std.proofs.Common.{◌≡◌, ◌≢◌, ℕ, zero, suc, ◌+◌, ◌<◌, ◌≤◌, List, [], ◌∷◌, ◌++◌, map, length, get_or, set, take, drop, All, Some, Result}
+use Rattle.std.proofs.Common.{Ok, Err, IfSome, OnOk, refl, sym, ap, ◌∙◌, subst, inl, inr, arith, append_assoc, append-nil}
 use Rattle.std.specs.Prelude.{slice_get}
 use Rattle.std.proofs.lemmas.Bool.{cases_lt}
 use Rattle.std.proofs.lemmas.Bool.Decides.{eqb_tells}
@@ -36,9 +37,11 @@ get_set_there (y ∷ xs) (suc i) (suc j) x other = get_set_there xs i j x (λ sa
 
 module _ {V : Type 0} (first : List (DeskSeat V)) (all : List (ChannelSeat V)) where
   abbrev pub IsGivenOut : List (DeskSeat V) → ℕ → Type 0
-  IsGivenOut seats n = (a : ℕ) (s : DeskSeat V) (h : ChannelSeat V) → n ≤ a → slice_get first a ≡ Some s → slice_get all a ≡ Some h → slice_get seats a ≡ Some (with_hand_seat s h)
+  IsGivenOut seats n = (a : ℕ) (s : DeskSeat V) (h : ChannelSeat V) → n ≤ a → slice_get first a ≡ Some s → slice_get all a ≡ Some h
+      → slice_get seats a ≡ Some (with_hand_seat s h)
 
-  module _ (seats : List (DeskSeat V)) (xs ys : List (ChannelSeat V)) (x : ChannelSeat V) (at : ℕ) (s : DeskSeat V) (left : StartsWith all xs) (is : xs ≡ ys ++ x ∷ []) (last : at ≡ length ys)
+  module _ (seats : List (DeskSeat V)) (xs ys : List (ChannelSeat V)) (x : ChannelSeat V) (at : ℕ) (s : DeskSeat V) (left : StartsWith all xs)
+      (is : xs ≡ ys ++ x ∷ []) (last : at ≡ length ys)
       (rest : (a : ℕ) → a < length xs → slice_get seats a ≡ slice_get first a) (within : at < length seats) (here : s ≡ get_or seats at s) where
     longer : length xs ≡ length ys + 1
     longer = omega (arith, ap length is, length-append ys (x ∷ []))
@@ -50,7 +53,8 @@ module _ {V : Type 0} (first : List (DeskSeat V)) (all : List (ChannelSeat V)) w
     seat_there = sym (rest at (omega (arith, longer, last))) ∙ slice_get_read seats (length seats) at s refl within here
 
     -- the `HandSeat` that is added has seen nothing, and the seat has made no call
-    pub fresh_there : ((a : ℕ) → IfSome (slice_get first a) (λ t. t.pass ≡ fresh_pass a)) → ((a : ℕ) → IfSome (slice_get all a) (λ h. (h.number ≡ a) × (h.front ≡ []))) → (s.pass ≡ fresh_pass x.number) × (x.front ≡ [])
+    pub fresh_there : ((a : ℕ) → IfSome (slice_get first a) (λ t. t.pass ≡ fresh_pass a))
+        → ((a : ℕ) → IfSome (slice_get all a) (λ h. (h.number ≡ a) × (h.front ≡ []))) → (s.pass ≡ fresh_pass x.number) × (x.front ≡ [])
     fresh_there passes hand_seats =
         let hand_seat = subst (λ o. IfSome o (λ h. (h.number ≡ at) × (h.front ≡ []))) hand_seat_there (hand_seats at) in
         let pass = subst (λ o. IfSome o (λ t. t.pass ≡ fresh_pass at)) seat_there (passes at) in
@@ -69,7 +73,8 @@ module _ {V : Type 0} (first : List (DeskSeat V)) (all : List (ChannelSeat V)) w
           let same_hand_seat : Some h ≡ Some x = sym hand_seat ∙ (ap (slice_get all) (e.1) ∙ hand_seat_there) in
           let ts : s ≡ t = cc in
           let hx : x ≡ h = cc in
-          ap (slice_get (set seats at new)) (e.1) ∙ (get_set_here seats at new within ∙ ap (λ (z : DeskSeat V). Some z) (made ∙ (λ i. with_hand_seat (ts i) (hx i))))
+          ap (slice_get (set seats at new)) (e.1) ∙ (get_set_here seats at new within
+          ∙ ap (λ (z : DeskSeat V). Some z) (made ∙ (λ i. with_hand_seat (ts i) (hx i))))
       | inr e ↦ get_set_there seats at a new (e.1) ∙ given a t h (beyond a past e.1) seat hand_seat
     ]
       where
@@ -106,27 +111,35 @@ module _ {V : Type 0} where
   abbrev pub AreFresh : List (Home (Chan V)) → ℕ → List (DeskSeat V) → Type 0
   AreFresh homes n seats = (length seats ≡ n) × ((a : ℕ) → a < n → slice_get seats a ≡ Some (fresh_seat homes a))
 
-  pub fresh_passes : (homes : List (Home (Chan V))) (n : ℕ) (seats : List (DeskSeat V)) → AreFresh homes n seats → (a : ℕ) → IfSome (slice_get seats a) (λ s. s.pass ≡ fresh_pass a)
+  pub fresh_passes : (homes : List (Home (Chan V))) (n : ℕ) (seats : List (DeskSeat V)) → AreFresh homes n seats → (a : ℕ)
+      → IfSome (slice_get seats a) (λ s. s.pass ≡ fresh_pass a)
   fresh_passes homes n seats fresh a = elim (cases_lt a n) [
     | inl lt ↦ subst (λ o. IfSome o (λ s. s.pass ≡ fresh_pass a)) (sym (fresh.1 a lt)) refl
     | inr le ↦ subst (λ o. IfSome o (λ s. s.pass ≡ fresh_pass a)) (sym (slice_get_past seats a (omega (arith, fresh.0)))) tt
   ]
 
-  pub fresh_hand_seats : (home : Home (Chan V)) (n : ℕ) (hand_seats : List (ChannelSeat V)) → hand_seats ≡ map (λ k. fresh_hand_seat k home) (numbers_from 0 n) → (a : ℕ) → IfSome (slice_get hand_seats a) (λ h. (h.number ≡ a) × (h.front ≡ []))
+  pub fresh_hand_seats : (home : Home (Chan V)) (n : ℕ) (hand_seats : List (ChannelSeat V)) → hand_seats ≡ map (λ k. fresh_hand_seat k home) (numbers_from 0 n)
+      → (a : ℕ) → IfSome (slice_get hand_seats a) (λ h. (h.number ≡ a) × (h.front ≡ []))
   fresh_hand_seats home n hand_seats is a = rw is (elim (cases_lt a n) [
     | inl lt ↦ subst (λ o. IfSome o (λ h. (h.number ≡ a) × (h.front ≡ []))) (sym (dealt_at (λ k. fresh_hand_seat k home) n a lt)) (refl, refl)
-    | inr le ↦ subst (λ o. IfSome o (λ h. (h.number ≡ a) × (h.front ≡ []))) (sym (slice_get_past (map (λ k. fresh_hand_seat k home) (numbers_from 0 n)) a (omega (arith, numbers_length (λ k. fresh_hand_seat k home) 0 n)))) tt
+    | inr le ↦ subst (λ o. IfSome o (λ h. (h.number ≡ a) × (h.front ≡ [])))
+        (sym (slice_get_past (map (λ k. fresh_hand_seat k home) (numbers_from 0 n)) a (omega (arith, numbers_length (λ k. fresh_hand_seat k home) 0 n)))) tt
   ])
 
   -- each seat got the `HandSeat` with its number
-  pub given_each : (home : Home (Chan V)) (n : ℕ) (seats new : List (DeskSeat V)) (hand_seats : List (ChannelSeat V)) → hand_seats ≡ map (λ k. fresh_hand_seat k home) (numbers_from 0 n)
-      → ((a : ℕ) (s : DeskSeat V) (h : ChannelSeat V) → slice_get seats a ≡ Some s → slice_get hand_seats a ≡ Some h → slice_get new a ≡ Some (with_hand_seat s h))
+  pub given_each : (home : Home (Chan V)) (n : ℕ) (seats new : List (DeskSeat V)) (hand_seats : List (ChannelSeat V))
+      → hand_seats ≡ map (λ k. fresh_hand_seat k home) (numbers_from 0 n)
+      → ((a : ℕ) (s : DeskSeat V) (h : ChannelSeat V) → slice_get seats a ≡ Some s → slice_get hand_seats a ≡ Some h
+      → slice_get new a ≡ Some (with_hand_seat s h))
       → (a : ℕ) (s : DeskSeat V) → a < n → slice_get seats a ≡ Some s → slice_get new a ≡ Some (with_hand_seat s (fresh_hand_seat a home))
-  given_each home n seats new hand_seats is each a s low at = each a s (fresh_hand_seat a home) at (ap (λ hs. slice_get hs a) is ∙ dealt_at (λ k. fresh_hand_seat k home) n a low)
+  given_each home n seats new hand_seats is each a s low at =
+      each a s (fresh_hand_seat a home) at (ap (λ hs. slice_get hs a) is ∙ dealt_at (λ k. fresh_hand_seat k home) n a low)
 
   -- so each is a seat with one more `HandSeat`
-  pub fresh_more : (homes : List (Home (Chan V))) (home : Home (Chan V)) (n : ℕ) (seats new : List (DeskSeat V)) → AreFresh homes n seats → length new ≡ length seats
-      → ((a : ℕ) (s : DeskSeat V) → a < n → slice_get seats a ≡ Some s → slice_get new a ≡ Some (with_hand_seat s (fresh_hand_seat a home))) → AreFresh (homes ++ home ∷ []) n new
+  pub fresh_more : (homes : List (Home (Chan V))) (home : Home (Chan V)) (n : ℕ) (seats new : List (DeskSeat V)) → AreFresh homes n seats
+      → length new ≡ length seats
+      → ((a : ℕ) (s : DeskSeat V) → a < n → slice_get seats a ≡ Some s → slice_get new a ≡ Some (with_hand_seat s (fresh_hand_seat a home)))
+      → AreFresh (homes ++ home ∷ []) n new
   fresh_more homes home n seats new fresh same each = (
     same ∙ fresh.0,
     λ a low. each a (fresh_seat homes a) low (fresh.1 a low)
@@ -150,15 +163,18 @@ module _ {V : Type 0} where
   -- a fresh seat is one of the desk
   pub fresh_of : (desk : SeatDesk V) (n : ℕ) (seats : List (DeskSeat V)) → AreFresh desk.homes n seats → All (IsSeatOf desk) seats
   fresh_of desk n seats fresh = λ a d low.
-      let there : get_or seats a d ≡ fresh_seat desk.homes a = get_or_from_slice_get seats a (fresh_seat desk.homes a) d (fresh.1 a (omega (arith, fresh.0, low))) in
+      let there : get_or seats a d ≡ fresh_seat desk.homes a =
+      get_or_from_slice_get seats a (fresh_seat desk.homes a) d (fresh.1 a (omega (arith, fresh.0, low))) in
       subst (IsSeatOf desk) (sym there) (record {
         homes = fresh_homes a desk.homes;
         fronts = λ c. subst (IsFrontOf desk.specs c) (sym (fresh_front a desk.homes c)) (no_entries desk.specs c);
       })
 
   -- the next spec's channel is opened
-  pub opened_more : (specs : List (Spec V)) (hand_offs more : List (HandOff (Chan V))) (h : HandOff (Chan V)) (spec : Spec V) (i : ℕ) → i < length specs → spec ≡ get_or specs i spec → more ≡ hand_offs ++ h ∷ []
-      → map (λ (x : HandOff (Chan V)). opening_at x.home) hand_offs ≡ map (λ s. Some (opened_channel s)) (take i specs) → opening_at h.home ≡ Some (opened_channel spec)
+  pub opened_more : (specs : List (Spec V)) (hand_offs more : List (HandOff (Chan V))) (h : HandOff (Chan V)) (spec : Spec V) (i : ℕ) → i < length specs
+      → spec ≡ get_or specs i spec → more ≡ hand_offs ++ h ∷ []
+      → map (λ (x : HandOff (Chan V)). opening_at x.home) hand_offs ≡ map (λ s. Some (opened_channel s)) (take i specs)
+      → opening_at h.home ≡ Some (opened_channel spec)
       → map (λ (x : HandOff (Chan V)). opening_at x.home) more ≡ map (λ s. Some (opened_channel s)) (take (i + 1) specs)
   opened_more specs hand_offs more h spec i within at is so_far new =
       let next : get_or specs i spec ≡ spec = sym at in

@@ -30,13 +30,15 @@ module _ {V : Type 0} where
   front_grown (x ∷ hand_seats) h (suc c) none = front_grown hand_seats h c none
 
   -- the invariant of a seat holds with one more `HandSeat` that has seen nothing
-  pub seat_with_hand_seat : (pass : Pass V) (hand_seats : List (ChannelSeat V)) (h : ChannelSeat V) → IsDeskSeat pass hand_seats → h.number ≡ pass.actor → h.front ≡ [] → IsDeskSeat pass (hand_seats ++ h ∷ [])
+  pub seat_with_hand_seat : (pass : Pass V) (hand_seats : List (ChannelSeat V)) (h : ChannelSeat V) → IsDeskSeat pass hand_seats → h.number ≡ pass.actor
+      → h.front ≡ [] → IsDeskSeat pass (hand_seats ++ h ∷ [])
   seat_with_hand_seat pass hand_seats h seat number none = record {
     numbers = All-push (λ (x : ChannelSeat V). x.number ≡ pass.actor) hand_seats h seat.numbers number;
     own = λ c. ap (own_on pass.actor c) (front_grown hand_seats h c none) ∙ seat.own c;
   }
 
-module _ {V : Type 0} (hand_seats : List (ChannelSeat V)) (at : ℕ) (hand_seat h : ChannelSeat V) (within : at < length hand_seats) (is : hand_seat ≡ get_or hand_seats at hand_seat) where
+module _ {V : Type 0} (hand_seats : List (ChannelSeat V)) (at : ℕ) (hand_seat h : ChannelSeat V) (within : at < length hand_seats)
+    (is : hand_seat ≡ get_or hand_seats at hand_seat) where
   abbrev after : List (ChannelSeat V)
   after = insert (remove hand_seats at) at h
 
@@ -59,10 +61,13 @@ module _ {V : Type 0} (hand_seats : List (ChannelSeat V)) (at : ℕ) (hand_seat 
       ∙ get_or-set_other (map (λ (x : ChannelSeat V). x.front) hand_seats) at c h.front [] other)
 
   pub homes_still : h.home ≡ hand_seat.home → map (λ (x : ChannelSeat V). x.home) after ≡ map (λ (x : ChannelSeat V). x.home) hand_seats
-  homes_still home = ap (map (λ (x : ChannelSeat V). x.home)) after_is ∙ map-set_same (λ (x : ChannelSeat V). x.home) hand_seats at h hand_seat (home ∙ ap (λ (x : ChannelSeat V). x.home) is)
+  homes_still home = ap (map (λ (x : ChannelSeat V). x.home)) after_is
+      ∙ map-set_same (λ (x : ChannelSeat V). x.home) hand_seats at h hand_seat (home ∙ ap (λ (x : ChannelSeat V). x.home) is)
 
-  numbers_still : (actor : ℕ) → All (λ (x : ChannelSeat V). x.number ≡ actor) hand_seats → h.number ≡ actor → All (λ (x : ChannelSeat V). x.number ≡ actor) after
-  numbers_still actor all new = subst (All (λ (x : ChannelSeat V). x.number ≡ actor)) (sym after_is) (All-set (λ (x : ChannelSeat V). x.number ≡ actor) hand_seats at h new all)
+  numbers_still : (actor : ℕ) → All (λ (x : ChannelSeat V). x.number ≡ actor) hand_seats → h.number ≡ actor
+      → All (λ (x : ChannelSeat V). x.number ≡ actor) after
+  numbers_still actor all new = subst (All (λ (x : ChannelSeat V). x.number ≡ actor)) (sym after_is)
+      (All-set (λ (x : ChannelSeat V). x.number ≡ actor) hand_seats at h new all)
 
   -- a fact of each front: of the new one, and of the others
   pub each_front : (P : ℕ → List (ChanEntry V) → Type 0) → P at h.front → ((c : ℕ) → c ≢ at → P c (front_at hand_seats c)) → (c : ℕ) → P c (front_at after c)
@@ -72,7 +77,8 @@ module _ {V : Type 0} (hand_seats : List (ChannelSeat V)) (at : ℕ) (hand_seat 
   ]
 
   -- the invariant of a seat holds after a `HandSeat` has seen more
-  pub seat_looked : (pass : Pass V) → IsDeskSeat pass hand_seats → h.number ≡ hand_seat.number → HasGoneOn pass.actor hand_seat.front h.front → IsDeskSeat pass after
+  pub seat_looked : (pass : Pass V) → IsDeskSeat pass hand_seats → h.number ≡ hand_seat.number → HasGoneOn pass.actor hand_seat.front h.front
+      → IsDeskSeat pass after
   seat_looked pass seat number on =
       let mine : hand_seat.number ≡ pass.actor = subst (λ (x : ChannelSeat V). x.number ≡ pass.actor) (sym is) (seat.numbers at hand_seat within) in record {
         numbers = numbers_still pass.actor seat.numbers (number ∙ mine);
@@ -82,7 +88,8 @@ module _ {V : Type 0} (hand_seats : List (ChannelSeat V)) (at : ℕ) (hand_seat 
       }
 
   -- and the seat has seen more
-  pub has_seen : (pass new : Pass V) → new ≡ pass → HasGoneOn pass.actor hand_seat.front h.front → HasSeen (record { pass = pass; hand_seats = hand_seats }) (record { pass = new; hand_seats = after })
+  pub has_seen : (pass new : Pass V) → new ≡ pass → HasGoneOn pass.actor hand_seat.front h.front
+      → HasSeen (record { pass = pass; hand_seats = hand_seats }) (record { pass = new; hand_seats = after })
   has_seen pass new same on = record {
     pass = same;
     fronts = each_front (λ c es. HasGoneOn pass.actor (front_at hand_seats c) es)
@@ -91,13 +98,15 @@ module _ {V : Type 0} (hand_seats : List (ChannelSeat V)) (at : ℕ) (hand_seat 
   }
 
   -- the invariant holds after a `HandSeat` has made a call
-  pub seat_called : (old new : Pass V) (call : ChanCall V) (a : Answered V) → IsDeskSeat old hand_seats → h.number ≡ hand_seat.number → IsMade old new hand_seat.front h.front at call a → IsDeskSeat new after
+  pub seat_called : (old new : Pass V) (call : ChanCall V) (a : Answered V) → IsDeskSeat old hand_seats → h.number ≡ hand_seat.number
+      → IsMade old new hand_seat.front h.front at call a → IsDeskSeat new after
   seat_called old new call a seat number made =
       let mine : hand_seat.number ≡ old.actor = subst (λ (x : ChannelSeat V). x.number ≡ old.actor) (sym is) (seat.numbers at hand_seat within) in
       let actor : new.actor ≡ old.actor = ap (λ (p : Pass V). p.actor) made.pass in
       let k : Kept V = record { channel = at; stamp = a.stamp; call = call; reply = a.reply } in
       let kept : new.kept ≡ old.kept ++ k ∷ [] = ap (λ (p : Pass V). p.kept) made.pass in
-      let own : (c : ℕ) → own_on old.actor c (front_at after c) ≡ kept_on c (old.kept ++ k ∷ []) = each_front (λ c es. own_on old.actor c es ≡ kept_on c (old.kept ++ k ∷ []))
+      let own : (c : ℕ) → own_on old.actor c (front_at after c) ≡ kept_on c (old.kept ++ k ∷ []) =
+      each_front (λ c es. own_on old.actor c es ≡ kept_on c (old.kept ++ k ∷ []))
       (own_called old.actor at call a hand_seat.front h.front made.front
       ∙ (ap (λ (ks : List (Kept V)). ks ++ k ∷ []) (ap (own_on old.actor at) (sym front_was) ∙ seat.own at) ∙ sym (kept_here at old.kept k refl)))
       (λ c other. seat.own c ∙ sym (kept_there c old.kept k (λ same. other (sym same)))) in record {
@@ -108,7 +117,8 @@ module _ {V : Type 0} (hand_seats : List (ChannelSeat V)) (at : ℕ) (hand_seat 
   pub has_called : (old new : Pass V) (call : ChanCall V) (a : Answered V) → IsDeskSeat new after → IsMade old new hand_seat.front h.front at call a
       → HasCalled (record { pass = old; hand_seats = hand_seats }) (record { pass = new; hand_seats = after }) at call a
   has_called old new call a seat made = record {
-    front = subst (λ (z : List (ChanEntry V) × List (ChanEntry V)). EndsWithCall old.actor call a z.0 z.1) (λ i. (sym front_was i, sym front_here i)) made.front;
+    front = subst (λ (z : List (ChanEntry V) × List (ChanEntry V)). EndsWithCall old.actor call a z.0 z.1) (λ i. (sym front_was i, sym front_here i))
+        made.front;
     above = made.above;
     pass = made.pass;
     own = seat.own;

@@ -54,7 +54,8 @@ module _ (V : RattleType) (p : payload.Ghosts V.Denot) (k : clone.Ghosts V.Denot
     inside_sent : IsSend (InsideSeat.the_row V p k)
     inside_sent =
         recorded_send (InsideSeat.the_field V p k).row _ _ (InsideSeat.the_type V p k).to_one
-        (struct_send (Declared.shape (InsideSeat.the_type V p k)) (pass.the_send V s, (Vec-send (HandSeat.the_row book entry (Chan.the_row V) kept) hand_sent, tt)))
+        (struct_send (Declared.shape (InsideSeat.the_type V p k))
+        (pass.the_send V s, (Vec-send (HandSeat.the_row book entry (Chan.the_row V) kept) hand_sent, tt)))
 
     pub seat_sent : IsSend (Seat.the_row V p k)
     seat_sent = view_send (InsideSeat.the_row V p k) _ _ _ _ inside_sent
@@ -66,8 +67,10 @@ module _ (V : RattleType) (p : payload.Ghosts V.Denot) (k : clone.Ghosts V.Denot
       inside_shared : IsSync (InsideDesk.the_row V p k)
       inside_shared =
           recorded_sync (InsideDesk.the_field V p k).row _ _ (InsideDesk.the_type V p k).to_one
-          (struct_sync (Declared.shape (InsideDesk.the_type V p k))
-          (Vec-sync (Spec.the_row V) (spec.the_sync V y), (plain_sync _ _ _ _ _, (Vec-sync (HandOff.the_row book entry (Chan.the_row V) kept) hand_off_shared, tt))))
+          (struct_sync (Declared.shape (InsideDesk.the_type V p k)) (
+            Vec-sync (Spec.the_row V) (spec.the_sync V y),
+            (plain_sync _ _ _ _ _, (Vec-sync (HandOff.the_row book entry (Chan.the_row V) kept) hand_off_shared, tt)),
+          ))
 
       pub desk_shared : IsSync (Desk.the_row V p k)
       desk_shared = view_sync (InsideDesk.the_row V p k) _ _ _ _ inside_shared

@@ -1,5 +1,6 @@
 -- Each step of a hand-off preserves its rule.
-use Rattle.std.proofs.Common.{◌≡◌, ◌≢◌, ℕ, zero, suc, ◌<◌, eqb, List, [], ◌∷◌, ◌++◌, set, Bool, true, false, true≢false, Option, Some, None, refl, sym, ap, ◌∙◌, subst, inl, inr, ⊎_elim, arith}
+use Rattle.std.proofs.Common.{◌≡◌, ◌≢◌, ℕ, zero, suc, ◌<◌, eqb, List, [], ◌∷◌, ◌++◌, set, Bool, true, false, true≢false}
+use Rattle.std.proofs.Common.{Option, Some, None, refl, sym, ap, ◌∙◌, subst, inl, inr, ⊎_elim, arith}
 use Rattle.std.specs.Prelude.{slice_index}
 use mathlib.Core.Option.{some, none, some-injective, some-ne-none}
 use prog.Atomic.{either}
@@ -8,7 +9,8 @@ use Rattle.atomic_table.specs.Table.{State, Me, Act, step, keeps, takes, gives, 
 use Rattle.atomic_table.proofs.Lists.{set_again, set_here, set_else, at_longer}
 use Rattle.rw_seat.specs.declared.view.View.{View}
 use Rattle.rw_seat.specs.Journals.{IsIn, Apart, Distinct, IsQuiet, Adds}
-use Rattle.rw_seat.specs.Rule.{numbers_from, view_of, resting, spent_view, joined_view, first_part, other_part, Fits, Agree, AtHome, IsOut, HasOneBook, Acquires, Releases}
+use Rattle.rw_seat.specs.Rule.{numbers_from, view_of, resting, spent_view, joined_view, first_part, other_part}
+use Rattle.rw_seat.specs.Rule.{Fits, Agree, AtHome, IsOut, HasOneBook, Acquires, Releases}
 use Rattle.rw_seat.proofs.Journals.{in_from, quiet_self, quiet_more, olds_more}
 use Rattle.rw_seat.proofs.Views.{from_distinct, at_within, each_set, agree_set, each_split, agree_split, each_join, agree_join}
 
@@ -67,17 +69,20 @@ module _ {B E S : Type 0} (author : E → ℕ) (start : B → S) (journal : B �
       only P v p (suc j) u e = absurd (some-ne-none u (sym e))
 
   -- the seat that has the book isn't one that hasn't
-  not_out : (views : List (View E S)) (i j : ℕ) (h : List E) (ns : List ℕ) (v : View E S) → get_elem? views i ≡ some (view_of ns (Some o) h true []) → get_elem? views j ≡ some v → v.held ≡ false → i ≢ j
+  not_out : (views : List (View E S)) (i j : ℕ) (h : List E) (ns : List ℕ) (v : View E S) → get_elem? views i ≡ some (view_of ns (Some o) h true [])
+      → get_elem? views j ≡ some v → v.held ≡ false → i ≢ j
   not_out views i j h ns v ei ej idle same =
       let e : some (view_of ns (Some o) h true []) ≡ some v = sym ei ∙ (ap (get_elem? views) same ∙ ej) in
       true≢false (ap (λ (x : View E S). x.held) (some-injective (view_of ns (Some o) h true []) v e) ∙ idle)
 
   -- an acquire
   abbrev Taking : ℕ → ℕ → View E S → St → Type 0
-  Taking slots id v s = (w : View E S) × (a : Act (Option B)) × Valid s.homes [] a × Rule (stepped s 0 (either (eqb (slice_index s.words 0) 0) 1 (slice_index s.words 0)) id [] w a)
+  Taking slots id v s = (w : View E S) × (a : Act (Option B)) × Valid s.homes [] a
+      × Rule (stepped s 0 (either (eqb (slice_index s.words 0) 0) 1 (slice_index s.words 0)) id [] w a)
       × Acquires author start journal (step slots 0 0 1 none) (v, []) (slice_index s.words 0) (w, carried_after [] a)
 
-  take_home : (slots id n : ℕ) (ns : List ℕ) (v : View E S) (b : B) (views : List (View E S)) → v.numbers ≡ n ∷ ns → get_elem? views id ≡ some v → start b ≡ o → Agree author o (journal b) seats views
+  take_home : (slots id n : ℕ) (ns : List ℕ) (v : View E S) (b : B) (views : List (View E S)) → v.numbers ≡ n ∷ ns → get_elem? views id ≡ some v → start b ≡ o
+      → Agree author o (journal b) seats views
       → ((j : ℕ) (u : View E S) → get_elem? views j ≡ some u → u.held ≡ false) → Taking slots id v (home_table b views)
   take_home slots id n ns v b views is at from agree idle =
       let h : List E = journal b in
@@ -103,7 +108,8 @@ module _ {B E S : Type 0} (author : E → ℕ) (start : B → S) (journal : B �
         ((λ z. (b, refl, knows ∙ ap (λ (x : S). Some x) (sym from), agree.fits id v at)), (λ z. absurd (z refl))),
       )
 
-  take_out : (slots id : ℕ) (v : View E S) (h : List E) (views : List (View E S)) → get_elem? views id ≡ some v → Rule (out_table views) → Taking slots id v (out_table views)
+  take_out : (slots id : ℕ) (v : View E S) (h : List E) (views : List (View E S)) → get_elem? views id ≡ some v → Rule (out_table views)
+      → Taking slots id v (out_table views)
   take_out slots id v h views at r = (
     v,
     keeps,
@@ -124,7 +130,8 @@ module _ {B E S : Type 0} (author : E → ℕ) (start : B → S) (journal : B �
   takes_turn slots id n ns v is s r deep at fits = ⊎_elim
       (λ (p : Free r.0 s). subst (Taking slots id v) (home_is s p.0 p.1 p.2)
       (take_home slots id n ns v p.0 s.views is at p.3 (subst (λ (h : List E). Agree author o h seats s.views) (sym p.4) r.1) p.5))
-      (λ (p : Taken r.0 s). subst (Taking slots id v) (out_is s p.3 p.4) (take_out slots id v r.0 s.views at (r.0, r.1, inr (p.0, p.1, p.2, refl, refl, p.5, p.6))))
+      (λ (p : Taken r.0 s). subst (Taking slots id v) (out_is s p.3 p.4)
+      (take_out slots id v r.0 s.views at (r.0, r.1, inr (p.0, p.1, p.2, refl, refl, p.5, p.6))))
       r.2
 
   -- a release
@@ -132,7 +139,8 @@ module _ {B E S : Type 0} (author : E → ℕ) (start : B → S) (journal : B �
   Giving slots id v b s = (w : View E S) × (a : Act (Option B)) × Valid s.homes ((0, Some b) ∷ []) a × Rule (stepped s 0 0 id ((0, Some b) ∷ []) w a)
       × Releases author start journal (step slots 0 0 0 none) (v, (0, Some b) ∷ []) 0 (w, carried_after ((0, Some b) ∷ []) a)
 
-  give_out : (slots id : ℕ) (v : View E S) (b : B) (h : List E) (views : List (View E S)) → get_elem? views id ≡ some v → v.front ≡ h → start b ≡ o → Adds author v.numbers v.front (journal b) → Agree author o h seats views
+  give_out : (slots id : ℕ) (v : View E S) (b : B) (h : List E) (views : List (View E S)) → get_elem? views id ≡ some v → v.front ≡ h → start b ≡ o
+      → Adds author v.numbers v.front (journal b) → Agree author o h seats views
       → ((j : ℕ) (u : View E S) → get_elem? views j ≡ some u → u.held ≡ true → j ≡ id) → Giving slots id v b (out_table views)
   give_out slots id v b h views at is from adds agree one =
       let g : List E = journal b in
@@ -222,7 +230,8 @@ module _ {B E S : Type 0} (author : E → ℕ) (start : B → S) (journal : B �
 
   -- closing: if one seat has every number, and not the book, the slot has the book; it has its start, and fits the seat's front and each
   -- old one
-  pub closes : (id : ℕ) (v : View E S) (ws : List ℕ) (xs : List (Option B)) → v.held ≡ false → ((n : ℕ) → n < seats → IsIn n v.numbers) → Final (Seen Rule id v) ws xs
+  pub closes : (id : ℕ) (v : View E S) (ws : List ℕ) (xs : List (Option B)) → v.held ≡ false → ((n : ℕ) → n < seats → IsIn n v.numbers)
+      → Final (Seen Rule id v) ws xs
       → (b : B) × (get_elem? xs 0 ≡ some (Some b)) × Fits author (journal b) v × (start b ≡ o)
   closes id v ws xs idle all end =
       let s : St = end.0 in
@@ -260,7 +269,9 @@ module _ {E S : Type 0} (author : E → ℕ) where
   pub met_two : (v w j : View E S) (h : List E) (n : ℕ) → j ≡ joined_view v w → Fits author h j → w.numbers ≡ n ∷ [] → IsQuiet author (n ∷ []) w.front h
   met_two v w j h n is fit q = subst (λ (ns : List ℕ). IsQuiet author ns w.front h) q (subst (Fits author h) is fit).1.3.2
 
-pub splits_view : {B E S : Type 0} (author : E → ℕ) (start : B → S) (journal : B → List E) (o : S) (seats id m : ℕ) (ms : List ℕ) (from : Option S) (f : List E) (u : View E S) → u ≡ resting (m ∷ ms) from f
+pub splits_view : {B E S : Type 0} (author : E → ℕ) (start : B → S) (journal : B → List E) (o : S) (seats id m : ℕ) (ms : List ℕ) (from : Option S) (f : List E)
+    (u : View E S) → u ≡ resting (m ∷ ms) from f
     → Splits (HasOneBook author start journal o seats) id u (first_part u) (other_part u)
 splits_view author start journal o seats id m ms from f u is =
-    subst (λ u. Splits (HasOneBook author start journal o seats) id u (first_part u) (other_part u)) (sym is) (splits author start journal o seats id m ms from f)
+    subst (λ u. Splits (HasOneBook author start journal o seats) id u (first_part u) (other_part u)) (sym is)
+    (splits author start journal o seats id m ms from f)

@@ -1,5 +1,6 @@
 -- Facts of all views, as one of them changes, is split, or is joined with another.
-use Rattle.std.proofs.Common.{◌≡◌, ◌≢◌, ◌⊎◌, ℕ, zero, suc, ◌+◌, ◌<◌, List, [], ◌∷◌, ◌++◌, length, set, Option, Some, refl, sym, ap, ◌∙◌, subst, inl, inr, ⊎_elim, arith}
+use Rattle.std.proofs.Common.{◌≡◌, ◌≢◌, ◌⊎◌, ℕ, zero, suc, ◌+◌, ◌<◌, List, [], ◌∷◌, ◌++◌, length, set, Option}
+use Rattle.std.proofs.Common.{Some, refl, sym, ap, ◌∙◌, subst, inl, inr, ⊎_elim, arith}
 use mathlib.Core.Logic.{dite}
 use mathlib.Core.Option.{some, some-injective, some-ne-none}
 use native.Mathlib.Decide.{ℕ_discrete}
@@ -81,7 +82,8 @@ module _ {E S : Type 0} (author : E → ℕ) where
   below_via seats old new R from below j v e n i = let p = from j v e n i in below p.0 p.1 p.2 n p.3
 
   -- a fact of each view, after one is set
-  pub each_set : (P : ℕ → View E S → Type 0) (views : List (View E S)) (id : ℕ) (w : View E S) → ((j : ℕ) (u : View E S) → j ≢ id → get_elem? views j ≡ some u → P j u) → P id w
+  pub each_set : (P : ℕ → View E S → Type 0) (views : List (View E S)) (id : ℕ) (w : View E S)
+      → ((j : ℕ) (u : View E S) → j ≢ id → get_elem? views j ≡ some u → P j u) → P id w
       → (j : ℕ) (u : View E S) → get_elem? (set views id w) j ≡ some u → P j u
   each_set P views id w others mine j u e = ⊎_elim
       (λ (t : (j ≡ id) × (w ≡ u)). subst (λ (z : ℕ × View E S). P z.0 z.1) (λ i. (sym t.0 i, t.1 i)) mine)
@@ -89,7 +91,8 @@ module _ {E S : Type 0} (author : E → ℕ) where
       (at_set views id j w u e)
 
   -- one view becomes another with the same numbers
-  pub agree_set : (o : S) (h g : List E) (seats : ℕ) (views : List (View E S)) (id : ℕ) (v w : View E S) → get_elem? views id ≡ some v → w.numbers ≡ v.numbers → w.start ≡ v.start → Agree author o h seats views
+  pub agree_set : (o : S) (h g : List E) (seats : ℕ) (views : List (View E S)) (id : ℕ) (v w : View E S) → get_elem? views id ≡ some v → w.numbers ≡ v.numbers
+      → w.start ≡ v.start → Agree author o h seats views
       → ((j : ℕ) (u : View E S) → j ≢ id → get_elem? views j ≡ some u → Fits author g u) → Fits author g w → Agree author o g seats (set views id w)
   agree_set o h g seats views id v w at same start agree others mine =
       let from : (j : ℕ) (u : View E S) → get_elem? (set views id w) j ≡ some u → Origin views (λ n k i. k ≡ i) j u =
@@ -101,11 +104,13 @@ module _ {E S : Type 0} (author : E → ℕ) where
         apart = apart_via views (set views id w) (λ n k i. k ≡ i) (λ n k i j a b. sym a ∙ b) from agree.apart;
         below = below_via seats views (set views id w) (λ n k i. k ≡ i) from agree.below;
         distinct = each_set (λ j u. Distinct u.numbers) views id w (λ j u ne e. agree.distinct j u e) (subst Distinct (sym same) (agree.distinct id v at));
-        started = each_set (λ j u. (n : ℕ) → IsIn n u.numbers → u.start ≡ Some o) views id w (λ j u ne e. agree.started j u e) (λ n i. start ∙ agree.started id v at n (subst (IsIn n) same i));
+        started = each_set (λ j u. (n : ℕ) → IsIn n u.numbers → u.start ≡ Some o) views id w (λ j u ne e. agree.started j u e)
+            (λ n i. start ∙ agree.started id v at n (subst (IsIn n) same i));
       }
 
   -- a fact of each view, after a split
-  pub each_split : (P : ℕ → View E S → Type 0) (views : List (View E S)) (id : ℕ) (a b : View E S) → ((j : ℕ) (u : View E S) → j ≢ id → get_elem? views j ≡ some u → P j u) → P id a → P (length (set views id a)) b
+  pub each_split : (P : ℕ → View E S → Type 0) (views : List (View E S)) (id : ℕ) (a b : View E S)
+      → ((j : ℕ) (u : View E S) → j ≢ id → get_elem? views j ≡ some u → P j u) → P id a → P (length (set views id a)) b
       → (j : ℕ) (u : View E S) → get_elem? (set views id a ++ b ∷ []) j ≡ some u → P j u
   each_split P views id a b others left right j u e = ⊎_elim
       (λ (t : get_elem? (set views id a) j ≡ some u). ⊎_elim
@@ -115,7 +120,8 @@ module _ {E S : Type 0} (author : E → ℕ) where
       (λ (t : (j ≡ length (set views id a)) × (b ≡ u)). subst (λ (z : ℕ × View E S). P z.0 z.1) (λ i. (sym t.0 i, t.1 i)) right)
       (at_end (set views id a) b u j e)
 
-  pub agree_split : (o : S) (h : List E) (seats : ℕ) (views : List (View E S)) (id m : ℕ) (ms : List ℕ) (start : Option S) (f : List E) → get_elem? views id ≡ some (resting (m ∷ ms) start f) → Agree author o h seats views
+  pub agree_split : (o : S) (h : List E) (seats : ℕ) (views : List (View E S)) (id m : ℕ) (ms : List ℕ) (start : Option S) (f : List E)
+      → get_elem? views id ≡ some (resting (m ∷ ms) start f) → Agree author o h seats views
       → Agree author o h seats (set views id (resting (m ∷ []) start f) ++ resting ms start f ∷ [])
   agree_split o h seats views id m ms start f at agree =
       let v : View E S = resting (m ∷ ms) start f in
@@ -139,7 +145,8 @@ module _ {E S : Type 0} (author : E → ℕ) where
             (λ n i. agree.started id v at m (inl refl)) (λ n i. agree.started id v at m (inl refl));
       }
 
-  pub each_join : (P : ℕ → View E S → Type 0) (views : List (View E S)) (id other : ℕ) (a : View E S) → ((j : ℕ) (u : View E S) → j ≢ id → j ≢ other → get_elem? views j ≡ some u → P j u) → P id a → P other spent_view
+  pub each_join : (P : ℕ → View E S → Type 0) (views : List (View E S)) (id other : ℕ) (a : View E S)
+      → ((j : ℕ) (u : View E S) → j ≢ id → j ≢ other → get_elem? views j ≡ some u → P j u) → P id a → P other spent_view
       → (j : ℕ) (u : View E S) → get_elem? (set (set views id a) other spent_view) j ≡ some u → P j u
   each_join P views id other a others both gone j u e = ⊎_elim
       (λ (x : (j ≡ other) × (spent_view ≡ u)). subst (λ (z : ℕ × View E S). P z.0 z.1) (λ i. (sym x.0 i, x.1 i)) gone)
@@ -172,7 +179,8 @@ module _ {E S : Type 0} (author : E → ℕ) where
         ),
       )
 
-  pub agree_join : (o : S) (h : List E) (seats : ℕ) (views : List (View E S)) (id other m : ℕ) (v w : View E S) → IsIn m v.numbers → get_elem? views id ≡ some v → get_elem? views other ≡ some w → other ≢ id
+  pub agree_join : (o : S) (h : List E) (seats : ℕ) (views : List (View E S)) (id other m : ℕ) (v w : View E S) → IsIn m v.numbers → get_elem? views id ≡ some v
+      → get_elem? views other ≡ some w → other ≢ id
       → Agree author o h seats views → Agree author o h seats (set (set views id (joined_view v w)) other spent_view)
   agree_join o h seats views id other m v w living atv atw ne agree =
       let a : View E S = joined_view v w in
@@ -184,11 +192,13 @@ module _ {E S : Type 0} (author : E → ℕ) where
       (λ (x : IsIn n w.numbers). (other, w, atw, x, inl (refl, refl)))
       (in_append n v.numbers w.numbers i))
       (λ n i. absurd i) in record {
-        fits = each_join (λ j u. Fits author h u) views id other a (λ j u ni no e. agree.fits j u e) (fits_joined h v w (agree.fits id v atv) (agree.fits other w atw)) (fits_spent S author h);
+        fits = each_join (λ j u. Fits author h u) views id other a (λ j u ni no e. agree.fits j u e)
+            (fits_joined h v w (agree.fits id v atv) (agree.fits other w atw)) (fits_spent S author h);
         apart = apart_via views (set (set views id a) other spent_view) (Fuse id other) (λ n k i j x y. fuse_one id other n k i j x y) from agree.apart;
         below = below_via seats views (set (set views id a) other spent_view) (Fuse id other) from agree.below;
         distinct = each_join (λ j u. Distinct u.numbers) views id other a (λ j u ni no e. agree.distinct j u e)
-            (distinct_append v.numbers w.numbers (agree.distinct id v atv) (agree.distinct other w atw) (agree.apart id other v w (λ e. ne (sym e)) atv atw)) tt;
+            (distinct_append v.numbers w.numbers (agree.distinct id v atv) (agree.distinct other w atw) (agree.apart id other v w (λ e. ne (sym e)) atv atw))
+            tt;
         started = each_join (λ j u. (n : ℕ) → IsIn n u.numbers → u.start ≡ Some o) views id other a (λ j u ni no e. agree.started j u e)
             (λ n i. agree.started id v atv m living) (λ n i. absurd i);
       }

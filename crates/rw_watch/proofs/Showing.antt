@@ -18,7 +18,8 @@ last_value-push : {V : Type 0} (v : V) (changes : List (V × Bool)) (w : V) (tol
 last_value-push v [] w told = refl
 last_value-push v (change ∷ changes) w told = last_value-push change.0 changes w told
 
-told_count-push : {V : Type 0} (changes : List (V × Bool)) (w : V) (told : Bool) → told_count (changes ++ (w, told) ∷ []) ≡ version_after (told_count changes) told
+told_count-push : {V : Type 0} (changes : List (V × Bool)) (w : V) (told : Bool)
+    → told_count (changes ++ (w, told) ∷ []) ≡ version_after (told_count changes) told
 told_count-push changes w told = fold_push _ 0 changes (w, told) ∙ raised_is (told_count changes) told where
   raised_is : (n : ℕ) (told : Bool) → n + cond told 1 0 ≡ version_after n told
   raised_is n true = refl
@@ -46,7 +47,8 @@ documented {V} x y call reply same_reply same_next r is =
 allowed_opening : {V : Type 0} (initial : V) → IsAllowed (shown (opening_record initial))
 allowed_opening {V} initial = record {
   few_slots = omega arith;
-  marked = All-push (IsMarked 0) (Live Sender None ∷ []) (Live Receiver (Some 0)) (All-push (IsMarked 0) [] (Live Sender None) (All-nil (IsMarked 0)) refl) (omega arith);
+  marked = All-push (IsMarked 0) (Live Sender None ∷ []) (Live Receiver (Some 0)) (All-push (IsMarked 0) [] (Live Sender None) (All-nil (IsMarked 0)) refl)
+      (omega arith);
 }
 
 allowed_after : {V : Type 0} (r : Record V) (calls : List (WCall V)) → IsAllowed (shown r) → IsAllowed (shown (after r calls))

@@ -9,7 +9,8 @@ use Rattle.rw_handles.specs.Slots.{kind_at}
 use Rattle.rw_handles.proofs.SlotLaws.{All-slice_get}
 use Rattle.rw_watch.specs.Shown.{Shown, IsAllowed, IsMarked}
 
-strong_at : (version : ℕ) (slots : List (Slot (Option ℕ))) (id : ℕ) (o : Option (Slot (Option ℕ))) → slice_get slots id ≡ o → All (IsMarked version) slots → kind_at o ≢ Some Weak
+strong_at : (version : ℕ) (slots : List (Slot (Option ℕ))) (id : ℕ) (o : Option (Slot (Option ℕ))) → slice_get slots id ≡ o → All (IsMarked version) slots
+    → kind_at o ≢ Some Weak
 strong_at version slots id None is all = λ h. cc
 strong_at version slots id (Some Spent) is all = λ h. cc
 strong_at version slots id (Some (Live Weak mark)) is all = absurd (All-slice_get (IsMarked version) slots id (Live Weak mark) is all)

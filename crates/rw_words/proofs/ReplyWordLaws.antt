@@ -31,7 +31,8 @@ found_in : {W : Type 0} (text : W → List ℕ) (token : List ℕ) (words : List
 found_in text token [] = tt
 found_in text token (w ∷ words) = first_or (λ v. text v ≡ token) (bytes_eq (text w) token) w _ (bytes_eq-Decides (text w) token).0 (found_in text token words)
 
-either_table : (token : List ℕ) (b : Option _) (w : Option _) → IfSome b (λ word. broadcast.reply_word_text word ≡ token) → IfSome w (λ word. watch.reply_word_text word ≡ token)
+either_table : (token : List ℕ) (b : Option _) (w : Option _) → IfSome b (λ word. broadcast.reply_word_text word ≡ token)
+    → IfSome w (λ word. watch.reply_word_text word ≡ token)
     → IfSome (option_or (option_map Broadcast b) (option_map Watch w)) (λ word. reply_word_text word ≡ token)
 either_table token None None in_first in_second = tt
 either_table token None (Some w) in_first in_second = in_second
@@ -52,11 +53,13 @@ first_word_is : (word : List ℕ) (o : Option (List ℕ)) → lacks 32 word ≡ 
 first_word_is word None plain = rw (append-nil word, cut_lacks 32 word plain) refl
 first_word_is word (Some rest) plain = rw (cut_joined 32 word rest plain) refl
 
-broadcast_first : {V : Type 0} (k : Ghosts V) (o : Option (BroadcastReplyWord × Args V)) → IfSome (option_map (λ p. Broadcast p.0) o) (λ w. first_word (text_of_parts k (broadcast.replies_table k) o) ≡ reply_word_text w)
+broadcast_first : {V : Type 0} (k : Ghosts V) (o : Option (BroadcastReplyWord × Args V))
+    → IfSome (option_map (λ p. Broadcast p.0) o) (λ w. first_word (text_of_parts k (broadcast.replies_table k) o) ≡ reply_word_text w)
 broadcast_first k None = tt
 broadcast_first k (Some p) = first_word_is (broadcast.reply_word_text p.0) (args_text k p.1) (broadcast_plain p.0)
 
-watch_first : {V : Type 0} (k : Ghosts V) (o : Option (WatchReplyWord × Args V)) → IfSome (option_map (λ p. Watch p.0) o) (λ w. first_word (text_of_parts k (watch.replies_table k) o) ≡ reply_word_text w)
+watch_first : {V : Type 0} (k : Ghosts V) (o : Option (WatchReplyWord × Args V))
+    → IfSome (option_map (λ p. Watch p.0) o) (λ w. first_word (text_of_parts k (watch.replies_table k) o) ≡ reply_word_text w)
 watch_first k None = tt
 watch_first k (Some p) = first_word_is (watch.reply_word_text p.0) (args_text k p.1) (watch_plain p.0)
 

@@ -19,7 +19,8 @@ use Rattle.rw_world.specs.Lists.{map_at, Each}
 use Rattle.rw_world.specs.declared.channels.ChanCall.{ChanCall}
 use Rattle.rw_world.specs.Machines.{ChanShown, of_broadcast, of_watch, of_chan, of_world}
 use Rattle.rw_world.specs.Openings.{opened_channel, opening_row}
-use Rattle.rw_world.specs.Records.{ChannelRecord, broadcast_record, watch_record, opened_records, step_of, next_records, records_after, shown_record, shown_records, shown_after, ShowsItsRecords, RepliesByRecords, ShowsItsSteps}
+use Rattle.rw_world.specs.Records.{ChannelRecord, broadcast_record, watch_record, opened_records, step_of, next_records, records_after}
+use Rattle.rw_world.specs.Records.{shown_record, shown_records, shown_after, ShowsItsRecords, RepliesByRecords, ShowsItsSteps}
 use Rattle.rw_world.specs.RowLaws.{row_laws}
 
 module _ {V : Type 0} where
@@ -31,13 +32,15 @@ module _ {V : Type 0} where
   AreAllowed xs = Each (of_chan {V = V}).allowed xs
 
   -- a step of a channel on what its record shows is the step of the record
-  shows_step : (r : ChannelRecord V) (c : ChanCall V) → (of_chan {V = V}).allowed (shown_record r) → (of_chan {V = V}).next (shown_record r) c ≡ shown_record (step_of r c).0
+  shows_step : (r : ChannelRecord V) (c : ChanCall V) → (of_chan {V = V}).allowed (shown_record r)
+      → (of_chan {V = V}).next (shown_record r) c ≡ shown_record (step_of r c).0
   shows_step (broadcast_record r) (call.B c) allowed = ap broadcast_shown (broadcast.shows_its_steps V r c allowed.some_capacity).1
   shows_step (broadcast_record r) (call.W d) allowed = refl
   shows_step (watch_record r) (call.B c) allowed = refl
   shows_step (watch_record r) (call.W d) allowed = ap watch_shown (watch.shows_its_steps V r d).1
 
-  replies_step : (r : ChannelRecord V) (c : ChanCall V) → (of_chan {V = V}).allowed (shown_record r) → (of_chan {V = V}).reply_of (shown_record r) c ≡ (step_of r c).1
+  replies_step : (r : ChannelRecord V) (c : ChanCall V) → (of_chan {V = V}).allowed (shown_record r)
+      → (of_chan {V = V}).reply_of (shown_record r) c ≡ (step_of r c).1
   replies_step (broadcast_record r) (call.B c) allowed = ap reply.B (broadcast.shows_its_steps V r c allowed.some_capacity).0
   replies_step (broadcast_record r) (call.W d) allowed = refl
   replies_step (watch_record r) (call.B c) allowed = refl
@@ -60,11 +63,13 @@ module _ {V : Type 0} where
   allowed_next rs c allowed =
       subst AreAllowed (sym (shows_step_at rs c.channel c.call allowed)) ((row_laws of_chan no_channel chan_laws).next_allowed (shown_records rs) c allowed)
 
-  allowed_after : (rs : List (ChannelRecord V)) (calls : List (RowCall (ChanCall V))) → AreAllowed (shown_records rs) → AreAllowed (shown_records (records_after rs calls))
+  allowed_after : (rs : List (ChannelRecord V)) (calls : List (RowCall (ChanCall V))) → AreAllowed (shown_records rs)
+      → AreAllowed (shown_records (records_after rs calls))
   allowed_after rs [] allowed = allowed
   allowed_after rs (c ∷ calls) allowed = allowed_after (next_records rs c) calls (allowed_next rs c allowed)
 
-  shows_after : (rs : List (ChannelRecord V)) (calls : List (RowCall (ChanCall V))) → AreAllowed (shown_records rs) → shown_records (records_after rs calls) ≡ shown_after (shown_records rs) calls
+  shows_after : (rs : List (ChannelRecord V)) (calls : List (RowCall (ChanCall V))) → AreAllowed (shown_records rs)
+      → shown_records (records_after rs calls) ≡ shown_after (shown_records rs) calls
   shows_after rs [] allowed = refl
   shows_after rs (c ∷ calls) allowed =
       shows_after (next_records rs c) calls (allowed_next rs c allowed)

@@ -1,12 +1,14 @@
 -- One member of a row, and the row.
-use Rattle.std.proofs.Common.{◌≡◌, ℕ, zero, suc, ◌+◌, ◌<◌, ◌≤◌, List, [], ◌∷◌, length, map, get_or, set, drop, Some, None, MatchOption, refl, ap, arith, add-one}
+use Rattle.std.proofs.Common.{◌≡◌, ℕ, zero, suc, ◌+◌, ◌<◌, ◌≤◌, List, [], ◌∷◌, length, map, get_or, set}
+use Rattle.std.proofs.Common.{drop, Some, None, MatchOption, refl, ap, arith, add-one}
 use Rattle.std.specs.Prelude.{slice_get, min}
 use Rattle.rw_world.specs.Lists.{map_at, greatest, least}
 
 -- what the members show, where y replaces member i, or where there is no member i
 module _ {M V : Type 0} (shown : M → V) where
   -- where y shows f of what member i showed, the row shows that change at i
-  pub view_at : (f : V → V) (xs : List M) (i : ℕ) (d y : M) → i < length xs → shown y ≡ f (shown (get_or xs i d)) → map shown (set xs i y) ≡ map_at f (map shown xs) i
+  pub view_at : (f : V → V) (xs : List M) (i : ℕ) (d y : M) → i < length xs → shown y ≡ f (shown (get_or xs i d))
+      → map shown (set xs i y) ≡ map_at f (map shown xs) i
   view_at f [] i d y within change = refl
   view_at f (x ∷ xs) zero d y within change = ap (λ v. v ∷ map shown xs) change
   view_at f (x ∷ xs) (suc i) d y within change =
@@ -19,7 +21,8 @@ module _ {M V : Type 0} (shown : M → V) where
   slice_get_at (x ∷ xs) (suc i) d within = slice_get_at xs i d (omega arith)
 
   -- what holds of the view at i holds of what the member there shows
-  pub fits_at : (P : V → Type 0) (xs : List M) (i : ℕ) (d : M) → i < length xs → MatchOption (slice_get (map shown xs) i) (Unit {0}) P → P (shown (get_or xs i d))
+  pub fits_at : (P : V → Type 0) (xs : List M) (i : ℕ) (d : M) → i < length xs → MatchOption (slice_get (map shown xs) i) (Unit {0}) P
+      → P (shown (get_or xs i d))
   fits_at P [] i d within fits = absurd (omega arith)
   fits_at P (x ∷ xs) zero d within fits = fits
   fits_at P (x ∷ xs) (suc i) d within fits = fits_at P xs i d (omega arith) fits

@@ -34,23 +34,27 @@ module _ {V : Type 0} where
       let read = read_at es n e here in
       subst (λ f. IsStep of_world (after of_world (opening_row specs) es n) f) read.1 (step_at of_world (opening_row specs) es n e legal read.0)
 
-  documented_reply : (specs : List (Spec V)) (es : List (WorldEntry V)) (n : ℕ) (e : WorldEntry V) → IsLegal of_world (opening_row specs) es → slice_get es n ≡ Some e
+  documented_reply : (specs : List (Spec V)) (es : List (WorldEntry V)) (n : ℕ) (e : WorldEntry V) → IsLegal of_world (opening_row specs) es
+      → slice_get es n ≡ Some e
       → e.reply ≡ reply_from (records_at specs es n) e.call
   documented_reply specs es n e legal here =
       let reply_to = λ (xs : List (ChanShown V)). (of_world {V = V}).reply_of xs e.call in
-      (step_here specs es n e legal here).reply ∙ ap reply_to (calls_lead (opening_row specs) (take n es)) ∙ replies_by_records V specs (calls_before es n) e.call
+      (step_here specs es n e legal here).reply ∙ ap reply_to (calls_lead (opening_row specs) (take n es))
+      ∙ replies_by_records V specs (calls_before es n) e.call
 
   allowed_at : (specs : List (Spec V)) (es : List (WorldEntry V)) (n : ℕ) → (of_world {V = V}).allowed (after of_world (opening_row specs) es n)
   allowed_at specs es n =
       let opening : (of_world {V = V}).allowed (opening_row specs) = subst (of_world {V = V}).allowed (shows_opened specs) (allowed_opened specs) in
       after_all-allowed of_world (row_laws of_chan no_channel chan_laws) (opening_row specs) (take n es) opening
 
-  refused_stays : (specs : List (Spec V)) (es : List (WorldEntry V)) (n : ℕ) (e : WorldEntry V) → IsLegal of_world (opening_row specs) es → slice_get es n ≡ Some e
+  refused_stays : (specs : List (Spec V)) (es : List (WorldEntry V)) (n : ℕ) (e : WorldEntry V) → IsLegal of_world (opening_row specs) es
+      → slice_get es n ≡ Some e
       → (of_world {V = V}).refuses e.reply ≡ true → documented_at specs es (n + 1) ≡ documented_at specs es n
   refused_stays specs es n e legal here refuses =
       let read = read_at es n e here in
       let x : List (ChanShown V) = after of_world (opening_row specs) es n in
-      let refused : (of_world {V = V}).refuses ((of_world {V = V}).reply_of x e.call) ≡ true = ap (of_world {V = V}).refuses (sym (step_here specs es n e legal here).reply) ∙ refuses in
+      let refused : (of_world {V = V}).refuses ((of_world {V = V}).reply_of x e.call) ≡ true =
+      ap (of_world {V = V}).refuses (sym (step_here specs es n e legal here).reply) ∙ refuses in
       let stays : (of_world {V = V}).next x e.call ≡ x = (row_laws (of_chan {V = V}) no_channel chan_laws).refused x e.call (allowed_at specs es n) refused in
       sym (shown_at specs es (n + 1))
       ∙ after_more of_world (opening_row specs) es n e read.0

@@ -22,7 +22,8 @@ module _ {M C R P : Type 0} (m : Ghosts M C R P) {K : Type 0} (kind : m.View →
 
   module _ (missing : Missing R P) (strays : m.is_straying missing.reply ≡ true) (by_kind : StraysByKind m kind strays_at) where
     strays_in : (xs : List m.View) (i : ℕ) (c : C)
-        → m.is_straying (option_map_or (λ x. m.reply_of x c) (slice_get xs i) missing.reply) ≡ option_map_or (λ k. strays_at k c) (slice_get (map kind xs) i) true
+        → m.is_straying (option_map_or (λ x. m.reply_of x c) (slice_get xs i) missing.reply)
+        ≡ option_map_or (λ k. strays_at k c) (slice_get (map kind xs) i) true
     strays_in [] i c = strays
     strays_in (x ∷ xs) zero c = by_kind x c
     strays_in (x ∷ xs) (suc i) c = strays_in xs i c

@@ -11,7 +11,8 @@ module _ {M C R P : Type 0} (m : Ghosts M C R P) where
   after_calls-push x (d ∷ cs) c = after_calls-push (m.next x d) cs c
 
   -- one more call was made
-  pub after_more : (x : m.View) (cs : List C) (k : ℕ) (c : C) → k < length cs → c ≡ get_or cs k c → after_calls m x (take (k + 1) cs) ≡ m.next (after_calls m x (take k cs)) c
+  pub after_more : (x : m.View) (cs : List C) (k : ℕ) (c : C) → k < length cs → c ≡ get_or cs k c
+      → after_calls m x (take (k + 1) cs) ≡ m.next (after_calls m x (take k cs)) c
   after_more x cs k c inside read =
       rw (take_more cs k c inside, ← read) (after_calls-push x (take k cs) c)
 
@@ -20,7 +21,8 @@ module _ {M C R P : Type 0} (m : Ghosts M C R P) where
   last_reply-push x (d ∷ []) c = refl
   last_reply-push x (d ∷ (e ∷ cs)) c = last_reply-push (m.next x d) (e ∷ cs) c
 
-  pub last_more : (x : m.View) (cs : List C) (k : ℕ) (c : C) → k < length cs → c ≡ get_or cs k c → last_reply m x (take (k + 1) cs) ≡ Some (m.reply_of (after_calls m x (take k cs)) c)
+  pub last_more : (x : m.View) (cs : List C) (k : ℕ) (c : C) → k < length cs → c ≡ get_or cs k c
+      → last_reply m x (take (k + 1) cs) ≡ Some (m.reply_of (after_calls m x (take k cs)) c)
   last_more x cs k c inside read =
       rw (take_more cs k c inside, ← read) (last_reply-push x (take k cs) c)
 

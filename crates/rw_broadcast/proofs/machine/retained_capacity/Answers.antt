@@ -6,7 +6,8 @@ use Rattle.rw_broadcast.proofs.machine.retained_capacity.Goals as goal
 
 pub returns-clause-capacity : goal.returns-clause-capacity
 returns-clause-capacity c =
-    let found : IsNextPowerOfTwo c.from.result c.next_power_of_two.result = (c.next_power_of_two.ensures.power, c.next_power_of_two.ensures.lower_bound, c.next_power_of_two.ensures.upper_bound) in
+    let found : IsNextPowerOfTwo c.from.result c.next_power_of_two.result =
+    (c.next_power_of_two.ensures.power, c.next_power_of_two.ensures.lower_bound, c.next_power_of_two.ensures.upper_bound) in
     let same : c.from.result ≡ c.args.asked = cc in
     one_next_power c.args.asked _ _ (rw same at found) (retains_next_power c.args.asked c.requires.some c.requires.small)
 

@@ -10,4 +10,5 @@ returns c =
     let capacity = rw c.capacity.ensures at c.in_ok-push_with_number-2.ensures in
     let sent = rw c.sent.ensures at c.in_ok-push_with_number-3.ensures in
     let queued = rw c.queued.ensures at c.in_ok-push_with_number-4.ensures in
-    on_ok_weaker c.push_with_number-5.result (λ made. five_written _ _ _ _ _ _ number capacity sent queued made) (rw (c.from.ensures, c.made.ensures) at c.push_with_number-5.ensures)
+    on_ok_weaker c.push_with_number-5.result (λ made. five_written _ _ _ _ _ _ number capacity sent queued made)
+    (rw (c.from.ensures, c.made.ensures) at c.push_with_number-5.ensures)

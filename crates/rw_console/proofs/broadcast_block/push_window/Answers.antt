@@ -6,7 +6,8 @@ use Rattle.rw_console.proofs.Written.{items_more, items_all}
 use Rattle.rw_console.proofs.broadcast_block.push_window.Goals as goal
 
 pub each_value-preserved : goal.each_value-preserved
-each_value-preserved c = items_more (with_number (codes " ")) _ _ _ _ _ _ c.each_value.invariant (sym c.window.ensures ∙ c.in-Some.is) c.in_ok-push_with_number.ensures
+each_value-preserved c = items_more (with_number (codes " ")) _ _ _ _ _ _ c.each_value.invariant (sym c.window.ensures ∙ c.in-Some.is)
+    c.in_ok-push_with_number.ensures
 
 pub returns : goal.returns
 unfolding window_line

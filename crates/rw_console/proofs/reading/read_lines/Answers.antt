@@ -1,6 +1,7 @@
 use Rattle.std.proofs.Common.{sym, ◌∙◌}
 use Rattle.std.proofs.lemmas.Result.{err_from_is_err_and}
-use Rattle.rw_console.proofs.Scripting.{begins, more_line, ends, ends_at_mark, ends_at_last_mark, ends_at_last_line, fault_last, fault_line, stops_reading, stops_line, stops_last}
+use Rattle.rw_console.proofs.Scripting.{begins, more_line, ends, ends_at_mark, ends_at_last_mark, ends_at_last_line}
+use Rattle.rw_console.proofs.Scripting.{fault_last, fault_line, stops_reading, stops_line, stops_last}
 use Rattle.rw_console.proofs.reading.read_lines.Goals as goal
 
 pub each_line-init : goal.each_line-init
@@ -16,7 +17,8 @@ returns-in-End-clause-ok g c = ends c.each_line.invariant (rw c.in-End.is at c.i
 
 pub returns-then-is_mark-clause-ok : goal.returns-then-is_mark-clause-ok
 returns-then-is_mark-clause-ok g c =
-    ends_at_last_mark c.each_line.invariant (rw c.in-Last.is at c.in_ok-next_line.ensures.ok) (rw c.deref.ensures.value at (sym c.is_mark.ensures ∙ c.if-is_mark.true))
+    ends_at_last_mark c.each_line.invariant (rw c.in-Last.is at c.in_ok-next_line.ensures.ok)
+    (rw c.deref.ensures.value at (sym c.is_mark.ensures ∙ c.if-is_mark.true))
 
 pub returns-in_err-fault-in-Last-clause-err : goal.returns-in_err-fault-in-Last-clause-err
 returns-in_err-fault-in-Last-clause-err g c =
@@ -25,17 +27,20 @@ returns-in_err-fault-in-Last-clause-err g c =
 
 pub returns-in-Some-clause-ok : goal.returns-in-Some-clause-ok
 returns-in-Some-clause-ok g c =
-    fault_last c.each_line.invariant (rw c.in-Last.is at c.in_ok-next_line.ensures.ok) (rw c.deref.ensures.value at (sym c.is_mark.ensures ∙ c.if-is_mark.false)) c.in-Some.fault
+    fault_last c.each_line.invariant (rw c.in-Last.is at c.in_ok-next_line.ensures.ok)
+    (rw c.deref.ensures.value at (sym c.is_mark.ensures ∙ c.if-is_mark.false)) c.in-Some.fault
     (rw (c.deref-in-Last.ensures.value, c.in-Some.is) at c.in_ok-fault-in-Last.ensures.ok)
 
 pub returns-in-None-clause-ok : goal.returns-in-None-clause-ok
 returns-in-None-clause-ok g c =
-    ends_at_last_line c.each_line.invariant (rw c.in-Last.is at c.in_ok-next_line.ensures.ok) (rw c.deref.ensures.value at (sym c.is_mark.ensures ∙ c.if-is_mark.false)) _
+    ends_at_last_line c.each_line.invariant (rw c.in-Last.is at c.in_ok-next_line.ensures.ok)
+    (rw c.deref.ensures.value at (sym c.is_mark.ensures ∙ c.if-is_mark.false)) _
     (rw (c.deref-in-Last.ensures.value, c.in-None.is) at c.in_ok-fault-in-Last.ensures.ok)
 
 pub returns-then-is_mark-2-clause-ok : goal.returns-then-is_mark-2-clause-ok
 returns-then-is_mark-2-clause-ok g c =
-    ends_at_mark c.each_line.invariant (rw c.in-Line.is at c.in_ok-next_line.ensures.ok) (rw c.deref-in-Line.ensures.value at (sym c.is_mark-in-Line.ensures ∙ c.if-is_mark-2.true))
+    ends_at_mark c.each_line.invariant (rw c.in-Line.is at c.in_ok-next_line.ensures.ok)
+    (rw c.deref-in-Line.ensures.value at (sym c.is_mark-in-Line.ensures ∙ c.if-is_mark-2.true))
 
 pub returns-in_err-fault-in-Line-clause-err : goal.returns-in_err-fault-in-Line-clause-err
 returns-in_err-fault-in-Line-clause-err g c =
@@ -44,10 +49,12 @@ returns-in_err-fault-in-Line-clause-err g c =
 
 pub returns-in-Some-2-clause-ok : goal.returns-in-Some-2-clause-ok
 returns-in-Some-2-clause-ok g c =
-    fault_line c.each_line.invariant (rw c.in-Line.is at c.in_ok-next_line.ensures.ok) (rw c.deref-in-Line.ensures.value at (sym c.is_mark-in-Line.ensures ∙ c.if-is_mark-2.false)) c.in-Some-2.fault
+    fault_line c.each_line.invariant (rw c.in-Line.is at c.in_ok-next_line.ensures.ok)
+    (rw c.deref-in-Line.ensures.value at (sym c.is_mark-in-Line.ensures ∙ c.if-is_mark-2.false)) c.in-Some-2.fault
     (rw (c.deref-in-Line-2.ensures.value, c.in-Some-2.is) at c.in_ok-fault-in-Line.ensures.ok)
 
 pub each_line-preserved : goal.each_line-preserved
 each_line-preserved g c =
-    more_line c.each_line.invariant (rw c.in-Line.is at c.in_ok-next_line.ensures.ok) (rw c.deref-in-Line.ensures.value at (sym c.is_mark-in-Line.ensures ∙ c.if-is_mark-2.false)) _
+    more_line c.each_line.invariant (rw c.in-Line.is at c.in_ok-next_line.ensures.ok)
+    (rw c.deref-in-Line.ensures.value at (sym c.is_mark-in-Line.ensures ∙ c.if-is_mark-2.false)) _
     (rw (c.deref-in-Line-2.ensures.value, c.in-None-2.is) at c.in_ok-fault-in-Line.ensures.ok)

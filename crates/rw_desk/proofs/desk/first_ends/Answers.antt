@@ -12,4 +12,5 @@ loop-channel-preserved g c =
     let specs = c.args.specs.now in
     let spec = c.index-specs-channel.result in
     let at : slice_get specs n ≡ Some spec = slice_get_read specs (length specs) n spec refl c.loop-channel-test.true c.index-specs-channel.is in
-    one_more (λ a. ends_at a (slice_get specs a)) c.loop-channel.ends.items c.push.new.self.items c.ends_of.result n inv.0 inv.1 (c.ends_of.ensures ∙ ap (ends_at n) (sym at)) c.in_ok-push.ensures.items
+    one_more (λ a. ends_at a (slice_get specs a)) c.loop-channel.ends.items c.push.new.self.items c.ends_of.result n inv.0 inv.1
+    (c.ends_of.ensures ∙ ap (ends_at n) (sym at)) c.in_ok-push.ensures.items

@@ -6,4 +6,5 @@ use Rattle.rw_desk.proofs.desk.fresh_passes.Goals as goal
 pub loop-actor-preserved : goal.loop-actor-preserved
 loop-actor-preserved g c =
     let inv = c.loop-actor.invariant in
-    one_more (λ a. Some (fresh_pass {V = g.row.V.Denot} a)) c.loop-actor.passes.items c.push.new.self.items (fresh_pass c.loop-actor.actor) c.loop-actor.actor inv.0 inv.1 refl (c.in_ok-push.ensures.items ∙ ap (λ p. c.loop-actor.passes.items ++ p ∷ []) c.new.ensures)
+    one_more (λ a. Some (fresh_pass {V = g.row.V.Denot} a)) c.loop-actor.passes.items c.push.new.self.items (fresh_pass c.loop-actor.actor) c.loop-actor.actor
+    inv.0 inv.1 refl (c.in_ok-push.ensures.items ∙ ap (λ p. c.loop-actor.passes.items ++ p ∷ []) c.new.ensures)

@@ -16,11 +16,18 @@ loop-pass-preserved g c =
     let within : i < length (map of xs) = omega (arith, length_passes of xs, c.loop-pass-test.true) in
     let at = pass_at of xs i c.pass-item.result c.loop-pass-test.true c.pass-item.is in
     elim c.if-actor.branch [
-      | then-actor w ↦ (omega (arith, w.count-is, inv.0, one_of a i (map of xs) p within at (sym c.actor.ensures.actor ∙ w.if-actor.true)), omega (arith, w.count-is, inv.1))
-      | else-actor w ↦ (omega (arith, w.count-is, inv.0, none_of a i (map of xs) p within at (λ same. w.if-actor.false (c.actor.ensures.actor ∙ same))), omega (arith, w.count-is, inv.1))
+      | then-actor w ↦ (
+        omega (arith, w.count-is, inv.0, one_of a i (map of xs) p within at (sym c.actor.ensures.actor ∙ w.if-actor.true)),
+        omega (arith, w.count-is, inv.1),
+      )
+      | else-actor w ↦ (
+        omega (arith, w.count-is, inv.0, none_of a i (map of xs) p within at (λ same. w.if-actor.false (c.actor.ensures.actor ∙ same))),
+        omega (arith, w.count-is, inv.1),
+      )
     ]
 
 pub returns : goal.returns
 returns g c =
     let of = g.P.HasPass.pass_of in
-    c.loop-pass.invariant.0 ∙ ap (passes_of c.args.actor) (take_all c.loop-pass.pass-index (map of c.args.passes.now) (omega (arith, length_passes of c.args.passes.now)))
+    c.loop-pass.invariant.0 ∙ ap (passes_of c.args.actor)
+    (take_all c.loop-pass.pass-index (map of c.args.passes.now) (omega (arith, length_passes of c.args.passes.now)))

@@ -43,5 +43,6 @@ pub returns-clause-none : goal.returns-clause-none
 returns-clause-none g c =
     let ps = map g.P.HasPass.pass_of c.args.passes.now in record {
       once = c.loop-pass.invariant.0;
-      others = λ a past. ap (passes_of a) (sym (take_all c.loop-pass.pass-index ps (omega (arith, length_passes g.P.HasPass.pass_of c.args.passes.now)))) ∙ c.loop-pass.invariant.1 a past;
+      others = λ a past. ap (passes_of a) (sym (take_all c.loop-pass.pass-index ps (omega (arith, length_passes g.P.HasPass.pass_of c.args.passes.now))))
+          ∙ c.loop-pass.invariant.1 a past;
     }

@@ -8,7 +8,8 @@ returns-then-not-is_next-clause-same g c = rw (← c.receipts_of.ensures) c.if-n
 
 pub overflow_add-numbers : goal.overflow_add-numbers
 overflow_add-numbers g c =
-    let within = slice_get_within c.receipts_of.result.now (get_or c.args.numbers.now c.args.entry.now.actor 0) (receipt_of c.args.entry.now) (c.if-not-is_next.ensures.0 refl) in
+    let within = slice_get_within c.receipts_of.result.now (get_or c.args.numbers.now c.args.entry.now.actor 0) (receipt_of c.args.entry.now)
+    (c.if-not-is_next.ensures.0 refl) in
     omega (arith, within)
 
 pub returns-clause-same : goal.returns-clause-same

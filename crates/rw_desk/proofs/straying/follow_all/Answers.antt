@@ -6,7 +6,9 @@ use Rattle.rw_desk.specs.Settling.{receipt_of}
 use Rattle.rw_desk.specs.Straying.{AreAt, IsAt}
 use Rattle.rw_desk.proofs.Following.{moved, skipped, stuck_below, stuck_here}
 use Rattle.rw_desk.proofs.straying.follow_all.Goals as goal
-use Rattle.rw_desk.proofs.straying.follow_all.Goals.{then-entry-nearest+then-not-follow, else-entry-nearest, else-entry-nearest-via-then-entry-nearest+else-not-follow, else-entry-nearest-via-else-entry-nearest}
+use Rattle.rw_desk.proofs.straying.follow_all.Goals.{then-entry-nearest+then-not-follow, else-entry-nearest}
+use Rattle.rw_desk.proofs.straying.follow_all.Goals.{else-entry-nearest-via-then-entry-nearest+else-not-follow}
+use Rattle.rw_desk.proofs.straying.follow_all.Goals.{else-entry-nearest-via-else-entry-nearest}
 
 pub loop-entry-init : goal.loop-entry-init
 loop-entry-init g c =
@@ -32,8 +34,14 @@ loop-entry-preserved g c =
     elim c.if-entry-nearest.branch [
       | then-entry-nearest+then-not-follow w ↦
           let below = w.if-entry-nearest.true in
-          let other : slice_get (receipts_of e.actor ps) (get_or numbers e.actor 0) ≢ Some (receipt_of e) = λ h. let both : false ≡ true = w.if-not-follow.ensures.same.1 h in cc in
-          rw (w.nearest-is, w.numbers-is, w.if-not-follow.ensures.numbers) (inv.0, omega (arith, below, inv.1), stuck_below ps es i e within at numbers bound inv.2 below, λ known. stuck_here ps es i e within at numbers bound inv.2 below other)
+          let other : slice_get (receipts_of e.actor ps) (get_or numbers e.actor 0) ≢ Some (receipt_of e) =
+          λ h. let both : false ≡ true = w.if-not-follow.ensures.same.1 h in cc in
+          rw (w.nearest-is, w.numbers-is, w.if-not-follow.ensures.numbers) (
+            inv.0,
+            omega (arith, below, inv.1),
+            stuck_below ps es i e within at numbers bound inv.2 below,
+            λ known. stuck_here ps es i e within at numbers bound inv.2 below other,
+          )
       | else-entry-nearest w ↦ elim w.else-entry-nearest.branch [
         | else-entry-nearest-via-then-entry-nearest+else-not-follow v ↦
             let below = v.if-entry-nearest.true in
@@ -45,10 +53,12 @@ loop-entry-preserved g c =
               inv.3,
             )
         | else-entry-nearest-via-else-entry-nearest v ↦
-            rw (w.nearest-is, w.numbers-is, v.numbers-is) (inv.0, inv.1, skipped ps es i e within at numbers bound inv.2 (omega (arith, v.if-entry-nearest.false)), inv.3)
+            rw (w.nearest-is, w.numbers-is, v.numbers-is)
+            (inv.0, inv.1, skipped ps es i e within at numbers bound inv.2 (omega (arith, v.if-entry-nearest.false)), inv.3)
       ]
     ]
 
 pub returns-clause-at : goal.returns-clause-at
 returns-clause-at g c =
-    subst (λ es. AreAt (map g.P.HasPass.pass_of c.args.passes.now) es c.loop-entry.numbers c.loop-entry.nearest.actor) (take_all c.loop-entry.entry-index c.args.entries.now (omega arith)) c.loop-entry.invariant.2
+    subst (λ es. AreAt (map g.P.HasPass.pass_of c.args.passes.now) es c.loop-entry.numbers c.loop-entry.nearest.actor)
+    (take_all c.loop-entry.entry-index c.args.entries.now (omega arith)) c.loop-entry.invariant.2

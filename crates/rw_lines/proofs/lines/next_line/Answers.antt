@@ -7,7 +7,8 @@ use Rattle.rw_lines.proofs.CutLaws.{lacks-append, lacks_one}
 use Rattle.rw_lines.proofs.Known.{Consumes-then}
 use Rattle.rw_lines.proofs.PartLine.{kept_at_read, kept_of_part, next_part}
 use Rattle.rw_lines.proofs.lines.next_line.Goals as goal
-use Rattle.rw_lines.proofs.lines.next_line.Goals.{else-len-le-LONGEST_LINE-via-then-len-le-LONGEST_LINE+else-is_err, else-len-le-LONGEST_LINE-via-else-len-le-LONGEST_LINE}
+use Rattle.rw_lines.proofs.lines.next_line.Goals.{else-len-le-LONGEST_LINE-via-then-len-le-LONGEST_LINE+else-is_err}
+use Rattle.rw_lines.proofs.lines.next_line.Goals.{else-len-le-LONGEST_LINE-via-else-len-le-LONGEST_LINE}
 
 pub returns-in_err-byte-clause-kept : goal.returns-in_err-byte-clause-kept
 returns-in_err-byte-clause-kept g c =
@@ -46,7 +47,10 @@ returns-then-is_err-clause-err g c =
     record {
       text = p.text ++ c.in-Some.byte ∷ [];
       read = Consumes-then _ _ _ _ _ p.read (rw c.in-Some.is at c.in_ok-byte.ensures.byte);
-      why = (lacks-append 10 p.text (c.in-Some.byte ∷ []) p.unbroken (lacks_one 10 c.in-Some.byte c.if-byte-eq10.false), omega (arith, length_push p.text c.in-Some.byte, p.count));
+      why = (
+        lacks-append 10 p.text (c.in-Some.byte ∷ []) p.unbroken (lacks_one 10 c.in-Some.byte c.if-byte-eq10.false),
+        omega (arith, length_push p.text c.in-Some.byte, p.count),
+      );
     }
 
 pub each_byte-preserved : goal.each_byte-preserved

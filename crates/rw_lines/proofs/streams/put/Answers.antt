@@ -6,6 +6,7 @@ use Rattle.rw_lines.proofs.streams.put.Goals as goal
 
 pub each_write-preserved : goal.each_write-preserved
 each_write-preserved g c = record {
-  prefix = rw (take-add c.each_write.written c.in-Ok.n c.args.bytes.now) (Appends-then _ _ _ _ _ c.each_write.invariant.prefix (rw (take_rest c.args.bytes.now c.each_write.written) at c.in-Ok.ensures.bytes));
+  prefix = rw (take-add c.each_write.written c.in-Ok.n c.args.bytes.now)
+      (Appends-then _ _ _ _ _ c.each_write.invariant.prefix (rw (take_rest c.args.bytes.now c.each_write.written) at c.in-Ok.ensures.bytes));
   within = omega (arith, length-take {A = ℕ}, length-drop {A = ℕ}, c.in-Ok.ensures.bound);
 }

@@ -15,7 +15,8 @@ pub loop-entry-preserved : goal.loop-entry-preserved
 loop-entry-preserved g c =
     let kept = c.loop-entry.invariant in
     record {
-      copied = more c.args.entries.now _ _ c.loop-entry.entry-index _ _ c.loop-entry-test.true kept.copied c.entry-item.is c.copied.ensures c.push_reserved.ensures.items;
+      copied = more c.args.entries.now _ _ c.loop-entry.entry-index _ _ c.loop-entry-test.true kept.copied c.entry-item.is c.copied.ensures
+          c.push_reserved.ensures.items;
       count = omega (arith, c.push_reserved.ensures.len, kept.count);
       room = omega (arith, c.push_reserved.ensures.capacity, kept.room);
     }

@@ -17,7 +17,8 @@ said_fault Truncated said other is = is
 said_fault NoMemory said other is = absurd (other refl)
 
 -- of a text with a fault no command is read
-within_fault : (journal : List ℕ) (fault : TextFault) (limit : ℕ) (commands : List ℕ) → fault ≢ NoMemory → Finishes (Err fault) (reading_of numbers journal) → IsWithin limit (page_of journal) commands
+within_fault : (journal : List ℕ) (fault : TextFault) (limit : ℕ) (commands : List ℕ) → fault ≢ NoMemory → Finishes (Err fault) (reading_of numbers journal)
+    → IsWithin limit (page_of journal) commands
 within_fault journal fault limit commands other is =
     subst (λ (r : Result (Run ℕ) TextFault). IsWithin limit (page_report r) commands) (sym (said_fault fault (reading_of numbers journal) other is))
     (inr (record { first = []; rest = commands; parts = refl; few = omega arith; decided = λ more. refl }))

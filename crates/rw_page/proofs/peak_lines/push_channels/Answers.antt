@@ -7,4 +7,5 @@ each_channel-init c = appended_none _ _ refl
 
 pub each_channel-preserved : goal.each_channel-preserved
 each_channel-preserved c =
-    channel_more c.args.run.now c.args.stretches c.args.channels.now c.each_channel.channel-index _ _ _ c.each_channel-test.true c.each_channel.invariant c.in_ok-push_channel.ensures
+    channel_more c.args.run.now c.args.stretches c.args.channels.now c.each_channel.channel-index _ _ _ c.each_channel-test.true c.each_channel.invariant
+    c.in_ok-push_channel.ensures

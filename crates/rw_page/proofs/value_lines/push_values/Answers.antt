@@ -10,4 +10,5 @@ each_value-preserved c =
     let n = c.each_value.number in
     let values = c.args.values.now in
     written_more (λ number. value_line_at c.args.channel number (slice_get values number)) _ _ _ n c.each_value.invariant
-    (c.in_ok-push_value.ensures ∙ ap (λ o. c.each_value.out.items ++ value_line_at c.args.channel n o) (sym (slice_get-get_or values n _ c.each_value-test.true)))
+    (c.in_ok-push_value.ensures ∙ ap (λ o. c.each_value.out.items ++ value_line_at c.args.channel n o)
+    (sym (slice_get-get_or values n _ c.each_value-test.true)))

@@ -5,7 +5,8 @@ use Rattle.rw_program.proofs.Telling.{runs}
 use Rattle.rw_program.proofs.files.walk.Goals as goal
 
 pub returns-in-Ok-answered : goal.returns-in-Ok-answered
-returns-in-Ok-answered g c = over _ c.in-Ok.ensures.run (λ bytes said. rw said (runs _ _ _ (Ok Done) (c.in-Ok-answered.ensures.ok, refl) tt (c.of.ensures.line, c.of.ensures.status)))
+returns-in-Ok-answered g c = over _ c.in-Ok.ensures.run
+    (λ bytes said. rw said (runs _ _ _ (Ok Done) (c.in-Ok-answered.ensures.ok, refl) tt (c.of.ensures.line, c.of.ensures.status)))
 
 pub returns-in-Err-answered : goal.returns-in-Err-answered
 returns-in-Err-answered g c =

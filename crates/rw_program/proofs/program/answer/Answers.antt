@@ -7,7 +7,8 @@ pub returns-in-Session : goal.returns-in-Session
 returns-in-Session g c = rw c.in-Session.is (inl (runs_any _ _ _ c.run_session.ensures))
 
 pub returns-in-Over : goal.returns-in-Over
-returns-in-Over g c = rw c.in-Over.is (inl (opened_any _ c.open_for-file.result c.in-Over.verb _ _ _ _ _ _ c.over_opened.ensures.unopened c.over_opened.ensures.done))
+returns-in-Over g c = rw c.in-Over.is (inl (opened_any _ c.open_for-file.result c.in-Over.verb _ _ _ _ _ _ c.over_opened.ensures.unopened
+    c.over_opened.ensures.done))
 
 pub returns : goal.returns
 returns g c = rw c.in-Threads.is (inl (opened_threads_any _ c.open.result _ _ _ _ c.threads_over_opened.ensures.unopened c.threads_over_opened.ensures.played))

@@ -18,5 +18,6 @@ returns c =
     record {
       run_is = subst (IsRun run.specs) c.entries.ensures.entries c.entries.ensures.run;
       specs = c.in_ok-run.ensures.specs ∙ c.requires.specs;
-      played = all_played s.specs s.actors s.steps run.entries ps here c.in_ok-run.ensures.agree followed (subst (All (λ (e : WorldEntry ℕ). e.actor < s.actors)) c.entries.ensures.entries known) c.steps.ensures.script.steps;
+      played = all_played s.specs s.actors s.steps run.entries ps here c.in_ok-run.ensures.agree followed
+          (subst (All (λ (e : WorldEntry ℕ). e.actor < s.actors)) c.entries.ensures.entries known) c.steps.ensures.script.steps;
     }

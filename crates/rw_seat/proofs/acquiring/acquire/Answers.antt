@@ -21,7 +21,8 @@ compare_exchange-requires g c =
     let living = c.requires.living in (
       search rules,
       search rules,
-      subst (λ (m : Me (Option g.row.B.Denot) V). Allows (HasOneBook author start journal (start key.book.value) key.seats) slots seat.id m 0 (λ k. either (eqb k 0) 1 k) (Acquires author start journal (step slots 0 0 1 none) m)) (sym is)
+      subst (λ (m : Me (Option g.row.B.Denot) V). Allows (HasOneBook author start journal (start key.book.value) key.seats) slots seat.id m 0
+          (λ k. either (eqb k 0) 1 k) (Acquires author start journal (step slots 0 0 1 none) m)) (sym is)
           (takes_turn author start journal (start key.book.value) key.seats slots seat.id living.0 living.1 v living.2),
     )
 

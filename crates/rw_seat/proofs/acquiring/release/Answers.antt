@@ -17,9 +17,11 @@ store-requires g c =
     let v : V = c.args.seat.now.me.0 in
     let b : g.row.B.Denot = c.args.book in
     let seat = c.exchange.new.seat in
-    let is : seat.me ≡ (v, (0, Some b) ∷ []) = c.exchange.ensures.3 ∙ ap (λ (l : List (ℕ × Option g.row.B.Denot)). (v, (0, Some b) ∷ rest l)) c.requires.held.1 in (
+    let is : seat.me ≡ (v, (0, Some b) ∷ []) = c.exchange.ensures.3
+    ∙ ap (λ (l : List (ℕ × Option g.row.B.Denot)). (v, (0, Some b) ∷ rest l)) c.requires.held.1 in (
       search rules,
       search rules,
-      subst (λ (m : Me (Option g.row.B.Denot) V). Allows (HasOneBook author start journal (start key.book.value) key.seats) slots seat.id m 0 (λ _. 0) (λ _. Releases author start journal (step slots 0 0 0 none) m 0)) (sym is)
+      subst (λ (m : Me (Option g.row.B.Denot) V). Allows (HasOneBook author start journal (start key.book.value) key.seats) slots seat.id m 0 (λ _. 0)
+          (λ _. Releases author start journal (step slots 0 0 0 none) m 0)) (sym is)
           (gives_back author start journal (start key.book.value) key.seats slots seat.id v b c.requires.held.0 c.requires.start c.requires.adds),
     )

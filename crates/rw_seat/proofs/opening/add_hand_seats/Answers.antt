@@ -23,9 +23,19 @@ add-requires-clause-pass g c =
     let s = c.index-seats-len.result in
     let seats = c.loop-hand_seat.seats in
     let last : c.len.result ≡ length ys = omega (arith, c.len.ensures) in
-    let within : c.len.result < length seats = omega (arith, last, inv.as_many, c.requires.all, ap length inv.left.1, length-append xs inv.left.0, ap length c.in-Some.ensures.items, length-append ys (x ∷ [])) in
+    let within : c.len.result < length seats = omega (
+      arith,
+      last,
+      inv.as_many,
+      c.requires.all,
+      ap length inv.left.1,
+      length-append xs inv.left.0,
+      ap length c.in-Some.ensures.items,
+      length-append ys (x ∷ []),
+    ) in
     ap (λ (t : DeskSeat g.row.V.Denot). t.pass) (sym c.index-seats-len.is)
-    ∙ (fresh_there c.args.seats.now c.args.hand_seats.items seats xs ys x c.len.result s inv.left c.in-Some.ensures.items last inv.rest within c.index-seats-len.is c.requires.fresh c.requires.hand_seats).0
+    ∙ (fresh_there c.args.seats.now c.args.hand_seats.items seats xs ys x c.len.result s inv.left c.in-Some.ensures.items last inv.rest within
+    c.index-seats-len.is c.requires.fresh c.requires.hand_seats).0
 
 pub add-requires-clause-front : goal.add-requires-clause-front
 add-requires-clause-front g c =
@@ -36,8 +46,18 @@ add-requires-clause-front g c =
     let s = c.index-seats-len.result in
     let seats = c.loop-hand_seat.seats in
     let last : c.len.result ≡ length ys = omega (arith, c.len.ensures) in
-    let within : c.len.result < length seats = omega (arith, last, inv.as_many, c.requires.all, ap length inv.left.1, length-append xs inv.left.0, ap length c.in-Some.ensures.items, length-append ys (x ∷ [])) in
-    (fresh_there c.args.seats.now c.args.hand_seats.items seats xs ys x c.len.result s inv.left c.in-Some.ensures.items last inv.rest within c.index-seats-len.is c.requires.fresh c.requires.hand_seats).1
+    let within : c.len.result < length seats = omega (
+      arith,
+      last,
+      inv.as_many,
+      c.requires.all,
+      ap length inv.left.1,
+      length-append xs inv.left.0,
+      ap length c.in-Some.ensures.items,
+      length-append ys (x ∷ []),
+    ) in
+    (fresh_there c.args.seats.now c.args.hand_seats.items seats xs ys x c.len.result s inv.left c.in-Some.ensures.items last inv.rest within
+    c.index-seats-len.is c.requires.fresh c.requires.hand_seats).1
 
 pub loop-hand_seat-preserved-in-Err : goal.loop-hand_seat-preserved-in-Err
 loop-hand_seat-preserved-in-Err g c =
@@ -52,7 +72,16 @@ loop-hand_seat-preserved-in-Err g c =
     let at = c.len.result in
     let new = c.add.new.self in
     let last : at ≡ length ys = omega (arith, c.len.ensures) in
-    let within : at < length seats = omega (arith, last, inv.as_many, c.requires.all, ap length inv.left.1, length-append xs inv.left.0, ap length c.in-Some.ensures.items, length-append ys (x ∷ [])) in record {
+    let within : at < length seats = omega (
+      arith,
+      last,
+      inv.as_many,
+      c.requires.all,
+      ap length inv.left.1,
+      length-append xs inv.left.0,
+      ap length c.in-Some.ensures.items,
+      length-append ys (x ∷ []),
+    ) in record {
       as_many = length-set seats at new ∙ inv.as_many;
       left = one_left first all seats xs ys x at s inv.left c.in-Some.ensures.items last inv.rest within c.index-seats-len.is;
       rest = rest_left first all seats xs ys x at s inv.left c.in-Some.ensures.items last inv.rest within c.index-seats-len.is new;
@@ -72,10 +101,21 @@ loop-hand_seat-preserved g c =
     let at = c.len.result in
     let new = c.add.new.self in
     let last : at ≡ length ys = omega (arith, c.len.ensures) in
-    let within : at < length seats = omega (arith, last, inv.as_many, c.requires.all, ap length inv.left.1, length-append xs inv.left.0, ap length c.in-Some.ensures.items, length-append ys (x ∷ [])) in
-    let made : new ≡ with_hand_seat s x = c.in_default-add.ensures ∙ ap (λ (t : DeskSeat g.row.V.Denot). with_hand_seat t x) (sym c.index-seats-len.is) in record {
+    let within : at < length seats = omega (
+      arith,
+      last,
+      inv.as_many,
+      c.requires.all,
+      ap length inv.left.1,
+      length-append xs inv.left.0,
+      ap length c.in-Some.ensures.items,
+      length-append ys (x ∷ []),
+    ) in
+    let made : new ≡ with_hand_seat s x = c.in_default-add.ensures ∙ ap (λ (t : DeskSeat g.row.V.Denot). with_hand_seat t x) (sym c.index-seats-len.is) in
+    record {
       as_many = length-set seats at new ∙ inv.as_many;
       left = one_left first all seats xs ys x at s inv.left c.in-Some.ensures.items last inv.rest within c.index-seats-len.is;
       rest = rest_left first all seats xs ys x at s inv.left c.in-Some.ensures.items last inv.rest within c.index-seats-len.is new;
-      done = on_ok c.loop-hand_seat.added (one_given first all seats xs ys x at s inv.left c.in-Some.ensures.items last inv.rest within c.index-seats-len.is new made) inv.done;
+      done = on_ok c.loop-hand_seat.added (one_given first all seats xs ys x at s inv.left c.in-Some.ensures.items last inv.rest within c.index-seats-len.is new
+          made) inv.done;
     }

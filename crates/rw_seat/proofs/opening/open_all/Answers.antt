@@ -15,7 +15,8 @@ open_hand_offs-requires-clause-all g c = ap length c.deref_mut.ensures.value ∙
 
 pub open_hand_offs-requires-clause-fresh : goal.open_hand_offs-requires-clause-fresh
 open_hand_offs-requires-clause-fresh g c =
-    subst (λ (ss : List (DeskSeat g.row.V.Denot)). (a : ℕ) → a < c.args.actors → slice_get ss a ≡ Some (fresh_seat [] a)) (sym c.deref_mut.ensures.value) c.in_ok-seats.ensures.1
+    subst (λ (ss : List (DeskSeat g.row.V.Denot)). (a : ℕ) → a < c.args.actors → slice_get ss a ≡ Some (fresh_seat [] a)) (sym c.deref_mut.ensures.value)
+    c.in_ok-seats.ensures.1
 
 pub invariant_of-desk : goal.invariant_of-desk
 invariant_of-desk g c =
@@ -23,7 +24,8 @@ invariant_of-desk g c =
     let specs = c.args.specs.now in
     let hand_offs : List (HandOff (Chan V)) = c.in-Ok.hand_offs.items in
     let many : length hand_offs ≡ length specs =
-    sym (length-map hand_offs (λ (h : HandOff (Chan V)). opening_at h.home)) ∙ (ap length c.in-Ok.ensures.opened ∙ length-map specs (λ (s : Spec V). Some (opened_channel s))) in record {
+    sym (length-map hand_offs (λ (h : HandOff (Chan V)). opening_at h.home))
+    ∙ (ap length c.in-Ok.ensures.opened ∙ length-map specs (λ (s : Spec V). Some (opened_channel s))) in record {
       opens = subst (λ ss. refusal ss ≡ None) (sym c.in-Ok-from_slice.ensures.items) c.requires.opens;
       some_actor = c.requires.some;
       few_actors = c.requires.few;

@@ -7,4 +7,5 @@ use Rattle.rw_seat.proofs.opening.open_hand_off.Goals as goal
 pub returns-clause-seats : goal.returns-clause-seats
 returns-clause-seats g c =
     IfOk-weaker c.open-2.result _ _
-    (λ r same. same ∙ ap (λ (f : List (ChanEntry g.row.V.Denot)). map (λ n. record { number = n; home = r.0.home; front = f }) (numbers_from 0 c.args.seats)) c.in_ok-book.ensures.empty) c.open-2.ensures.seats
+    (λ r same. same ∙ ap (λ (f : List (ChanEntry g.row.V.Denot)). map (λ n. record { number = n; home = r.0.home; front = f }) (numbers_from 0 c.args.seats))
+    c.in_ok-book.ensures.empty) c.open-2.ensures.seats

@@ -31,7 +31,8 @@ loop-spec-preserved g c =
     ap (map (λ (h : HandOff (Chan V)). h.home)) given.1 ∙ map-append (λ (h : HandOff (Chan V)). h.home) old (hand_off ∷ []) in record {
       as_many = omega (arith, c.in_default.ensures.len, inv.as_many);
       room = omega (arith, c.open_to_seats.ensures.capacity, inv.room);
-      opened = opened_more c.args.specs.now old all hand_off c.spec-item.result c.loop-spec.spec-index c.loop-spec-test.true c.spec-item.is given.1 inv.opened given.2;
+      opened = opened_more c.args.specs.now old all hand_off c.spec-item.result c.loop-spec.spec-index c.loop-spec-test.true c.spec-item.is given.1 inv.opened
+          given.2;
       seats = subst (λ (hs : List (Home (Chan V))). AreFresh hs c.args.actors new) (sym more) after;
     }
 

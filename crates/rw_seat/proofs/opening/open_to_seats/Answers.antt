@@ -9,7 +9,8 @@ add_hand_seats-requires-clause-all g c =
     c.requires.all ∙ sym (ap length c.in_ok-hand_off.ensures.seats ∙ numbers_length (λ n. fresh_hand_seat {V = g.row.V.Denot} n home) 0 c.args.actors)
 
 pub add_hand_seats-requires-clause-hand_seats : goal.add_hand_seats-requires-clause-hand_seats
-add_hand_seats-requires-clause-hand_seats g c = fresh_hand_seats c.in_ok-hand_off.hand_off.home c.args.actors c.in_ok-hand_off.hand_seats.items c.in_ok-hand_off.ensures.seats
+add_hand_seats-requires-clause-hand_seats g c =
+    fresh_hand_seats c.in_ok-hand_off.hand_off.home c.args.actors c.in_ok-hand_off.hand_seats.items c.in_ok-hand_off.ensures.seats
 
 pub returns-clause-opened : goal.returns-clause-opened
 returns-clause-opened g c =

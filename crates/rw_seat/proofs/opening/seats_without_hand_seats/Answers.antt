@@ -8,4 +8,5 @@ pub loop-actor-preserved : goal.loop-actor-preserved
 loop-actor-preserved g c =
     let inv = c.loop-actor.invariant in
     let fresh : ℕ → DeskSeat g.row.V.Denot = λ a. record { pass = fresh_pass a; hand_seats = [] } in
-    one_more (λ a. Some (fresh a)) c.loop-actor.seats.items c.push.new.self.items (fresh c.loop-actor.actor) c.loop-actor.actor inv.0 inv.1 refl (c.in_ok-push.ensures.items ∙ ap (λ s. c.loop-actor.seats.items ++ s ∷ []) c.new.ensures)
+    one_more (λ a. Some (fresh a)) c.loop-actor.seats.items c.push.new.self.items (fresh c.loop-actor.actor) c.loop-actor.actor inv.0 inv.1 refl
+    (c.in_ok-push.ensures.items ∙ ap (λ s. c.loop-actor.seats.items ++ s ∷ []) c.new.ensures)

@@ -8,7 +8,8 @@ ready_one-requires-clause-weight g c =
     let m = g.M.Reversible in
     let i : ℕ = c.loop-i.i - 1 in
     let inside : i < length c.loop-i.members = omega arith in
-    let same : greatest m.weigh (map m.shown c.loop-i.members) ≡ greatest m.weigh (map m.shown c.args.members.now) = ap (greatest m.weigh) c.loop-i.invariant.view in
+    let same : greatest m.weigh (map m.shown c.loop-i.members) ≡ greatest m.weigh (map m.shown c.args.members.now) =
+    ap (greatest m.weigh) c.loop-i.invariant.view in
     omega (arith, weigh_at m.shown m.weigh c.loop-i.members i c.index-members-i.result inside, c.requires.weight)
 
 pub loop-i-preserved : goal.loop-i-preserved
@@ -21,7 +22,11 @@ loop-i-preserved g c =
     record {
       view = same_at m.shown c.loop-i.members i c.index-members-i.result c.ready_one.new.machine inside c.ready_one.ensures.view ∙ c.loop-i.invariant.view;
       room = least_from m.reserved c.loop-i.members i c.args.wanted c.ready_one.new.machine inside c.in_ok-ready_one.ensures.room rest;
-      kept = omega (arith, c.loop-i.invariant.kept, least_grows m.reserved c.loop-i.members i c.index-members-i.result c.ready_one.new.machine inside c.ready_one.ensures.kept);
+      kept = omega (
+        arith,
+        c.loop-i.invariant.kept,
+        least_grows m.reserved c.loop-i.members i c.index-members-i.result c.ready_one.new.machine inside c.ready_one.ensures.kept,
+      );
     }
 
 pub returns-in_err-ready_one-clause-view : goal.returns-in_err-ready_one-clause-view
@@ -36,7 +41,12 @@ returns-in_err-ready_one-clause-kept g c =
     let m = g.M.Reversible in
     let i : ℕ = c.loop-i.i - 1 in
     let inside : i < length c.loop-i.members = omega arith in
-    omega (arith, c.loop-i.invariant.kept, least_grows m.reserved c.loop-i.members i c.index-members-i.result c.ready_one.new.machine inside c.ready_one.ensures.kept)
+    omega (
+      arith,
+      c.loop-i.invariant.kept,
+      least_grows m.reserved c.loop-i.members i c.index-members-i.result c.ready_one.new.machine inside
+          c.ready_one.ensures.kept,
+    )
 
 pub returns-in_err-ready_one-clause-ample : goal.returns-in_err-ready_one-clause-ample
 returns-in_err-ready_one-clause-ample g c h =

@@ -21,7 +21,9 @@ loop-call-preserved g c =
     let k = c.loop-call.call-index in
     let call = c.call-item.result in
     record {
-      shows = c.apply-reply.ensures.view ∙ (ap (λ x. m.next x call) c.loop-call.invariant.shows ∙ sym (after_more m start cs k call (omega arith) c.call-item.is));
-      last = ap (λ r. Some r) (c.apply-reply.ensures.reply ∙ ap (λ x. m.reply_of x call) c.loop-call.invariant.shows) ∙ sym (last_more m start cs k call (omega arith) c.call-item.is);
+      shows = c.apply-reply.ensures.view ∙ (ap (λ x. m.next x call) c.loop-call.invariant.shows
+          ∙ sym (after_more m start cs k call (omega arith) c.call-item.is));
+      last = ap (λ r. Some r) (c.apply-reply.ensures.reply ∙ ap (λ x. m.reply_of x call) c.loop-call.invariant.shows)
+          ∙ sym (last_more m start cs k call (omega arith) c.call-item.is);
       room = c.apply-reply.ensures.room ∙ c.loop-call.invariant.room;
     }

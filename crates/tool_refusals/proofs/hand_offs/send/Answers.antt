@@ -11,5 +11,7 @@ pub give-requires-clause-adds : goal.give-requires-clause-adds
 give-requires-clause-adds g c =
     let E : Type 0 = List g.row.B-Entry.Denot in
     let number : c.take-lent.result.number ≡ 0 = c.take-lent.ensures.number ∙ c.requires.number in
-    let noted : c.take-lent.result.seat.me.0.front ≡ g.B.Keeps.journal c.book.result.now = c.take-lent.ensures.noted ∙ ap g.B.Keeps.journal (sym c.book.ensures.value) in
-    subst (λ (z : ℕ × E). Adds g.B.Keeps.author (z.0 ∷ []) z.1 (g.B.Keeps.journal c.ask-sent.new.book)) (λ i. (sym number i, sym noted i)) c.ask-sent.ensures.adds
+    let noted : c.take-lent.result.seat.me.0.front ≡ g.B.Keeps.journal c.book.result.now =
+    c.take-lent.ensures.noted ∙ ap g.B.Keeps.journal (sym c.book.ensures.value) in
+    subst (λ (z : ℕ × E). Adds g.B.Keeps.author (z.0 ∷ []) z.1 (g.B.Keeps.journal c.ask-sent.new.book)) (λ i. (sym number i, sym noted i))
+    c.ask-sent.ensures.adds

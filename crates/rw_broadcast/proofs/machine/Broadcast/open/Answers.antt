@@ -8,7 +8,8 @@ use Rattle.rw_broadcast.proofs.machine.Broadcast.open.Goals as goal
 
 pub invariant_of-result : goal.invariant_of-result
 invariant_of-result g c =
-    let over : Ring g.row.V.Denot → Shown g.row.V.Denot = λ w. record { capacity = w.capacity; sent = w.count; window = w.values; slots = c.in_ok-handles.handles.slots } in
+    let over : Ring g.row.V.Denot → Shown g.row.V.Denot =
+    λ w. record { capacity = w.capacity; sent = w.count; window = w.values; slots = c.in_ok-handles.handles.slots } in
     let opening : over c.in_ok-values.values ≡ shown (opening_record c.args.capacity) =
     ap over c.in_ok-values.ensures ∙ rw (c.retained_capacity.ensures.capacity, c.in_ok-handles.ensures) (sym (shown-opened c.args.capacity)) in
     let P = λ (y : Shown g.row.V.Denot). IsAllowed y in

@@ -9,7 +9,8 @@ push_reserved-requires g c =
     let i = c.loop-spec._spec-index in
     let specs = c.args.specs.now in
     let within : i ≤ length specs = omega (arith, c.loop-spec-test.true) in
-    let many : length c.loop-spec.closed.items ≡ i = ap length c.loop-spec.invariant.closed ∙ length-map (take i specs) (λ s. None) ∙ length-take-le i specs within in
+    let many : length c.loop-spec.closed.items ≡ i =
+    ap length c.loop-spec.invariant.closed ∙ length-map (take i specs) (λ s. None) ∙ length-take-le i specs within in
     omega (arith, many, c.loop-spec.closed.ok.0, c.loop-spec.invariant.room, c.loop-spec-test.true)
 
 pub loop-spec-preserved : goal.loop-spec-preserved

@@ -23,7 +23,8 @@ loop-entry-init g c =
       place = refl;
       entries = c.entries-entry-items.ensures.entries;
       run = stands.run_is;
-      kept = subst (λ ks. AreKept (at_place run) run.entries 0 ks) (sym (opened_are ∙ ap opened c.specs.ensures.specs)) (first_kept (at_place run) run.entries run.specs refl);
+      kept = subst (λ ks. AreKept (at_place run) run.entries 0 ks) (sym (opened_are ∙ ap opened c.specs.ensures.specs))
+          (first_kept (at_place run) run.entries run.specs refl);
     }
 
 pub loop-entry-preserved : goal.loop-entry-preserved
@@ -46,7 +47,8 @@ loop-entry-preserved g c =
     let taken : c.take.new.closed ≡ with_entry xs c.deref_mut.result.now e (c.loop-entry.place + 1) = c.in_ok-take.ensures in
     let closed_are : take c.loop-entry.closed.len (c.take.new.closed ++ drop (length c.take.new.closed) ks) ≡ with_entry xs ks e (c.loop-entry.place + 1) =
     written c.loop-entry.closed.len c.take.new.closed ks
-    (ap length taken ∙ length-modified (after_entry xs e (c.loop-entry.place + 1)) c.deref_mut.result.now e.call.channel ∙ ap length c.deref_mut.ensures.value ∙ sym c.loop-entry.closed.ok.0) (sym c.loop-entry.closed.ok.0)
+    (ap length taken ∙ length-modified (after_entry xs e (c.loop-entry.place + 1)) c.deref_mut.result.now e.call.channel ∙ ap length c.deref_mut.ensures.value
+    ∙ sym c.loop-entry.closed.ok.0) (sym c.loop-entry.closed.ok.0)
     ∙ taken ∙ ap (λ us. with_entry xs us e (c.loop-entry.place + 1)) c.deref_mut.ensures.value in
     let read : e ≡ get_or run.entries n e = c.entry-item.is ∙ ap (λ es. get_or es n e) entries in
     record {
@@ -69,8 +71,10 @@ listed-requires-clause-few g c =
     let run = c.args.run.now in
     let last : c.loop-entry.entry-index ≡ last_place run = omega (arith, ap length c.loop-entry.invariant.entries, c.loop-entry-test.false) in
     let kept = subst (λ n. AreKept (at_place run) run.entries n c.loop-entry.closed.items) last c.loop-entry.invariant.kept in
-    let channels : length (at_place run (last_place run)) ≤ MOST_CHANNELS = omega (arith, length_at run (last_place run), few_specs run.specs c.entries-entry-items.ensures.run.opens) in
-    subst (λ us. length us ≤ MOST_CHANNELS) (sym c.deref.ensures.value) (few_channels (at_place run) run.entries (last_place run) c.loop-entry.closed.items channels kept)
+    let channels : length (at_place run (last_place run)) ≤ MOST_CHANNELS =
+    omega (arith, length_at run (last_place run), few_specs run.specs c.entries-entry-items.ensures.run.opens) in
+    subst (λ us. length us ≤ MOST_CHANNELS) (sym c.deref.ensures.value)
+    (few_channels (at_place run) run.entries (last_place run) c.loop-entry.closed.items channels kept)
 
 pub listed-requires-clause-small : goal.listed-requires-clause-small
 listed-requires-clause-small g c =
@@ -86,9 +90,11 @@ returns g c =
     let us = c.deref.result.now in
     let last : c.loop-entry.entry-index ≡ last_place run = omega (arith, ap length c.loop-entry.invariant.entries, c.loop-entry-test.false) in
     let kept = subst (λ n. AreKept (at_place run) run.entries n ks) last c.loop-entry.invariant.kept in
-    from_both c.listed.result (λ (found : Closings). found.channels.items ≡ with_closings [] us (length us)) (λ (found : Closings). found.readers.items ≡ with_all_readers [] us (length us))
+    from_both c.listed.result (λ (found : Closings). found.channels.items ≡ with_closings [] us (length us))
+    (λ (found : Closings). found.readers.items ≡ with_all_readers [] us (length us))
     (λ (found : Closings). AreClosings run found.channels.items found.readers.items)
     (λ found closings readers.
     are_closings c.documented.ensures.places run ks found.channels.items found.readers.items kept
-    (closings ∙ ap (λ vs. with_closings [] vs (length vs)) c.deref.ensures.value) (readers ∙ ap (λ vs. with_all_readers [] vs (length vs)) c.deref.ensures.value))
+    (closings ∙ ap (λ vs. with_closings [] vs (length vs)) c.deref.ensures.value)
+    (readers ∙ ap (λ vs. with_all_readers [] vs (length vs)) c.deref.ensures.value))
     c.listed.ensures.channels c.listed.ensures.readers

@@ -8,7 +8,8 @@ use Rattle.rw_findings.proofs.lives.finding.follow.Goals as goal
 pub returns-then-entry-channel-clause-lives : goal.returns-then-entry-channel-clause-lives
 returns-then-entry-channel-clause-lives g c =
     let e = c.index-entries-place.result in
-    lives_there c.args.run.now c.args.channel c.documented.ensures.places c.args.place e c.requires.more (c.index-entries-place.is ∙ ap (λ es. get_or es c.args.place e) c.entries.ensures.entries)
+    lives_there c.args.run.now c.args.channel c.documented.ensures.places c.args.place e c.requires.more
+    (c.index-entries-place.is ∙ ap (λ es. get_or es c.args.place e) c.entries.ensures.entries)
     c.args.lives.now.items c.requires.lives c.if-entry-channel.true
 
 pub take_call-requires : goal.take_call-requires
@@ -36,9 +37,12 @@ returns-clause-lives g c =
     let h = c.handle-handle.result in
     let kind : c.kind_of.result ≡ kind_in y h = c.kind_of.ensures ∙ ap (λ z. kind_in z h) y_is in
     let mid = c.take_call.new.lives.items in
-    let called : TookCall c.args.lives.now.items mid h e.actor (kind_in y h) (p + 1) = subst (λ k. TookCall c.args.lives.now.items mid h e.actor k (p + 1)) kind c.in_ok-take_call.ensures in
-    let made : TookMade mid c.take_made.new.lives.items y (p + 1) e.actor = subst (λ z. TookMade mid c.take_made.new.lives.items z (p + 1) e.actor) y_is c.in_ok-take_made.ensures in
-    lives_here run c.args.channel c.documented.ensures.places p e c.requires.more read x c.args.lives.now.items mid c.take_made.new.lives.items c.requires.here.shows c.if-entry-channel.false c.requires.lives
+    let called : TookCall c.args.lives.now.items mid h e.actor (kind_in y h) (p + 1) =
+    subst (λ k. TookCall c.args.lives.now.items mid h e.actor k (p + 1)) kind c.in_ok-take_call.ensures in
+    let made : TookMade mid c.take_made.new.lives.items y (p + 1) e.actor =
+    subst (λ z. TookMade mid c.take_made.new.lives.items z (p + 1) e.actor) y_is c.in_ok-take_made.ensures in
+    lives_here run c.args.channel c.documented.ensures.places p e c.requires.more read x c.args.lives.now.items mid c.take_made.new.lives.items
+    c.requires.here.shows c.if-entry-channel.false c.requires.lives
     (subst (λ k. TookCall c.args.lives.now.items mid k e.actor (kind_in y k) (p + 1)) c.handle-handle.ensures called) made
 
 pub bounds-entries-place : goal.bounds-entries-place

@@ -16,7 +16,8 @@ pub follow_all-requires-clause-lives : goal.follow_all-requires-clause-lives
 follow_all-requires-clause-lives g c =
     let first = c.in_ok-open_lives.ensures ∙ ap (λ lives. lives ++ born Sender 0 None ∷ born Receiver 0 None ∷ []) c.requires.empty in
     subst (λ lives. AreLivesTo c.args.run.now c.args.channel 0 lives) (sym first)
-    (lives_first c.args.run.now c.args.channel c.documented.ensures.places ((of_chan {V = g.row.V.Denot}).shown c.in_ok-machine.machine) c.in_ok-machine.ensures.shows)
+    (lives_first c.args.run.now c.args.channel c.documented.ensures.places ((of_chan {V = g.row.V.Denot}).shown c.in_ok-machine.machine)
+    c.in_ok-machine.ensures.shows)
 
 pub returns : goal.returns
 returns g c = c.follow_all.ensures

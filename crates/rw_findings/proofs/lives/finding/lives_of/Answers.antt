@@ -10,7 +10,8 @@ returns-then-specs-channel g c =
     let run = c.args.run.now in
     let shows = c.documented.ensures.places in
     subst (λ lives. AreLivesTo run c.args.channel (last_place run) lives) (sym c.new-lives.ensures.items)
-    (no_lives run c.args.channel shows (no_such_channel shows run c.args.channel (last_place run) (omega (arith, c.if-specs-channel.true, ap length c.specs.ensures.specs))))
+    (no_lives run c.args.channel shows (no_such_channel shows run c.args.channel (last_place run)
+    (omega (arith, c.if-specs-channel.true, ap length c.specs.ensures.specs))))
 
 pub follow_run-requires-clause-inside : goal.follow_run-requires-clause-inside
 follow_run-requires-clause-inside g c = omega (arith, c.if-specs-channel.false, ap length c.specs.ensures.specs)

@@ -37,7 +37,8 @@ loop-entry-preserved g c =
     let lost : c.loss_of_entry.result ≡ loss_of_entry c.deref.result.now e (c.loop-entry.place + 1) = c.loss_of_entry.ensures in
     let tracks_are : take c.loop-entry.tracks.len (c.take.new.tracks ++ drop (length c.take.new.tracks) ts) ≡ with_entry ts e (n + 1) =
     written c.loop-entry.tracks.len c.take.new.tracks ts
-    (ap length taken ∙ length_taken c.deref_mut.result.now e (c.loop-entry.place + 1) ∙ ap length c.deref_mut.ensures.value ∙ sym c.loop-entry.tracks.ok.0) (sym c.loop-entry.tracks.ok.0)
+    (ap length taken ∙ length_taken c.deref_mut.result.now e (c.loop-entry.place + 1) ∙ ap length c.deref_mut.ensures.value ∙ sym c.loop-entry.tracks.ok.0)
+    (sym c.loop-entry.tracks.ok.0)
     ∙ taken ∙ ap (λ us. with_entry us e (c.loop-entry.place + 1)) c.deref_mut.ensures.value ∙ ap (with_entry ts e) place in
     let losses_are : c.push.new.losses.items ≡ with_loss losses (loss_of_entry ts e (n + 1)) =
     pushed ∙ ap (with_loss losses) (lost ∙ ap (λ us. loss_of_entry us e (c.loop-entry.place + 1)) c.deref.ensures.value ∙ ap (loss_of_entry ts e) place) in
@@ -57,15 +58,19 @@ pub push_open-requires-clause-few : goal.push_open-requires-clause-few
 push_open-requires-clause-few g c =
     let run = c.args.run.now in
     let last : c.loop-entry.entry-index ≡ last_place run = omega (arith, ap length c.loop-entry.invariant.entries, c.loop-entry-test.false) in
-    let passed = subst (λ n. IsPassed (at_place run) (last_place run) n c.loop-entry.tracks.items c.loop-entry.losses.items) last c.loop-entry.invariant.passed in
-    subst (λ us. length us ≤ MOST_CHANNELS) (sym c.deref-2.ensures.value) (few_tracks run c.loop-entry.tracks.items c.loop-entry.losses.items c.entries-entry-items.ensures.run.opens passed)
+    let passed = subst (λ n. IsPassed (at_place run) (last_place run) n c.loop-entry.tracks.items c.loop-entry.losses.items) last
+    c.loop-entry.invariant.passed in
+    subst (λ us. length us ≤ MOST_CHANNELS) (sym c.deref-2.ensures.value)
+    (few_tracks run c.loop-entry.tracks.items c.loop-entry.losses.items c.entries-entry-items.ensures.run.opens passed)
 
 pub push_open-requires-clause-small : goal.push_open-requires-clause-small
 push_open-requires-clause-small g c =
     let run = c.args.run.now in
     let last : c.loop-entry.entry-index ≡ last_place run = omega (arith, ap length c.loop-entry.invariant.entries, c.loop-entry-test.false) in
-    let passed = subst (λ n. IsPassed (at_place run) (last_place run) n c.loop-entry.tracks.items c.loop-entry.losses.items) last c.loop-entry.invariant.passed in
-    subst (λ us. HasFewHandles us) (sym c.deref-2.ensures.value) (few_handles run c.loop-entry.tracks.items c.loop-entry.losses.items c.entries-entry-items.ensures.run.opens passed)
+    let passed = subst (λ n. IsPassed (at_place run) (last_place run) n c.loop-entry.tracks.items c.loop-entry.losses.items) last
+    c.loop-entry.invariant.passed in
+    subst (λ us. HasFewHandles us) (sym c.deref-2.ensures.value)
+    (few_handles run c.loop-entry.tracks.items c.loop-entry.losses.items c.entries-entry-items.ensures.run.opens passed)
 
 pub returns : goal.returns
 returns g c =
@@ -76,6 +81,7 @@ returns g c =
     let passed = subst (λ n. IsPassed (at_place run) (last_place run) n ts losses) last c.loop-entry.invariant.passed in
     let pushed : c.push_open.new.losses.items ≡ with_open losses c.deref-2.result.now (length c.deref-2.result.now) = c.in_ok-push_open.ensures in
     let found : c.push_open.new.losses.items ≡ with_open losses ts (length ts) = pushed ∙ ap (λ us. with_open losses us (length us)) c.deref-2.ensures.value in
-    are_losses run ts losses c.entries-entry-items.ensures.run.opens passed c.documented.ensures.places c.push_open.new.losses.items c.sort_unstable_by_key.new.self.items found
+    are_losses run ts losses c.entries-entry-items.ensures.run.opens passed c.documented.ensures.places c.push_open.new.losses.items
+    c.sort_unstable_by_key.new.self.items found
     c.sort_unstable_by_key.ensures.permutation
     (IsNonDecreasingBy-from_sort_by_key order_of _ c.sort_unstable_by_key.ensures.sorted (λ a r q k. search rules))

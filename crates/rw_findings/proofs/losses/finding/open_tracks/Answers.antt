@@ -10,7 +10,8 @@ loop-spec-init g c = record { tracks = c.in_ok-tracks.ensures.items; room = c.in
 
 pub track_of-requires : goal.track_of-requires
 track_of-requires g c =
-    let good = c.refusal_of-refusal.ensures.good (is_none_from _ (c.refusal_of-refusal.ensures.refusal ∙ c.requires)) c.loop-spec.spec-index c.spec-item.result c.loop-spec-test.true in
+    let good = c.refusal_of-refusal.ensures.good (is_none_from _ (c.refusal_of-refusal.ensures.refusal ∙ c.requires)) c.loop-spec.spec-index c.spec-item.result
+    c.loop-spec-test.true in
     ap has_bad_capacity c.spec-item.is ∙ good
 
 pub push_reserved-requires : goal.push_reserved-requires
@@ -18,7 +19,8 @@ push_reserved-requires g c =
     let i = c.loop-spec.spec-index in
     let specs = c.args.specs.now in
     let within : i ≤ length specs = omega (arith, c.loop-spec-test.true) in
-    let many : length c.loop-spec.tracks.items ≡ i = ap length c.loop-spec.invariant.tracks ∙ length-map (take i specs) track_of ∙ length-take-le i specs within in
+    let many : length c.loop-spec.tracks.items ≡ i =
+    ap length c.loop-spec.invariant.tracks ∙ length-map (take i specs) track_of ∙ length-take-le i specs within in
     omega (arith, many, c.loop-spec.tracks.ok.0, c.loop-spec.invariant.room, c.loop-spec-test.true)
 
 pub loop-spec-preserved : goal.loop-spec-preserved

@@ -21,15 +21,18 @@ each_place-preserved g c =
     record {
       stands = c.advance.ensures;
       so_far = λ receiver.
-          so_far_on (measured_at measure run channel receiver) c.args.from p (peak_in c.each_place.peaks receiver c.args.stretch) _ (named_level measure channel x e.call receiver) c.each_place.auto.place
+          so_far_on (measured_at measure run channel receiver) c.args.from p (peak_in c.each_place.peaks receiver c.args.stretch) _
+          (named_level measure channel x e.call receiver) c.each_place.auto.place
           (c.each_place.invariant.so_far receiver)
-          (c.in_ok-raise_named.ensures receiver c.args.stretch ∙ raised_here c.args.stretch (peak_in c.each_place.peaks receiver c.args.stretch) (named_level measure channel x e.call receiver))
+          (c.in_ok-raise_named.ensures receiver c.args.stretch
+          ∙ raised_here c.args.stretch (peak_in c.each_place.peaks receiver c.args.stretch) (named_level measure channel x e.call receiver))
           (elim (named_or_not measure channel x e.call receiver) [
             | inl is ↦ inl (is ∙ sym (measured_is measure (shown_at run p) channel receiver x stands.shows))
             | inr none ↦ inr (none.0, rises c.documented.ensures.places run channel p e within read measure receiver x stands.shows none.1)
           ]);
       others = λ receiver other apart.
-          c.in_ok-raise_named.ensures receiver other ∙ raised_there c.args.stretch other (peak_in c.each_place.peaks receiver other) (named_level measure channel x e.call receiver) apart
+          c.in_ok-raise_named.ensures receiver other ∙ raised_there c.args.stretch other (peak_in c.each_place.peaks receiver other)
+          (named_level measure channel x e.call receiver) apart
           ∙ c.each_place.invariant.others receiver other apart;
     }
 
@@ -47,8 +50,10 @@ returns-clause-peaks g c =
     let before = peak_in c.each_place.peaks receiver c.args.stretch in
     let after = peak_in c.raise_all.new.peaks receiver c.args.stretch in
     subst (λ to. IsGreatest at (last_place run) c.args.from to after) last
-    (greatest_is at (last_place run) c.args.from p before after c.each_place.auto.place (omega (arith, last, c.requires.inside)) (c.each_place.invariant.so_far receiver)
-    (c.in_ok-raise_all.ensures receiver c.args.stretch ∙ raised_here c.args.stretch before _ ∙ ap (max before) (sym (measured_is measure (shown_at run p) channel receiver x stands.shows))))
+    (greatest_is at (last_place run) c.args.from p before after c.each_place.auto.place (omega (arith, last, c.requires.inside))
+    (c.each_place.invariant.so_far receiver)
+    (c.in_ok-raise_all.ensures receiver c.args.stretch ∙ raised_here c.args.stretch before _
+    ∙ ap (max before) (sym (measured_is measure (shown_at run p) channel receiver x stands.shows))))
 
 pub bounds-entries-place : goal.bounds-entries-place
 bounds-entries-place g c =
@@ -72,11 +77,13 @@ each_place-init g c = record {
 
 pub returns-clause-stands : goal.returns-clause-stands
 returns-clause-stands g c =
-    let last : c.each_place.place ≡ c.args.to - 1 = omega (arith, c.each_place-test.false, c.each_place.auto.place-end, c.each_place.auto.place, c.requires.some) in
+    let last : c.each_place.place ≡ c.args.to - 1 =
+    omega (arith, c.each_place-test.false, c.each_place.auto.place-end, c.each_place.auto.place, c.requires.some) in
     subst (λ p. Stands c.args.run.now c.args.asked.channel c.each_place.machine p) last c.each_place.invariant.stands
 
 pub returns-clause-others : goal.returns-clause-others
 returns-clause-others g c =
     let x = (of_chan {V = g.row.V.Denot}).shown c.each_place.machine in
     λ receiver other apart.
-    c.in_ok-raise_all.ensures receiver other ∙ raised_there c.args.stretch other (peak_in c.each_place.peaks receiver other) _ apart ∙ c.each_place.invariant.others receiver other apart
+    c.in_ok-raise_all.ensures receiver other ∙ raised_there c.args.stretch other (peak_in c.each_place.peaks receiver other) _ apart
+    ∙ c.each_place.invariant.others receiver other apart

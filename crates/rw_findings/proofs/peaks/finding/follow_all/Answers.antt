@@ -34,8 +34,10 @@ returns-then-last-start g c =
     elim (cases_lt other stretch) [
       | inl below ↦ c.each_stretch.invariant.done receiver other below
       | inr above ↦
-          subst (λ n. IsGreatest at (last_place run) (start_of stretches other) (start_of stretches (other + 1)) n) (sym (c.each_stretch.invariant.fresh receiver other above))
-          (none_past at (last_place run) (start_of stretches other) (start_of stretches (other + 1)) (omega (arith, past, later_start stretches.from stretches.each stretch other above)))
+          subst (λ n. IsGreatest at (last_place run) (start_of stretches other) (start_of stretches (other + 1)) n)
+          (sym (c.each_stretch.invariant.fresh receiver other above))
+          (none_past at (last_place run) (start_of stretches other) (start_of stretches (other + 1))
+          (omega (arith, past, later_start stretches.from stretches.each stretch other above)))
     ]
 
 pub each_stretch-preserved : goal.each_stretch-preserved
@@ -65,11 +67,14 @@ each_stretch-preserved g c =
                 (sym (c.in_ok-follow.ensures.others receiver other (λ same. omega (arith, same, before)))) (inv.done receiver other before)
             | inr now ↦
                 let same : stretch ≡ other = omega (arith, now, below) in
-                let found = subst (λ from. IsGreatest at (last_place run) from end (peak_in rows receiver stretch)) start_is (c.in_ok-follow.ensures.peaks receiver) in
+                let found = subst (λ from. IsGreatest at (last_place run) from end (peak_in rows receiver stretch)) start_is
+                (c.in_ok-follow.ensures.peaks receiver) in
                 let wide =
-                greatest_wide at (last_place run) (start_of stretches stretch) end (start_of stretches (stretch + 1)) (peak_in rows receiver stretch) (omega (arith, next))
+                greatest_wide at (last_place run) (start_of stretches stretch) end (start_of stretches (stretch + 1)) (peak_in rows receiver stretch)
+                (omega (arith, next))
                 (elim (cases_lt (last_place run) end) [ inl past ↦ inr past | inr within ↦ inl (omega (arith, next, within)) ]) found in
                 subst (λ k. IsGreatest at (last_place run) (start_of stretches k) (start_of stretches (k + 1)) (peak_in rows receiver k)) same wide
           ];
-      fresh = λ receiver other above. c.in_ok-follow.ensures.others receiver other (λ same. omega (arith, same, above)) ∙ inv.fresh receiver other (omega (arith, above));
+      fresh = λ receiver other above. c.in_ok-follow.ensures.others receiver other (λ same. omega (arith, same, above))
+          ∙ inv.fresh receiver other (omega (arith, above));
     }

@@ -10,9 +10,11 @@ returns-then-specs-channel g c =
     let run = c.args.run.now in
     λ receiver stretch within.
     let at = measured_at c.args.measure run c.args.channel receiver in
-    subst (λ rows. IsGreatest at (last_place run) (start_of c.args.stretches stretch) (start_of c.args.stretches (stretch + 1)) (peak_in rows receiver stretch)) (sym c.new-peaks.ensures)
+    subst (λ rows. IsGreatest at (last_place run) (start_of c.args.stretches stretch) (start_of c.args.stretches (stretch + 1)) (peak_in rows receiver stretch))
+    (sym c.new-peaks.ensures)
     (greatest_none at (last_place run) _ _ (λ place old above below.
-    no_channel_measured c.documented.ensures.places run c.args.measure c.args.channel receiver place (no_such_channel c.documented.ensures.places run c.args.channel place (omega (arith, c.if-specs-channel.true, ap length c.specs.ensures.specs)))))
+    no_channel_measured c.documented.ensures.places run c.args.measure c.args.channel receiver place
+    (no_such_channel c.documented.ensures.places run c.args.channel place (omega (arith, c.if-specs-channel.true, ap length c.specs.ensures.specs)))))
 
 pub follow_run-requires-clause-channel : goal.follow_run-requires-clause-channel
 follow_run-requires-clause-channel g c = omega (arith, c.if-specs-channel.false, ap length c.specs.ensures.specs)

@@ -21,5 +21,7 @@ pub returns : goal.returns
 returns g c =
     let level = measured_of c.args.measure ((of_chan {V = g.row.V.Denot}).shown c.args.machine.now) in
     raised_same _ _ _ (first_levels level c.each_receiver.receiver) level
-    (all_levels level c.each_receiver.receiver (λ receiver past. unmade c.args.measure ((of_chan {V = g.row.V.Denot}).shown c.args.machine.now) receiver (omega (arith, past, c.each_receiver-test.false, c.made-receiver-end.ensures))))
+    (all_levels level c.each_receiver.receiver (λ receiver past.
+    unmade c.args.measure ((of_chan {V = g.row.V.Denot}).shown c.args.machine.now) receiver
+    (omega (arith, past, c.each_receiver-test.false, c.made-receiver-end.ensures))))
     c.each_receiver.invariant

@@ -11,5 +11,6 @@ loop-channel-preserved c =
     let t = c.index-tallies-channel.result in
     let there : slice_get ts i ≡ Some t = slice_get_read ts (length ts) i t refl (search rules) c.index-tallies-channel.is in
     let pushed : c.push_receivers.new.totals.items ≡ with_receivers c.loop-channel.totals.items t i (made_in t) = search rules in
-    pushed ∙ ap (λ ls. with_receivers ls t i (made_in t)) c.loop-channel.invariant ∙ ap (λ o. with_channel (with_channels c.args.totals.now.items ts i) o i) (sym there)
+    pushed ∙ ap (λ ls. with_receivers ls t i (made_in t)) c.loop-channel.invariant
+    ∙ ap (λ o. with_channel (with_channels c.args.totals.now.items ts i) o i) (sym there)
     ∙ sym (ap (λ k. with_channels c.args.totals.now.items ts k) (add-one i))

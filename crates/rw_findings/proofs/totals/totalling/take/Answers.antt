@@ -13,4 +13,5 @@ returns-in_ok-take g c =
 
 pub returns-else-channel-tallies : goal.returns-else-channel-tallies
 returns-else-channel-tallies g c =
-    past_at (λ t. with_reply t c.args.entry.now.call.call c.args.entry.now.reply c.args.place) c.args.tallies.now c.args.entry.now.call.channel c.if-channel-tallies.false
+    past_at (λ t. with_reply t c.args.entry.now.call.call c.args.entry.now.reply c.args.place) c.args.tallies.now c.args.entry.now.call.channel
+    c.if-channel-tallies.false

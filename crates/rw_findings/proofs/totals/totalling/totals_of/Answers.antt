@@ -21,7 +21,8 @@ loop-entry-init g c =
     record {
       place = refl;
       entries = c.entries-entry-items.ensures.entries;
-      kept = subst (λ ts. AreKept (at_place run) run.entries 0 ts) (sym (opened ∙ ap opened_tallies c.specs.ensures.specs)) (first_kept (at_place run) run.entries run.specs refl);
+      kept = subst (λ ts. AreKept (at_place run) run.entries 0 ts) (sym (opened ∙ ap opened_tallies c.specs.ensures.specs))
+          (first_kept (at_place run) run.entries run.specs refl);
     }
 
 pub loop-entry-preserved : goal.loop-entry-preserved
@@ -35,7 +36,8 @@ loop-entry-preserved g c =
     let taken : c.take.new.tallies ≡ with_entry c.deref_mut.result.now e (c.loop-entry.place + 1) = c.in_ok-take.ensures in
     let tallies_are : take c.loop-entry.tallies.len (c.take.new.tallies ++ drop (length c.take.new.tallies) ts) ≡ with_entry ts e (n + 1) =
     written c.loop-entry.tallies.len c.take.new.tallies ts
-    (ap length taken ∙ length-modified (λ t. with_reply t e.call.call e.reply (c.loop-entry.place + 1)) c.deref_mut.result.now e.call.channel ∙ ap length c.deref_mut.ensures.value ∙ sym c.loop-entry.tallies.ok.0) (sym c.loop-entry.tallies.ok.0)
+    (ap length taken ∙ length-modified (λ t. with_reply t e.call.call e.reply (c.loop-entry.place + 1)) c.deref_mut.result.now e.call.channel
+    ∙ ap length c.deref_mut.ensures.value ∙ sym c.loop-entry.tallies.ok.0) (sym c.loop-entry.tallies.ok.0)
     ∙ taken ∙ ap (λ us. with_entry us e (c.loop-entry.place + 1)) c.deref_mut.ensures.value ∙ ap (with_entry ts e) place in
     let within : n < length run.entries = subst (λ es. n < length es) entries c.loop-entry-test.true in
     let read : e ≡ get_or run.entries n e = c.entry-item.is ∙ ap (λ es. get_or es n e) entries in
@@ -43,7 +45,8 @@ loop-entry-preserved g c =
     record {
       place = place;
       entries = entries;
-      kept = subst (λ us. AreKept (at_place run) run.entries (n + 1) us) (sym tallies_are) (kept_entry run n e ts legal within read c.loop-entry.invariant.kept);
+      kept = subst (λ us. AreKept (at_place run) run.entries (n + 1) us) (sym tallies_are)
+          (kept_entry run n e ts legal within read c.loop-entry.invariant.kept);
     }
 
 pub take-requires : goal.take-requires
@@ -51,7 +54,8 @@ take-requires g c =
     let run = c.args.run.now in
     let n = c.loop-entry.entry-index in
     let few : n < 2 ^ 60 = omega arith in
-    subst (λ us. HaveRoom us) (sym c.deref_mut.ensures.value) (have_room (at_place run) run.entries n few c.loop-entry.tallies.items c.loop-entry.invariant.kept)
+    subst (λ us. HaveRoom us) (sym c.deref_mut.ensures.value)
+    (have_room (at_place run) run.entries n few c.loop-entry.tallies.items c.loop-entry.invariant.kept)
 
 pub push_all-requires-clause-few : goal.push_all-requires-clause-few
 push_all-requires-clause-few g c =
@@ -59,8 +63,10 @@ push_all-requires-clause-few g c =
     let last : c.loop-entry.entry-index ≡ last_place run = omega (arith, ap length c.loop-entry.invariant.entries, c.loop-entry-test.false) in
     let kept = subst (λ n. AreKept (at_place run) run.entries n c.loop-entry.tallies.items) last c.loop-entry.invariant.kept in
     let few : last_place run < 2 ^ 60 = omega arith in
-    let channels : length (at_place run (last_place run)) ≤ MOST_CHANNELS = omega (arith, length_at run (last_place run), few_specs run.specs c.entries-entry-items.ensures.run.opens) in
-    subst (λ us. length us ≤ MOST_CHANNELS) (sym c.deref.ensures.value) (few_tallies (at_place run) run.entries (last_place run) few c.loop-entry.tallies.items channels kept)
+    let channels : length (at_place run (last_place run)) ≤ MOST_CHANNELS =
+    omega (arith, length_at run (last_place run), few_specs run.specs c.entries-entry-items.ensures.run.opens) in
+    subst (λ us. length us ≤ MOST_CHANNELS) (sym c.deref.ensures.value)
+    (few_tallies (at_place run) run.entries (last_place run) few c.loop-entry.tallies.items channels kept)
 
 pub push_all-requires-clause-small : goal.push_all-requires-clause-small
 push_all-requires-clause-small g c =
@@ -68,7 +74,8 @@ push_all-requires-clause-small g c =
     let last : c.loop-entry.entry-index ≡ last_place run = omega (arith, ap length c.loop-entry.invariant.entries, c.loop-entry-test.false) in
     let kept = subst (λ n. AreKept (at_place run) run.entries n c.loop-entry.tallies.items) last c.loop-entry.invariant.kept in
     let few : last_place run < 2 ^ 60 = omega arith in
-    subst (λ us. HaveFewHandles us) (sym c.deref.ensures.value) (few_handles (at_place run) run.entries (last_place run) few c.loop-entry.tallies.items (allowed_at run (last_place run)) kept)
+    subst (λ us. HaveFewHandles us) (sym c.deref.ensures.value)
+    (few_handles (at_place run) run.entries (last_place run) few c.loop-entry.tallies.items (allowed_at run (last_place run)) kept)
 
 pub push_all-requires-clause-room : goal.push_all-requires-clause-room
 push_all-requires-clause-room g c =

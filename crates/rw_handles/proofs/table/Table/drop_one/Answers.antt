@@ -20,5 +20,10 @@ invariant_of-self g c = (
   c.self.invariant.0,
   λ k.
       let at = ap (λ v. slice_get v.slots c.args.id) c.self.view_is ∙ (sym c.in-Some-Live.ensures ∙ ap Some c.in-Some-Live.field-0-is) in
-      omega (arith, alive-set k c.self.inside.slots.items c.args.id (Live c.in-Some-Live.kind c.in-Some-Live.x) Spent at, c.self.invariant.1 k, c.remove.ensures k),
+      omega (
+        arith,
+        alive-set k c.self.inside.slots.items c.args.id (Live c.in-Some-Live.kind c.in-Some-Live.x) Spent at,
+        c.self.invariant.1 k,
+        c.remove.ensures k,
+      ),
 )

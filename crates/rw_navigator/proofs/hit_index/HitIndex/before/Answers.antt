@@ -12,7 +12,8 @@ returns-then-below-eq0-clause-found g c =
     let es = c.self.inside.entries.value.items in
     let holds = g.P.Probe.holds_of_step c.self.inside.probe.value in
     let xs = c.as_slice.result.now in
-    let all : IsAllHits (step_hit holds es) xs = subst (IsAllHits (step_hit holds es)) (sym (c.as_slice.ensures.value ∙ c.self.invariant)) (all_hits (step_hit holds es) (length es) (step_hit-inside holds es)) in
+    let all : IsAllHits (step_hit holds es) xs = subst (IsAllHits (step_hit holds es)) (sym (c.as_slice.ensures.value ∙ c.self.invariant))
+    (all_hits (step_hit holds es) (length es) (step_hit-inside holds es)) in
     let cut = IsPartitionPoint-from_clause (λ q. nat_lt q c.args.place) xs c.partition_point-below.result c.partition_point-below.ensures.partitioned
     (IsPartitionedBy-ltb (λ q. q) xs c.args.place all.rising) (λ a r f k. search (rules, of_calls)) in
     rw (← c.self.view_is) (sym (none_before _ _ (step_hit-inside holds es) xs all c.partition_point-below.result c.args.place cut c.if-below-eq0.true))
@@ -25,7 +26,8 @@ found g c =
     let es = c.self.inside.entries.value.items in
     let holds = g.P.Probe.holds_of_step c.self.inside.probe.value in
     let xs = c.as_slice.result.now in
-    let all : IsAllHits (step_hit holds es) xs = subst (IsAllHits (step_hit holds es)) (sym (c.as_slice.ensures.value ∙ c.self.invariant)) (all_hits (step_hit holds es) (length es) (step_hit-inside holds es)) in
+    let all : IsAllHits (step_hit holds es) xs = subst (IsAllHits (step_hit holds es)) (sym (c.as_slice.ensures.value ∙ c.self.invariant))
+    (all_hits (step_hit holds es) (length es) (step_hit-inside holds es)) in
     let cut = IsPartitionPoint-from_clause (λ q. nat_lt q c.args.place) xs c.partition_point-below.result c.partition_point-below.ensures.partitioned
     (IsPartitionedBy-ltb (λ q. q) xs c.args.place all.rising) (λ a r f k. search (rules, of_calls)) in
     before_cut _ _ (step_hit-inside holds es) xs all c.partition_point-below.result c.args.place cut

@@ -20,7 +20,8 @@ returns-then-comes_true-clause-found g c f tests =
     let before : MovedTo m o w (p - 1) (n + 1) = back_one m o v w p (p - 1) n (n + 1) kept.moved c.retreat-in-loop-place.ensures (omega arith) (omega arith) in
     let answer_before : c.state-before.result ≡ holds w.machine.state =
     subst (λ x. c.state-before.result ≡ holds x) c.state-in-loop-place.ensures.state c.state-before.ensures in
-    found_below (state_hit m f (start_of m o) o.entries) p o.place c.loop-place.place (c.loop-place.holds && not c.state-before.result) c.comes_true.result (omega arith)
+    found_below (state_hit m f (start_of m o) o.entries) p o.place c.loop-place.place (c.loop-place.holds && not c.state-before.result) c.comes_true.result
+    (omega arith)
     (state_hit-is m f holds o v w p (p - 1) n (n + 1) c.loop-place.holds c.state-before.result tests (omega arith) kept.moved before kept.holds answer_before)
     c.comes_true.ensures c.if-comes_true.true (kept.rest f tests)
 
@@ -48,13 +49,16 @@ loop-place-preserved g c =
     let kept = c.loop-place.invariant in
     let below : c.loop-place.place ≤ o.place = kept.below in
     let holds = g.P.Probe.holds_of_state c.args.probe.now in
-    let before : MovedTo m o w (p - 1) (o.place - (p - 1)) = back_one m o v w p (p - 1) n (o.place - (p - 1)) kept.moved c.retreat-in-loop-place.ensures (omega arith) (omega arith) in
+    let before : MovedTo m o w (p - 1) (o.place - (p - 1)) =
+    back_one m o v w p (p - 1) n (o.place - (p - 1)) kept.moved c.retreat-in-loop-place.ensures (omega arith) (omega arith) in
     let answer_before : c.state-before.result ≡ holds w.machine.state =
     subst (λ x. c.state-before.result ≡ holds x) c.state-in-loop-place.ensures.state c.state-before.ensures in
     record {
       rest = λ f tests.
-          not_below (state_hit m f (start_of m o) o.entries) p o.place c.loop-place.place (c.loop-place.holds && not c.state-before.result) c.comes_true.result (omega arith)
-          (state_hit-is m f holds o v w p (p - 1) n (o.place - (p - 1)) c.loop-place.holds c.state-before.result tests (omega arith) kept.moved before kept.holds answer_before)
+          not_below (state_hit m f (start_of m o) o.entries) p o.place c.loop-place.place (c.loop-place.holds && not c.state-before.result) c.comes_true.result
+          (omega arith)
+          (state_hit-is m f holds o v w p (p - 1) n (o.place - (p - 1)) c.loop-place.holds c.state-before.result tests (omega arith) kept.moved before
+          kept.holds answer_before)
           c.comes_true.ensures c.if-comes_true.false (kept.rest f tests);
       holds = answer_before;
       moved = before;

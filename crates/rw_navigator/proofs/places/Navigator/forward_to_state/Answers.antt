@@ -20,7 +20,8 @@ returns-then-comes_true-clause-found g c f tests =
     let now : MovedTo m o w (p + 1) (n + 1) = on_one m o v w p (p + 1) n (n + 1) kept.moved c.advance.ensures (omega arith) (omega arith) in
     let answer : c.state-holds.result ≡ holds w.machine.state =
     subst (λ x. c.state-holds.result ≡ holds x) c.state-in-loop-place.ensures.state c.state-holds.ensures in
-    found_above (state_hit m f (start_of m o) o.entries) p o.place (length o.entries) (c.state-holds.result && not c.loop-place.before) c.comes_true.result (omega arith)
+    found_above (state_hit m f (start_of m o) o.entries) p o.place (length o.entries) (c.state-holds.result && not c.loop-place.before) c.comes_true.result
+    (omega arith)
     (state_hit-is m f holds o w v (p + 1) p (n + 1) n c.state-holds.result c.loop-place.before tests refl now kept.moved answer kept.before)
     c.comes_true.ensures c.if-comes_true.true (kept.rest f tests)
 
@@ -52,7 +53,8 @@ loop-place-preserved g c =
     subst (λ x. c.state-holds.result ≡ holds x) c.state-in-loop-place.ensures.state c.state-holds.ensures in
     record {
       rest = λ f tests.
-          not_above (state_hit m f (start_of m o) o.entries) p o.place (length o.entries) (c.state-holds.result && not c.loop-place.before) c.comes_true.result (omega arith)
+          not_above (state_hit m f (start_of m o) o.entries) p o.place (length o.entries) (c.state-holds.result && not c.loop-place.before) c.comes_true.result
+          (omega arith)
           (state_hit-is m f holds o w v (p + 1) p (p + 1 - o.place) n c.state-holds.result c.loop-place.before tests refl now kept.moved answer kept.before)
           c.comes_true.ensures c.if-comes_true.false (kept.rest f tests);
       before = answer;

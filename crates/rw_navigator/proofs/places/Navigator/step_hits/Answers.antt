@@ -12,8 +12,17 @@ push_reserved-requires g c =
     let i = c.loop-i.i in
     let holds = g.P.Probe.holds_of_step c.args.probe.now in
     let hit = step_hit holds es in
-    let more : hits_to hit (i + 1) ≡ hits_to hit i ++ (i + 1) ∷ [] = hits_to-hit hit i (step_hit-is holds es (i + 1) c.entry_before.result.now (omega arith) c.entry_before.ensures ∙ (sym c.step.ensures ∙ c.if-step.true)) in
-    omega (arith, c.loop-i.invariant.count, c.loop-i.invariant.room, ap length more, length-append (hits_to hit i) ((i + 1) ∷ []), hits_to-grow hit (i + 1) (length es) (omega arith))
+    let more : hits_to hit (i + 1) ≡ hits_to hit i ++ (i + 1) ∷ [] =
+    hits_to-hit hit i (step_hit-is holds es (i + 1) c.entry_before.result.now (omega arith) c.entry_before.ensures
+    ∙ (sym c.step.ensures ∙ c.if-step.true)) in
+    omega (
+      arith,
+      c.loop-i.invariant.count,
+      c.loop-i.invariant.room,
+      ap length more,
+      length-append (hits_to hit i) ((i + 1) ∷ []),
+      hits_to-grow hit (i + 1) (length es) (omega arith),
+    )
 
 pub loop-i-preserved : goal.loop-i-preserved
 loop-i-preserved g c =

@@ -9,5 +9,6 @@ returns-clause-ok c =
     let free : is_taken (map (bound (λ k. k.items) (λ x. x.actor) (λ x. x.channel)) es) c.args.name.now ≡ false = rw c.self.view_is c.requires in
     let entries = c.in_ok-insert.ensures.entries in
     ap (map (bound (λ k. k.items) (λ x. x.actor) (λ x. x.channel))) entries
-    ∙ bound_last (λ k. k.items) (λ x. x.actor) (λ x. x.channel) es c.args.name.now c.in_ok-name.name _ (c.in_ok-name.ensures.items_if_clones_equal (λ x y h. h)) free
+    ∙ bound_last (λ k. k.items) (λ x. x.actor) (λ x. x.channel) es c.args.name.now c.in_ok-name.name _ (c.in_ok-name.ensures.items_if_clones_equal (λ x y h. h))
+    free
     ∙ ap (λ (bs : List Bound). bs ++ record { name = c.args.name.now; actor = c.args.binding.actor; channel = c.args.binding.channel } ∷ []) c.self.view_is

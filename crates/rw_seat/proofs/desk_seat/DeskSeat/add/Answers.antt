@@ -7,4 +7,5 @@ pub invariant_of-self-2 : goal.invariant_of-self-2
 invariant_of-self-2 g c =
     let here = c.self.inside in
     let pass : here.pass ≡ _ = ap (λ s. s.pass) c.self.view_is ∙ c.requires.pass in
-    rw (c.in_ok-push.ensures.items) (seat_with_hand_seat here.pass here.hand_seats.items c.args.hand_seat c.self.invariant (sym (ap (λ (p : Pass g.row.V.Denot). p.actor) pass)) c.requires.front)
+    rw (c.in_ok-push.ensures.items) (seat_with_hand_seat here.pass here.hand_seats.items c.args.hand_seat c.self.invariant
+    (sym (ap (λ (p : Pass g.row.V.Denot). p.actor) pass)) c.requires.front)

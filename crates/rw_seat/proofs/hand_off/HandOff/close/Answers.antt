@@ -26,12 +26,18 @@ loop-hand_seat-init g c =
     let number : r.number ≡ x.number = ap (λ (s : S). s.number) c.hand_seat.view_is in
     let front : r.seat.me.0.front ≡ x.front = ap (λ (s : S). s.front) c.hand_seat.view_is in
     let ns : r.seat.me.0.numbers ≡ r.number ∷ [] = ap (λ (m : M). m.0.numbers) c.hand_seat.invariant in record {
-      of_table = (ap (λ (s : S). s.home.table) c.hand_seat.view_is ∙ ap (λ h. h.table) fit.1, ap (λ (m : M). m.1) c.hand_seat.invariant, ap (λ (m : M). m.0.held) c.hand_seat.invariant);
+      of_table = (
+        ap (λ (s : S). s.home.table) c.hand_seat.view_is ∙ ap (λ h. h.table) fit.1,
+        ap (λ (m : M). m.1) c.hand_seat.invariant,
+        ap (λ (m : M). m.0.held) c.hand_seat.invariant,
+      );
       living = (r.number, subst (IsIn r.number) (sym ns) (inl refl));
       fit = fit.0;
-      numbers = (λ n i. ⊎_elim (λ (a : IsIn n (map (λ (s : S). s.number) ys)). inl a) (λ (e : n ≡ x.number). inr (subst (IsIn n) (sym ns) (inl (e ∙ sym number)))) (in_popped (λ (s : S). s.number) xs ys x n c.in-Some.ensures.items i));
+      numbers = (λ n i. ⊎_elim (λ (a : IsIn n (map (λ (s : S). s.number) ys)). inl a)
+          (λ (e : n ≡ x.number). inr (subst (IsIn n) (sym ns) (inl (e ∙ sym number)))) (in_popped (λ (s : S). s.number) xs ys x n c.in-Some.ensures.items i));
       fronts = (λ h k all. each_popped (λ (s : S). IsQuiet author (s.number ∷ []) s.front h) ys xs x c.in-Some.ensures.items all
-          (subst (λ (z : ℕ × List g.row.B-Entry.Denot). IsQuiet author (z.0 ∷ []) z.1 h) (λ i. (number i, front i)) (known_one author h r.seat.me.0 r.number ns k)));
+          (subst (λ (z : ℕ × List g.row.B-Entry.Denot). IsQuiet author (z.0 ∷ []) z.1 h) (λ i. (number i, front i))
+          (known_one author h r.seat.me.0 r.number ns k)));
     }
 
 pub join_seat-requires : goal.join_seat-requires
@@ -43,13 +49,15 @@ join_seat-requires g c =
     let x : S = c.in-Some-pop.hand_seat in
     let r = c.hand_seat-in-Some-pop in
     let inv = c.loop-hand_seat.invariant in
-    let fit = all_popped (λ (s : S). s.home ≡ c.args.self.home) c.loop-hand_seat.seats.items c.pop-in-loop-hand_seat.new.self.items x c.in-Some-pop.ensures.items inv.fit in
+    let fit = all_popped (λ (s : S). s.home ≡ c.args.self.home) c.loop-hand_seat.seats.items c.pop-in-loop-hand_seat.new.self.items x
+    c.in-Some-pop.ensures.items inv.fit in
     let here = ap (λ h. h.home.table) c.self.view_is in (
       inv.of_table.0 ∙ sym here,
       ap (λ (s : S). s.home.table) r.view_is ∙ (ap (λ h. h.table) fit.1 ∙ sym here),
       ap (λ (m : M). m.1) r.invariant,
       search rules,
-      joins g.B.Keeps.author start g.B.Keeps.journal (start key.book.value) key.seats c.loop-hand_seat.all.id r.inside.seat.id inv.living.0 c.loop-hand_seat.all.me.0 r.inside.seat.me.0 inv.living.1 inv.of_table.2 (ap (λ (m : M). m.0.held) r.invariant),
+      joins g.B.Keeps.author start g.B.Keeps.journal (start key.book.value) key.seats c.loop-hand_seat.all.id r.inside.seat.id inv.living.0
+          c.loop-hand_seat.all.me.0 r.inside.seat.me.0 inv.living.1 inv.of_table.2 (ap (λ (m : M). m.0.held) r.invariant),
     )
 
 pub loop-hand_seat-preserved : goal.loop-hand_seat-preserved
@@ -71,15 +79,25 @@ loop-hand_seat-preserved g c =
     let number : r.inside.number ≡ x.number = ap (λ (s : S). s.number) r.view_is in
     let front : w.front ≡ x.front = ap (λ (s : S). s.front) r.view_is in
     let ns : w.numbers ≡ r.inside.number ∷ [] = ap (λ (m : M). m.0.numbers) r.invariant in record {
-      of_table = (c.join_seat.ensures.0 ∙ inv.of_table.0, ap (λ (m : M). m.1) c.join_seat.ensures.2 ∙ inv.of_table.1, ap (λ (m : M). m.0.held) c.join_seat.ensures.2);
-      living = (inv.living.0, subst (IsIn inv.living.0) (sym (ap (λ (m : M). m.0.numbers) c.join_seat.ensures.2)) (in_left inv.living.0 v.numbers w.numbers inv.living.1));
+      of_table = (
+        c.join_seat.ensures.0 ∙ inv.of_table.0,
+        ap (λ (m : M). m.1) c.join_seat.ensures.2 ∙ inv.of_table.1,
+        ap (λ (m : M). m.0.held) c.join_seat.ensures.2,
+      );
+      living = (
+        inv.living.0,
+        subst (IsIn inv.living.0) (sym (ap (λ (m : M). m.0.numbers) c.join_seat.ensures.2))
+            (in_left inv.living.0 v.numbers w.numbers inv.living.1),
+      );
       fit = fit.0;
       numbers = (λ n i. subst (λ (l : List ℕ). IsIn n (map (λ (s : S). s.number) ys) ⊎ IsIn n l) (sym (ap (λ (m : M). m.0.numbers) c.join_seat.ensures.2))
           (in_rest n v.numbers w.numbers (IsIn n (map (λ (s : S). s.number) ys)) x.number (ns ∙ ap (λ (k : ℕ). k ∷ []) number)
-          (⊎_elim (λ (a : IsIn n (map (λ (s : S). s.number) xs)). inl (in_popped (λ (s : S). s.number) xs ys x n c.in-Some-pop.ensures.items a)) (λ (b : IsIn n v.numbers). inr b) (inv.numbers n i))));
+          (⊎_elim (λ (a : IsIn n (map (λ (s : S). s.number) xs)). inl (in_popped (λ (s : S). s.number) xs ys x n c.in-Some-pop.ensures.items a))
+          (λ (b : IsIn n v.numbers). inr b) (inv.numbers n i))));
       fronts = (λ h k all. let both = known_joined author h v w j is k in
           inv.fronts h both.0 (each_popped (λ (s : S). IsQuiet author (s.number ∷ []) s.front h) ys xs x c.in-Some-pop.ensures.items all
-          (subst (λ (z : ℕ × List g.row.B-Entry.Denot). IsQuiet author (z.0 ∷ []) z.1 h) (λ i. (number i, front i)) (known_one author h w r.inside.number ns both.1))));
+          (subst (λ (z : ℕ × List g.row.B-Entry.Denot). IsQuiet author (z.0 ∷ []) z.1 h) (λ i. (number i, front i))
+          (known_one author h w r.inside.number ns both.1))));
     }
 
 pub unwrap-book-requires : goal.unwrap-book-requires
@@ -90,7 +108,8 @@ unwrap-book-requires g c =
     let inv = c.loop-hand_seat.invariant in
     let none : c.loop-hand_seat.seats.items ≡ [] = first_of (search rules, grind (arith, common_steps)) in
     let count : key.seats ≡ c.args.self.seats = c.self.invariant.2 ∙ ap (λ h. h.seats) c.self.view_is in
-    let t = ended g.B.Keeps.author start g.B.Keeps.journal (start key.book.value) key.seats c.args.self.seats c.loop-hand_seat.all.id c.loop-hand_seat.all.me.0 _ _ (λ (s : S). s.number) c.args.seats.items c.loop-hand_seat.seats.items
+    let t = ended g.B.Keeps.author start g.B.Keeps.journal (start key.book.value) key.seats c.args.self.seats c.loop-hand_seat.all.id c.loop-hand_seat.all.me.0
+    _ _ (λ (s : S). s.number) c.args.seats.items c.loop-hand_seat.seats.items
     count inv.of_table.2 none inv.numbers c.if-not-has_all.ensures c.close_with-closed.ensures.values.2 in
     let is : c.take.result ≡ Some t.0 = some-injective _ _ (sym c.take.ensures.value ∙ t.1) in
     subst IsSome (sym is) (search rules)
@@ -108,13 +127,15 @@ returns-clause-fronts g c =
     let inv = c.loop-hand_seat.invariant in
     let none : c.loop-hand_seat.seats.items ≡ [] = first_of (search rules, grind (arith, common_steps)) in
     let count : key.seats ≡ c.args.self.seats = c.self.invariant.2 ∙ ap (λ h. h.seats) c.self.view_is in
-    let t = ended author start journal (start key.book.value) key.seats c.args.self.seats c.loop-hand_seat.all.id c.loop-hand_seat.all.me.0 _ _ (λ (s : S). s.number) c.args.seats.items c.loop-hand_seat.seats.items
+    let t = ended author start journal (start key.book.value) key.seats c.args.self.seats c.loop-hand_seat.all.id c.loop-hand_seat.all.me.0 _ _
+    (λ (s : S). s.number) c.args.seats.items c.loop-hand_seat.seats.items
     count inv.of_table.2 none inv.numbers c.if-not-has_all.ensures c.close_with-closed.ensures.values.2 in
     let is : c.take.result ≡ Some t.0 = some-injective _ _ (sym c.take.ensures.value ∙ t.1) in
     let same : t.0 ≡ c.unwrap-book.result = cc (is, c.unwrap-book.ensures) in
     let h : List g.row.B-Entry.Denot = journal c.unwrap-book.result in
     let fit : Fits author h c.loop-hand_seat.all.me.0 = subst (λ (b : g.row.B.Denot). Fits author (journal b) c.loop-hand_seat.all.me.0) same t.2 in
-    inv.fronts h (known_fits author h c.loop-hand_seat.all.me.0 fit) (all_none (λ (s : S). IsQuiet author (s.number ∷ []) s.front h) c.loop-hand_seat.seats.items none)
+    inv.fronts h (known_fits author h c.loop-hand_seat.all.me.0 fit)
+    (all_none (λ (s : S). IsQuiet author (s.number ∷ []) s.front h) c.loop-hand_seat.seats.items none)
 
 pub returns-clause-start : goal.returns-clause-start
 returns-clause-start g c =
@@ -124,7 +145,8 @@ returns-clause-start g c =
     let inv = c.loop-hand_seat.invariant in
     let none : c.loop-hand_seat.seats.items ≡ [] = first_of (search rules, grind (arith, common_steps)) in
     let count : key.seats ≡ c.args.self.seats = c.self.invariant.2 ∙ ap (λ h. h.seats) c.self.view_is in
-    let t = ended g.B.Keeps.author start g.B.Keeps.journal (start key.book.value) key.seats c.args.self.seats c.loop-hand_seat.all.id c.loop-hand_seat.all.me.0 _ _ (λ (s : S). s.number) c.args.seats.items c.loop-hand_seat.seats.items
+    let t = ended g.B.Keeps.author start g.B.Keeps.journal (start key.book.value) key.seats c.args.self.seats c.loop-hand_seat.all.id c.loop-hand_seat.all.me.0
+    _ _ (λ (s : S). s.number) c.args.seats.items c.loop-hand_seat.seats.items
     count inv.of_table.2 none inv.numbers c.if-not-has_all.ensures c.close_with-closed.ensures.values.2 in
     let is : c.take.result ≡ Some t.0 = some-injective _ _ (sym c.take.ensures.value ∙ t.1) in
     let same : t.0 ≡ c.unwrap-book.result = cc (is, c.unwrap-book.ensures) in

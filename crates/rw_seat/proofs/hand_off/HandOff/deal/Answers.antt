@@ -16,7 +16,8 @@ split_seat-others-requires g c =
     let n : ℕ = c.loop-number.number in (
       search rules,
       search rules,
-      splits_view g.B.Keeps.author start g.B.Keeps.journal (start key.book.value) key.seats c.loop-number.rest.id n (numbers_from (n + 1) left.0) c.args.self.now.home.start c.args.seat.me.0.front c.loop-number.rest.me.0
+      splits_view g.B.Keeps.author start g.B.Keeps.journal (start key.book.value) key.seats c.loop-number.rest.id n (numbers_from (n + 1) left.0)
+          c.args.self.now.home.start c.args.seat.me.0.front c.loop-number.rest.me.0
           (ap (λ (m : Me (Option g.row.B.Denot) (View g.row.B-Entry.Denot g.row.B-Start.Denot)). m.0) left.2),
     )
 
@@ -25,7 +26,8 @@ invariant_of-push_reserved g c =
     let M : Type 0 = Me (Option g.row.B.Denot) (View g.row.B-Entry.Denot g.row.B-Start.Denot) in
     let left = c.loop-number.invariant.left in
     let n : ℕ = c.loop-number.number in
-    let is : c.split_seat-others.new.seat.me ≡ (resting (n ∷ []) c.args.self.now.home.start c.args.seat.me.0.front, []) = c.split_seat-others.ensures.2 ∙ ap (λ (m : M). (first_part m.0, m.1)) left.2 in
+    let is : c.split_seat-others.new.seat.me ≡ (resting (n ∷ []) c.args.self.now.home.start c.args.seat.me.0.front, []) =
+    c.split_seat-others.ensures.2 ∙ ap (λ (m : M). (first_part m.0, m.1)) left.2 in
     is ∙ sym (ap (λ (m : M). (resting (n ∷ []) m.0.start m.0.front, [])) is)
 
 pub loop-number-preserved : goal.loop-number-preserved
@@ -44,12 +46,18 @@ loop-number-preserved g c =
     let u : c.split_seat-others.result.me ≡ (other_part c.loop-number.rest.me.0, []) = c.split_seat-others.ensures.4 in
     let v : (other_part c.loop-number.rest.me.0, []) ≡ (resting (numbers_from (n + 1) left.0) home.start f, []) =
     ap (λ (m : M). (other_part m.0, [])) left.2 in
-    let w : (resting (numbers_from (n + 1) left.0) home.start f, []) ≡ (resting ((n + 1) ∷ numbers_from ((n + 1) + 1) next.0) home.start f, []) = ap (λ (l : List ℕ). (resting l home.start f, [])) next.2 in
+    let w : (resting (numbers_from (n + 1) left.0) home.start f, []) ≡ (resting ((n + 1) ∷ numbers_from ((n + 1) + 1) next.0) home.start f, []) =
+    ap (λ (l : List ℕ). (resting l home.start f, [])) next.2 in
     let hand_seat : ℕ → H = λ k. record { number = k; home = home; front = f } in
     let table : c.split_seat-others.new.seat.table_id ≡ home.table = c.split_seat-others.ensures.0 ∙ inv.seated in
-    let from : c.split_seat-others.new.seat.me.0.start ≡ home.start = ap (λ (m : M). m.0.start) c.split_seat-others.ensures.2 ∙ ap (λ (m : M). m.0.start) left.2 in
+    let from : c.split_seat-others.new.seat.me.0.start ≡ home.start =
+    ap (λ (m : M). m.0.start) c.split_seat-others.ensures.2 ∙ ap (λ (m : M). m.0.start) left.2 in
     let seen : c.split_seat-others.new.seat.me.0.front ≡ f = ap (λ (m : M). m.0.front) c.split_seat-others.ensures.2 ∙ ap (λ (m : M). m.0.front) left.2 in
-    let dealt : ◌≡◌ {A = H} (record { number = n; home = record { table = c.split_seat-others.new.seat.table_id; start = c.split_seat-others.new.seat.me.0.start }; front = c.split_seat-others.new.seat.me.0.front }) (hand_seat n) =
+    let dealt : ◌≡◌ {A = H} (record {
+      number = n;
+      home = record { table = c.split_seat-others.new.seat.table_id; start = c.split_seat-others.new.seat.me.0.start };
+      front = c.split_seat-others.new.seat.me.0.front;
+    }) (hand_seat n) =
     λ i. record { number = n; home = record { table = table i; start = from i }; front = seen i } in record {
       seated = search rules;
       left = (next.0, next.1, u ∙ (v ∙ w));
@@ -72,12 +80,18 @@ returns-clause-dealt g c =
     let all : n + 1 ≡ c.args.self.now.seats = omega (arith, seats, inv.left.1) in
     let from : rest.me.0.start ≡ home.start = ap (λ (m : M). m.0.start) inv.left.2 in
     let seen : rest.me.0.front ≡ f = ap (λ (m : M). m.0.front) inv.left.2 in
-    let dealt : ◌≡◌ {A = H} (record { number = c.self.inside.seats - 1; home = record { table = rest.table_id; start = rest.me.0.start }; front = rest.me.0.front }) (hand_seat n) =
+    let dealt : ◌≡◌ {A = H} (record {
+      number = c.self.inside.seats - 1;
+      home = record { table = rest.table_id; start = rest.me.0.start };
+      front = rest.me.0.front;
+    }) (hand_seat n) =
     λ i. record { number = last i; home = record { table = inv.seated i; start = from i }; front = seen i } in
-    dealt_more hand_seat c.loop-number.hand_seats.items c.push_reserved-2.new.self.items _ n c.push_reserved-2.ensures.items inv.dealt dealt ∙ ap (λ (k : ℕ). map hand_seat (numbers_from 0 k)) all
+    dealt_more hand_seat c.loop-number.hand_seats.items c.push_reserved-2.new.self.items _ n c.push_reserved-2.ensures.items inv.dealt dealt
+    ∙ ap (λ (k : ℕ). map hand_seat (numbers_from 0 k)) all
 
 pub returns-clause-home : goal.returns-clause-home
 returns-clause-home g c =
     let H : Type 0 = HandSeat g.row.B-Entry.Denot g.row.B-Start.Denot in
     let hand_seat : ℕ → H = λ k. record { number = k; home = c.args.self.now.home; front = c.args.seat.me.0.front } in
-    each_dealt (λ (s : H). s.home ≡ c.args.self.now.home) hand_seat c.push_reserved-2.new.self.items (numbers_from 0 c.args.self.now.seats) (returns-clause-dealt g c) (λ n. refl)
+    each_dealt (λ (s : H). s.home ≡ c.args.self.now.home) hand_seat c.push_reserved-2.new.self.items (numbers_from 0 c.args.self.now.seats)
+    (returns-clause-dealt g c) (λ n. refl)

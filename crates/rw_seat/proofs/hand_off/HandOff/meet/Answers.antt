@@ -50,7 +50,8 @@ split_seat-other-requires g c =
     let u : V = c.release.new.seat.me.0 in
     let from : Option g.row.B-Start.Denot = c.acquire-book.new.seat.me.0.start in
     let held : c.acquire-book.new.seat.me.0.numbers ≡ j.numbers = ap (λ (m : M). m.0.numbers) c.acquire-book.ensures.held in
-    let both = joined_numbers g.B.Keeps.author one.seat.me.0 two.seat.me.0 j first second (ap (λ (m : M). m.0) c.join_seat.ensures.2) (ap (λ (m : M). m.0.numbers) c.one.invariant) (ap (λ (m : M). m.0.numbers) c.two.invariant) in
+    let both = joined_numbers g.B.Keeps.author one.seat.me.0 two.seat.me.0 j first second (ap (λ (m : M). m.0) c.join_seat.ensures.2)
+    (ap (λ (m : M). m.0.numbers) c.one.invariant) (ap (λ (m : M). m.0.numbers) c.two.invariant) in
     let ns : c.acquire-book.new.seat.me.0.numbers ≡ first ∷ (second ∷ []) = held ∙ both in
     let is : u ≡ resting (first ∷ (second ∷ [])) from h = ap (λ (m : M). m.0) c.release.ensures.view ∙ ap (λ (l : List ℕ). resting l from h) ns in (
       search rules,
@@ -75,9 +76,11 @@ returns-clause-one g c =
     let author = g.B.Keeps.author in
     let one = c.one.inside in
     let h : List g.row.B-Entry.Denot = g.B.Keeps.journal c.acquire-book.result in
-    let end : c.split_seat-other.new.seat.me.0.front ≡ h = ap (λ (m : M). m.0.front) c.split_seat-other.ensures.2 ∙ ap (λ (m : M). m.0.front) c.release.ensures.view in
+    let end : c.split_seat-other.new.seat.me.0.front ≡ h =
+    ap (λ (m : M). m.0.front) c.split_seat-other.ensures.2 ∙ ap (λ (m : M). m.0.front) c.release.ensures.view in
     rw (← c.one.view_is) (subst (λ (l : List g.row.B-Entry.Denot). IsQuiet author (one.number ∷ []) one.seat.me.0.front l) (sym end)
-    (met_one author one.seat.me.0 c.two.inside.seat.me.0 c.join_seat.new.seat.me.0 h one.number (ap (λ (m : M). m.0) c.join_seat.ensures.2) c.acquire-book.ensures.fits (ap (λ (m : M). m.0.numbers) c.one.invariant)))
+    (met_one author one.seat.me.0 c.two.inside.seat.me.0 c.join_seat.new.seat.me.0 h one.number (ap (λ (m : M). m.0) c.join_seat.ensures.2)
+    c.acquire-book.ensures.fits (ap (λ (m : M). m.0.numbers) c.one.invariant)))
 
 pub returns-clause-two : goal.returns-clause-two
 returns-clause-two g c =
@@ -86,6 +89,8 @@ returns-clause-two g c =
     let author = g.B.Keeps.author in
     let two = c.two.inside in
     let h : List g.row.B-Entry.Denot = g.B.Keeps.journal c.acquire-book.result in
-    let end : c.split_seat-other.result.me.0.front ≡ h = ap (λ (m : M). m.0.front) c.split_seat-other.ensures.4 ∙ ap (λ (m : M). m.0.front) c.release.ensures.view in
+    let end : c.split_seat-other.result.me.0.front ≡ h =
+    ap (λ (m : M). m.0.front) c.split_seat-other.ensures.4 ∙ ap (λ (m : M). m.0.front) c.release.ensures.view in
     rw (← c.two.view_is) (subst (λ (l : List g.row.B-Entry.Denot). IsQuiet author (two.number ∷ []) two.seat.me.0.front l) (sym end)
-    (met_two author c.one.inside.seat.me.0 two.seat.me.0 c.join_seat.new.seat.me.0 h two.number (ap (λ (m : M). m.0) c.join_seat.ensures.2) c.acquire-book.ensures.fits (ap (λ (m : M). m.0.numbers) c.two.invariant)))
+    (met_two author c.one.inside.seat.me.0 two.seat.me.0 c.join_seat.new.seat.me.0 h two.number (ap (λ (m : M). m.0) c.join_seat.ensures.2)
+    c.acquire-book.ensures.fits (ap (λ (m : M). m.0.numbers) c.two.invariant)))

@@ -14,5 +14,6 @@ new-requires g c =
     let slots : List (Option g.row.B.Denot) = c.push_reserved.new.self.items in
     let is : slots ≡ Some b ∷ [] = c.push_reserved.ensures.items ∙ ap (λ (l : List (Option g.row.B.Denot)). l ++ Some b ∷ []) c.in_ok-slots.ensures.items in
     let seen : c.of.result.value ≡ b = c.of.ensures in
-    subst (λ (z : List (Option g.row.B.Denot) × g.row.B.Denot). HasOneBook author start journal (start z.1) n (opening (0 ∷ []) z.0 (resting (numbers_from 0 n) (Some (start z.1)) (journal z.1))))
+    subst (λ (z : List (Option g.row.B.Denot) × g.row.B.Denot). HasOneBook author start journal (start z.1) n
+    (opening (0 ∷ []) z.0 (resting (numbers_from 0 n) (Some (start z.1)) (journal z.1))))
     (λ i. (sym is i, sym seen i)) (makes author start journal (start b) n b refl)

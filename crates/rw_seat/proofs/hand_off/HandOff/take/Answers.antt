@@ -13,4 +13,8 @@ returns-clause-book g c =
     rw (← c.seat.view_is) (subst (λ (l : List ℕ). IsQuiet author l s.me.0.front (g.B.Keeps.journal c.acquire-book.result)) ns c.acquire-book.ensures.fits.0)
 
 pub acquire-book-requires-clause-living : goal.acquire-book-requires-clause-living
-acquire-book-requires-clause-living g c = (c.seat.inside.number, [], ap (λ (m : Me (Option g.row.B.Denot) (View g.row.B-Entry.Denot g.row.B-Start.Denot)). m.0.numbers) c.seat.invariant)
+acquire-book-requires-clause-living g c = (
+  c.seat.inside.number,
+  [],
+  ap (λ (m : Me (Option g.row.B.Denot) (View g.row.B-Entry.Denot g.row.B-Start.Denot)). m.0.numbers) c.seat.invariant,
+)

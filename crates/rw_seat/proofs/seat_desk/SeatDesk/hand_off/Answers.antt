@@ -15,16 +15,20 @@ returns-in_err-get-clause-none g c =
 pub returns-then-is_of_other_kind-clause-none : goal.returns-then-is_of_other_kind-clause-none
 returns-then-is_of_other_kind-clause-none g c =
     let specs = c.deref.ensures.value ∙ ap (λ d. d.specs) c.self.view_is in
-    let there = spec_there c.args.self.now.specs c.deref.result.now c.args.channel c.in_ok-get.field-0.now specs c.in_ok-get.ensures.lookup.3.0 c.in_ok-get.ensures.lookup.1 in
+    let there = spec_there c.args.self.now.specs c.deref.result.now c.args.channel c.in_ok-get.field-0.now specs c.in_ok-get.ensures.lookup.3.0
+    c.in_ok-get.ensures.lookup.1 in
     let strays = strays_there c.args.self.now.specs c.args.channel c.in_ok-get.field-0.now c.args.call.now there ∙ sym c.if-is_of_other_kind.ensures in
     (λ _. strays, λ _. refl)
 
 pub returns-clause-none : goal.returns-clause-none
 returns-clause-none g c =
     let specs = c.deref.ensures.value ∙ ap (λ d. d.specs) c.self.view_is in
-    let there = spec_there c.args.self.now.specs c.deref.result.now c.args.channel c.in_ok-get.field-0.now specs c.in_ok-get.ensures.lookup.3.0 c.in_ok-get.ensures.lookup.1 in
-    let stays = strays_there c.args.self.now.specs c.args.channel c.in_ok-get.field-0.now c.args.call.now there ∙ sym c.if-is_of_other_kind.ensures in
-    (λ none. absurd (omega (arith, slice_get_within c.args.self.now.specs c.args.channel c.in_ok-get.field-0.now there, c.hand_off_at.ensures.none.0 none)), λ strays. absurd (true≢false (sym strays ∙ stays)))
+    let there = spec_there c.args.self.now.specs c.deref.result.now c.args.channel c.in_ok-get.field-0.now specs c.in_ok-get.ensures.lookup.3.0
+    c.in_ok-get.ensures.lookup.1 in
+    let stays = strays_there c.args.self.now.specs c.args.channel c.in_ok-get.field-0.now c.args.call.now there ∙ sym c.if-is_of_other_kind.ensures in (
+      λ none. absurd (omega (arith, slice_get_within c.args.self.now.specs c.args.channel c.in_ok-get.field-0.now there, c.hand_off_at.ensures.none.0 none)),
+      λ strays. absurd (true≢false (sym strays ∙ stays)),
+    )
 
 pub returns-clause-home : goal.returns-clause-home
 returns-clause-home g c = c.hand_off_at.ensures.home
@@ -32,6 +36,13 @@ returns-clause-home g c = c.hand_off_at.ensures.home
 pub returns-clause-spec : goal.returns-clause-spec
 returns-clause-spec g c =
     let specs = c.deref.ensures.value ∙ ap (λ d. d.specs) c.self.view_is in
-    let there = spec_there c.args.self.now.specs c.deref.result.now c.args.channel c.in_ok-get.field-0.now specs c.in_ok-get.ensures.lookup.3.0 c.in_ok-get.ensures.lookup.1 in
+    let there = spec_there c.args.self.now.specs c.deref.result.now c.args.channel c.in_ok-get.field-0.now specs c.in_ok-get.ensures.lookup.3.0
+    c.in_ok-get.ensures.lookup.1 in
     IfSome_then c.hand_off_at.result c.hand_off_at.ensures.spec
-    (λ h s. (s.0, s.1, s.2, let same : s.0 ≡ c.in_ok-get.field-0.now = cc (s.1, there) in ap (λ x. strays_at (spec_kind x) c.args.call.now) same ∙ sym c.if-is_of_other_kind.ensures))
+    (λ h s. (
+      s.0,
+      s.1,
+      s.2,
+      let same : s.0 ≡ c.in_ok-get.field-0.now =
+          cc (s.1, there) in ap (λ x. strays_at (spec_kind x) c.args.call.now) same ∙ sym c.if-is_of_other_kind.ensures,
+    ))

@@ -8,5 +8,6 @@ returns-clause-spec g c =
     let here = c.self.inside in
     let hand_offs = here.hand_offs.items in
     let within : c.args.at < length hand_offs = omega (arith, c.self.invariant.one_each) in
-    let there = spec_of here.specs.items hand_offs c.args.at c.index.result.now c.self.invariant.opened (slice_get_read hand_offs (length hand_offs) c.args.at c.index.result.now refl within c.index.ensures) in
+    let there = spec_of here.specs.items hand_offs c.args.at c.index.result.now c.self.invariant.opened
+    (slice_get_read hand_offs (length hand_offs) c.args.at c.index.result.now refl within c.index.ensures) in
     rw (← c.self.view_is) there

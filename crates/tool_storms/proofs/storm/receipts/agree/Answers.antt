@@ -12,4 +12,5 @@ loop-receipts-preserved c =
     (subst Same c.receipts-item.is (c.are_its_entries.ensures.0 c.if-not-are_its_entries.false))
 
 pub returns : goal.returns
-returns c many = subst (All (λ (r : Receipts). r.kept.items ≡ projection r.actor c.args.run.now.entries)) (take_all c.loop-receipts.receipts-index c.args.all.now (omega arith)) c.loop-receipts.invariant
+returns c many = subst (All (λ (r : Receipts). r.kept.items ≡ projection r.actor c.args.run.now.entries))
+    (take_all c.loop-receipts.receipts-index c.args.all.now (omega arith)) c.loop-receipts.invariant

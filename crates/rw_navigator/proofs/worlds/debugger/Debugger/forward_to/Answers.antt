@@ -8,7 +8,9 @@ invariant_of-self g c = still _ _ _ c.self.invariant _ _ c.forward_to.ensures.mo
 pub returns-clause-found : goal.returns-clause-found
 returns-clause-found g c =
     rw (← c.self.view_is)
-    (λ f tests. c.forward_to.ensures.found f tests ∙ found_above c.self.inside.specs.items c.self.inside.visit c.self.invariant (g.P.Probe.asks_step c.args.probe.now) (g.P.Probe.holds_of_step c.args.probe.now) f)
+    (λ f tests. c.forward_to.ensures.found f tests
+    ∙ found_above c.self.inside.specs.items c.self.inside.visit c.self.invariant (g.P.Probe.asks_step c.args.probe.now)
+    (g.P.Probe.holds_of_step c.args.probe.now) f)
 
 pub returns-clause-moved : goal.returns-clause-moved
 returns-clause-moved g c =
