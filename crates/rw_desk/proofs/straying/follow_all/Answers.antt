@@ -1,3 +1,4 @@
+-- `follow_all` finds the least actor with an entry that isn't its next receipt, and how many receipts of each lower actor are its entries.
 use Rattle.std.proofs.Common.{◌≡◌, ◌≢◌, ◌<◌, ℕ, false, true, Some, get_or, length, map, [], ◌+◌, ◌∙◌, refl, sym, subst, arith}
 use Rattle.std.specs.Prelude.{slice_get}
 use Rattle.std.proofs.lemmas.List.{take_all, length-set, length-replicate, get_or-replicate}

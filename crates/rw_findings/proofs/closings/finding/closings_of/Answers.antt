@@ -1,3 +1,4 @@
+-- `closings_of` finds all closings of a run, and what each receiver that was there did after them, or runs out of memory.
 use Rattle.std.proofs.Common.{◌≡◌, ◌<◌, ◌≤◌, ◌+◌, ◌^◌, ◌∙◌, ◌++◌, [], length, get_or, take, drop, refl, sym, ap, subst, arith}
 use Rattle.rw_world.specs.Machines.{of_world}
 use Rattle.rw_world.specs.declared.opening.TheConstants.{MOST_CHANNELS}

@@ -1,3 +1,4 @@
+-- `follow` leads the lives of a channel's handles on by one entry: what they are up to a place, they are up to the next one.
 use Rattle.std.proofs.Common.{◌≡◌, ◌<◌, ◌∙◌, ◌+◌, ap, arith, get_or, length, subst, sym}
 use Rattle.rw_world.specs.Machines.{of_chan}
 use Rattle.rw_findings.specs.Lives.{TookCall, TookMade, kind_in}

@@ -1,3 +1,4 @@
+-- `losses_of` finds exactly the losses of a run, in their order, or runs out of memory.
 use Rattle.std.proofs.Common.{◌≡◌, ◌<◌, ◌≤◌, ◌+◌, ◌∙◌, ◌++◌, length, get_or, take, drop, refl, sym, ap, subst, rules, arith}
 use Rattle.std.proofs.lemmas.List.Sorted.{IsNonDecreasingBy-from_sort_by_key}
 use Rattle.rw_law.specs.Journal.{IsLegal}

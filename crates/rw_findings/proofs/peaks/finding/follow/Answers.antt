@@ -1,3 +1,4 @@
+-- `follow` finds the greatest number measured of each receiver in one stretch, and leaves the peaks of other stretches as they were.
 use Rattle.std.proofs.Common.{◌≡◌, ◌<◌, ◌+◌, ◌-◌, ◌∙◌, ap, arith, get_or, inl, inr, length, max, refl, subst, sym}
 use Rattle.rw_world.specs.Machines.{of_chan}
 use Rattle.rw_findings.specs.Following.{Stands}

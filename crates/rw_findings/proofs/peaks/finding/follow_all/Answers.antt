@@ -1,3 +1,4 @@
+-- `follow_all` finds the greatest number measured of each receiver in each stretch, or runs out of memory.
 use Rattle.std.proofs.Common.{◌≡◌, ◌∙◌, ◌+◌, ◌<◌, ◌≤◌, ◌-◌, ap, arith, inl, inr, length, min, subst, sym, zero-mul}
 use Rattle.std.proofs.lemmas.Bool.{cases_lt}
 use Rattle.rw_findings.specs.Following.{Stands}

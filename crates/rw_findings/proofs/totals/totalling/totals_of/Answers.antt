@@ -1,3 +1,4 @@
+-- `totals_of` counts exactly what each receiver of a run received and missed, or runs out of memory.
 use Rattle.std.proofs.Common.{◌≡◌, ◌<◌, ◌≤◌, ◌+◌, ◌^◌, ◌∙◌, ◌++◌, [], length, get_or, take, drop, refl, sym, ap, subst, arith}
 use Rattle.rw_law.specs.Journal.{IsLegal}
 use Rattle.rw_world.specs.Machines.{of_world}
