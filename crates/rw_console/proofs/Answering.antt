@@ -168,16 +168,11 @@ ends {r0 = r0} {r = r} {r' = r'} {w0 = w0} {w = w} {before = before} {allowed = 
 explains : {r0 r w0 w : Option (List ℕ)} {before allowed : ℕ} {start run : Run ℕ} {first place : ℕ}
     → (a : Answering r0 r w0 w before allowed start run first place) (part : List ℕ) (e : StreamFault) (why : StopsBecause part allowed e)
     → Explains (commands_report start first) Always before (unlines a.ls ++ part) a.text e
-explains {r0 = r0} {r = r} {w0 = w0} {w = w} {before = before} {allowed = allowed} {start = start} {run = run} {first = first} {place = place} a part Read why = (
-  a.ls,
-  part,
-  a.each,
-  why.0,
-  refl,
-  λ _. sym (ap (commands_report start first) (sym (append-nil (unlines a.ls)))
-      ∙ ap (outputs start first) (lines_unlines a.ls [] a.each) ∙ a.follows [] ∙ append-nil a.text),
-  omega (arith, a.count, length-append (unlines a.ls) part, why.1),
-)
+explains {r0 = r0} {r = r} {w0 = w0} {w = w} {before = before} {allowed = allowed} {start = start} {run = run} {first = first} {place = place} a part Read why =
+    let said : a.text ≡ commands_report start first (unlines a.ls) =
+    sym (ap (commands_report start first) (sym (append-nil (unlines a.ls)))
+    ∙ ap (outputs start first) (lines_unlines a.ls [] a.each) ∙ a.follows [] ∙ append-nil a.text) in
+    (a.ls, part, a.each, why.0, refl, (λ _. said), omega (arith, a.count, length-append (unlines a.ls) part, why.1))
 explains {r0 = r0} {r = r} {w0 = w0} {w = w} {before = before} {allowed = allowed} {start = start} {run = run} {first = first} {place = place} a part TooMuch
     why = omega (arith, a.count, length-append (unlines a.ls) part)
 explains {r0 = r0} {r = r} {w0 = w0} {w = w} {before = before} {allowed = allowed} {start = start} {run = run} {first = first} {place = place} a part Write
