@@ -7,7 +7,7 @@ ghost use Rattle.rw_lines.specs.Cut.{cut};
 ghost use Rattle.rw_lines.specs.Tokens.{is_word, is_name};
 
 #[inline]
-fn place_of(bytes: &[u8], mark: u8) -> Option<usize>
+fn index_of(bytes: &[u8], mark: u8) -> Option<usize>
     ensures { result ≡ position (λ b. b == mark) bytes.now }
 {
     bytes.iter().position(|b| *b == mark)
@@ -21,7 +21,7 @@ fn place_of(bytes: &[u8], mark: u8) -> Option<usize>
 pub fn cut(bytes: &[u8], mark: u8) -> Option<(&[u8], &[u8])>
     ensures { option_map (λ p. (p.0.now, p.1.now)) result ≡ cut mark bytes.now }
 {
-    match place_of(bytes, mark) {
+    match index_of(bytes, mark) {
         None => None,
         Some(at) => Some((&bytes[..at], &bytes[at + 1..])),
     }

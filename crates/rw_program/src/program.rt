@@ -88,8 +88,8 @@ pub fn threads_over_opened<F: Read + Drop, W: Write, R: Threads + Wait + Sync>(
     }
 }
 
-/// Opens the file of a verb. If the verb reads standard input and that is closed, no file is opened: the system would open it in
-/// the place of standard input, and its bytes would be read as commands.
+/// Opens the file of a verb. If the verb reads standard input and that is closed, no file is opened: the system would open it as
+/// standard input, and its bytes would be read as commands.
 fn open_for<R: Files + Input>(rt: &R, verb: Verb, path: &str) -> io::Result<R::File> {
     if verb == Verb::Debug {
         // A read of no bytes waits for nothing. It fails if the stream is closed.

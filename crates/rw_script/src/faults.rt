@@ -12,7 +12,7 @@ use std::fmt;
 pub enum ScriptFaultKind {
     /// The line has more than 256 bytes.
     TooLong,
-    /// The line isn't a channel or actors line in its place, and doesn't begin with two numerals and a word.
+    /// The line isn't a channel or actors line where one may stand, and doesn't begin with two numerals and a word.
     Syntax,
     /// The capacity is 0 or above 65,536.
     BadCapacity,
