@@ -8,7 +8,7 @@ use rw_navigator::{Cond, Debugger, HitIndex};
 use rw_world::World;
 use std::alloc::Global;
 
-/// The most indexes that a walk keeps.
+/// The most indexes that a walk has at a time.
 ///
 /// The memory of indexes is bounded without it. An entry meets three conditions at most, by its actor, its channel and its kind of
 /// reply, and no condition is indexed twice. So all indexes of a walk together have at most three places an entry.
@@ -16,21 +16,21 @@ pub const MOST_INDEXES: usize = 256;
 
 /// A condition on entries, and the places where it is met.
 #[derive(Drop)]
-pub struct KeptIndex {
+pub struct CondIndex {
     pub cond: Cond,
     pub index: HitIndex<World<u64>, Cond>,
     ghost of_cond: { index.probe ≡ cond },
 }
 
-impl KeptIndex {
+impl CondIndex {
     /// Builds the index of a condition on entries, or returns `None` if memory runs out.
-    pub fn build(alloc: Global, debugger: &Debugger<u64>, cond: Cond) -> Option<KeptIndex>
+    pub fn build(alloc: Global, debugger: &Debugger<u64>, cond: Cond) -> Option<CondIndex>
         requires { IsTrue (asks_step cond) }
-        ensures cond { IfSome result (λ kept. kept.cond ≡ cond) }
-        ensures run { IfSome result (λ kept. kept.index.entries ≡ debugger.now.run.entries) }
+        ensures cond { IfSome result (λ built. built.cond ≡ cond) }
+        ensures run { IfSome result (λ built. built.index.entries ≡ debugger.now.run.entries) }
     {
         let index = debugger.hit_index(alloc, &cond).ok()?;
-        Some(KeptIndex { cond, index })
+        Some(CondIndex { cond, index })
     }
 }
 

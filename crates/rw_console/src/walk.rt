@@ -12,7 +12,7 @@ ghost use Rattle.rw_script.specs.Running.{run_of};
 use crate::blocks::push_world;
 use crate::command::Command;
 use crate::entries::push_entry;
-use crate::index::{KeptIndex, MOST_INDEXES, asks_the_same};
+use crate::index::{CondIndex, MOST_INDEXES, asks_the_same};
 use crate::json::push_json;
 use crate::text::{push_hit, push_place, push_refusal};
 use rw_journal::Run;
@@ -29,7 +29,7 @@ pub struct Walk {
     alloc: Global,
     debugger: Debugger<u64>,
     // Of the conditions on entries that were searched for, as far as there was memory for them. No two are of one condition.
-    indexes: Vec<KeptIndex>,
+    indexes: Vec<CondIndex>,
 }
 
 impl Model for Walk {
@@ -40,7 +40,7 @@ impl Model for Walk {
 
     ghost view = { λ a. record { run = a.debugger.run; place = a.debugger.place } };
 
-    ghost invariant = { λ a. All (λ kept. kept.index.entries ≡ a.debugger.run.entries) a.indexes.items };
+    ghost invariant = { λ a. All (λ i. i.index.entries ≡ a.debugger.run.entries) a.indexes.items };
 }
 
 impl Walk {
@@ -130,7 +130,7 @@ impl Walk {
         )
     }
 
-    /// Returns the index of a condition, if it is kept.
+    /// Returns the index of a condition, if it is there.
     fn index_of(&self, cond: Cond) -> Option<&HitIndex<World<u64>, Cond>>
         ensures run { IfSome result (λ index. index.now.entries ≡ self.now.run.entries) }
         ensures step { IsSome result → IsTrue (asks_step cond) }
@@ -157,8 +157,8 @@ impl Walk {
         if self.indexes.reserve(1).is_err() {
             return;
         }
-        if let Some(kept) = KeptIndex::build(self.alloc, &self.debugger, cond) {
-            self.indexes.push_reserved(kept);
+        if let Some(built) = CondIndex::build(self.alloc, &self.debugger, cond) {
+            self.indexes.push_reserved(built);
         }
     }
 

@@ -149,7 +149,7 @@ fn run_book<M: Reversible<Call = RowCall<ChanCall<u64>>, Reply = ChanReply<u64>>
             return Err(NoMemory);
         }
     };
-    book.kept();
+    book.book_law();
     journal_of_an_interleaving::<M>();
     Ok((book, waits))
 }

@@ -1,4 +1,4 @@
-//! What is kept of a channel that is closed, while its entries are passed.
+//! What is stored of a channel that is closed, while its entries are passed.
 
 ghost use Rattle.std.specs.Prelude.{◌≡◌, ◌≤◌, ◌<◌, ◌^◌, ℕ, IfOk, Option, length, option_map, slice_get, slice_index_or, slice_set};
 ghost use Rattle.rw_findings.specs.Closings.{is_there};
@@ -10,7 +10,7 @@ use rw_world::{Chan, World};
 use std::alloc::Global;
 use std::marker::Model;
 
-/// What is kept of a receiver that was there where its channel closed.
+/// What is stored of a receiver that was there where its channel closed.
 #[derive(Clone, Copy)]
 pub(super) struct Reader {
     pub(super) told: Option<u64>,

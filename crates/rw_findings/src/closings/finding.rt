@@ -36,7 +36,7 @@ pub fn closings_of<V: Copy>(alloc: Global, run: &Run<V>) -> Result<Closings, NoM
     listed(alloc, &closed)
 }
 
-/// Returns what is kept of channels at their opening.
+/// Returns the channels at their opening: none is closed.
 fn all_open<V: Copy>(
     alloc: Global,
     specs: &[Spec<V>],

@@ -1,4 +1,4 @@
-//! What is kept of a broadcast while its entries are passed.
+//! What is stored of a broadcast while its entries are passed.
 
 ghost use Rattle.std.specs.Prelude.{◌≡◌, ◌≤◌, ◌<◌, [], ◌∷◌, ◌++◌, IfOk, OnOk, length, None, slice_index_or};
 ghost use Rattle.rw_broadcast.specs.Arithmetic.{retained_capacity};

@@ -1,4 +1,4 @@
-//! What is kept of a broadcast while its entries are passed.
+//! What is counted of a broadcast while its entries are passed.
 
 ghost use Rattle.std.specs.Prelude.{◌≡◌, ◌<◌, ◌≤◌, ◌+◌, ◌^◌, IfOk, OnOk, Option, None, length, option_map, slice_index_or};
 ghost use Rattle.rw_ring.specs.declared.ring.TheConstants.{MOST_CAPACITY};
@@ -12,7 +12,7 @@ use rw_law::NoMemory;
 use std::alloc::Global;
 use std::marker::Model;
 
-/// What is kept of a receiver. What it lags now isn't among its losses yet.
+/// What is counted of a receiver. What it lags now isn't among its losses yet.
 #[derive(Clone, Copy)]
 pub(super) struct Reader {
     // None once it was dropped.

@@ -1,4 +1,4 @@
-//! What is kept of a channel of either kind while its entries are passed.
+//! What is counted of a channel of either kind while its entries are passed.
 
 ghost use Rattle.std.specs.Prelude.{◌≡◌, ◌≤◌, IfOk, OnOk, Option, None, length};
 ghost use Rattle.rw_world.specs.Openings.{has_bad_capacity};

@@ -1,4 +1,4 @@
-//! What is kept of a watch while its entries are passed.
+//! What is counted of a watch while its entries are passed.
 
 ghost use Rattle.std.specs.Prelude.{◌≡◌, ◌<◌, ◌≤◌, ◌+◌, ◌-◌, ◌^◌, IfOk, OnOk, Option, length, option_map};
 ghost use Rattle.rw_findings.specs.WatchTallies.{after_change, after_end, after_look, counts_from, HasRoom, HasRoomFor, made_watcher};
@@ -10,7 +10,7 @@ use rw_watch::{WCall, WReply};
 use std::alloc::Global;
 use std::marker::Model;
 
-/// What is kept of a receiver. What came after it last looked isn't among what it missed yet.
+/// What is counted of a receiver. What came after it last looked isn't among what it missed yet.
 #[derive(Clone, Copy)]
 pub(super) struct Watcher {
     alive: bool,
