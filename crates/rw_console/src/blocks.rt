@@ -4,7 +4,6 @@ ghost use Rattle.std.specs.Prelude.{◌≡◌, ◌++◌, OnOk};
 ghost use Rattle.rw_console.specs.Blocks.{channel_block, world_blocks};
 
 use crate::broadcast_block::push_broadcast;
-use crate::channels::channel_at;
 use crate::watch_block::push_watch;
 use rw_law::Reversible;
 use rw_world::{Chan, World};
@@ -25,7 +24,7 @@ pub fn push_world(out: &mut Vec<u8>, world: &World<u64>) -> Result<(), AllocErro
     ensures { OnOk result (out.new.items ≡ out.old.items ++ world_blocks (⟦<World<u64> as Reversible>⟧.shown world.now)) }
 {
     'each_channel: for i in 0..world.len() {
-        push_channel(out, i as u64, channel_at(world, i).unwrap())?;
+        push_channel(out, i as u64, world.channel(i).unwrap())?;
     }
     Ok(())
 }

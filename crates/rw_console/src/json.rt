@@ -9,7 +9,6 @@ ghost use Rattle.rw_broadcast.specs.Machine.{position_at};
 ghost use Rattle.rw_watch.specs.Machine.{mark_at};
 ghost use Rattle.std.specs.Prelude.{slice_get};
 
-use crate::channels::channel_at;
 use rw_broadcast::Broadcast;
 use rw_handles::Kind;
 use rw_law::Reversible;
@@ -56,7 +55,7 @@ fn channel_values(alloc: Global, world: &World<u64>) -> Result<Vec<Value>, Alloc
 {
     let mut list = Vec::new(alloc);
     let mut i = 0;
-    'each_channel: while let Some(channel) = channel_at(world, i) {
+    'each_channel: while let Some(channel) = world.channel(i) {
         list.push(channel_value(alloc, channel)?)?;
         i += 1;
     }

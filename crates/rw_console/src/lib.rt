@@ -9,7 +9,6 @@
 
 mod blocks;
 mod broadcast_block;
-mod channels;
 mod command;
 mod condition_words;
 mod console;

@@ -9,10 +9,10 @@ use Rattle.rw_console.proofs.json.channel_values.Goals as goal
 pub each_channel-preserved : goal.each_channel-preserved
 each_channel-preserved c =
     pushed view _ _ _ _ _ c.in_ok-push.ensures.items c.each_channel.invariant c.in_ok-channel_value.ensures
-    ∙ sym (mapped_more (λ m. channel_json (of_chan.shown m)) _ _ _ (sym c.channel_at.ensures ∙ ap option_copied c.in-Some.is))
+    ∙ sym (mapped_more (λ m. channel_json (of_chan.shown m)) _ _ _ (sym c.channel.ensures ∙ ap option_copied c.in-Some.is))
 
 pub returns : goal.returns
 returns c =
     c.each_channel.invariant
-    ∙ ap (map (λ m. channel_json (of_chan.shown m))) (taken_all _ _ (sym c.channel_at.ensures ∙ ap option_copied c.in_default.is))
+    ∙ ap (map (λ m. channel_json (of_chan.shown m))) (taken_all _ _ (sym c.channel.ensures ∙ ap option_copied c.in_default.is))
     ∙ sym (map_map of_chan.shown channel_json c.args.world.now)
