@@ -32,7 +32,7 @@ pub enum SessionScript {
 }
 
 /// Reads a line of the script, and returns its fault, if it has one.
-fn take_line(script: &mut ScriptReader, line: &[u8]) -> Result<Option<ScriptFault>, StreamFault>
+fn read_line(script: &mut ScriptReader, line: &[u8]) -> Result<Option<ScriptFault>, StreamFault>
     requires { script.old.lines < 2 ^ 64 - 1 }
     ensures ok { IfOk result (λ o. MatchOption o
         ((after_line script.old line.now ≡ Ok script.new) × (script.new.lines ≡ script.old.lines + 1))
@@ -68,7 +68,7 @@ fn read_lines<R: Read>(
                 if is_mark(&line) {
                     return Ok(ScriptEnd::Reader);
                 }
-                match take_line(script, &line)? {
+                match read_line(script, &line)? {
                     Some(fault) => return Ok(ScriptEnd::Fault(fault)),
                     None => return Ok(ScriptEnd::Reader),
                 }
@@ -77,7 +77,7 @@ fn read_lines<R: Read>(
                 if is_mark(&line) {
                     return Ok(ScriptEnd::Mark);
                 }
-                match take_line(script, &line)? {
+                match read_line(script, &line)? {
                     Some(fault) => return Ok(ScriptEnd::Fault(fault)),
                     None => {}
                 }

@@ -1,4 +1,4 @@
-//! The calls of watch channels that take a closure.
+//! The calls of watch channels with a closure.
 
 ghost use Rattle.std.specs.Prelude.{◌≡◌, ◌↔◌, true, IfOk, IsErrOf, IsTrue, MatchOption, OnErr, slice_get};
 ghost use Rattle.std.specs.Fn.{FnOnceReturnsAtMut, FnReturnsAt};

@@ -19,7 +19,7 @@ use Rattle.rw_world.specs.Records.{ShowsAtPlaces}
 use Rattle.rw_world.specs.Specified.{WorldEntry}
 use Rattle.rw_world.specs.declared.opening.Spec.{Spec}
 use Rattle.rw_world.specs.declared.opening.Spec.TheVariants.{Broadcast, Watch}
-use Rattle.rw_findings.specs.Lives.{AreLivesTo, Counted, EndsAt, IsLife, Life, TookCall, TookMade, born, calls_after, calls_to}
+use Rattle.rw_findings.specs.Lives.{AreLivesTo, Counted, EndsAt, IsLife, Life, CountedCall, AddedMade, born, calls_after, calls_to}
 use Rattle.rw_findings.specs.Lives.{dropped_by, is_call_with, kind_in, kind_then, made_at, made_in, with_kind}
 use Rattle.rw_navigator.specs.Places.{last_place, shown_at}
 use Rattle.rw_world.specs.Channel.{handle_of}
@@ -294,8 +294,8 @@ module _ {V : Type 0} (run : Run V) (c : ℕ) where
 
       -- what a call on the channel leaves
       pub lives_here : (x : ChanShown V) (lives mid new : List Life) → slice_get (shown_at run p) c ≡ Some x → e.call.channel ≡ c → AreLivesTo run c p lives
-          → TookCall lives mid (handle_of e.call.call) e.actor (kind_in ((of_chan {V = V}).next x e.call.call) (handle_of e.call.call)) (p + 1)
-          → TookMade mid new ((of_chan {V = V}).next x e.call.call) (p + 1) e.actor → AreLivesTo run c (p + 1) new
+          → CountedCall lives mid (handle_of e.call.call) e.actor (kind_in ((of_chan {V = V}).next x e.call.call) (handle_of e.call.call)) (p + 1)
+          → AddedMade mid new ((of_chan {V = V}).next x e.call.call) (p + 1) e.actor → AreLivesTo run c (p + 1) new
       lives_here x lives mid new here on are call made = by_made made where
         h : ℕ
         h = handle_of e.call.call
@@ -337,7 +337,7 @@ module _ {V : Type 0} (run : Run V) (c : ℕ) where
                   life_on p e within read g life (are.each g life was) same_kind (λ actor. other_handle p e within read g actor apart)
             ]
 
-        by_made : TookMade mid new y (p + 1) e.actor → AreLivesTo run c (p + 1) new
+        by_made : AddedMade mid new y (p + 1) e.actor → AreLivesTo run c (p + 1) new
         by_made (inl same) = record {
           many = ap length same.0 ∙ call.many ∙ are.many ∙ before ∙ none_made ∙ sym after;
           each = λ g life found. old_life g life (ap (λ ls. slice_get ls g) (sym same.0) ∙ found);

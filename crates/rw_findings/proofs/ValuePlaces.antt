@@ -23,7 +23,7 @@ use Rattle.rw_world.specs.declared.opening.Spec.{Spec}
 use Rattle.rw_world.specs.declared.opening.Spec.TheVariants.{Broadcast, Watch}
 use Rattle.rw_world.proofs.Modifying.{get-modified, get-modified_other, length-modified}
 use Rattle.rw_navigator.specs.Places.{last_place, shown_at}
-use Rattle.rw_findings.specs.Values.{AreValuesTo, GoesAt, IsValue, TookState, come, count_at, count_in, gone}
+use Rattle.rw_findings.specs.Values.{AreValuesTo, GoesAt, IsValue, NotedState, come, count_at, count_in, gone}
 use Rattle.rw_findings.specs.Values.{has_had, oldest_at, oldest_in, value_at, value_in, with_gone}
 use Rattle.rw_findings.specs.declared.values.value.ChannelValue.{ChannelValue}
 use Rattle.rw_findings.proofs.FollowedPlaces.{allowed_is, channel_here, channel_there}
@@ -265,9 +265,9 @@ module _ {V : Type 0} where
                     | inr over ↦ omega (arith, over, oldest_is (p + 1) y there)
                   ]
 
-      pub values_on : TookState old new y (p + 1) → AreValuesTo run c (p + 1) new
+      pub values_on : NotedState old new y (p + 1) → AreValuesTo run c (p + 1) new
       values_on took = by_step (passed p x y within here there) took where
-        by_step : Comes x y → TookState old new y (p + 1) → AreValuesTo run c (p + 1) new
+        by_step : Comes x y → NotedState old new y (p + 1) → AreValuesTo run c (p + 1) new
         by_step (inl still) (inl none) = rest still.0 still.1 none.0
         by_step (inl still) (inr one) = absurd (omega (arith, had_is y (length old) one.1, long, still.0))
         by_step (inr came) (inl none) =
@@ -294,7 +294,7 @@ module _ {V : Type 0} where
           let is : opened_channel spec ≡ x = same_element (sym (at_first ∙ ap (option_map opened_channel) found) ∙ here) in
           subst (λ z. (count_in z ≤ 1) × (oldest_in z ≡ 0)) is (opens spec)
 
-    pub values_first : (x : ChanShown V) (new : List (ChannelValue V)) → slice_get (shown_at run 0) c ≡ Some x → TookState [] new x 0 → AreValuesTo run c 0 new
+    pub values_first : (x : ChanShown V) (new : List (ChannelValue V)) → slice_get (shown_at run 0) c ≡ Some x → NotedState [] new x 0 → AreValuesTo run c 0 new
     values_first x new here (inl none) = record {
       many = ap length none.0 ∙ sym (count_is 0 x here ∙ no_value);
       each = λ n value found. let e : ◌≡◌ {A = Option (ChannelValue V)} None (Some value) = ap (λ vs. slice_get vs n) (sym none.0) ∙ found in absurd cc;

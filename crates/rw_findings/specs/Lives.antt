@@ -99,8 +99,8 @@ dropped_by (Some before) kind place = Some before
 abbrev pub with_kind : Life → Option Kind → (place : ℕ) → Life
 with_kind life kind place = record life { dropped = dropped_by life.dropped kind place }
 
--- from lives to lives: of one handle a call by this actor was counted, and the kind that it has at a place was taken in
-pub record TookCall (old new : List Life) (handle actor : ℕ) (kind : Option Kind) (place : ℕ) : Type 0 where
+-- from lives to lives: of one handle a call by this actor was counted, and the kind that it has at a place was noted
+pub record CountedCall (old new : List Life) (handle actor : ℕ) (kind : Option Kind) (place : ℕ) : Type 0 where
   pub many : length new ≡ length old
   pub others : (other : ℕ) → other ≢ handle → slice_get new other ≡ slice_get old other
   pub own : (before after : Life)
@@ -109,7 +109,7 @@ pub record TookCall (old new : List Life) (handle actor : ℕ) (kind : Option Ki
       → (mid : Life) × Counted before mid actor × (after ≡ with_kind mid kind place)
 
 -- a life was appended for the channel's next handle, if it has made one
-abbrev pub TookMade : {V : Type 0} → (old new : List Life) → ChanShown V → (place actor : ℕ) → Type 0
-TookMade old new x place actor =
+abbrev pub AddedMade : {V : Type 0} → (old new : List Life) → ChanShown V → (place actor : ℕ) → Type 0
+AddedMade old new x place actor =
     ((new ≡ old) × (length old < made_in x → kind_in x (length old) ≡ None))
     ⊎ ((kind : Kind) × (length old < made_in x) × (kind_in x (length old) ≡ Some kind) × (new ≡ old ++ born kind place (Some actor) ∷ []))

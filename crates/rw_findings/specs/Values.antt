@@ -79,8 +79,8 @@ module _ {V : Type 0} where
   with_gone values oldest place = if nat_lt 0 oldest then map_at (gone place) values (oldest - 1) else values
 
   -- from values to values, by what is shown at this place: one came, if there is one more
-  abbrev pub TookState : (old new : List (ChannelValue V)) → ChanShown V → (place : ℕ) → Type 0
-  TookState old new x place =
+  abbrev pub NotedState : (old new : List (ChannelValue V)) → ChanShown V → (place : ℕ) → Type 0
+  NotedState old new x place =
       ((new ≡ old) × ((has_had x (length old) ≡ false) ⊎ (value_in x (length old) ≡ None)))
       ⊎ ((value : V)
       × (has_had x (length old) ≡ true)

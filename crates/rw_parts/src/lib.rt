@@ -22,7 +22,7 @@ impl<T, A: Allocator> Model for Parts<T, A> {
 }
 
 impl<T, A: Allocator> Parts<T, A> {
-    /// Takes a box apart.
+    /// Splits a box into its parts.
     pub fn of(b: Box<T, A>) -> Parts<T, A>
     where
         T: Drop,

@@ -33,7 +33,7 @@ pub enum Asked<'a> {
 /// The name of the flag that lets threads play a script.
 const THREADS: &str = "threads";
 
-/// Returns a subcommand that takes a path.
+/// Returns a subcommand with a path as its argument.
 fn with_file<'a>(alloc: Global, name: &'a str, about: &'a str) -> Result<Command<'a>, clap::Error> {
     let file = Arg::new(alloc, "FILE")
         .required(true)
@@ -55,7 +55,7 @@ fn record_words<'a>(alloc: Global) -> Result<Command<'a>, clap::Error> {
     Ok(record.arg(threads)?)
 }
 
-/// Adds a subcommand that takes a path.
+/// Adds a subcommand with a path as its argument.
 fn with_verb<'a>(
     alloc: Global,
     program: Command<'a>,

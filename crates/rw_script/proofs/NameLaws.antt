@@ -13,7 +13,7 @@ use Rattle.std.proofs.lemmas.Map.Keys.{apart_from_distinct}
 use Rattle.std.proofs.lemmas.Option.{get_or_from_slice_get}
 use Rattle.std.proofs.lemmas.Slice.Eq.{bytes_eq-Decides}
 use Rattle.indexmap.specs.IndexMap.{insert_entry}
-use Rattle.rw_script.specs.StepLines.{Bound, number_of, is_taken}
+use Rattle.rw_script.specs.StepLines.{Bound, number_of, is_bound}
 
 -- ---- the first position
 
@@ -69,19 +69,19 @@ module _ {K X : Type 0} (items : K → List ℕ) (by at : X → ℕ) where
   some_or true x o = refl
   some_or false x o = refl
 
-  pub taken_by_map : (es : List (K × X)) (name : List ℕ) → is_some (lookup (is_it name) es) ≡ is_taken (map bound es) name
-  taken_by_map [] name = refl
-  taken_by_map (e ∷ es) name = some_or (is_it name e.0) e.1 (lookup (is_it name) es) ∙ ap (λ b. is_it name e.0 || b) (taken_by_map es name)
+  pub is_bound_by_map : (es : List (K × X)) (name : List ℕ) → is_some (lookup (is_it name) es) ≡ is_bound (map bound es) name
+  is_bound_by_map [] name = refl
+  is_bound_by_map (e ∷ es) name = some_or (is_it name e.0) e.1 (lookup (is_it name) es) ∙ ap (λ b. is_it name e.0 || b) (is_bound_by_map es name)
 
   abbrev same : K → K → Bool
   same a b = bytes_eq (items a) (items b)
 
   -- a name that no line has bound is added at the end
-  pub bound_last : (es : List (K × X)) (name : List ℕ) (key : K) (x : X) → items key ≡ name → is_taken (map bound es) name ≡ false
+  pub bound_last : (es : List (K × X)) (name : List ℕ) (key : K) (x : X) → items key ≡ name → is_bound (map bound es) name ≡ false
       → map bound (insert_entry same es key x) ≡ map bound es ++ record { name = name; actor = by x; channel = at x } ∷ []
   bound_last [] name key x is free = rw is refl
   bound_last (e ∷ es) name key x is free =
-      let p = or_false (bytes_eq name (items e.0)) (is_taken (map bound es) name) free in
+      let p = or_false (bytes_eq name (items e.0)) (is_bound (map bound es) name) free in
       let other : same key e.0 ≡ false = rw is p.0 in
       ap (map bound) (cond-false (same key e.0) ((e.0, x) ∷ es) (e ∷ insert_entry same es key x) other)
       ∙ ap (λ (bs : List Bound). bound e ∷ bs) (bound_last es name key x is p.1)

@@ -58,8 +58,8 @@ abbrev pub number_of : List Bound → List ℕ → ℕ → ℕ → Option ℕ
 number_of names name actor channel = position (λ b. bytes_eq name b.name && (b.actor == actor && b.channel == channel)) names
 
 -- whether any actor bound the name on any channel
-abbrev pub is_taken : List Bound → List ℕ → Bool
-is_taken names name = list_any (λ b. bytes_eq name b.name) names
+abbrev pub is_bound : List Bound → List ℕ → Bool
+is_bound names name = list_any (λ b. bytes_eq name b.name) names
 
 -- the number of the name that stands for the handle, if there is one
 abbrev pub target_in : List Bound → ℕ → ℕ → Option (List ℕ) → Result (Option ℕ) ScriptFaultKind
@@ -69,7 +69,7 @@ target_in names actor channel (Some name) = map_ok (λ i. Some i) (or_fault Unkn
 -- whether the name that a line binds is taken
 abbrev pub is_bound_again : List Bound → Option (List ℕ) → Bool
 is_bound_again names None = false
-is_bound_again names (Some name) = is_taken names name
+is_bound_again names (Some name) = is_bound names name
 
 -- the names with that of a line added at the end
 abbrev pub with_bound : List Bound → ℕ → ℕ → Option (List ℕ) → List Bound

@@ -1,7 +1,7 @@
 //! The names that a script binds.
 
 ghost use Rattle.std.specs.Prelude.{◌≡◌, ◌<◌, ◌==◌, ◌&&◌, [], ◌∷◌, ◌++◌, false, length, option_map, IfSome, OnOk, OnErr};
-ghost use Rattle.rw_script.specs.StepLines.{is_bound_again, is_taken, number_of, with_bound};
+ghost use Rattle.rw_script.specs.StepLines.{is_bound_again, is_bound, number_of, with_bound};
 
 use indexmap::IndexMap;
 use rw_law::NoMemory;
@@ -62,25 +62,25 @@ impl Names {
     }
 
     /// Whether any actor bound the name on any channel.
-    fn is_taken(&self, name: &[u8]) -> bool
-        ensures { result ≡ is_taken self.now name.now }
+    fn is_bound(&self, name: &[u8]) -> bool
+        ensures { result ≡ is_bound self.now name.now }
     {
         self.bindings.contains_key(name)
     }
 
-    /// Whether the name that a line binds is taken.
+    /// Whether the name that a line binds was bound before.
     pub(crate) fn is_bound_again(&self, bound: Option<&[u8]>) -> bool
         ensures { result ≡ is_bound_again self.now (option_map (λ n. n.now) bound.entry) }
     {
         match bound {
             None => false,
-            Some(name) => self.is_taken(name),
+            Some(name) => self.is_bound(name),
         }
     }
 
-    /// Adds a name that isn't taken.
+    /// Adds a name that isn't bound yet.
     fn add(&mut self, alloc: Global, name: &[u8], binding: Binding) -> Result<(), NoMemory>
-        requires { is_taken self.old name.now ≡ false }
+        requires { is_bound self.old name.now ≡ false }
         ensures ok { OnOk result (self.new ≡ self.old ++ record { name = name.now; actor = binding.actor; channel = binding.channel } ∷ []) }
         ensures err { OnErr result (self.new ≡ self.old) }
     {
@@ -89,7 +89,7 @@ impl Names {
         Ok(())
     }
 
-    /// Binds the name of a line, if the line binds one. The name isn't taken. On an error nothing has changed.
+    /// Binds the name of a line, if the line binds one. The name isn't bound yet. On an error nothing has changed.
     pub(crate) fn bind(
         &mut self,
         alloc: Global,

@@ -31,7 +31,7 @@ pub fn closings_of<V: Copy>(alloc: Global, run: &Run<V>) -> Result<Closings, NoM
     for entry in run.entries() {
         place += 1;
         let _moved = debugger.step(Move::Goto(place));
-        take(alloc, &mut closed, entry, debugger.state(), place)?;
+        follow_entry(alloc, &mut closed, entry, debugger.state(), place)?;
     }
     listed(alloc, &closed)
 }
@@ -79,8 +79,8 @@ fn told_by<V: Copy>(call: &ChanCall<V>, reply: &ChanReply<V>) -> Option<u32>
     }
 }
 
-/// Takes in an entry, which leads to this place, where this is the world.
-fn take<V: Copy>(
+/// Follows an entry, which leads to this place, where this is the world.
+fn follow_entry<V: Copy>(
     alloc: Global,
     closed: &mut [Option<ClosedChannel>],
     entry: &Entry<World<V>>,
@@ -92,13 +92,13 @@ fn take<V: Copy>(
 {
     let channel = entry.call.channel;
     if (channel as usize) < closed.len() {
-        take_on(alloc, &mut closed[channel as usize], entry, world, place)?;
+        follow_on_channel(alloc, &mut closed[channel as usize], entry, world, place)?;
     }
     Ok(())
 }
 
-/// Takes it into its channel.
-fn take_on<V: Copy>(
+/// Follows it on its channel.
+fn follow_on_channel<V: Copy>(
     alloc: Global,
     closed: &mut Option<ClosedChannel>,
     entry: &Entry<World<V>>,

@@ -2,7 +2,7 @@
 
 ghost use Rattle.std.specs.Prelude.{◌≡◌, ◌+◌, ◌<◌, ◌^◌, [], ◌∷◌, ◌++◌, None, IfOk, OnOk, length, slice_get, slice_index_or};
 ghost use Rattle.rw_findings.specs.Following.{Stands};
-ghost use Rattle.rw_findings.specs.Lives.{AreLives, AreLivesTo, Life as Seen, TookCall, TookMade, born};
+ghost use Rattle.rw_findings.specs.Lives.{AreLives, AreLivesTo, Life as Seen, CountedCall, AddedMade, born};
 ghost use Rattle.rw_navigator.specs.Places.{last_place};
 
 use super::life::Life;
@@ -46,7 +46,7 @@ fn follow_run<V: Copy>(
     follow_all(alloc, run, channel, &mut machine, lives)
 }
 
-/// Takes in all entries. The machine is at place 0.
+/// Follows all entries. The machine is at place 0.
 fn follow_all<V: Copy>(
     alloc: Global,
     run: &Run<V>,
@@ -73,7 +73,7 @@ fn open_lives(alloc: Global, lives: &mut Vec<Life>) -> Result<(), NoMemory>
     Ok(())
 }
 
-/// Takes in the entry that leads on from a place, and makes its call if it is on the channel.
+/// Follows the entry that leads on from a place, and makes its call if it is on the channel.
 fn follow<V: Copy>(
     alloc: Global,
     run: &Run<V>,
@@ -95,19 +95,19 @@ fn follow<V: Copy>(
         return Ok(());
     }
     let handle = entry.call.call.handle();
-    take_call(
+    count_call(
         lives,
         handle,
         entry.actor,
         kind_of(machine, handle),
         place + 1,
     )?;
-    take_made(alloc, lives, machine, place + 1, entry.actor)?;
+    add_made(alloc, lives, machine, place + 1, entry.actor)?;
     Ok(())
 }
 
-/// Counts an actor's call with a handle, if this was made, and takes in the kind that the handle has at a place.
-fn take_call(
+/// Counts an actor's call with a handle, if this was made, and notes the kind that the handle has at a place.
+fn count_call(
     lives: &mut Vec<Life>,
     handle: u32,
     actor: u32,
@@ -115,7 +115,7 @@ fn take_call(
     place: u64,
 ) -> Result<(), NoMemory>
     requires { (life : Seen) → slice_get lives.old.items handle ≡ Some life → slice_index_or life.calls actor 0 < 2 ^ 63 }
-    ensures { OnOk result (TookCall lives.old.items lives.new.items handle actor kind place) }
+    ensures { OnOk result (CountedCall lives.old.items lives.new.items handle actor kind place) }
 {
     if (handle as usize) < lives.len() {
         let life = &mut lives[handle as usize];
@@ -125,15 +125,15 @@ fn take_call(
     Ok(())
 }
 
-/// Appends the life of the handle that a channel has just made, if it has made one.
-fn take_made<V: Copy>(
+/// Adds the life of the handle that a channel has just made, if it has made one.
+fn add_made<V: Copy>(
     alloc: Global,
     lives: &mut Vec<Life>,
     machine: &Chan<V>,
     place: u64,
     actor: u32,
 ) -> Result<(), NoMemory>
-    ensures { OnOk result (TookMade lives.old.items lives.new.items (⟦<Chan<V> as Reversible>⟧.shown machine.now) place actor) }
+    ensures { OnOk result (AddedMade lives.old.items lives.new.items (⟦<Chan<V> as Reversible>⟧.shown machine.now) place actor) }
 {
     if made(machine) as usize <= lives.len() {
         return Ok(());

@@ -88,7 +88,7 @@ impl Life {
         Ok(())
     }
 
-    /// Takes in the kind that the handle has at a place, after a call with it: it was dropped there, if it has none.
+    /// Notes the kind that the handle has at a place, after a call with it: it was dropped there, if it has none.
     pub(super) fn see(&mut self, kind: Option<Kind>, place: u64)
         ensures { self.new ≡ with_kind self.old kind place }
     {

@@ -31,7 +31,7 @@ pub fn losses_of<V: Copy>(alloc: Global, run: &Run<V>) -> Result<Vec<Loss>, NoMe
     for entry in run.entries() {
         place += 1;
         push(&mut losses, loss_of_entry(&tracks, entry, place))?;
-        take(&mut tracks, entry, place)?;
+        follow_entry(&mut tracks, entry, place)?;
     }
     push_open(&tracks, &mut losses)?;
     losses.sort_unstable_by_key(|loss| loss.order());
@@ -82,8 +82,8 @@ fn loss_of_entry<V: Copy>(
     }
 }
 
-/// Takes an entry, which leads to this place, into the track of its channel.
-fn take<V: Copy>(
+/// Follows an entry, which leads to this place, on the track of its channel.
+fn follow_entry<V: Copy>(
     tracks: &mut [Option<Track>],
     entry: &Entry<World<V>>,
     place: u64,
@@ -93,14 +93,14 @@ fn take<V: Copy>(
     let channel = entry.call.channel as usize;
     if let (ChanCall::B(call), ChanReply::B(reply)) = (entry.call.call, entry.reply) {
         if channel < tracks.len() {
-            take_on(&mut tracks[channel], &call, &reply, place)?;
+            follow_call(&mut tracks[channel], &call, &reply, place)?;
         }
     }
     Ok(())
 }
 
-/// Takes a call on a channel into its track.
-fn take_on<V: Copy>(
+/// Follows a call on the track of its channel, if it has one.
+fn follow_call<V: Copy>(
     track: &mut Option<Track>,
     call: &BCall<V>,
     reply: &BReply<V>,
@@ -109,7 +109,7 @@ fn take_on<V: Copy>(
     ensures { OnOk result (track.new ≡ option_map (λ t. with_call t call.now reply.now place) track.old) }
 {
     match track {
-        Some(track) => track.take(call, reply, place),
+        Some(track) => track.follow(call, reply, place),
         None => Ok(()),
     }
 }

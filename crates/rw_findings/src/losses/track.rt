@@ -161,7 +161,7 @@ impl Track {
         }
     }
 
-    /// Takes in a send, which leads to this place.
+    /// Adds a send, which leads to this place.
     fn send(&mut self, place: u64) -> Result<(), NoMemory>
         ensures { OnOk result (self.new ≡ record self.old { sends = self.old.sends ++ place ∷ [] }) }
     {
@@ -177,8 +177,8 @@ impl Track {
         Ok(())
     }
 
-    /// Takes in a call with this reply, which leads to this place.
-    pub(super) fn take<V: Copy>(
+    /// Follows a call with this reply, which leads to this place.
+    pub(super) fn follow<V: Copy>(
         &mut self,
         call: &BCall<V>,
         reply: &BReply<V>,

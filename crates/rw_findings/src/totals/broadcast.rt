@@ -184,8 +184,8 @@ impl BroadcastTally {
         }
     }
 
-    /// Takes in a call with this reply, which leads to this place.
-    pub(super) fn take<V: Copy>(
+    /// Counts a call with this reply, which leads to this place.
+    pub(super) fn count_call<V: Copy>(
         &mut self,
         call: &BCall<V>,
         reply: &BReply<V>,

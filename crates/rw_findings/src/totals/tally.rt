@@ -29,8 +29,8 @@ impl Tally {
         }
     }
 
-    /// Takes in a call with this reply, which leads to this place.
-    pub(super) fn take<V: Copy>(
+    /// Counts a call with this reply, which leads to this place.
+    pub(super) fn count_call<V: Copy>(
         &mut self,
         call: &ChanCall<V>,
         reply: &ChanReply<V>,
@@ -41,10 +41,10 @@ impl Tally {
     {
         match (self, call, reply) {
             (Tally::Broadcast(tally), ChanCall::B(call), ChanReply::B(reply)) => {
-                tally.take(call, reply, place)
+                tally.count_call(call, reply, place)
             }
             (Tally::Watch(tally), ChanCall::W(call), ChanReply::W(reply)) => {
-                tally.take(call, reply)
+                tally.count_call(call, reply)
             }
             _ => Ok(()),
         }

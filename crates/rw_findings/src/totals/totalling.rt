@@ -30,7 +30,7 @@ pub fn totals_of<V: Copy>(alloc: Global, run: &Run<V>) -> Result<Vec<Totals>, No
     let mut place = 0;
     for entry in run.entries() {
         place += 1;
-        take(&mut tallies, entry, place)?;
+        count_entry(&mut tallies, entry, place)?;
     }
     let mut totals = Vec::new(alloc);
     push_all(&tallies, &mut totals)?;
@@ -63,14 +63,18 @@ fn tally_of<V: Copy>(alloc: Global, spec: &Spec<V>) -> Result<Tally, NoMemory>
     }
 }
 
-/// Takes an entry, which leads to this place, into the tally of its channel.
-fn take<V: Copy>(tallies: &mut [Tally], entry: &Entry<World<V>>, place: u64) -> Result<(), NoMemory>
+/// Counts an entry, which leads to this place, in the tally of its channel.
+fn count_entry<V: Copy>(
+    tallies: &mut [Tally],
+    entry: &Entry<World<V>>,
+    place: u64,
+) -> Result<(), NoMemory>
     requires { HaveRoom tallies.old }
     ensures { OnOk result (tallies.new ≡ with_entry tallies.old entry.now place) }
 {
     let channel = entry.call.channel as usize;
     if channel < tallies.len() {
-        tallies[channel].take(&entry.call.call, &entry.reply, place)?;
+        tallies[channel].count_call(&entry.call.call, &entry.reply, place)?;
     }
     Ok(())
 }

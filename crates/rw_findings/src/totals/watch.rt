@@ -174,8 +174,8 @@ impl WatchTally {
         self.put(handle, after);
     }
 
-    /// Takes in a call with this reply.
-    pub(super) fn take<V: Copy>(
+    /// Counts a call with this reply.
+    pub(super) fn count_call<V: Copy>(
         &mut self,
         call: &WCall<V>,
         reply: &WReply<V>,

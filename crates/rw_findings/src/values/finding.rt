@@ -2,7 +2,7 @@
 
 ghost use Rattle.std.specs.Prelude.{◌≡◌, ◌+◌, ◌<◌, [], IfOk, OnOk, length};
 ghost use Rattle.rw_findings.specs.Following.{Stands};
-ghost use Rattle.rw_findings.specs.Values.{AreValues, AreValuesTo, TookState, gone, has_had, oldest_in, value_in};
+ghost use Rattle.rw_findings.specs.Values.{AreValues, AreValuesTo, NotedState, gone, has_had, oldest_in, value_in};
 ghost use Rattle.rw_navigator.specs.Places.{last_place};
 ghost use Rattle.rw_world.specs.Lists.{map_at};
 
@@ -48,7 +48,7 @@ fn follow_run<V: Copy>(
     follow_all(run, channel, &mut machine, values)
 }
 
-/// Takes in all places. The machine is at the first, place 0.
+/// Follows all entries. The machine is at the first place, place 0.
 fn follow_all<V: Copy>(
     run: &Run<V>,
     channel: u32,
@@ -60,14 +60,14 @@ fn follow_all<V: Copy>(
     ensures { OnOk result (AreValues run.now channel values.new.items) }
 {
     documented::<V>();
-    take(values, machine, 0)?;
+    note_state(values, machine, 0)?;
     'each_place: for place in 0..run.len() {
         follow(run, channel, place, machine, values)?;
     }
     Ok(())
 }
 
-/// Takes in the entry that leads on from a place, and makes its call if it is on the channel.
+/// Follows the entry that leads on from a place, and makes its call if it is on the channel.
 fn follow<V: Copy>(
     run: &Run<V>,
     channel: u32,
@@ -85,17 +85,17 @@ fn follow<V: Copy>(
     // The proof needs this call: it ensures that there are so few places that there is a number for the next.
     let _entries = run.entries();
     advance(machine, run, channel, place);
-    take(values, machine, place + 1)?;
+    note_state(values, machine, place + 1)?;
     Ok(())
 }
 
-/// Takes in what a channel shows at a place: the value that came there, if one did, and the one that it overwrote.
-fn take<V: Copy>(
+/// Notes what a channel shows at a place: the value that came there, if one did, and the one that it overwrote.
+fn note_state<V: Copy>(
     values: &mut Vec<ChannelValue<V>>,
     machine: &Chan<V>,
     place: u64,
 ) -> Result<(), NoMemory>
-    ensures { OnOk result (TookState values.old.items values.new.items (⟦<Chan<V> as Reversible>⟧.shown machine.now) place) }
+    ensures { OnOk result (NotedState values.old.items values.new.items (⟦<Chan<V> as Reversible>⟧.shown machine.now) place) }
 {
     let number = values.len() as u64;
     if !has_had(machine, number) {

@@ -45,9 +45,10 @@ loop-entry-preserved g c =
     moved.place ∙ goes (last_place c.loop-entry.debugger.run) c.loop-entry.debugger.place (c.loop-entry.place + 1) (omega (arith, place, within, last)) in
     let shown : xs ≡ shown_at run (c.loop-entry.place + 1) =
     c.state.ensures.documented ∙ ap (λ r. shown_at r c.step-moved.new.self.place) run_then ∙ ap (λ p. shown_at run p) place_then in
-    let taken : c.take.new.closed ≡ with_entry xs c.deref_mut.result.now e (c.loop-entry.place + 1) = c.in_ok-take.ensures in
-    let closed_are : take c.loop-entry.closed.len (c.take.new.closed ++ drop (length c.take.new.closed) ks) ≡ with_entry xs ks e (c.loop-entry.place + 1) =
-    written c.loop-entry.closed.len c.take.new.closed ks
+    let taken : c.follow_entry.new.closed ≡ with_entry xs c.deref_mut.result.now e (c.loop-entry.place + 1) = c.in_ok-follow_entry.ensures in
+    let closed_are : take c.loop-entry.closed.len (c.follow_entry.new.closed ++ drop (length c.follow_entry.new.closed) ks)
+    ≡ with_entry xs ks e (c.loop-entry.place + 1) =
+    written c.loop-entry.closed.len c.follow_entry.new.closed ks
     (ap length taken ∙ length-modified (after_entry xs e (c.loop-entry.place + 1)) c.deref_mut.result.now e.call.channel ∙ ap length c.deref_mut.ensures.value
     ∙ sym c.loop-entry.closed.ok.0) (sym c.loop-entry.closed.ok.0)
     ∙ taken ∙ ap (λ us. with_entry xs us e (c.loop-entry.place + 1)) c.deref_mut.ensures.value in
@@ -60,8 +61,8 @@ loop-entry-preserved g c =
           (kept_entry c.documented.ensures.places run n (c.loop-entry.place + 1) e xs ks place shown within read c.loop-entry.invariant.kept);
     }
 
-pub take-requires : goal.take-requires
-take-requires g c =
+pub follow_entry-requires : goal.follow_entry-requires
+follow_entry-requires g c =
     let run = c.args.run.now in
     let n = c.loop-entry.entry-index in
     let few : n < 2 ^ 60 = omega arith in

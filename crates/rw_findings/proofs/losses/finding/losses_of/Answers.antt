@@ -33,11 +33,11 @@ loop-entry-preserved g c =
     let e = c.entry-item.result in
     let entries = c.loop-entry.invariant.entries in
     let place : c.loop-entry.place + 1 ≡ n + 1 = ap (λ k. k + 1) c.loop-entry.invariant.place in
-    let taken : c.take.new.tracks ≡ with_entry c.deref_mut.result.now e (c.loop-entry.place + 1) = c.in_ok-take.ensures in
+    let taken : c.follow_entry.new.tracks ≡ with_entry c.deref_mut.result.now e (c.loop-entry.place + 1) = c.in_ok-follow_entry.ensures in
     let pushed : c.push.new.losses.items ≡ with_loss losses c.loss_of_entry.result = c.in_ok-push.ensures in
     let lost : c.loss_of_entry.result ≡ loss_of_entry c.deref.result.now e (c.loop-entry.place + 1) = c.loss_of_entry.ensures in
-    let tracks_are : take c.loop-entry.tracks.len (c.take.new.tracks ++ drop (length c.take.new.tracks) ts) ≡ with_entry ts e (n + 1) =
-    written c.loop-entry.tracks.len c.take.new.tracks ts
+    let tracks_are : take c.loop-entry.tracks.len (c.follow_entry.new.tracks ++ drop (length c.follow_entry.new.tracks) ts) ≡ with_entry ts e (n + 1) =
+    written c.loop-entry.tracks.len c.follow_entry.new.tracks ts
     (ap length taken ∙ length_taken c.deref_mut.result.now e (c.loop-entry.place + 1) ∙ ap length c.deref_mut.ensures.value ∙ sym c.loop-entry.tracks.ok.0)
     (sym c.loop-entry.tracks.ok.0)
     ∙ taken ∙ ap (λ us. with_entry us e (c.loop-entry.place + 1)) c.deref_mut.ensures.value ∙ ap (with_entry ts e) place in

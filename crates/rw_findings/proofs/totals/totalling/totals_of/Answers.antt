@@ -34,9 +34,9 @@ loop-entry-preserved g c =
     let e = c.entry-item.result in
     let entries = c.loop-entry.invariant.entries in
     let place : c.loop-entry.place + 1 ≡ n + 1 = ap (λ k. k + 1) c.loop-entry.invariant.place in
-    let taken : c.take.new.tallies ≡ with_entry c.deref_mut.result.now e (c.loop-entry.place + 1) = c.in_ok-take.ensures in
-    let tallies_are : take c.loop-entry.tallies.len (c.take.new.tallies ++ drop (length c.take.new.tallies) ts) ≡ with_entry ts e (n + 1) =
-    written c.loop-entry.tallies.len c.take.new.tallies ts
+    let taken : c.count_entry.new.tallies ≡ with_entry c.deref_mut.result.now e (c.loop-entry.place + 1) = c.in_ok-count_entry.ensures in
+    let tallies_are : take c.loop-entry.tallies.len (c.count_entry.new.tallies ++ drop (length c.count_entry.new.tallies) ts) ≡ with_entry ts e (n + 1) =
+    written c.loop-entry.tallies.len c.count_entry.new.tallies ts
     (ap length taken ∙ length-modified (λ t. with_reply t e.call.call e.reply (c.loop-entry.place + 1)) c.deref_mut.result.now e.call.channel
     ∙ ap length c.deref_mut.ensures.value ∙ sym c.loop-entry.tallies.ok.0) (sym c.loop-entry.tallies.ok.0)
     ∙ taken ∙ ap (λ us. with_entry us e (c.loop-entry.place + 1)) c.deref_mut.ensures.value ∙ ap (with_entry ts e) place in
@@ -50,8 +50,8 @@ loop-entry-preserved g c =
           (kept_entry run n e ts legal within read c.loop-entry.invariant.kept);
     }
 
-pub take-requires : goal.take-requires
-take-requires g c =
+pub count_entry-requires : goal.count_entry-requires
+count_entry-requires g c =
     let run = c.args.run.now in
     let n = c.loop-entry.entry-index in
     let few : n < 2 ^ 60 = omega arith in

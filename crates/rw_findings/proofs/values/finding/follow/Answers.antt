@@ -5,9 +5,9 @@ use Rattle.rw_findings.proofs.values.finding.follow.Goals as goal
 pub returns-clause-values : goal.returns-clause-values
 returns-clause-values g c =
     values_on c.documented.ensures.places c.args.run.now c.args.channel c.args.place ((of_chan {V = g.row.V.Denot}).shown c.args.machine.now)
-    ((of_chan {V = g.row.V.Denot}).shown c.advance.new.machine) c.args.values.now.items c.take.new.values.items c.requires.more c.requires.here.shows
+    ((of_chan {V = g.row.V.Denot}).shown c.advance.new.machine) c.args.values.now.items c.note_state.new.values.items c.requires.more c.requires.here.shows
     c.advance.ensures.shows
-    c.requires.values c.in_ok-take.ensures
+    c.requires.values c.in_ok-note_state.ensures
 
 pub advance-requires-clause-here : goal.advance-requires-clause-here
 advance-requires-clause-here g c = c.requires.here

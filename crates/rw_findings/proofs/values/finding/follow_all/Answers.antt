@@ -1,6 +1,6 @@
 use Rattle.std.proofs.Common.{◌≡◌, ◌<◌, arith, subst}
 use Rattle.rw_world.specs.Machines.{of_chan}
-use Rattle.rw_findings.specs.Values.{AreValuesTo, TookState}
+use Rattle.rw_findings.specs.Values.{AreValuesTo, NotedState}
 use Rattle.rw_navigator.specs.Places.{last_place}
 use Rattle.rw_findings.proofs.ValuePlaces.{values_first}
 use Rattle.rw_findings.proofs.values.finding.follow_all.Goals as goal
@@ -10,8 +10,8 @@ each_place-init g c =
     let x = (of_chan {V = g.row.V.Denot}).shown c.args.machine.now in
     record {
       stands = c.requires.here;
-      values = values_first c.documented.ensures.places c.args.run.now c.args.channel x c.take.new.values.items c.requires.here.shows
-          (subst (λ values. TookState values c.take.new.values.items x 0) c.requires.empty c.in_ok-take.ensures);
+      values = values_first c.documented.ensures.places c.args.run.now c.args.channel x c.note_state.new.values.items c.requires.here.shows
+          (subst (λ values. NotedState values c.note_state.new.values.items x 0) c.requires.empty c.in_ok-note_state.ensures);
     }
 
 pub follow-requires-clause-here : goal.follow-requires-clause-here

@@ -1,12 +1,12 @@
 use Rattle.std.proofs.Common.{◌∙◌, ◌≡◌, ap, map, false, List, ◌∷◌, [], ◌++◌}
-use Rattle.rw_script.specs.StepLines.{Bound, is_taken}
+use Rattle.rw_script.specs.StepLines.{Bound, is_bound}
 use Rattle.rw_script.proofs.NameLaws.{bound, bound_last}
 use Rattle.rw_script.proofs.names.Names.add.Goals as goal
 
 pub returns-clause-ok : goal.returns-clause-ok
 returns-clause-ok c =
     let es = c.self.inside.bindings.entries in
-    let free : is_taken (map (bound (λ k. k.items) (λ x. x.actor) (λ x. x.channel)) es) c.args.name.now ≡ false = rw c.self.view_is c.requires in
+    let free : is_bound (map (bound (λ k. k.items) (λ x. x.actor) (λ x. x.channel)) es) c.args.name.now ≡ false = rw c.self.view_is c.requires in
     let entries = c.in_ok-insert.ensures.entries in
     ap (map (bound (λ k. k.items) (λ x. x.actor) (λ x. x.channel))) entries
     ∙ bound_last (λ k. k.items) (λ x. x.actor) (λ x. x.channel) es c.args.name.now c.in_ok-name.name _ (c.in_ok-name.ensures.items_if_clones_equal (λ x y h. h))

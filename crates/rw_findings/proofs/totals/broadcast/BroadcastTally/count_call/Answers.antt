@@ -4,7 +4,7 @@ use Rattle.rw_broadcast.specs.declared.calls.BCall.{BCall}
 use Rattle.rw_findings.specs.LossTracks.{subject}
 use Rattle.rw_findings.specs.declared.totals.broadcast.Reader.{Reader}
 use Rattle.rw_findings.specs.BroadcastTallies.{BroadcastTally, HasRoom, HasRoomFor, reader_in, reader_of}
-use Rattle.rw_findings.proofs.totals.broadcast.BroadcastTally.take.Goals as goal
+use Rattle.rw_findings.proofs.totals.broadcast.BroadcastTally.count_call.Goals as goal
 
 -- there is room for the receiver of a call
 room : {V : Type 0} (t : BroadcastTally) (call : BCall V) (r : Reader) → HasRoom t → Some r ≡ reader_of t call → HasRoomFor t r
