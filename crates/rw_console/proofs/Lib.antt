@@ -1,11 +1,7 @@
-pub mod Written
 pub mod Kept
 pub mod Answering
 pub mod Scripting
 pub mod SessionEnds
 pub mod Listing
 pub mod ConditionReading
-pub mod Lists
-pub mod HandleLists
-pub mod Floatless
 pub mod Beginnings

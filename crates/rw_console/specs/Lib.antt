@@ -1,9 +1,4 @@
 pub mod Texts
-pub mod Handles
-pub mod BroadcastBlock
-pub mod WatchBlock
-pub mod Blocks
-pub mod Json
 pub mod ConditionWords
 pub mod Entries
 pub mod Hits

@@ -7,11 +7,11 @@ use Rattle.rw_navigator.specs.Moves.{answer_to, landing}
 use Rattle.rw_world.specs.Specified.{WorldEntry}
 use Rattle.rw_console.specs.declared.command.Command.{Command}
 use Rattle.rw_console.specs.declared.command.Command.TheVariants.{Skip, Move, State, StateJson, Step, List as ListEntries, SearchBack, SearchForward, Quit, Bad}
-use Rattle.rw_console.specs.Blocks.{world_blocks}
+use Rattle.rw_blocks.specs.Blocks.{world_blocks}
 use Rattle.rw_console.specs.Commands.{command_in, is_quit}
 use Rattle.rw_console.specs.Entries.{entry_line, entry_lines}
 use Rattle.rw_console.specs.Hits.{hit_below, hit_above}
-use Rattle.rw_console.specs.Json.{json_text}
+use Rattle.rw_blocks.specs.Json.{json_text}
 use Rattle.rw_navigator.specs.Places.{last_place, shown_at, entry_to}
 use Rattle.rw_console.specs.Texts.{hit_line, place_line, refusal}
 

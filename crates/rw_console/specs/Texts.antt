@@ -1,10 +1,6 @@
 -- The lines that a session writes about places.
-use Rattle.std.specs.Prelude.{ℕ, List, [], ◌++◌, Bool, true, false, Option, None, Some, Result, Ok, Err, codes, decimal}
+use Rattle.std.specs.Prelude.{ℕ, List, [], ◌++◌, Option, None, Some, Result, Ok, Err, codes, decimal}
 use Rattle.rw_navigator.specs.declared.moves.OutOfRange.{OutOfRange}
-
--- a number, and the words before it
-unfoldable pub with_number : List ℕ → ℕ → List ℕ
-with_number label n = label ++ decimal n
 
 -- ---- places
 
@@ -22,10 +18,3 @@ refusal (Err out) = codes "out of range, "
 abbrev pub hit_line : ℕ → ℕ → Option ℕ → List ℕ
 hit_line len place None = codes "no hit, " ++ place_line len place
 hit_line len place (Some hit) = codes "hit " ++ decimal hit ++ codes " of " ++ decimal len ++ codes "\n"
-
--- ---- channels
-
--- the last word of a channel's first line
-abbrev pub open_or_closed : Bool → List ℕ
-open_or_closed true = codes " closed\n"
-open_or_closed false = codes " open\n"

@@ -7,21 +7,16 @@
 //! commands) and `walk.rt` (the run at a place).
 #![tactic(auto)]
 
-mod blocks;
-mod broadcast_block;
 mod command;
 mod condition_words;
 mod console;
 mod debugging;
 mod entries;
-mod handles;
 mod index;
-mod json;
 mod reading;
 mod sessions;
 mod text;
 mod walk;
-mod watch_block;
 
 pub use debugging::debug;
 pub use sessions::{MOST_BYTES, Outcome, SessionFault, session};

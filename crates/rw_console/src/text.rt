@@ -1,19 +1,11 @@
 //! The lines that a session writes about places. Each function appends to a buffer.
 
 ghost use Rattle.std.specs.Prelude.{◌≡◌, ◌++◌, OnOk};
-ghost use Rattle.rw_console.specs.Texts.{hit_line, with_number, open_or_closed, place_line, refusal};
+ghost use Rattle.rw_console.specs.Texts.{hit_line, place_line, refusal};
 
 use rw_lines::push_number;
 use rw_navigator::OutOfRange;
 use std::alloc::AllocError;
-
-#[tactic(auto, unfolding(crate::specs::Texts::with_number))]
-pub fn push_with_number(out: &mut Vec<u8>, label: &[u8], n: u64) -> Result<(), AllocError>
-    ensures { OnOk result (out.new.items ≡ out.old.items ++ with_number label.now n) }
-{
-    out.extend_from_slice(label)?;
-    push_number(out, n)
-}
 
 pub fn push_place(out: &mut Vec<u8>, len: u64, place: u64) -> Result<(), AllocError>
     ensures { OnOk result (out.new.items ≡ out.old.items ++ place_line len place) }
@@ -57,11 +49,4 @@ pub fn push_hit(
             out.extend_from_slice(b"\n")
         }
     }
-}
-
-/// Returns the last word of a channel's first line.
-pub fn open_or_closed(is_closed: bool) -> &'static str
-    ensures { result.now ≡ open_or_closed is_closed }
-{
-    if is_closed { " closed\n" } else { " open\n" }
 }

@@ -9,12 +9,11 @@ ghost use Rattle.rw_navigator.specs.Places.{entry_to, last_place};
 ghost use Rattle.rw_world.specs.Specified.{WorldEntry};
 ghost use Rattle.rw_script.specs.Running.{run_of};
 
-use crate::blocks::push_world;
 use crate::command::Command;
 use crate::entries::push_entry;
 use crate::index::{CondIndex, MOST_INDEXES, asks_the_same};
-use crate::json::push_json;
 use crate::text::{push_hit, push_place, push_refusal};
+use rw_blocks::{push_json, push_world};
 use rw_journal::Run;
 use rw_law::{Entry, NoMemory, Reversible};
 use rw_navigator::{Cond, Debugger, HitIndex, Move, Probe};

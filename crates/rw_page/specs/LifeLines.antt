@@ -6,7 +6,7 @@ use Rattle.rw_handles.specs.declared.kinds.Kind.{Kind}
 use Rattle.rw_handles.specs.declared.kinds.Kind.TheVariants.{Sender, Receiver, Weak}
 use Rattle.rw_journal.specs.Run.{Run}
 use Rattle.rw_law.specs.Numbers.{numbers}
-use Rattle.rw_console.specs.Texts.{with_number}
+use Rattle.rw_blocks.specs.Labels.{with_number}
 use Rattle.rw_findings.specs.Lives.{AreLives, Life}
 use Rattle.rw_text.specs.declared.faults.TextFault.{TextFault}
 use Rattle.rw_text.specs.Faults.{text_fault_line}

@@ -3,7 +3,7 @@ use Rattle.std.specs.Prelude.{◌≡◌, ℕ, List, ◌++◌, Result, Ok, Err, c
 use Rattle.std.specs.List.{flat_map}
 use Rattle.rw_journal.specs.Run.{Run}
 use Rattle.rw_law.specs.Numbers.{numbers}
-use Rattle.rw_console.specs.Texts.{with_number}
+use Rattle.rw_blocks.specs.Labels.{with_number}
 use Rattle.rw_findings.specs.declared.losses.loss.Loss.{Loss}
 use Rattle.rw_findings.specs.declared.losses.loss.LossEnd.{LossEnd}
 use Rattle.rw_findings.specs.declared.losses.loss.LossEnd.TheVariants.{Told, Dropped, Open}

@@ -3,7 +3,7 @@ use Rattle.std.specs.Prelude.{◌≡◌, ℕ, nat_lt, if◌then◌else◌, List,
 use Rattle.std.specs.List.{flat_map, list_any, range_with_len}
 use Rattle.rw_journal.specs.Run.{Run}
 use Rattle.rw_law.specs.Numbers.{numbers}
-use Rattle.rw_console.specs.Texts.{with_number}
+use Rattle.rw_blocks.specs.Labels.{with_number}
 use Rattle.rw_findings.specs.Peaks.{ArePeaks}
 use Rattle.rw_findings.specs.declared.peaks.measure.Measure.{Measure}
 use Rattle.rw_findings.specs.declared.peaks.measure.Measure.TheVariants.{Lag, Unread, Unseen}

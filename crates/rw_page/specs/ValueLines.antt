@@ -3,7 +3,7 @@ use Rattle.std.specs.Prelude.{◌≡◌, ℕ, List, [], ◌++◌, length, Option
 use Rattle.std.specs.List.{flat_map, range_with_len}
 use Rattle.rw_journal.specs.Run.{Run}
 use Rattle.rw_law.specs.Numbers.{numbers}
-use Rattle.rw_console.specs.Texts.{with_number}
+use Rattle.rw_blocks.specs.Labels.{with_number}
 use Rattle.rw_findings.specs.Values.{AreValues}
 use Rattle.rw_findings.specs.declared.values.value.ChannelValue.{ChannelValue}
 use Rattle.rw_text.specs.declared.faults.TextFault.{TextFault}

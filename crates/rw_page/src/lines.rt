@@ -1,14 +1,14 @@
 //! Words and numbers of the lines that a page gets.
 
 ghost use Rattle.std.specs.Prelude.{◌≡◌, ◌++◌, OnOk};
-ghost use Rattle.rw_console.specs.Texts.{with_number};
+ghost use Rattle.rw_blocks.specs.Labels.{with_number};
 ghost use Rattle.rw_page.specs.Lines.{number_or_dash};
 
 use rw_lines::push_number;
 use std::alloc::AllocError;
 
 /// Appends a number and the words before it.
-#[tactic(auto, unfolding(rw_console::specs::Texts::with_number))]
+#[tactic(auto, unfolding(rw_blocks::specs::Labels::with_number))]
 pub fn push_with_number(out: &mut Vec<u8>, words: &[u8], n: u64) -> Result<(), AllocError>
     ensures { OnOk result (out.new.items ≡ out.old.items ++ with_number words.now n) }
 {

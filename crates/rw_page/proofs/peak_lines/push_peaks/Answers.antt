@@ -1,6 +1,6 @@
 use Rattle.std.proofs.Common.{◌∙◌, ◌++◌, ap, codes}
 use Rattle.std.specs.Prelude.{slice_index_or}
-use Rattle.rw_console.specs.Texts.{with_number}
+use Rattle.rw_blocks.specs.Labels.{with_number}
 use Rattle.rw_page.proofs.PeakTexts.{written_more}
 use Rattle.rw_page.proofs.peak_lines.push_peaks.Goals as goal
 

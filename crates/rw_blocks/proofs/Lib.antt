@@ -1,0 +1,4 @@
+pub mod Lists
+pub mod Written
+pub mod HandleLists
+pub mod Floatless

@@ -1,7 +1,0 @@
-use Rattle.std.proofs.Common.{◌≡◌, map}
-use Rattle.serde_json.specs.View.{view}
-use Rattle.rw_console.specs.Json.{receivers_json}
-use Rattle.rw_console.proofs.json.receiver_values.Given as goal
-
-abbrev pub invariant-each_handle : goal.invariant-each_handle
-invariant-each_handle l = map view l.list.items ≡ receivers_json l.channel.shown l.h

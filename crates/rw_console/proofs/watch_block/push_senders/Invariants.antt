@@ -1,7 +1,0 @@
-use Rattle.std.proofs.Common.{◌≡◌, ◌++◌}
-use Rattle.rw_handles.specs.declared.kinds.Kind.TheVariants.{Sender}
-use Rattle.rw_console.specs.Handles.{handle_words}
-use Rattle.rw_console.proofs.watch_block.push_senders.Given as goal
-
-abbrev pub invariant-each_handle : goal.invariant-each_handle
-invariant-each_handle l = l.out.items ≡ l.initial.out.items ++ handle_words Sender l.channel.shown.slots l.h
