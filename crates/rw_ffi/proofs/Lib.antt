@@ -1,3 +1,4 @@
+pub mod CutCalls
 pub mod HeldAsBox
 pub mod HeldCutAsBox
 pub mod HeldFindingsAsBox

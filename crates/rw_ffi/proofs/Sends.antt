@@ -4,42 +4,37 @@ use denote.Param.Send.{IsSend, struct_send, recorded_send, view_send, sendable}
 use denote.Struct.Declared as Declared
 use Rattle.std.proofs.Crossing.{crosses}
 use Rattle.std.specs.contracts.prelude.U64Clone.TheImpl as number
-use Rattle.rw_journal.specs.contracts.book.Book as Book
-use Rattle.rw_journal.proofs.Sends.{book_send}
+use Rattle.rw_journal.specs.contracts.ledger.Ledger as Ledger
+use Rattle.rw_journal.proofs.Sends.{ledger_send}
 use Rattle.rw_world.specs.contracts.channels.Chan as C
 use Rattle.rw_world.specs.contracts.channels.ChanCall as CC
 use Rattle.rw_world.specs.contracts.channels.ChanReply as CR
 use Rattle.rw_world.specs.contracts.channels.ChanPatch as CP
 use Rattle.rw_world.specs.contracts.channels.ChanReversible.TheImpl as chan
 use Rattle.rw_world.proofs.channels.Chan.TheSendSync as Chan
-use Rattle.rw_world.proofs.channels.ChanCall.TheSendSync as Call
-use Rattle.rw_world.proofs.channels.ChanReply.TheSendSync as Reply
-use Rattle.rw_world.proofs.channels.ChanPatch.TheSendSync as Patch
 use Rattle.rw_ffi.proofs.recording.Ended.TheSendSync as Ended
+use Rattle.rw_ffi.proofs.stored_call.StoredCall.TheSendSync as Stored
+use Rattle.rw_ffi.specs.contracts.stored_call.StoredCall as S
+use Rattle.rw_ffi.specs.contracts.stored_call.StoredCallCallFormChanCallU64.TheImpl as form
 use Rattle.rw_ffi.specs.contracts.recording.Recording as Recording
 use Rattle.rw_ffi.specs.contracts.recording.Recording.TheInside as Inside
 
 chan_send : IsSend (C.the_row u64)
 chan_send = search (sendable, crosses, Chan.the_send) depth 20
 
-call_send : IsSend (CC.the_row u64)
-call_send = search (sendable, crosses, Call.the_send) depth 20
+stored_send : IsSend S.the_row
+stored_send = search (sendable, crosses, Stored.the_send) depth 20
 
-reply_send : IsSend (CR.the_row u64)
-reply_send = search (sendable, crosses, Reply.the_send) depth 20
-
-patch_send : IsSend (CP.the_row u64)
-patch_send = search (sendable, crosses, Patch.the_send) depth 20
-
-recorded_book_send : IsSend (Book.the_row (C.the_row u64) (CC.the_row u64) (CR.the_row u64) (CP.the_row u64) (chan.ghosts u64 number.ghosts chan.no_dict))
-recorded_book_send = book_send (C.the_row u64) (CC.the_row u64) (CR.the_row u64) (CP.the_row u64) (chan.ghosts u64 number.ghosts chan.no_dict) chan_send
-    call_send reply_send patch_send
+recorded_ledger_send : IsSend (Ledger.the_row (C.the_row u64) S.the_row (CC.the_row u64) (CR.the_row u64) (CP.the_row u64)
+    (chan.ghosts u64 number.ghosts chan.no_dict) form.ghosts)
+recorded_ledger_send = ledger_send (C.the_row u64) S.the_row (CC.the_row u64) (CR.the_row u64) (CP.the_row u64)
+    (chan.ghosts u64 number.ghosts chan.no_dict) form.ghosts chan_send stored_send
 
 inside_send : IsSend Inside.the_row
 inside_send =
     recorded_send (Inside.the_field).row _ _ (Inside.the_type).to_one
     (struct_send (Declared.shape Inside.the_type)
-    (search sendable depth 20, (search (sendable, recorded_book_send) depth 20, (search (sendable, crosses, Ended.the_send) depth 20, tt))))
+    (search sendable depth 20, (search (sendable, recorded_ledger_send) depth 20, (search (sendable, crosses, Ended.the_send) depth 20, tt))))
 
 pub recording_send : IsSend Recording.the_row
 recording_send = view_send Inside.the_row _ _ _ _ inside_send

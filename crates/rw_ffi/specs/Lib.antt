@@ -9,3 +9,4 @@ pub mod HeldRun
 pub mod Questions
 pub mod Recordings
 pub mod RunCalls
+pub mod StoredCalls

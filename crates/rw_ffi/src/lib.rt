@@ -24,5 +24,6 @@ mod questions;
 mod recording;
 mod run_calls;
 mod run_reader;
+mod stored_call;
 mod taking;
 mod watch_calls;

@@ -1,3 +1,4 @@
-//! Books of a small machine.
+//! Books and ledgers of a small machine.
 
 mod books;
+mod ledgers;
