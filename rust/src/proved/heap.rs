@@ -14,12 +14,12 @@ pub(super) struct Tried {
 /// The core needs an alignment of 16 bytes at most. Each block begins with 16 bytes for its size, which `std`'s `dealloc` needs.
 const ALIGN: usize = 16;
 
-/// A block that grows to this size is allocated for a whole journal, so that it grows in place from then on. What isn't written takes only
+/// A block that grows to this size is allocated for a whole recording, so that it grows in place from then on. What isn't written takes only
 /// addresses. No other block of a channel is as large: room for 65,536 handles takes up to 1.5 MiB.
 pub(super) const LARGE: usize = 1 << 21;
 
-/// The size of a whole journal: 1,048,576 entries of 88 bytes.
-pub(super) const JOURNAL: usize = 1_048_576 * 88;
+/// The size of a whole recording: 1,048,576 calls of 32 bytes.
+pub(super) const RECORDING: usize = 1_048_576 * 32;
 
 impl Tried {
     const NO_MEMORY: Tried = Tried {
@@ -155,7 +155,7 @@ pub(super) unsafe extern "C" fn rattle_realloc(
         // SAFETY: `p` is the pointer of a block.
         return unsafe { resized(p, new) };
     }
-    let mut moved = allocate(new.max(JOURNAL));
+    let mut moved = allocate(new.max(RECORDING));
     if !moved.ok {
         moved = allocate(new);
     }
