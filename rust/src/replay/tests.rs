@@ -1,5 +1,7 @@
 //! Gates driven by hand: each call is passed and made here, without a channel.
 
+mod futures;
+mod parting;
 mod tasks;
 
 use super::gate::Gate;
@@ -17,7 +19,7 @@ use std::task::{Context, Poll, Wake, Waker};
 use std::thread;
 use std::time::Duration;
 
-/// Longer than any test takes.
+/// Longer than any test lasts.
 const PATIENT: Duration = Duration::from_secs(600);
 
 /// Three actors, of which the third has no name, on a broadcast and a watch.
@@ -235,114 +237,6 @@ fn two_callers_of_one_lane_do_not_both_get_the_turn() {
 }
 
 #[test]
-fn a_future_is_pending_until_its_turn_and_woken_by_the_helper() {
-    let gate = gate();
-    let (_, waker, woken) = told();
-    let mut ticket = None;
-    let recv = call(AUDIT, 0, Word::Recv, 1);
-    assert!(!poll(&gate, recv, &mut ticket, &waker));
-    assert!(!poll(&gate, recv, &mut ticket, &waker));
-    assert_eq!(lock(&gate.state).waiters.len(), 1);
-    make_first(&gate, 1);
-    assert_eq!(woken.recv().unwrap(), "yovanelum-replay");
-    assert!(poll(&gate, recv, &mut ticket, &waker));
-    assert_eq!((ticket, gate.outcome().calls_in_order()), (None, 2));
-}
-
-#[test]
-fn a_future_that_is_dropped_leaves_the_gate() {
-    let gate = gate();
-    let (dropped, waker, _woken) = told();
-    let mut ticket = None;
-    let recv = call(AUDIT, 0, Word::Recv, 1);
-    assert!(!poll(&gate, recv, &mut ticket, &waker));
-    gate.leave(ticket.take().unwrap());
-    assert!(lock(&gate.state).waiters.is_empty());
-    make_first(&gate, 5);
-    // The end wakes each task that was seen, and this may be one that goes on.
-    assert_eq!(dropped.wakes.load(Ordering::SeqCst), 0);
-    make(&gate, call(CLERK, 0, Word::Drop, 0));
-    assert!(gate.outcome().is_in_order());
-}
-
-#[test]
-fn the_end_wakes_futures_that_the_journal_does_not_have() {
-    let gate = gate();
-    let (_, waker, woken) = told();
-    let mut ticket = None;
-    let recv = call(CLERK, 0, Word::Recv, 5);
-    assert!(!poll(&gate, recv, &mut ticket, &waker));
-    make_first(&gate, 6);
-    assert_eq!(woken.recv().unwrap(), "yovanelum-replay");
-    assert!(poll(&gate, recv, &mut ticket, &waker));
-    assert!(gate.outcome().is_in_order());
-}
-
-#[test]
-fn another_call_parts_at_once() {
-    let gate = gate();
-    // The next call of this receiver is a receive that waits. It isn't the audit's turn, so it would be patient.
-    make(&gate, call(AUDIT, 0, Word::TryRecv, 1));
-    let wanted = "parted at #1 of 6: expected `send 0` on `orders` by `clerk` at src/shop.rs:15, \
-                  came `try-recv 1` on `orders` by `audit`";
-    let replayed = gate.outcome();
-    assert_eq!(replayed.to_string(), wanted);
-    assert!(!replayed.is_in_order() && gate.is_over());
-}
-
-#[test]
-fn another_call_of_the_actor_whose_turn_it_is_parts_soon() {
-    let gate = gate();
-    // The journal has no such handle.
-    let location = std::panic::Location::caller();
-    let subscribe = Coming {
-        called_at: Some(location),
-        ..call(CLERK, 0, Word::Subscribe, 7)
-    };
-    make(&gate, subscribe);
-    let wanted = format!(
-        "parted at #1 of 6: expected `send 0` on `orders` by `clerk` at src/shop.rs:15, \
-         came `subscribe 7` on `orders` by `clerk` at {}:{}",
-        location.file(),
-        location.line()
-    );
-    assert_eq!(gate.outcome().to_string(), wanted);
-}
-
-#[test]
-fn a_call_that_would_wait_at_its_turn_parts() {
-    let gate = gate();
-    make_first(&gate, 1);
-    gate.pass(call(AUDIT, 0, Word::Recv, 1)).would_wait();
-    let wanted = "parted at #2 of 6: expected `recv 1` on `orders` by `audit` at src/audit.rs:30, \
-                  came the same call, which had to wait";
-    assert_eq!(gate.outcome().to_string(), wanted);
-}
-
-#[test]
-fn a_thread_goes_on_where_nothing_comes_for_too_long() {
-    let gate = gate_of(JOURNAL, NAMES, Duration::from_millis(5));
-    make(&gate, call(NOBODY, 0, Word::Send, 0));
-    let wanted = "parted at #1 of 6: expected `send 0` on `orders` by `clerk` at src/shop.rs:15, \
-                  came nothing for 5 ms, while `send 0` on `orders` waited";
-    assert_eq!(gate.outcome().to_string(), wanted);
-}
-
-#[test]
-fn a_future_goes_on_where_nothing_comes_for_too_long() {
-    let gate = gate_of(JOURNAL, NAMES, Duration::from_millis(5));
-    let (_, waker, woken) = told();
-    let mut ticket = None;
-    let recv = call(AUDIT, 0, Word::Recv, 1);
-    assert!(!poll(&gate, recv, &mut ticket, &waker));
-    assert_eq!(woken.recv().unwrap(), "yovanelum-replay");
-    assert!(poll(&gate, recv, &mut ticket, &waker));
-    let wanted = "parted at #1 of 6: expected `send 0` on `orders` by `clerk` at src/shop.rs:15, \
-                  came nothing for 25 ms, while `recv 1` on `orders` by `audit` waited";
-    assert_eq!(gate.outcome().to_string(), wanted);
-}
-
-#[test]
 fn a_closure_that_changes_a_watch_begins_before_its_own_calls() {
     let journal = "ttd-journal 2\nbroadcast 4\nwatch 0\nsteps\n\
         1 1 0 try-recv 1 = empty\n2 0 0 send 0 0 = sent 1\n3 0 1 modify 0 1 yes = told yes\nend\n";
@@ -393,50 +287,6 @@ fn callers_who_share_a_handle_without_a_name_are_not_told_apart() {
         "all 2 calls in the recorded order; but several callers use handle 0 of `orders`, \
          and a replay can't tell them apart: give each a name of its own"
     );
-}
-
-#[test]
-fn a_poll_is_held_back_until_the_turn_of_its_actor() {
-    let gate = gate();
-    let (_, waker, woken) = told();
-    let context = Context::from_waker(&waker);
-    // The next call of the audit may wait, so its future waits by itself. The clerk's turn has come.
-    assert!(!gate.holds("audit", None, &context) && !gate.holds("clerk", None, &context));
-    assert!(!gate.holds("somebody else", None, &context));
-    make_first(&gate, 1);
-    assert!(gate.holds("clerk", None, &context) && gate.holds("clerk", None, &context));
-    make(&gate, call(AUDIT, 0, Word::Recv, 1));
-    assert_eq!(woken.recv().unwrap(), "yovanelum-replay");
-    assert!(!gate.holds("clerk", None, &context) && gate.holds("audit", None, &context));
-    make(&gate, call(CLERK, 1, Word::Modify, 0));
-    // The turn is that of one without a name, who doesn't come for a while. Then the others are polled.
-    assert_eq!(woken.recv().unwrap(), "yovanelum-replay");
-    assert!(!gate.holds("audit", None, &context));
-}
-
-#[test]
-fn a_future_that_was_dropped_is_not_polled_at_the_turn_of_its_drop() {
-    let names = NAMES.replace("\"failed\"", "\"cancelled\": {\"0\": [4]}, \"failed\"");
-    let gate = gate_of(JOURNAL, &names, PATIENT);
-    let (_, waker, _woken) = told();
-    let context = Context::from_waker(&waker);
-    make_first(&gate, 5);
-    assert!(gate.holds("clerk", None, &context));
-    make(&gate, call(CLERK, 0, Word::Drop, 0));
-    assert!(gate.outcome().is_in_order());
-}
-
-#[test]
-fn a_poll_by_which_that_of_the_turn_is_made_is_not_held_back() {
-    let gate = gate();
-    let (_, waker, _woken) = told();
-    let context = Context::from_waker(&waker);
-    make_first(&gate, 1);
-    // The turn is the audit's, whose future the clerk's polls.
-    assert!(!gate.holds("audit", Some("clerk"), &context));
-    assert!(!gate.holds("clerk", None, &context));
-    assert!(!gate.holds("audit", None, &context));
-    assert!(gate.holds("clerk", None, &context));
 }
 
 #[test]
