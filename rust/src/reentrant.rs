@@ -8,18 +8,18 @@ use std::sync::atomic::{AtomicUsize, Ordering};
 /// A value that one thread at a time uses, by reference. Within its use that thread may use it again, where a `Mutex` would wait for itself.
 pub(crate) struct Reentrant<T> {
     value: T,
-    turn: Mutex<()>,
-    // The thread whose turn it is, or 0.
+    in_use: Mutex<()>,
+    // The thread that uses it, or 0.
     user: AtomicUsize,
 }
 
 // SAFETY: the value is used by one thread at a time, so a `T` that may be sent is never used by two.
 unsafe impl<T: Send> Sync for Reentrant<T> {}
 
-/// The turn of this thread. It ends also if the use panics.
-struct Turn<'a>(&'a AtomicUsize);
+/// Ends the use by this thread when it is dropped, also if the use panics.
+struct UseGuard<'a>(&'a AtomicUsize);
 
-impl Drop for Turn<'_> {
+impl Drop for UseGuard<'_> {
     #[inline]
     fn drop(&mut self) {
         self.0.store(0, Ordering::Relaxed);
@@ -30,7 +30,7 @@ impl<T> Reentrant<T> {
     pub(crate) fn new(value: T) -> Reentrant<T> {
         Reentrant {
             value,
-            turn: Mutex::new(()),
+            in_use: Mutex::new(()),
             user: AtomicUsize::new(0),
         }
     }
@@ -42,9 +42,9 @@ impl<T> Reentrant<T> {
         if self.user.load(Ordering::Relaxed) == this {
             return user(&self.value);
         }
-        let _locked = lock(&self.turn);
+        let _locked = lock(&self.in_use);
         self.user.store(this, Ordering::Relaxed);
-        let _turn = Turn(&self.user);
+        let _guard = UseGuard(&self.user);
         user(&self.value)
     }
 }

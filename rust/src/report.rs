@@ -19,7 +19,7 @@ mod watches;
 use crate::findings::{Findings, TextFault};
 use crate::names::Names;
 use history::History;
-use layout::Line;
+use layout::ReportLine;
 use naming::Naming;
 use run::Run;
 use std::env;
@@ -43,14 +43,14 @@ struct Context<'a> {
 /// told in full are counted in `others`.
 #[derive(Default)]
 struct Told {
-    blocks: Vec<(u64, Vec<Line>)>,
+    blocks: Vec<(u64, Vec<ReportLine>)>,
     others: Vec<String>,
 }
 
 /// The text on a run, of 13 lines at most, and the first place worth looking at.
 #[derive(Debug)]
 pub(crate) struct Report {
-    lines: Vec<Line>,
+    lines: Vec<ReportLine>,
     place: u64,
 }
 
@@ -81,7 +81,7 @@ impl Report {
         };
         let place = told.blocks.first().map(|(place, _)| *place);
         let others = told.others.join(", and ");
-        let others = (!others.is_empty()).then(|| Line::Text(format!("and {others}")));
+        let others = (!others.is_empty()).then(|| ReportLine::Text(format!("and {others}")));
         let waits = waits::line(&context, &names.waiting);
         let last: Vec<_> = others.into_iter().chain(waits).collect();
         let blocks = told.blocks.into_iter().map(|(_, lines)| lines);
@@ -98,14 +98,14 @@ impl Report {
 
     /// Returns the text, with a last line that says where to look, if there is one.
     pub(crate) fn text(mut self, look: Option<String>, has_colours: bool) -> String {
-        self.lines.extend(look.map(Line::Look));
+        self.lines.extend(look.map(ReportLine::Look));
         layout::text(&self.lines, has_colours)
     }
 }
 
 /// Joins the lines of what is told in full with those that come after it. If these are too many lines, the last finding that is told has one
 /// less: the values that were lost, or the names of who wasn't told.
-fn fitted(mut blocks: Vec<Vec<Line>>, last: Vec<Line>) -> Vec<Line> {
+fn fitted(mut blocks: Vec<Vec<ReportLine>>, last: Vec<ReportLine>) -> Vec<ReportLine> {
     let count: usize = blocks.iter().map(Vec::len).sum();
     if count + last.len() > MOST_LINES {
         blocks.last_mut().and_then(Vec::pop);
@@ -128,7 +128,7 @@ fn without_losses(context: &Context<'_>) -> Told {
         .first_mut()
         .and_then(|(_, lines)| lines.first_mut())
     {
-        Some(Line::Head(text)) => text.insert_str(0, "no value was lost; "),
+        Some(ReportLine::Head(text)) => text.insert_str(0, "no value was lost; "),
         _ => {
             let calls = context.findings.entries;
             let head = format!(
@@ -136,7 +136,7 @@ fn without_losses(context: &Context<'_>) -> Told {
                 visible::counted(calls, "call"),
                 visible::counted(context.run.openings.len() as u64, "channel"),
             );
-            told.blocks.push((calls, vec![Line::Head(head)]));
+            told.blocks.push((calls, vec![ReportLine::Head(head)]));
         }
     }
     told

@@ -1,6 +1,6 @@
 //! The closings of channels, as text: who dropped the last sender, which receiver was told, and which were not.
 
-use super::layout::{Cells, Line};
+use super::layout::{Cells, ReportLine};
 use super::run::Opening;
 use super::{Context, TOLD_IN_FULL, Told, visible};
 use crate::findings::{AfterClose, Closing};
@@ -33,22 +33,24 @@ pub(super) fn told(context: &Context<'_>) -> Told {
 }
 
 /// Returns the lines of a closing.
-fn block(context: &Context<'_>, closing: &Closing) -> Vec<Line> {
+fn block(context: &Context<'_>, closing: &Closing) -> Vec<ReportLine> {
     let receivers = &closing.receivers;
     let told = receivers
         .iter()
         .filter_map(|after| Some((after.told_at?, after)));
     let told: Vec<_> = told.collect();
     let mut lines = vec![
-        Line::Head(format!(
+        ReportLine::Head(format!(
             "{} closed, and {}",
             context.naming.channel(closing.channel),
             how_many_were_told(told.len(), receivers.len()),
         )),
-        Line::Step(close(context, closing)),
+        ReportLine::Step(close(context, closing)),
     ];
     if let Some((place, after)) = told.iter().min_by_key(|(place, _)| place) {
-        lines.push(Line::Step(first_told(context, closing, *place, after)));
+        lines.push(ReportLine::Step(first_told(
+            context, closing, *place, after,
+        )));
     }
     let not_told: Vec<_> = receivers
         .iter()
@@ -57,7 +59,7 @@ fn block(context: &Context<'_>, closing: &Closing) -> Vec<Line> {
         .collect();
     if !not_told.is_empty() {
         let names = visible::first(&not_told, NAMED, ", ");
-        lines.push(Line::Text(format!("  not told: {names}")));
+        lines.push(ReportLine::Text(format!("  not told: {names}")));
     }
     lines
 }

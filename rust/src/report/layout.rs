@@ -17,7 +17,7 @@ pub(super) type Cells = [String; 5];
 
 /// A line of the report.
 #[derive(Debug, PartialEq, Eq)]
-pub(super) enum Line {
+pub(super) enum ReportLine {
     Head(String),
     Step(Cells),
     Text(String),
@@ -27,7 +27,7 @@ pub(super) enum Line {
 }
 
 /// Returns the lines as text. The steps below a headline are aligned.
-pub(super) fn text(lines: &[Line], has_colours: bool) -> String {
+pub(super) fn text(lines: &[ReportLine], has_colours: bool) -> String {
     let mut out = String::new();
     for block in lines.chunk_by(|a, b| is_step(a) == is_step(b)) {
         let widths = widths(block);
@@ -39,8 +39,8 @@ pub(super) fn text(lines: &[Line], has_colours: bool) -> String {
     out
 }
 
-fn is_step(line: &Line) -> bool {
-    matches!(line, Line::Step(_))
+fn is_step(line: &ReportLine) -> bool {
+    matches!(line, ReportLine::Step(_))
 }
 
 fn length(text: &str) -> usize {
@@ -48,10 +48,10 @@ fn length(text: &str) -> usize {
 }
 
 /// Returns the width of each column.
-fn widths(block: &[Line]) -> [usize; 5] {
+fn widths(block: &[ReportLine]) -> [usize; 5] {
     let mut widths = [0; 5];
     for line in block {
-        if let Line::Step(cells) = line {
+        if let ReportLine::Step(cells) = line {
             for (width, cell) in widths.iter_mut().zip(cells) {
                 *width = length(cell).max(*width);
             }
@@ -60,22 +60,22 @@ fn widths(block: &[Line]) -> [usize; 5] {
     widths
 }
 
-fn line_text(line: &Line, widths: &[usize; 5], has_colours: bool) -> String {
+fn line_text(line: &ReportLine, widths: &[usize; 5], has_colours: bool) -> String {
     let in_colour = |colour: &str, text: &str| match has_colours {
         true => format!("{colour}{text}{PLAIN}"),
         false => text.to_string(),
     };
     match line {
-        Line::Head(text) => format!("{START}{}", in_colour(BOLD, text)),
-        Line::Step(cells) => step_text(cells, widths),
-        Line::Text(text) => text.clone(),
-        Line::Lost(text) => format!("  {} {text}", in_colour(RED, "lost:")),
-        Line::Waiting(text) => format!("{} {text}", in_colour(YELLOW, "still waiting:")),
-        Line::Look(text) => format!("{} {text}", in_colour(CYAN, "look:")),
+        ReportLine::Head(text) => format!("{START}{}", in_colour(BOLD, text)),
+        ReportLine::Step(cells) => step_text(cells, widths),
+        ReportLine::Text(text) => text.clone(),
+        ReportLine::Lost(text) => format!("  {} {text}", in_colour(RED, "lost:")),
+        ReportLine::Waiting(text) => format!("{} {text}", in_colour(YELLOW, "still waiting:")),
+        ReportLine::Look(text) => format!("{} {text}", in_colour(CYAN, "look:")),
     }
 }
 
-/// Returns the columns of a step side by side. A column that is empty in each step of the block takes no room.
+/// Returns the columns of a step side by side. A column that is empty in each step of the block has no width.
 fn step_text(cells: &Cells, widths: &[usize; 5]) -> String {
     let mut out = String::from("  ");
     for ((cell, width), spaces) in cells.iter().zip(widths).zip(SPACES.into_iter().chain([0])) {
@@ -92,17 +92,17 @@ fn step_text(cells: &Cells, widths: &[usize; 5]) -> String {
 mod tests {
     use super::*;
 
-    fn step(cells: [&str; 5]) -> Line {
-        Line::Step(cells.map(String::from))
+    fn step(cells: [&str; 5]) -> ReportLine {
+        ReportLine::Step(cells.map(String::from))
     }
 
     #[test]
     fn the_steps_below_a_headline_are_aligned() {
         let lines = [
-            Line::Head("a".into()),
+            ReportLine::Head("a".into()),
             step(["step 3", "é.send(1)", "ticker", "a.rs:15", "b"]),
             step(["step 17", "told", "auditor", "", ""]),
-            Line::Head("c".into()),
+            ReportLine::Head("c".into()),
             step(["step 1", "told", "x", "", "d"]),
         ];
         let wanted = "yovanelum: a\n  step 3    é.send(1)   ticker   a.rs:15   b\n  step 17   told        auditor\n\
@@ -113,11 +113,11 @@ mod tests {
     #[test]
     fn colours_are_around_headlines_and_labels() {
         let lines = [
-            Line::Head("a".into()),
-            Line::Lost("b".into()),
-            Line::Text("c".into()),
-            Line::Waiting("d".into()),
-            Line::Look("e".into()),
+            ReportLine::Head("a".into()),
+            ReportLine::Lost("b".into()),
+            ReportLine::Text("c".into()),
+            ReportLine::Waiting("d".into()),
+            ReportLine::Look("e".into()),
         ];
         let wanted = "yovanelum: \x1b[1ma\x1b[0m\n  \x1b[31mlost:\x1b[0m b\nc\n\x1b[33mstill waiting:\x1b[0m d\n\x1b[36mlook:\x1b[0m e\n";
         assert_eq!(text(&lines, true), wanted);

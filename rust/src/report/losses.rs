@@ -1,7 +1,7 @@
 //! The losses of a run, as text: which receiver lost how many values, which send began it, and whether the receiver was told.
 
 use super::history::Send;
-use super::layout::{Cells, Line};
+use super::layout::{Cells, ReportLine};
 use super::naming::Called;
 use super::run::Opening;
 use super::{Context, TOLD_IN_FULL, Told, visible};
@@ -65,7 +65,7 @@ fn others_counted(others: &[Lost]) -> Vec<String> {
 }
 
 /// Returns the lines of a receiver's losses.
-fn block(context: &Context<'_>, lost: &Lost) -> Vec<Line> {
+fn block(context: &Context<'_>, lost: &Lost) -> Vec<ReportLine> {
     let Context {
         history, naming, ..
     } = context;
@@ -74,10 +74,10 @@ fn block(context: &Context<'_>, lost: &Lost) -> Vec<Line> {
     let receiver = naming.receiver(loss.channel, loss.receiver);
     let values = channel.lost(loss.from, loss.lost);
     vec![
-        Line::Head(headline(context, lost, &receiver)),
-        Line::Step(cause(context, loss, values, &receiver)),
-        Line::Step(end(context, loss)),
-        Line::Lost(naming.values(loss.channel, values)),
+        ReportLine::Head(headline(context, lost, &receiver)),
+        ReportLine::Step(cause(context, loss, values, &receiver)),
+        ReportLine::Step(end(context, loss)),
+        ReportLine::Lost(naming.values(loss.channel, values)),
     ]
 }
 
@@ -139,7 +139,7 @@ fn end(context: &Context<'_>, loss: &Loss) -> Cells {
         LossEnd::Dropped(_) => "dropped: never told".to_string(),
         LossEnd::Open => "not told".to_string(),
     };
-    let (step, who, place) = match loss.end.place() {
+    let (step, who, location) = match loss.end.place() {
         Some(place) => (
             format!("step {place}"),
             context.naming.actor(context.run.entry(place).actor),
@@ -148,7 +148,7 @@ fn end(context: &Context<'_>, loss: &Loss) -> Cells {
         None => ("the end".to_string(), String::new(), None),
     };
     let last = last_receive(context, loss);
-    [step, what, who, place.unwrap_or_default(), last]
+    [step, what, who, location.unwrap_or_default(), last]
 }
 
 /// Says which value the receiver received last. It receives none while it lags.

@@ -1,6 +1,6 @@
 //! The calls that still wait, as text.
 
-use super::layout::Line;
+use super::layout::ReportLine;
 use super::{Context, visible};
 use crate::names::WaitingCall;
 
@@ -8,11 +8,11 @@ use crate::names::WaitingCall;
 const SHOWN_WAITS: usize = 3;
 
 /// Returns the line of the calls that wait, if there are any.
-pub(super) fn line(context: &Context<'_>, waiting: &[WaitingCall]) -> Option<Line> {
+pub(super) fn line(context: &Context<'_>, waiting: &[WaitingCall]) -> Option<ReportLine> {
     let channels = context.run.openings.len() as u64;
     let calls = waiting.iter().filter(|call| call.channel < channels);
     let texts: Vec<_> = calls.map(|call| wait(context, call)).collect();
-    (!texts.is_empty()).then(|| Line::Waiting(visible::first(&texts, SHOWN_WAITS, "; ")))
+    (!texts.is_empty()).then(|| ReportLine::Waiting(visible::first(&texts, SHOWN_WAITS, "; ")))
 }
 
 /// Returns who waits, in which call, since when and where.

@@ -1,6 +1,6 @@
 //! The changes of watches that a receiver never saw, as text.
 
-use super::layout::{Cells, Line};
+use super::layout::{Cells, ReportLine};
 use super::naming::Called;
 use super::run::Entry;
 use super::{Context, TOLD_IN_FULL, Told, visible};
@@ -59,7 +59,7 @@ pub(super) fn tell(context: &Context<'_>, told: &mut Told) {
 }
 
 /// Returns the lines of a receiver, and the place of the last change.
-fn block(context: &Context<'_>, unseen: &Unseen) -> (u64, Vec<Line>) {
+fn block(context: &Context<'_>, unseen: &Unseen) -> (u64, Vec<ReportLine>) {
     let naming = context.naming;
     let receiver = naming.receiver(unseen.channel, unseen.receiver);
     let end = context.findings.entries + 1;
@@ -83,7 +83,7 @@ fn block(context: &Context<'_>, unseen: &Unseen) -> (u64, Vec<Line>) {
     );
     steps.sort_by_key(|(place, _)| *place);
     let mut lines = vec![headline(context, unseen, &receiver)];
-    lines.extend(steps.into_iter().map(|(_, cells)| Line::Step(cells)));
+    lines.extend(steps.into_iter().map(|(_, cells)| ReportLine::Step(cells)));
     (change.map_or(0, |(place, _)| place), lines)
 }
 
@@ -95,10 +95,10 @@ fn is_made(entry: &Entry<'_>) -> bool {
     )
 }
 
-fn headline(context: &Context<'_>, unseen: &Unseen, receiver: &Called) -> Line {
+fn headline(context: &Context<'_>, unseen: &Unseen, receiver: &Called) -> ReportLine {
     let channel = context.naming.channel(unseen.channel);
     let changes = visible::counted(unseen.unseen, "change");
-    Line::Head(format!(
+    ReportLine::Head(format!(
         "{} never saw {changes} of {channel}, and was told of {}",
         receiver.full, unseen.told
     ))
