@@ -5,20 +5,20 @@ use crate::reply::Reply;
 /// How many handles a channel makes at most, dropped ones included.
 const MOST_HANDLES: usize = 65_536;
 
-/// What a number stands for.
+/// A handle that is alive.
 #[derive(Clone, Copy)]
 enum Handle {
     Sender,
     WeakSender,
     /// A receiver, by its index among those that are alive.
     Receiver(u32),
-    Dropped,
 }
 
 /// The handles that a channel has made, numbered in the order in which they were made. `R` is what the channel knows of a receiver. Each
 /// function that returns an error returns the refusal of a handle, and changes nothing then.
 pub(super) struct Handles<R> {
-    made: Vec<Handle>,
+    // By number. A handle that was dropped leaves `None`.
+    made: Vec<Option<Handle>>,
     // How many of each kind are alive.
     senders: u64,
     weak_senders: u64,
@@ -30,7 +30,7 @@ impl<R> Handles<R> {
     /// The two handles that a channel opens with: sender 0 and receiver 1.
     pub(super) fn new(receiver: R) -> Handles<R> {
         Handles {
-            made: vec![Handle::Sender, Handle::Receiver(0)],
+            made: vec![Some(Handle::Sender), Some(Handle::Receiver(0))],
             senders: 1,
             weak_senders: 0,
             receivers: vec![(1, receiver)],
@@ -132,17 +132,16 @@ impl<R> Handles<R> {
             Handle::Sender => self.senders -= 1,
             Handle::WeakSender => self.weak_senders -= 1,
             Handle::Receiver(index) => self.remove_receiver(index as usize),
-            Handle::Dropped => unreachable!("it is alive"),
         }
-        self.made[handle as usize] = Handle::Dropped;
+        self.made[handle as usize] = None;
         Ok(Reply::Dropped)
     }
 
-    /// Removes a receiver. The last one takes its place.
+    /// Removes a receiver. The last one then has its index.
     fn remove_receiver(&mut self, index: usize) {
         self.receivers.swap_remove(index);
         if let Some((moved, _)) = self.receivers.get(index) {
-            self.made[*moved as usize] = Handle::Receiver(index as u32);
+            self.made[*moved as usize] = Some(Handle::Receiver(index as u32));
         }
     }
 
@@ -151,15 +150,15 @@ impl<R> Handles<R> {
         if number == MOST_HANDLES {
             return Err(Reply::TooManyHandles);
         }
-        self.made.push(handle);
+        self.made.push(Some(handle));
         Ok(Reply::New(number as u64))
     }
 
     fn alive(&self, handle: u32) -> Result<Handle, Reply> {
         match self.made.get(handle as usize) {
             None => Err(Reply::Unknown),
-            Some(Handle::Dropped) => Err(Reply::Gone),
-            Some(alive) => Ok(*alive),
+            Some(None) => Err(Reply::Gone),
+            Some(Some(alive)) => Ok(*alive),
         }
     }
 
