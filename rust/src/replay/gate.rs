@@ -135,11 +135,11 @@ impl Gate {
         }
     }
 
-    /// Gives the turn to a call. The closure that changes a watch doesn't take it: its own calls do.
+    /// Gives the turn to a call. The closure that changes a watch isn't given it: its own calls are.
     fn give(&self, state: &mut State, wait: Wait) -> Permit<'_> {
         match wait {
             Wait::Call => {
-                state.is_taken = true;
+                state.is_given = true;
                 Permit::of(self)
             }
             Wait::Modify => Permit::free(),
@@ -227,7 +227,7 @@ impl Gate {
         (limit, is_own)
     }
 
-    /// Polls a call that waits: it is pending until its turn. The ticket is its place before the gate.
+    /// Polls a call that waits: it is pending until its turn, and waits before the gate by the ticket.
     pub(crate) fn poll(
         &self,
         coming: Coming,
@@ -248,23 +248,15 @@ impl Gate {
         let task = task.and_then(|task| state.see_task(&self.plan, lane, &coming, task));
         let standing = state.standing(&self.plan, lane, coming.word);
         if standing == Standing::Turn || state.is_over {
-            let is_turn = !state.is_over;
-            state.is_taken |= is_turn;
+            let permit = match state.is_over {
+                true => Permit::free(),
+                false => self.give(&mut state, Wait::Call),
+            };
             drop(state);
             drop((before, waker, task));
-            return Poll::Ready(match is_turn {
-                true => Permit::of(self),
-                false => Permit::free(),
-            });
+            return Poll::Ready(permit);
         }
-        let since = before
-            .as_ref()
-            .map_or_else(Instant::now, |before| before.since);
-        let waiter = Waiter {
-            waker,
-            coming,
-            since,
-        };
+        let waiter = Waiter::new(coming, waker, before.as_ref());
         *ticket = Some(state.add_waiter(lane, waiter));
         self.keep_awake(&state);
         drop(state);
@@ -297,7 +289,7 @@ impl Gate {
         of.thread = thread_number();
         of.within = within.filter(|within| *within != actor);
         let before = of.waker.replace(last);
-        let is_held = self.is_kept_from(&state, actor);
+        let is_held = self.may_block_turn(&state, actor);
         let rest = match is_held {
             true => state.hold(actor, waker),
             false => Some(waker),
@@ -308,8 +300,8 @@ impl Gate {
         is_held
     }
 
-    /// Whether this actor may block where it is polled now, and keep its thread from the actor whose turn has come.
-    fn is_kept_from(&self, state: &State, actor: u32) -> bool {
+    /// Whether this actor may block where it is polled now, so that its thread doesn't run the actor whose turn has come.
+    fn may_block_turn(&self, state: &State, actor: u32) -> bool {
         let of = &state.actors[actor as usize];
         let Some(turn) = self.plan.steps.get(state.position) else {
             return false;
@@ -353,7 +345,7 @@ impl Gate {
     /// Gives the turn back, since the call wasn't made.
     pub(super) fn give_back(&self) {
         let mut state = lock(&self.state);
-        state.is_taken = false;
+        state.is_given = false;
         let wakes = state.wakes(&self.plan);
         drop(state);
         self.notify(&wakes);

@@ -33,6 +33,17 @@ pub(super) struct Waiter {
     pub(super) since: Instant,
 }
 
+impl Waiter {
+    /// The future of this call, which waits from now on, or has waited since it did so before.
+    pub(super) fn new(coming: Coming, waker: Waker, before: Option<&Waiter>) -> Waiter {
+        Waiter {
+            waker,
+            coming,
+            since: before.map_or_else(Instant::now, |before| before.since),
+        }
+    }
+}
+
 /// A named future whose poll is held back.
 pub(super) struct Held {
     pub(super) waker: Waker,
@@ -65,14 +76,14 @@ pub(super) struct OfActor {
     pub(super) passes_at: Option<usize>,
 }
 
-/// The place of a future before the gate: the lane that it waits for, and its number there.
+/// By what a future waits before the gate: its lane, and its number there.
 pub(crate) type Ticket = (u32, u64);
 
 pub(super) struct State {
     /// How many calls were made. So it is the index of the step whose turn it is.
     pub(super) position: usize,
-    /// Whether a caller has the turn, and has yet to make the call.
-    pub(super) is_taken: bool,
+    /// Whether a caller was given the turn, and has yet to make the call.
+    pub(super) is_given: bool,
     pub(super) lanes: Vec<Lane>,
     pub(super) actors: Vec<OfActor>,
     pub(super) waiters: BTreeMap<Ticket, Waiter>,
@@ -127,7 +138,7 @@ impl State {
         };
         State {
             position: 0,
-            is_taken: false,
+            is_given: false,
             lanes: plan.first_of_lane.iter().map(lane).collect(),
             actors: plan.first_of_actor.iter().map(actor).collect(),
             waiters: BTreeMap::new(),
@@ -157,7 +168,7 @@ impl State {
             return Standing::Unknown;
         };
         match step.call.word == word {
-            true if front as usize == self.position && !self.is_taken => Standing::Turn,
+            true if front as usize == self.position && !self.is_given => Standing::Turn,
             true => Standing::Later,
             // It may be the call of another caller, who has yet to come.
             false if plan.is_shared[lane as usize] => Standing::Later,
@@ -182,10 +193,10 @@ impl State {
     }
 
     fn is_next_of_actor(&self, actor: usize) -> bool {
-        self.actors[actor].front as usize == self.position && !self.is_taken
+        self.actors[actor].front as usize == self.position && !self.is_given
     }
 
-    /// Records who has used a handle, and on which thread. The first handle that several use who can't be told apart is kept.
+    /// Records who has used a handle, and on which thread. The first handle that several use who can't be told apart is noted.
     pub(super) fn see(&mut self, plan: &Plan, lane: Option<u32>, coming: &Coming, user: &Identity) {
         if plan.is_named(coming.actor) {
             self.actors[coming.actor.number() as usize].thread = user.thread();
@@ -208,7 +219,7 @@ impl State {
 
     /// Records which task polls a call, by its waker, where nothing else tells the tasks of a thread apart. A task that comes back to a handle
     /// after another one shares it with that one. If a task only comes later than another one, the handle may have been given on. Returns the
-    /// waker, unless it is kept.
+    /// waker, unless it is stored.
     pub(super) fn see_task(
         &mut self,
         plan: &Plan,
@@ -249,7 +260,7 @@ impl State {
         self.lanes[step.lane as usize].front = step.next_in_lane;
         self.actors[step.actor as usize].front = step.next_of_actor;
         self.position += 1;
-        self.is_taken = false;
+        self.is_given = false;
         self.turned_at = Instant::now();
         self.release(step.actor);
         self.wakes(plan)
