@@ -26,15 +26,15 @@ pub struct RecordedChannel {
 }
 
 impl RecordedChannel {
-    /// Adds a channel that was opened with this many values to the current recorder. If there is none, or its run takes no more channels, the
+    /// Adds a channel that was opened with this many values to the current recorder. If there is none, or its run has no room for one more, the
     /// channel isn't recorded. Its first two handles are made here in the source.
     pub(crate) fn add(core: CoreChannel, value_count: u64, made_at: CallSite) -> RecordedChannel {
         let recorder = Recorder::current().map(|current| current.0);
         let mut state = ChannelState::new(core, value_count);
         if let Some(recorder) = &recorder {
             state.made_by = Some(recorder.maker());
-            state.keep_making(made_at);
-            state.keep_making(made_at);
+            state.store_making(made_at);
+            state.store_making(made_at);
         }
         let replayed = recorder.as_ref().and_then(|recorder| {
             let number = recorder

@@ -216,7 +216,7 @@ fn open(
         .and_then(|page| fs::write(&path, page).map_err(|error| error.to_string()));
     written.map_err(|fault| Fault::Write(format!("{}: {fault}", path.display())))?;
     write_to(out, &format!("{}\n", path.display()))?;
-    // Beside the name, which a script may take.
+    // Beside the name, which a script may read.
     let address = page::address(&absolute(&path), report.place());
     let _ = writeln!(told, "look: {address}");
     Ok(())

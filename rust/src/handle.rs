@@ -83,7 +83,7 @@ impl<T, S> ChannelHandle<T, S> {
     #[track_caller]
     #[inline]
     pub(crate) fn lock(&self, word: Word) -> LockedChannel<'_> {
-        self.lock_at(word, call_site())
+        self.recorded().lock(self.number, word, call_site())
     }
 
     /// Locks the channel for a call of this handle, which is made here in the source, once its turn in a replay has come.
@@ -115,7 +115,7 @@ impl<T, S> ChannelHandle<T, S> {
         self.lock(word).call(call)
     }
 
-    /// Makes a call that only asks. If questions leave no entry, `read` replies in its place.
+    /// Makes a call that only asks. If questions leave no entry, `read` replies instead.
     #[track_caller]
     #[inline]
     pub(crate) fn ask(
@@ -130,7 +130,7 @@ impl<T, S> ChannelHandle<T, S> {
         self.call(word, call)
     }
 
-    /// Makes a call that asks for a count. If questions leave no entry, `read` counts in its place.
+    /// Makes a call that asks for a count. If questions leave no entry, `read` counts instead.
     #[track_caller]
     pub(crate) fn ask_count(
         &self,
@@ -147,14 +147,14 @@ impl<T, S> ChannelHandle<T, S> {
         count(&mut lock(&self.recorded().state).core) as usize
     }
 
-    /// Makes the call that drops this handle, and wakes those who wait for it. Drops are called by the compiler, so it has no place in the
-    /// source.
+    /// Makes the call that drops this handle, and wakes those who wait for it. Drops are called by the compiler, so it has no location
+    /// in the source.
     pub(crate) fn drop_by(&self, call: Call) {
         let wakers = self.lock_at(Word::Drop, None).drop_handle(self.kind, call);
         wakers.wake();
     }
 
-    /// A call that waits, with what it has kept since it was polled before.
+    /// A call that waits, with its state since it was polled before.
     fn waiting(
         &self,
         wait_for: WaitFor,
@@ -196,7 +196,7 @@ impl<T, S> ChannelHandle<T, S> {
         poll_fn(|context| coming.poll(context)).await
     }
 
-    /// Attempts a call that waits. Between attempts the caller holds what it keeps, and ends the wait if there is no further attempt.
+    /// Attempts a call that waits. Between attempts the caller holds its state, and ends the wait if there is no further attempt.
     pub(crate) fn poll_wait<R>(
         &self,
         wait_for: WaitFor,

@@ -113,7 +113,7 @@
 //! # Recording
 //!
 //! - [`Recorder::for_test`] records the channels that the test's thread creates. A channel that is created under no recorder is not recorded,
-//!   and takes no memory for it.
+//!   and needs no memory for that.
 //! - [`Recorder::on_thread_start`] is for the builder of a runtime with many threads: what its tasks create then belongs to the test.
 //! - [`Recorder::scope`] wraps a future, whose channels then belong to the recorder wherever it is polled. [`Recorder::install`] records
 //!   those of all threads of the process, and [`Recorder::off`] none.
@@ -128,7 +128,7 @@
 //! - The futures need no runtime: [`block_on`] runs them. They do not count towards tokio's cooperative budget.
 //! - `blocking_recv` does not panic within a runtime, it blocks there.
 //! - A closure of `send_modify`, `send_if_modified` or `wait_for` that waits for its own channel panics, where tokio has a deadlock.
-//! - Calls are slower, since they are recorded, and an entry of the journal takes about 100 bytes of memory. [`Recorder`] lists the limits
+//! - Calls are slower, since they are recorded, and an entry of the journal needs about 100 bytes of memory. [`Recorder`] lists the limits
 //!   of what is recorded. Calls go on past them.
 //! - tokio's other channels are not included. Streams of these two are in the package `yovanelum-stream`, beside the source of this one.
 //!

@@ -14,7 +14,7 @@ use std::panic::Location;
 /// The version of the format that is written. A document of version 1 has no such key.
 const VERSION: u64 = 2;
 
-/// A place in a source: the file as the compiler was given it, with the line and the column, which count from 1.
+/// A location in a source: the file as the compiler was given it, with the line and the column, which count from 1.
 #[derive(Clone, Debug, PartialEq, Eq)]
 pub(crate) struct SourceLocation {
     pub(crate) file: String,

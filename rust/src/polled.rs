@@ -7,7 +7,7 @@ use crate::wait::{Pending, WaitFor};
 use crate::watch;
 use std::task::{Context, Poll};
 
-/// A receiver with what is kept of its call between polls. A poll is called by a runtime, so the calls are said to be made where this was.
+/// A receiver with the state of its call between polls. A poll is called by a runtime, so the calls are said to be made where this was.
 ///
 /// No part of what this crate promises: other versions may have none, or another one.
 pub struct Polled<R: Handle> {

@@ -52,7 +52,7 @@ impl Found {
     }
 }
 
-// A parameter of the core's type `Global` takes no bytes, so nothing is passed for it.
+// A parameter of the core's type `Global` has no bytes, so nothing is passed for it.
 unsafe extern "C" {
     fn yovanelum_open_broadcast(held: &mut Held, capacity: u32) -> u32;
     fn yovanelum_open_watch(held: &mut Held, value: u64) -> u32;

@@ -1,18 +1,18 @@
 //! A queue from which items leave at any time.
 
-/// The place of an item in a queue. Of two items, the one that was added first has the lower place.
-pub(crate) type Place = u64;
+/// The number of an item in a queue. Of two items, the one that was added first has the lower number.
+pub(crate) type ItemNumber = u64;
 
 /// Items in the order in which they were added.
 ///
-/// An item is added, found and removed without a look at the others: places rise by one, so an entry's index is known from its place where
+/// An item is added, found and removed without a look at the others: numbers rise by one, so an entry's index is known from its number where
 /// no gap was removed, and found by binary search where one was. Half of the entries at most are gaps, so removing them costs each item as
 /// much as one more entry.
 pub(crate) struct Queue<T> {
-    // Greater than each place so far, also of items that are no longer here.
-    next: Place,
-    // In the order of places. An item that was removed leaves a gap.
-    entries: Vec<(Place, Option<T>)>,
+    // Greater than each number so far, also of items that are no longer here.
+    next: ItemNumber,
+    // In the order of numbers. An item that was removed leaves a gap.
+    entries: Vec<(ItemNumber, Option<T>)>,
     gaps: usize,
 }
 
@@ -27,41 +27,41 @@ impl<T> Default for Queue<T> {
 }
 
 impl<T> Queue<T> {
-    /// Adds an item at the end, and returns its place.
-    pub(crate) fn add(&mut self, item: T) -> Place {
-        let place = self.next;
-        self.entries.push((place, Some(item)));
+    /// Adds an item at the end, and returns its number.
+    pub(crate) fn add(&mut self, item: T) -> ItemNumber {
+        let number = self.next;
+        self.entries.push((number, Some(item)));
         self.next += 1;
-        place
+        number
     }
 
-    /// Returns the index of the entry with this place.
-    fn index_of(&self, place: Place) -> Option<usize> {
+    /// Returns the index of the entry with this number.
+    fn index_of(&self, number: ItemNumber) -> Option<usize> {
         let (first, _) = self.entries.first()?;
-        let guess = place.checked_sub(*first)? as usize;
+        let guess = number.checked_sub(*first)? as usize;
         match self.entries.get(guess) {
-            Some((found, _)) if *found == place => Some(guess),
+            Some((found, _)) if *found == number => Some(guess),
             _ => self
                 .entries
-                .binary_search_by_key(&place, |(place, _)| *place)
+                .binary_search_by_key(&number, |(number, _)| *number)
                 .ok(),
         }
     }
 
-    /// Returns the item with this place, if it is here.
-    pub(crate) fn get(&self, place: Place) -> Option<&T> {
-        self.entries[self.index_of(place)?].1.as_ref()
+    /// Returns the item with this number, if it is here.
+    pub(crate) fn get(&self, number: ItemNumber) -> Option<&T> {
+        self.entries[self.index_of(number)?].1.as_ref()
     }
 
-    /// Returns the item with this place, if it is here.
-    pub(crate) fn get_mut(&mut self, place: Place) -> Option<&mut T> {
-        let index = self.index_of(place)?;
+    /// Returns the item with this number, if it is here.
+    pub(crate) fn get_mut(&mut self, number: ItemNumber) -> Option<&mut T> {
+        let index = self.index_of(number)?;
         self.entries[index].1.as_mut()
     }
 
-    /// Removes the item with this place, if it is here.
-    pub(crate) fn remove(&mut self, place: Place) -> Option<T> {
-        let index = self.index_of(place)?;
+    /// Removes the item with this number, if it is here.
+    pub(crate) fn remove(&mut self, number: ItemNumber) -> Option<T> {
+        let index = self.index_of(number)?;
         let removed = self.entries[index].1.take()?;
         self.gaps += 1;
         if self.gaps > self.entries.len() / 2 {
@@ -85,7 +85,7 @@ impl<T> Queue<T> {
 
     /// Removes all items, and returns the entries, in order and with their gaps.
     #[inline]
-    pub(crate) fn take(&mut self) -> Vec<(Place, Option<T>)> {
+    pub(crate) fn remove_all(&mut self) -> Vec<(ItemNumber, Option<T>)> {
         if self.is_empty() {
             return Vec::new();
         }
@@ -120,25 +120,25 @@ mod tests {
             (Some(&0), Some(&9_999))
         );
         let many: Vec<_> = (0..10_000).map(|item| queue.add(item)).collect();
-        assert!(many.iter().all(|place| queue.remove(*place).is_some()));
+        assert!(many.iter().all(|number| queue.remove(*number).is_some()));
         assert!(queue.entries.capacity() <= 16, "of two that are there");
         assert!(queue.items().eq(&[0, 9_999]));
-        let entries = queue.take().into_iter();
+        let entries = queue.remove_all().into_iter();
         assert!(entries.filter_map(|(_, item)| item).eq([0, 9_999]));
     }
 
     #[test]
     fn an_item_is_removed_once() {
         let mut queue = Queue::default();
-        let places = [(); 5].map(|()| queue.add(()));
-        assert_eq!(queue.remove(places[1]), Some(()));
-        assert_eq!(queue.remove(places[1]), None);
+        let numbers = [(); 5].map(|()| queue.add(()));
+        assert_eq!(queue.remove(numbers[1]), Some(()));
+        assert_eq!(queue.remove(numbers[1]), None);
         // The gaps are still counted rightly, and the others found.
-        assert_eq!(queue.remove(places[4]), Some(()));
+        assert_eq!(queue.remove(numbers[4]), Some(()));
         assert!(
             [0, 2, 3]
                 .iter()
-                .all(|index| queue.get(places[*index]).is_some())
+                .all(|index| queue.get(numbers[*index]).is_some())
         );
         assert_eq!((queue.items().count(), queue.gaps), (3, 2));
     }

@@ -36,7 +36,7 @@ use texts::Texts;
 /// 1. to the recorder that is entered on the thread that creates the channel ([`enter`](Recorder::enter),
 ///    [`for_test`](Recorder::for_test), [`scope`](Recorder::scope), [`on_thread_start`](Recorder::on_thread_start)),
 /// 2. else to the one that is installed for the process ([`install`](Recorder::install)),
-/// 3. else to none. Then nothing of it is recorded, and it takes no memory for entries. The same is so under a recorder that is
+/// 3. else to none. Then nothing of it is recorded, and it needs no memory for entries. The same is so under a recorder that is
 ///    [`off`](Recorder::off).
 ///
 /// The journal has an entry for each call: which channel, who called, what the call was and what it returned. The drop of a sender or a
@@ -239,7 +239,7 @@ impl Recorder {
     /// `handles` those of senders and receivers by channel. `values` has the texts of each channel's values. What has no name is left out.
     /// If the [plain core](crate#platforms) answered the calls, `core` says so.
     ///
-    /// `locations` lists places in the source, as file, line and column. The other keys have indexes into it: `made` where each sender and
+    /// `locations` has locations in the source, as file, line and column. The other keys have indexes into it: `made` where each sender and
     /// receiver was made, `calls` where each call of a channel was made, in the order of its entries, `tasks` where each task without a name
     /// has made its first call, and `waiting` where the calls that wait were made. The drop of a sender or a receiver is called by the
     /// compiler, so its location is `null`.

@@ -65,7 +65,7 @@ impl Reply {
     pub(crate) fn expect_made(self) -> Reply {
         match self {
             Reply::JournalFull | Reply::NoMemory => panic!("yovanelum: no memory for a call"),
-            // A channel asks a further machine in place of a full one, and no handle of this crate makes one of the other calls.
+            // A channel asks a further machine instead of a full one, and no handle of this crate makes one of the other calls.
             Reply::TooManyHandles
             | Reply::Unknown
             | Reply::Gone

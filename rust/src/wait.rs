@@ -3,7 +3,7 @@
 use crate::channel::{CallSite, LockedChannel, RecordedChannel, call_site};
 use crate::core::Actor;
 use crate::lock::lock;
-use crate::queue::Place;
+use crate::queue::ItemNumber;
 use crate::replay::{Permit, Ticket, Word};
 use std::task::{Context, Poll, Waker};
 
@@ -46,14 +46,14 @@ pub(crate) struct Wait {
     pub(crate) since: u64,
 }
 
-/// What a call that waits keeps between its polls.
+/// The state of a call that waits between its polls.
 #[derive(Default)]
 pub(crate) struct Pending {
-    /// Its place in the queue of wakers.
-    pub(crate) queued: Option<Place>,
-    /// Its place among the calls that wait. One that isn't recorded has none.
-    pub(crate) listed: Option<Place>,
-    /// Its place before the gate of a replay.
+    /// Its number in the queue of wakers.
+    pub(crate) queued: Option<ItemNumber>,
+    /// Its number among the calls that wait. One that isn't recorded has none.
+    pub(crate) listed: Option<ItemNumber>,
+    /// Its ticket before the gate of a replay.
     pub(crate) before_gate: Option<Ticket>,
 }
 
@@ -101,7 +101,7 @@ impl<'a> WaitingCall<'a> {
             let permit = permit.take();
             let called_at = self.method.called_at;
             let mut channel = self.channel.lock_with(permit, self.handle, called_at);
-            // An attempt that has to wait takes a number of the clock, and leaves no entry.
+            // An attempt that has to wait uses a number of the clock, and leaves no entry.
             let since = channel.clock();
             if let Poll::Ready(result) = attempt(&mut channel) {
                 let removed = channel.state.end_wait(self.wait_for, &mut self.pending);

@@ -1,6 +1,6 @@
 //! The wakers of the futures that wait for a channel.
 
-use crate::queue::{Place, Queue};
+use crate::queue::{ItemNumber, Queue};
 use std::panic::{self, AssertUnwindSafe};
 use std::task::Waker;
 use std::thread;
@@ -10,26 +10,26 @@ use std::thread;
 pub(crate) struct WakerQueue(Queue<Waker>);
 
 impl WakerQueue {
-    /// Returns `true` if the future with this place is in the queue, with a waker that wakes the same task as this one.
-    pub(crate) fn wakes(&self, place: Option<Place>, waker: &Waker) -> bool {
-        let kept = place.and_then(|place| self.0.get(place));
-        kept.is_some_and(|kept| kept.will_wake(waker))
+    /// Returns `true` if the future with this number is in the queue, with a waker that wakes the same task as this one.
+    pub(crate) fn wakes(&self, number: Option<ItemNumber>, waker: &Waker) -> bool {
+        let queued = number.and_then(|number| self.0.get(number));
+        queued.is_some_and(|queued| queued.will_wake(waker))
     }
 
-    /// Adds the waker of a future, at the end. A future that is in the queue stays in its place, and its waker from before is returned, to
+    /// Adds the waker of a future, at the end. A future that is in the queue stays where it is, and its waker from before is returned, to
     /// be dropped while no lock is held.
-    pub(crate) fn add(&mut self, place: &mut Option<Place>, waker: Waker) -> Option<Waker> {
-        if let Some(kept) = place.and_then(|place| self.0.get_mut(place)) {
-            return Some(std::mem::replace(kept, waker));
+    pub(crate) fn add(&mut self, number: &mut Option<ItemNumber>, waker: Waker) -> Option<Waker> {
+        if let Some(queued) = number.and_then(|number| self.0.get_mut(number)) {
+            return Some(std::mem::replace(queued, waker));
         }
-        *place = Some(self.0.add(waker));
+        *number = Some(self.0.add(waker));
         None
     }
 
     /// Removes a future, and returns its waker, to be dropped while no lock is held.
     #[inline]
-    pub(crate) fn remove(&mut self, place: &mut Option<Place>) -> Option<Waker> {
-        self.0.remove(place.take()?)
+    pub(crate) fn remove(&mut self, number: &mut Option<ItemNumber>) -> Option<Waker> {
+        self.0.remove(number.take()?)
     }
 
     /// Whether no future is in the queue.
@@ -40,15 +40,15 @@ impl WakerQueue {
 
     /// Removes all futures, and returns their wakers.
     #[inline]
-    pub(crate) fn take(&mut self) -> Wakers {
-        Wakers(self.0.take())
+    pub(crate) fn remove_all(&mut self) -> Wakers {
+        Wakers(self.0.remove_all())
     }
 }
 
 /// Wakers to be woken while no lock is held: they may run user code, which may use the channel.
 #[must_use]
 #[derive(Default)]
-pub(crate) struct Wakers(Vec<(Place, Option<Waker>)>);
+pub(crate) struct Wakers(Vec<(ItemNumber, Option<Waker>)>);
 
 impl Wakers {
     #[inline]
@@ -83,23 +83,23 @@ mod tests {
         fn wake(self: Arc<Self>) {}
     }
 
-    fn add(queue: &mut WakerQueue, waker: &Waker) -> Option<Place> {
-        let mut place = None;
-        assert!(queue.add(&mut place, waker.clone()).is_none());
-        place
+    fn add(queue: &mut WakerQueue, waker: &Waker) -> Option<ItemNumber> {
+        let mut number = None;
+        assert!(queue.add(&mut number, waker.clone()).is_none());
+        number
     }
 
     #[test]
-    fn a_place_from_before_a_wake_is_nobodys() {
+    fn a_number_from_before_a_wake_is_nobodys() {
         let (mut queue, waker) = (WakerQueue::default(), Waker::from(Arc::new(Nobody)));
         let mut woken = [add(&mut queue, &waker), add(&mut queue, &waker)];
-        assert_eq!(queue.take().0.len(), 2);
+        assert_eq!(queue.remove_all().0.len(), 2);
         let waits = add(&mut queue, &waker);
         assert!(!queue.wakes(woken[1], &waker));
         assert!(queue.remove(&mut woken[0]).is_none());
         // One that is polled again waits behind those who were there before.
         assert!(queue.add(&mut woken[1], waker.clone()).is_none());
         assert!(waits < woken[1]);
-        assert_eq!(queue.take().0.len(), 2);
+        assert_eq!(queue.remove_all().0.len(), 2);
     }
 }

@@ -146,7 +146,7 @@ impl<T> WatchHandle<T> {
         let text = values.run_reading(|| text_of.text(&value));
         let is_set = self.channel.set_text_of(text_of);
         if let Some(text) = text.filter(|_| is_set) {
-            lock(&self.recorded().state).keep_first_text(text);
+            lock(&self.recorded().state).store_first_text(text);
         }
         drop(value);
     }

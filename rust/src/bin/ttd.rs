@@ -89,7 +89,7 @@ mod linked {
     #[unsafe(no_mangle)]
     unsafe extern "C" fn rattle_realloc(
         p: *mut c_void,
-        _kept: usize,
+        _old: usize,
         size: usize,
         _align: usize,
     ) -> Tried {

@@ -163,13 +163,15 @@ impl<T> Receiver<T> {
 
     fn attempt_recv(&self, channel: &mut LockedChannel<'_>) -> Poll<Result<Value<T>, RecvError>> {
         let reply = channel.call(CoreChannel::broadcast_recv);
-        reply.received().map_ok(|number| self.take(channel, number))
+        reply
+            .received()
+            .map_ok(|number| self.received_value(channel, number))
     }
 
     /// Returns the value that this receiver has received, not yet cloned.
     #[inline(always)]
-    fn take(&self, channel: &mut LockedChannel<'_>, number: u64) -> Value<T> {
-        channel.guarded(&self.handle.channel.values).take(number)
+    fn received_value(&self, channel: &mut LockedChannel<'_>, number: u64) -> Value<T> {
+        channel.guarded(&self.handle.channel.values).receive(number)
     }
 }
 
@@ -263,7 +265,7 @@ impl<T: Clone> Receiver<T> {
         received.await.map(Value::cloned)
     }
 
-    /// [`recv`](Receiver::recv) without a future. Between polls the caller holds what is kept of the call.
+    /// [`recv`](Receiver::recv) without a future. Between polls the caller holds the state of the call.
     pub(crate) fn poll_recv(
         &mut self,
         called_at: CallSite,
@@ -312,7 +314,7 @@ impl<T: Clone> Receiver<T> {
         let mut channel = self.handle.lock(Word::TryRecv);
         let reply = channel.call(CoreChannel::broadcast_try_recv);
         let number = reply.received_at_once()?;
-        let value = self.take(&mut channel, number);
+        let value = self.received_value(&mut channel, number);
         drop(channel);
         Ok(value.cloned())
     }

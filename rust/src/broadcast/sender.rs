@@ -14,7 +14,7 @@ use std::task::Poll;
 /// The sending half of a broadcast channel.
 ///
 /// [`channel`](super::channel) and [`Sender::new`] create the first sender, `clone` and [`WeakSender::upgrade`] create further ones. As in
-/// tokio, a sender may be used from many threads: each method takes `&self`. The channel is closed when the last sender is dropped.
+/// tokio, a sender may be used from many threads: each method needs only `&self`. The channel is closed when the last sender is dropped.
 ///
 /// # Examples
 ///

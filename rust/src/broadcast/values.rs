@@ -47,7 +47,7 @@ struct Slot<T> {
 
 impl<T> Slot<T> {
     /// Returns the value for one receiver, and counts one receiver less.
-    fn take(&mut self) -> Option<Value<T>> {
+    fn receive(&mut self) -> Option<Value<T>> {
         self.receivers -= 1;
         match &self.value {
             Some(Value::Shared(value)) if self.receivers > 0 => Some(Value::Shared(value.clone())),
@@ -90,9 +90,9 @@ impl<T> Values<T> {
 
     /// Returns the value with this number, for a receiver that has yet to receive it.
     #[inline(always)]
-    pub(super) fn take(&mut self, number: u64) -> Value<T> {
+    pub(super) fn receive(&mut self, number: u64) -> Value<T> {
         let index = self.index_of(number);
-        let value = self.slots[index].take();
+        let value = self.slots[index].receive();
         value.expect("a value that a receiver has yet to get")
     }
 
@@ -153,8 +153,8 @@ mod tests {
             let overwritten = values.push(*number, number * 10, 2).map(Value::cloned);
             let expected = sent.checked_sub(4).map(|before| SENT[before] * 10);
             assert_eq!(overwritten, expected, "at {number}");
-            for kept in &SENT[sent.saturating_sub(3)..=sent] {
-                assert_eq!(values.slots[values.index_of(*kept)].number, *kept);
+            for retained in &SENT[sent.saturating_sub(3)..=sent] {
+                assert_eq!(values.slots[values.index_of(*retained)].number, *retained);
             }
         }
     }
@@ -165,13 +165,13 @@ mod tests {
         for number in 0..3 {
             assert!(values.push(number, (), 2).is_none_or(|_| number == 2));
         }
-        values.take(1).cloned();
+        values.receive(1).cloned();
         assert_eq!(
             values.drop_receiver(2).len(),
             1,
             "the value 1, which the other has"
         );
-        values.take(2).cloned();
+        values.receive(2).cloned();
         assert!(values.slots.iter().all(|slot| slot.value.is_none()));
     }
 }

@@ -21,7 +21,7 @@ pub(crate) struct CoreChannel {
     // How many handles each machine makes.
     most: u32,
     first: Machine,
-    // The machines 1, 2, .. A machine whose handles are all dropped is dropped too, and its place is used again.
+    // The machines 1, 2, .. A machine whose handles are all dropped is dropped too, and its number is used again.
     further: Vec<Option<Machine>>,
     // The number of the machine that creates handles, once the first one is full.
     newest: usize,
@@ -220,7 +220,7 @@ impl CoreChannel {
             self.further.push(None);
             self.further.len() - 1
         });
-        // So many machines, each with a live handle, would take 64 GiB.
+        // So many machines, each with a live handle, would need 64 GiB.
         assert!(
             index < 65_535,
             "yovanelum: a channel has machines for 4294967296 handles"

@@ -13,7 +13,7 @@ pub(crate) fn call_site() -> CallSite {
     Some(Location::caller())
 }
 
-/// How many call sites a block has. It takes 32 KiB.
+/// How many call sites a block has. It has 32 KiB.
 const BLOCK: usize = 4096;
 
 /// A list of call sites. It grows by blocks, so what is in a whole block is never copied.
@@ -78,7 +78,7 @@ mod tests {
         let mut sites = CallSites::default();
         for number in 0..3 * BLOCK + 7 {
             assert_eq!(sites.len(), number);
-            // What is taken back leaves nothing, also where it was the first of its block.
+            // A call site that is removed leaves nothing, also where it was the first of its block.
             sites.push(site_of(number + 1));
             sites.pop();
             sites.push(site_of(number));

@@ -119,7 +119,7 @@ impl<'a> LockedChannel<'a> {
         }
         let reply = self.call(call);
         if let Reply::New(_) = reply {
-            self.state.keep_making(self.called_at);
+            self.state.store_making(self.called_at);
         }
         reply
     }
@@ -137,12 +137,12 @@ impl<'a> LockedChannel<'a> {
             call(core, caller, handle, number)
         });
         if let Some(text) = text {
-            self.state.keep_text(number, text);
+            self.state.store_text(number, text);
         }
         (number, reply)
     }
 
-    /// Makes a call. It takes the recorder's next number under the channel's lock, so stamps differ and are in the order of the calls: on
+    /// Makes a call. It gets the recorder's next number under the channel's lock, so stamps differ and are in the order of the calls: on
     /// each channel, and on several channels if one call returned before the other began. `text` is that of the value that it sends.
     // Where it isn't inlined, the core's call is one by a pointer.
     #[inline(always)]
@@ -178,7 +178,7 @@ impl<'a> LockedChannel<'a> {
         if self.state.is_recorded {
             match recorder.has_ended() {
                 true => self.channel.end_recording(&mut self.state),
-                // It is stored before the call, so that nothing of the reply has to be kept meanwhile.
+                // It is added before the call, so that nothing of the reply has to be stored meanwhile.
                 false => self.state.locations.of_calls.push(self.called_at),
             }
         }
@@ -237,8 +237,10 @@ impl<'a> LockedChannel<'a> {
             self.state.cancelled.extend(entry);
         }
         match kind {
-            Kind::Sender if self.core().senders() == 0 => self.take_wakers(WaitFor::Value),
-            Kind::Receiver if self.core().receivers() == 0 => self.take_wakers(WaitFor::NoReceiver),
+            Kind::Sender if self.core().senders() == 0 => self.remove_wakers(WaitFor::Value),
+            Kind::Receiver if self.core().receivers() == 0 => {
+                self.remove_wakers(WaitFor::NoReceiver)
+            }
             _ => Wakers::default(),
         }
     }
@@ -265,14 +267,14 @@ impl<'a> LockedChannel<'a> {
 
     #[cold]
     fn unlock_and_wake_each(mut self, wait_for: WaitFor) {
-        let wakers = self.take_wakers(wait_for);
+        let wakers = self.remove_wakers(wait_for);
         drop(self);
         wakers.wake();
     }
 
     /// Removes the futures that wait for this, and returns their wakers.
     #[inline]
-    pub(crate) fn take_wakers(&mut self, wait_for: WaitFor) -> Wakers {
-        self.state.queue(wait_for).take()
+    pub(crate) fn remove_wakers(&mut self, wait_for: WaitFor) -> Wakers {
+        self.state.queue(wait_for).remove_all()
     }
 }

@@ -55,7 +55,7 @@ pub(super) struct Machine {
     // The sender by which the senders of other machines send. There is none while there are no others, and once the channel is closed.
     sender: Option<u32>,
     // Whether that sender is nobody's handle, and only stands for others.
-    is_sender_kept: bool,
+    is_sender_stand_in: bool,
     // The receiver that new ones are cloned from, if the machine was opened when the channel was closed. It is nobody's handle.
     receiver: Option<u32>,
     // The weak sender that new ones are cloned from. It is nobody's handle.
@@ -69,7 +69,7 @@ impl Machine {
             core,
             room: most - 2,
             sender: None,
-            is_sender_kept: false,
+            is_sender_stand_in: false,
             receiver: None,
             weak: None,
         }
@@ -92,7 +92,7 @@ impl Machine {
             core,
             room: most - 2 - u32::from(weak.is_some()),
             sender,
-            is_sender_kept: !is_closed,
+            is_sender_stand_in: !is_closed,
             receiver,
             weak,
         }
@@ -123,7 +123,7 @@ impl Machine {
 
     /// How many senders are alive, without the one that only stands for others.
     pub(super) fn senders(&mut self) -> u64 {
-        self.core.senders() - u64::from(self.is_sender_kept)
+        self.core.senders() - u64::from(self.is_sender_stand_in)
     }
 
     /// How many weak senders are alive, without the one that only stands for others.
@@ -171,8 +171,8 @@ impl Machine {
         handle: u32,
         drop: impl FnOnce(&mut CoreChannel, u32) -> Reply,
     ) -> Reply {
-        if self.sender == Some(handle) && !self.is_sender_kept {
-            self.is_sender_kept = true;
+        if self.sender == Some(handle) && !self.is_sender_stand_in {
+            self.is_sender_stand_in = true;
             return Reply::Dropped;
         }
         drop(&mut self.core, handle)
@@ -180,11 +180,11 @@ impl Machine {
 
     /// Drops the sender that stands for others, since the channel is closed.
     pub(super) fn close(&mut self, opening: Opening) {
-        let sender = self.sender.take().filter(|_| self.is_sender_kept);
+        let sender = self.sender.take().filter(|_| self.is_sender_stand_in);
         if let Some(sender) = sender {
             opening.drop_handle(&mut self.core, sender);
         }
-        self.is_sender_kept = false;
+        self.is_sender_stand_in = false;
     }
 }
 

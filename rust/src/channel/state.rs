@@ -69,7 +69,7 @@ impl ChannelState {
     }
 
     /// Stores where a handle was made, if the journal names it. Handles are made in the order of their numbers.
-    pub(crate) fn keep_making(&mut self, made_at: CallSite) {
+    pub(crate) fn store_making(&mut self, made_at: CallSite) {
         if self.is_recorded {
             self.locations.of_handles.push(made_at);
         }
@@ -97,14 +97,14 @@ impl ChannelState {
 
     /// Stores the text of a value, if its channel is recorded.
     #[cold]
-    pub(super) fn keep_text(&mut self, number: u64, text: String) {
+    pub(super) fn store_text(&mut self, number: u64, text: String) {
         if self.is_recorded {
             self.texts.insert(number, text);
         }
     }
 
     /// Stores the text of the value that the channel was opened with, if no other was passed to the core yet.
-    pub(crate) fn keep_first_text(&mut self, text: String) {
+    pub(crate) fn store_first_text(&mut self, text: String) {
         if self.value_count == 1 && self.is_recorded {
             self.texts.insert(0, text);
         }

@@ -58,7 +58,7 @@ impl Reader<'_> {
     }
 
     /// Reads this character, after spaces. Returns whether it comes next.
-    fn takes(&mut self, wanted: char) -> bool {
+    fn reads(&mut self, wanted: char) -> bool {
         self.skip_spaces();
         let comes = self.chars.peek() == Some(&wanted);
         if comes {
@@ -68,7 +68,7 @@ impl Reader<'_> {
     }
 
     fn expect(&mut self, wanted: char) -> Result<(), String> {
-        match self.takes(wanted) {
+        match self.reads(wanted) {
             true => Ok(()),
             false => Err(format!("`{wanted}` is missing")),
         }
@@ -93,7 +93,7 @@ impl Reader<'_> {
     fn object(&mut self, depth: usize) -> Result<Json, String> {
         self.expect('{')?;
         let mut members = vec![];
-        if self.takes('}') {
+        if self.reads('}') {
             return Ok(Json::Object(members));
         }
         loop {
@@ -101,7 +101,7 @@ impl Reader<'_> {
             let key = self.text()?;
             self.expect(':')?;
             members.push((key, self.value(depth + 1)?));
-            if !self.takes(',') {
+            if !self.reads(',') {
                 self.expect('}')?;
                 return Ok(Json::Object(members));
             }
@@ -111,12 +111,12 @@ impl Reader<'_> {
     fn list(&mut self, depth: usize) -> Result<Json, String> {
         self.expect('[')?;
         let mut items = vec![];
-        if self.takes(']') {
+        if self.reads(']') {
             return Ok(Json::List(items));
         }
         loop {
             items.push(self.value(depth + 1)?);
-            if !self.takes(',') {
+            if !self.reads(',') {
                 self.expect(']')?;
                 return Ok(Json::List(items));
             }

@@ -21,7 +21,7 @@ impl Names {
                 "handles" => by_number(value, texts).map(|handles| names.handles = handles),
                 "locations" => list(value, location).map(|list| names.locations = list),
                 "made" => by_number(value, indexes).map(|made| names.made = made),
-                "calls" => by_number(value, places).map(|calls| names.calls = calls),
+                "calls" => by_number(value, optional_indexes).map(|calls| names.calls = calls),
                 "tasks" => indexes(value).map(|tasks| names.tasks = tasks),
                 "waiting" => list(value, waiting).map(|waiting| names.waiting = waiting),
                 other => names.matching.read(other, value),
@@ -95,11 +95,11 @@ pub(super) fn optional_text(value: Json) -> Result<Option<String>, String> {
     }
 }
 
-fn places(value: Json) -> Result<Vec<Option<usize>>, String> {
-    list(value, optional)
+fn optional_indexes(value: Json) -> Result<Vec<Option<usize>>, String> {
+    list(value, optional_index)
 }
 
-fn optional(value: Json) -> Result<Option<usize>, String> {
+fn optional_index(value: Json) -> Result<Option<usize>, String> {
     match value {
         Json::Null => Ok(None),
         value => number(value).map(Some),
@@ -126,7 +126,7 @@ fn waiting(value: Json) -> Result<WaitingCall, String> {
         handle: number(next("handle"))?,
         call: text_of(next("call"))?,
         since: number(next("since"))?,
-        location: optional(next("location"))?,
+        location: optional_index(next("location"))?,
     })
 }
 

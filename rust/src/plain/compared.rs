@@ -6,7 +6,7 @@ use crate::reply::Reply;
 use crate::{plain, proved};
 use std::collections::BTreeSet;
 
-/// What a call is given. A call that takes less leaves the rest out.
+/// What a call is given. A call that needs less leaves the rest out.
 #[derive(Clone, Copy, Debug)]
 struct Given {
     handle: u32,

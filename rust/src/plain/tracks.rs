@@ -1,4 +1,4 @@
-//! What is kept of each channel while the entries of a run pass by: the places of its sends, and the counts of its receivers.
+//! What is known of each channel while the entries of a run pass by: the places of its sends, and the counts of its receivers.
 
 use super::Machine;
 use super::broadcast::Broadcast;
@@ -6,7 +6,7 @@ use super::watch::Watch;
 use crate::findings::{AfterClose, Closing, Loss, LossEnd, Reader, Totals};
 use std::collections::BTreeMap;
 
-/// What is kept of a channel.
+/// What is known of a channel.
 pub(super) struct Track {
     channel: u32,
     // The places of the sends that were received or overwritten, or may be.
@@ -15,7 +15,7 @@ pub(super) struct Track {
     pub(super) closing: Option<Closing>,
 }
 
-/// What is kept of a receiver.
+/// What is known of a receiver.
 struct Receiver {
     totals: Totals,
     // The first version of a watch that it may see, and the last one that it has seen.

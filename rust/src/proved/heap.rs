@@ -14,8 +14,8 @@ pub(super) struct Tried {
 /// The core needs an alignment of 16 bytes at most. Each block begins with 16 bytes for its size, which `std`'s `dealloc` needs.
 const ALIGN: usize = 16;
 
-/// A block that grows to this size is allocated for a whole recording, so that it grows in place from then on. What isn't written takes only
-/// addresses. No other block of a channel is as large: room for 65,536 handles takes up to 1.5 MiB.
+/// A block that grows to this size is allocated for a whole recording, so that it isn't moved when it grows from then on. What isn't written
+/// needs only addresses. No other block of a channel is as large: room for 65,536 handles is up to 1.5 MiB.
 pub(super) const LARGE: usize = 1 << 21;
 
 /// The size of a whole recording: 1,048,576 calls of 32 bytes.

@@ -152,7 +152,7 @@ impl Recorder {
     ///
     /// # Examples
     ///
-    /// With tokio, in place of `#[tokio::test(flavor = "multi_thread")]`:
+    /// With tokio, instead of `#[tokio::test(flavor = "multi_thread")]`:
     ///
     /// ```ignore
     /// #[test]

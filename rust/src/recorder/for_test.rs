@@ -24,7 +24,7 @@ impl Recorder {
     /// a task [`scope`](Recorder::scope), and if no other test runs in the process [`install`](Recorder::install). A test that is itself a
     /// task, which may move from thread to thread, uses `scope` and [`save_on_panic`](Recorder::save_on_panic).
     ///
-    /// A test that returns an `Err` does not panic. [`save_on_err`](ForTest::save_on_err) takes its result. If a test passes, cargo shows the
+    /// A test that returns an `Err` does not panic. [`save_on_err`](ForTest::save_on_err) is given its result. If a test passes, cargo shows the
     /// report of `YOVANELUM_KEEP` only with `-- --nocapture`.
     ///
     /// # Examples
@@ -209,7 +209,7 @@ impl SaveOnPanic {
         has_panicked || self.has_failed.load(Ordering::Relaxed)
     }
 
-    /// Whether the test failed, or its journal is to be kept all the same.
+    /// Whether the test failed, or its journal is to be saved all the same.
     fn is_wanted(&self) -> bool {
         match (thread::panicking(), self.began_in_panic) {
             (true, true) => false,

@@ -1,4 +1,4 @@
-//! What a recorder takes to know a channel by: a sender or a receiver.
+//! What a recorder knows a channel by: a sender or a receiver.
 
 use super::TextOf;
 use crate::channel::RecordedChannel;
@@ -6,7 +6,7 @@ use crate::handle::Kind;
 
 /// A sender or a receiver, of either kind of channel.
 ///
-/// [`Recorder::name`], [`Recorder::show`], [`Recorder::of`] and their kin take any. It is implemented for the senders and receivers of
+/// [`Recorder::name`], [`Recorder::show`], [`Recorder::of`] and their kin accept any. It is implemented for the senders and receivers of
 /// [`broadcast`](crate::broadcast) and [`watch`](crate::watch), weak senders included, and cannot be implemented for other types.
 ///
 /// [`Recorder::name`]: super::Recorder::name

@@ -7,17 +7,17 @@ use crate::lock::lock;
 use std::sync::Arc;
 
 impl Recorder {
-    /// Names a receiver, or the channel of a sender, in place of an earlier name. Returns the recorder, for the next call.
+    /// Names a receiver, or the channel of a sender, and replaces an earlier name. Returns the recorder, for the next call.
     ///
     /// A receiver has a name of its own. The channel has that of its senders, weak senders included, since a program knows a channel by what
     /// it sends on. [`name_channel`](Recorder::name_channel) names the channel of a receiver, and [`name_handle`](Recorder::name_handle) one
     /// of several senders.
     ///
-    /// The page shows the names in place of the journal's numbers, and so does what a failing test prints.
+    /// The page shows the names instead of the journal's numbers, and so does what a failing test prints.
     ///
     /// # Panics
     ///
-    /// Panics if the channel belongs to another recorder, or to none. A recorder that is off takes those that belong to none.
+    /// Panics if the channel belongs to another recorder, or to none. A recorder that is off accepts those that belong to none.
     ///
     /// # Examples
     ///
@@ -41,7 +41,7 @@ impl Recorder {
         }
     }
 
-    /// Names the channel of this sender or receiver, in place of an earlier name. Returns the recorder, for the next call.
+    /// Names the channel of this sender or receiver, and replaces an earlier name. Returns the recorder, for the next call.
     ///
     /// # Panics
     ///
@@ -67,7 +67,7 @@ impl Recorder {
         self
     }
 
-    /// Names this sender, weak sender or receiver, in place of an earlier name. Returns the recorder, for the next call.
+    /// Names this sender, weak sender or receiver, and replaces an earlier name. Returns the recorder, for the next call.
     ///
     /// The name is that of the one handle, and not of its clones.
     ///

@@ -48,7 +48,7 @@ impl Run<'_> {
 
     /// Returns the text of what the channels have recorded up to now.
     pub(crate) fn journal(&self) -> io::Result<String> {
-        // Each call takes its number under its channel's lock. So once `cut` has locked a channel, its calls before the cut are recorded.
+        // Each call gets its number under its channel's lock. So once `cut` has locked a channel, its calls before the cut are recorded.
         let text = self.cut(self.shared.last()).map_err(|fault| {
             io::Error::other(match fault {
                 CutFault::NoChannels if self.shared.is_off => IS_OFF.to_string(),

@@ -22,7 +22,7 @@ const NEVER: u64 = u64::MAX;
 
 static NEXT_ID: AtomicU64 = AtomicU64::new(1);
 
-/// Counts calls. Each takes a number under its channel's lock, and passes it to the core as its clock. Every call of every thread writes
+/// Counts calls. Each gets a number under its channel's lock, and passes it to the core as its clock. Every call of every thread writes
 /// it, so it shares no cache line with other data.
 #[repr(align(128))]
 struct Clock(AtomicU64);

@@ -1,6 +1,6 @@
 //! The thread that wakes the futures before a gate.
 //!
-//! A task that a worker of a runtime wakes is the next one of that worker, and no other worker takes it. If the worker then blocked before the
+//! A task that a worker of a runtime wakes is the next one of that worker, and no other worker runs it. If the worker then blocked before the
 //! gate, that task would never be polled. So futures are woken by a thread of no runtime alone.
 
 use super::gate::{BETWEEN_LOOKS, Gate};

@@ -188,7 +188,7 @@ pub(super) fn parted(plan: &Plan, position: usize, came: &str) -> String {
     )
 }
 
-/// Says which call came in the place of the expected one.
+/// Says which call came instead of the expected one.
 pub(super) fn came(plan: &Plan, coming: &Coming) -> String {
     format!("came {}", coming_in_words(plan, coming))
 }

@@ -1,4 +1,4 @@
-//! The page with a run inside. The page is one HTML file that has a place for a run, as `page/open` in the repository fills it too.
+//! The page with a run inside. The page is one HTML file with an element for a run, as `page/open` in the repository fills it too.
 
 use std::fmt::Write;
 use std::path::Path;
@@ -13,7 +13,7 @@ const SLOT_END: &[u8] = b"</script>\n";
 const DIGITS: &[u8; 64] = b"ABCDEFGHIJKLMNOPQRSTUVWXYZabcdefghijklmnopqrstuvwxyz0123456789+/";
 
 /// Returns the page with a run inside: the name of the journal's file, its text, and that of its names, if there are any. Returns `None`
-/// if the page has no place for a run.
+/// if the page has no element for a run.
 pub(crate) fn with_run(
     page: &[u8],
     file_name: &str,

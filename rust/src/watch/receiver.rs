@@ -206,7 +206,7 @@ impl<T> Receiver<T> {
         self.handle.changed(Method::called("changed"))
     }
 
-    /// [`changed`](Receiver::changed) without a future. Between polls the caller holds what is kept of the call.
+    /// [`changed`](Receiver::changed) without a future. Between polls the caller holds the state of the call.
     pub(crate) fn poll_changed(
         &mut self,
         called_at: CallSite,

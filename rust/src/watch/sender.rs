@@ -16,7 +16,7 @@ use std::{fmt, mem, panic};
 /// The sending half of a watch channel.
 ///
 /// [`channel`](super::channel) and [`Sender::new`] create the first sender, `clone` creates further ones. A sender may be used from many
-/// threads: each method takes `&self`. As in tokio, the channel is closed for its receivers when the last sender is dropped.
+/// threads: each method needs only `&self`. As in tokio, the channel is closed for its receivers when the last sender is dropped.
 ///
 /// # Examples
 ///
@@ -101,7 +101,7 @@ impl<T> Sender<T> {
         if matches!(reply, Reply::NoReceivers(_)) {
             return Err(SendError(value));
         }
-        let wakers = channel.take_wakers(WaitFor::Value);
+        let wakers = channel.remove_wakers(WaitFor::Value);
         drop(channel);
         let before = mem::replace(&mut *stored, value);
         drop(stored);
@@ -125,7 +125,7 @@ impl<T> Sender<T> {
         true
     }
 
-    /// Changes the value in place and notifies all receivers.
+    /// Changes the value where it is stored, and notifies all receivers.
     ///
     /// As in tokio, the value need not be allocated again, and it is changed also if there is no receiver. If the change depends on the
     /// value, use [`send_if_modified`](Sender::send_if_modified). The call blocks while a [`Ref`] of the channel is alive.
@@ -159,7 +159,7 @@ impl<T> Sender<T> {
         });
     }
 
-    /// Changes the value in place, and notifies all receivers if the closure returns `true`.
+    /// Changes the value where it is stored, and notifies all receivers if the closure returns `true`.
     ///
     /// Returns what the closure returns. As in tokio, the closure should return `false` only if it has not changed the value. If it has
     /// changed it all the same, a later look sees the changed value, but no receiver is notified of it. The call blocks while a [`Ref`] of
@@ -428,7 +428,7 @@ fn make_send(
 ) -> Wakers {
     channel.send(text, call);
     match notify {
-        true => channel.take_wakers(WaitFor::Value),
+        true => channel.remove_wakers(WaitFor::Value),
         false => Wakers::default(),
     }
 }

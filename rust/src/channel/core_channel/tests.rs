@@ -274,7 +274,7 @@ impl Pair {
     }
 }
 
-/// How many runs of random calls are compared. Miri takes a second for each.
+/// How many runs of random calls are compared. Miri needs a second for each.
 const SEEDS: u64 = if cfg!(miri) { 10 } else { 200 };
 
 /// Makes 400 random calls on both, for each seed. Returns how many further machines were opened at most.
@@ -311,14 +311,14 @@ fn several_machines_of_a_watch_reply_as_one() {
 }
 
 #[test]
-fn a_machine_whose_handles_are_dropped_is_dropped_and_its_place_is_used_again() {
+fn a_machine_whose_handles_are_dropped_is_dropped_and_its_number_is_used_again() {
     let mut channel = CoreChannel::open(Opening::Broadcast(2), 8).unwrap();
     channel.end();
-    let mut kept = Vec::new();
+    let mut alive = Vec::new();
     for round in 0..1_000 {
         let receiver = channel.broadcast_subscribe(CALLER, 0).new_handle();
         match round {
-            100 | 500 => kept.push(receiver),
+            100 | 500 => alive.push(receiver),
             _ => assert_eq!(channel.broadcast_drop(CALLER, receiver), Reply::Dropped),
         }
     }
@@ -326,7 +326,7 @@ fn a_machine_whose_handles_are_dropped_is_dropped_and_its_place_is_used_again() 
     assert_eq!(channel.machines().count(), 4);
     assert!(channel.further.len() <= 4, "{}", channel.further.len());
     assert_eq!(channel.broadcast_send(CALLER, 0, 7), Reply::Sent(3));
-    for receiver in kept {
+    for receiver in alive {
         assert_ne!(parts_of(receiver).0, 0);
         assert_eq!(channel.broadcast_recv(CALLER, receiver), Reply::Value(7));
     }
