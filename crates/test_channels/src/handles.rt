@@ -24,28 +24,23 @@ fn a_short_life(rt: HostRuntime) -> Result<(), Fail> {
     drop_table(table);
     same(
         &rt,
-        &"a short life",
+        "a short life",
         &(has_room, made, left),
         &(true, [0, 1], (1, [1, 0, 0])),
     );
     let kept = (Kind::Receiver, 5);
+    same(&rt, "found", &found, &(Found::Handle(kept.0, kept.1), kept));
     same(
         &rt,
-        &"found",
-        &found,
-        &(Found::Handle(kept.0, kept.1), kept),
-    );
-    same(
-        &rt,
-        &"undropped",
+        "undropped",
         &undropped,
         &(Some(5), Some(Kind::Receiver), 2),
     );
-    same(&rt, &"values", &values, &[Some(7), None, Some(7)]);
+    same(&rt, "values", &values, &[Some(7), None, Some(7)]);
     let faults = [HandleFault::WrongKind, HandleFault::Unknown].map(Err);
     same(
         &rt,
-        &"a short life",
+        "a short life",
         &(looks, gone),
         &(faults, (Err(HandleFault::Gone), None)),
     );
@@ -76,13 +71,13 @@ fn a_weak_handle(rt: HostRuntime) -> Result<(), Fail> {
     drop_table(table);
     same(
         &rt,
-        &"a weak handle",
+        "a weak handle",
         &(made, dropped),
         &((2, [1, 1, 1]), (Kind::Weak, 0)),
     );
     let refused = Err(HandleFault::WrongKind);
-    same(&rt, &"looks", &looks, &[Ok(()), refused, refused]);
-    same(&rt, &"gone", &gone, &(Err(HandleFault::Gone), [1, 1, 0]));
+    same(&rt, "looks", &looks, &[Ok(()), refused, refused]);
+    same(&rt, "gone", &gone, &(Err(HandleFault::Gone), [1, 1, 0]));
     Ok(())
 }
 
@@ -93,7 +88,7 @@ fn the_first_two(rt: HostRuntime) -> Result<(), Fail> {
     drop_table(table);
     let sender = Found::Handle(Kind::Sender, 3);
     let receiver = Found::Handle(Kind::Receiver, 4);
-    same(&rt, &"found", &found, &(2, sender, receiver));
+    same(&rt, "found", &found, &(2, sender, receiver));
     Ok(())
 }
 

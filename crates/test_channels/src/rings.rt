@@ -13,20 +13,20 @@ fn ring_of_two(rt: HostRuntime) -> Result<(), Fail> {
     let mut ring: Ring<u64> = Ring::new(rt.alloc(), 2)?;
     same(
         &rt,
-        &"ring of two",
+        "ring of two",
         &[ring.put(1), ring.put(2), ring.put(3)],
         &[None, None, Some(1)],
     );
     same(
         &rt,
-        &"ring of two",
+        "ring of two",
         &([ring.at(0), ring.at(1)], ring.oldest()),
         &([None, Some(2)], 1),
     );
     ring.unput(Some(1));
     same(
         &rt,
-        &"ring of two",
+        "ring of two",
         &([ring.at(0), ring.at(2)], ring.count()),
         &([Some(1), None], 2),
     );
@@ -75,9 +75,10 @@ impl Plain {
 
 /// Asserts that a ring shows what a plain list does.
 fn agree(rt: &impl Abort, ring: &Ring<u64>, plain: &Plain) {
-    same(rt, &"count", &ring.count(), &plain.count);
+    same(rt, "count", &ring.count(), &plain.count);
     for position in 0..14 {
-        same(rt, &position, &ring.at(position), &plain.at(position));
+        let told = (position, plain.at(position));
+        same(rt, "at", &(position, ring.at(position)), &told);
     }
 }
 
@@ -108,7 +109,7 @@ fn keeps(
         take(rt, ring, &mut plain, &mut evictions, step)?;
     }
     agree(rt, ring, &plain);
-    same(rt, &"rings keep what a plain list keeps", &ring.count(), &0);
+    same(rt, "rings keep what a plain list keeps", &ring.count(), &0);
     Ok(())
 }
 
@@ -124,7 +125,7 @@ fn take(
     if step % 3 < 2 && step < 18 {
         assert!(rt; ring.count() < 1000 && plain.count < 1000);
         let evicted = ring.put(100 + step);
-        same(rt, &"take", &plain.put(100 + step)?, &evicted);
+        same(rt, "take", &plain.put(100 + step)?, &evicted);
         evictions.push(evicted)?;
     } else if let Some(evicted) = evictions.pop() {
         assert!(rt; 0 < ring.count());

@@ -47,7 +47,7 @@ fn the_machine_had_as_many_calls_as_places_were_passed(rt: HostRuntime) -> Resul
     drop(navigator);
     same(
         &rt,
-        &"the machine had as many calls as places were passed",
+        "the machine had as many calls as places were passed",
         &played.calls(),
         &3,
     );
@@ -76,7 +76,7 @@ fn counts_its_turns(rt: &impl Abort, navigator: &mut Navigator<Metered<Adder>>) 
         ];
         same(
             rt,
-            &"counts its turns",
+            "counts its turns",
             &(answered, counts),
             &(*answer, [*place, *turns, *turns]),
         );
@@ -109,11 +109,11 @@ fn walks_by_moves_and_refuses_those_out_of_range(rt: HostRuntime) -> Result<(), 
     drop_navigator(navigator);
     same(
         &rt,
-        &"walks by moves and refuses those out of range",
+        "walks by moves and refuses those out of range",
         &walked?.as_slice(),
         &ANSWERS.as_slice(),
     );
-    same(&rt, &"sum", &sum, &28);
+    same(&rt, "sum", &sum, &28);
     Ok(())
 }
 
@@ -141,7 +141,7 @@ static TOO_FAR: [Move; 4] = [
 fn refuses(rt: &impl Abort, navigator: &mut Navigator<Adder>) {
     same(
         rt,
-        &"refuses",
+        "refuses",
         &(navigator.place(), navigator.turns()),
         &(7, 15),
     );
@@ -149,7 +149,7 @@ fn refuses(rt: &impl Abort, navigator: &mut Navigator<Adder>) {
         let answer = navigator.step(*to);
         same(
             rt,
-            &"refuses",
+            "refuses",
             &(answer, navigator.place(), navigator.turns()),
             &(Err(OutOfRange), 7, 15),
         );

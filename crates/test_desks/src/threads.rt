@@ -179,7 +179,7 @@ fn plays_to<G: Gate + Sync, R: Threads + Wait + Sync + Abort>(
     want: &str,
 ) -> Result<(), Fail> {
     let text = played(rt, alloc, script, gate)?;
-    same(rt, &"plays to", &text.as_slice(), &want.as_bytes());
+    same(rt, "plays to", &text.as_slice(), &want.as_bytes());
     Ok(())
 }
 

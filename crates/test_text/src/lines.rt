@@ -1,6 +1,6 @@
 //! Lines and pieces over readers and writers that work in small pieces and fail at a call.
 
-use crate::plain::{line_of, same};
+use crate::plain::{line_of, same, same_at};
 use rw_lines::{Next, ShortWrite, StreamFault, flush, put, put_whole};
 use std::alloc::{AllocError, Global};
 use std::io::{Read, Write};
@@ -32,7 +32,7 @@ fn gives_first_line(
 ) {
     let answer = line_of(reader, &mut 8, line);
     let found = (answer, line.as_slice(), reader.unread());
-    same(rt, &most, &found, &(Ok(*next), *want, *rest));
+    same_at(rt, most as u64, &found, &(Ok(*next), *want, *rest));
 }
 
 #[test]
@@ -71,9 +71,9 @@ static LENGTHS: [(usize, usize); 5] = [(255, 255), (256, 256), (257, 257), (258,
 fn keeps(rt: &impl Abort, input: &[u8], line: &mut Vec<u8>, length: usize, kept: usize) {
     let (answers, found) = two_lines(&mut FailingReader::new(input, 7, None), 702, line);
     let told = [Ok(Next::Line), Ok(Next::Last)];
-    same(
+    same_at(
         rt,
-        &length,
+        length as u64,
         &(answers, found, line.as_slice()),
         &(told, kept, b"y".as_slice()),
     );
@@ -97,8 +97,8 @@ fn stops_at_the_first_byte_too_much(rt: HostRuntime) {
     let (enough, _) = two_lines(&mut FailingReader::new(INPUT, 1, None), 5, &mut line);
     drop(line);
     let too_much = [Ok(Next::Line), Err(StreamFault::TooMuch)];
-    same(&rt, &3, &few, &too_much);
-    same(&rt, &5, &enough, &[Ok(Next::Line), Ok(Next::Last)]);
+    same_at(&rt, 3, &few, &too_much);
+    same_at(&rt, 5, &enough, &[Ok(Next::Line), Ok(Next::Last)]);
 }
 
 /// Whether requests for lines have these results.
@@ -129,7 +129,7 @@ fn fails_behind(rt: &impl Abort, line: &mut Vec<u8>, calls: u64, wants: &[Next],
     let answered = answers(&mut reader, &mut allowed, line, wants);
     let failed = line_of(&mut reader, &mut allowed, line);
     let found = (answered, failed, reader.unread());
-    same(rt, &calls, &found, &(true, Err(StreamFault::Read), unread));
+    same_at(rt, calls, &found, &(true, Err(StreamFault::Read), unread));
 }
 
 #[test]
@@ -188,7 +188,7 @@ fn takes(
     let found = (answer, writer.written(), flush, writer.flushes());
     same(
         rt,
-        &"a write",
+        "a write",
         &found,
         &(*ended, *written, *flushed, *flushes),
     );
@@ -221,7 +221,7 @@ static PIECES: [Piece; 7] = [
 fn hands_on(rt: &impl Abort, writer: &mut FailingWriter, (calls, ended, written, handed): &Piece) {
     let answer = put_whole(writer, INPUT);
     let found = (answer, writer.written(), writer.handed_on());
-    same(rt, calls, &found, &(*ended, *written, *handed));
+    same_at(rt, *calls, &found, &(*ended, *written, *handed));
 }
 
 #[test]

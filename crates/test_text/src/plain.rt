@@ -14,15 +14,21 @@ use rw_navigator::{HitIndex, Move, Navigator, OutOfRange, Probe};
 use rw_text::{TextFault, WriteFault, read, round_trip, salvage, write};
 use rw_world::{ChanCall, ChanReply, OpenFault, RowCall, Spec, World, open};
 use std::alloc::Global;
-use std::fmt::{Debug, Display};
+use std::fmt::Debug;
 use std::io::Read;
 use std::process::Abort;
 use support_devices::FailingWriter;
 
 /// Asserts that what is found in a case is what is expected.
 ///
-/// An assert in a test is proved there, with its branch and its message. This one is proved once, for all tests.
-pub fn same<T: PartialEq + Debug>(rt: &impl Abort, case: &impl Display, found: &T, told: &T) {
+/// An assert in a test is proved there, with its branch and its message. This one is proved once, for all tests. The case has one type,
+/// so that no caller's proof puts its printing together.
+pub fn same<T: PartialEq + Debug>(rt: &impl Abort, case: &str, found: &T, told: &T) {
+    assert_eq!(rt; found, told, "{case}");
+}
+
+/// The same of a case that has a number.
+pub fn same_at<T: PartialEq + Debug>(rt: &impl Abort, case: u64, found: &T, told: &T) {
     assert_eq!(rt; found, told, "{case}");
 }
 

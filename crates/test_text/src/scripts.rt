@@ -32,19 +32,19 @@ fn has_limits(rt: &impl Abort, script: &Script) -> Result<(), Fail> {
     let (specs, steps) = (script.specs(), script.steps());
     same(
         rt,
-        &"actors and channels",
+        "actors and channels",
         &(script.actors(), specs.len()),
         &(64, 64),
     );
     let last = (specs.get(62), specs.get(63));
     let told = (Some(&Spec::Watch(u64::MAX)), Some(&Spec::Broadcast(65_536)));
-    same(rt, &"channels", &last, &told);
+    same(rt, "channels", &last, &told);
     let [bind, use_it] = steps else {
         return Err(Fail::from("not two steps"));
     };
     let found = [shown(bind), shown(use_it)];
     let told = [(66, 63, 63, None, true), (67, 63, 63, Some(0), false)];
-    same(rt, &"steps", &found, &told);
+    same(rt, "steps", &found, &told);
     Ok(())
 }
 
@@ -89,14 +89,14 @@ static REFUSED: [(&[u8], ScriptFaultKind); 3] = [
 
 /// Asserts that a reader with all the steps that there may be refuses further ones.
 fn is_full(rt: &impl Abort, reader: &mut ScriptReader) {
-    same(rt, &"lines", &reader.lines(), &1_048_577);
+    same(rt, "lines", &reader.lines(), &1_048_577);
     for (line, kind) in &REFUSED {
         if reader.lines() < 2_000_000 {
             let fault = ScriptFault {
                 line: 1_048_578,
                 kind: *kind,
             };
-            same(rt, &"a step", &reader.read_line(line), &Err(fault));
+            same(rt, "a step", &reader.read_line(line), &Err(fault));
         }
     }
 }
@@ -115,6 +115,6 @@ fn takes_1048576_steps(rt: HostRuntime) -> Result<(), Fail> {
     let filled = fill(&mut reader);
     is_full(&rt, &mut reader);
     let steps = steps_of(reader)?;
-    same(&rt, &"steps", &(filled, steps), &(Ok(()), 1_048_576));
+    same(&rt, "steps", &(filled, steps), &(Ok(()), 1_048_576));
     Ok(())
 }

@@ -1,6 +1,6 @@
 //! Numerals, and the tokens of lines.
 
-use crate::plain::same;
+use crate::plain::{same, same_at};
 use rw_lines::{cut, is_name, is_skipped, is_word, numeral, push_number};
 use std::alloc::{AllocError, Global};
 use std::process::Abort;
@@ -30,7 +30,7 @@ fn numeral_of(alloc: Global, n: u64) -> Result<Vec<u8>, AllocError> {
 /// Asserts that a number is written as this token.
 fn is_written(rt: &impl Abort, alloc: Global, n: u64, token: &[u8]) -> Result<(), AllocError> {
     let text = numeral_of(alloc, n)?;
-    same(rt, &n, &text.as_slice(), &token);
+    same_at(rt, n, &text.as_slice(), &token);
     drop(text);
     Ok(())
 }
@@ -39,7 +39,7 @@ fn is_written(rt: &impl Abort, alloc: Global, n: u64, token: &[u8]) -> Result<()
 fn reads_numerals_and_writes_them(rt: HostRuntime) -> Result<(), Fail> {
     for (token, want) in &NUMERALS {
         let found = numeral(token);
-        same(&rt, &"number", &found, want);
+        same(&rt, "number", &found, want);
         if let Some(n) = found {
             is_written(&rt, rt.alloc(), n, token)?;
         }
@@ -79,21 +79,21 @@ static CUTS: [Cut; 3] = [
 fn tell_tokens(rt: &impl Abort) {
     for told in &TOKENS {
         let token = told.0;
-        same(rt, &"token", &(token, is_word(token), is_name(token)), told);
+        same(rt, "token", &(token, is_word(token), is_name(token)), told);
     }
 }
 
 /// Asserts that each line is skipped as is told.
 fn tell_lines(rt: &impl Abort) {
     for told in &LINES {
-        same(rt, &"line", &(told.0, is_skipped(told.0)), told);
+        same(rt, "line", &(told.0, is_skipped(told.0)), told);
     }
 }
 
 /// Asserts that each text is cut as is told.
 fn tell_cuts(rt: &impl Abort) {
     for (text, parts) in &CUTS {
-        same(rt, &"cut", &cut(text, b' '), parts);
+        same(rt, "cut", &cut(text, b' '), parts);
     }
 }
 

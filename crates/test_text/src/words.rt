@@ -125,7 +125,7 @@ fn line_of<'o, V: Payload>(entry: &Entry<World<V>>, out: &'o mut [u8; 256]) -> O
 fn is_written<V: Payload>(rt: &impl Abort, entry: Entry<World<V>>, want: &[u8]) {
     let mut out = [0u8; 256];
     let line = line_of(&entry, &mut out);
-    same(rt, &"a line", &line, &Some(want));
+    same(rt, "a line", &line, &Some(want));
 }
 
 /// Asserts that the call is written as this text, and that the call read from the text is written so too.
@@ -163,7 +163,7 @@ fn is_reply<V: Payload + PartialEq + Debug>(
     text: &[u8],
     reply: ChanReply<V>,
 ) -> Result<(), Fail> {
-    same(rt, &"a reply", &read_reply(broadcast, text), &Ok(reply));
+    same(rt, "a reply", &read_reply(broadcast, text), &Ok(reply));
     let line = [b"1 2 3 recv 1 = ".as_slice(), text].concat(alloc)?;
     is_written(rt, entry_of(ChanCall::B(BCall::Recv(1)), reply), &line);
     Ok(())
@@ -245,7 +245,7 @@ fn names_the_first_fault_of_a_call(rt: HostRuntime) {
     for (broadcast, text, fault) in &CALL_FAULTS {
         same(
             &rt,
-            &"a call",
+            "a call",
             &fault_of_call::<u64>(*broadcast, text),
             &Some(*fault),
         );
@@ -278,7 +278,7 @@ fn names_the_first_fault_of_a_reply(rt: HostRuntime) {
     for (broadcast, text, fault) in &REPLY_FAULTS {
         same(
             &rt,
-            &"a reply",
+            "a reply",
             &fault_of_reply::<u64>(*broadcast, text),
             &Some(*fault),
         );

@@ -1,6 +1,6 @@
 //! Openings of worlds, and steps of a world of both kinds.
 
-use crate::plain::same;
+use crate::plain::{same, same_at};
 use rw_broadcast::{BCall, BReply};
 use rw_law::Reversible;
 use rw_watch::{WCall, WReply};
@@ -47,7 +47,7 @@ fn refuses_specs(rt: HostRuntime) {
         (&MANY[..64], Ok(64)),
     ];
     for (specs, answer) in &table {
-        same(&rt, &specs.len(), &opened(rt.alloc(), specs), answer);
+        same_at(&rt, specs.len() as u64, &opened(rt.alloc(), specs), answer);
     }
 }
 
@@ -62,7 +62,7 @@ where
     M::Reply: PartialEq + Debug,
 {
     let found = made_twice(machine, call)?;
-    same(rt, &"a reply", &found, &(reply, reply));
+    same(rt, "a reply", &found, &(reply, reply));
     Ok(())
 }
 
@@ -132,6 +132,6 @@ static CALLS: [(u32, ChanCall<u64>, ChanReply<u64>); 6] = [
 fn calls_both_kinds(rt: HostRuntime) -> Result<(), Fail> {
     let specs = [Spec::Broadcast(2), Spec::Watch(5)];
     let value = value_after(&rt, rt.alloc(), &specs, &CALLS)?;
-    same(&rt, &"the value", &value, &Some(6));
+    same(&rt, "the value", &value, &Some(6));
     Ok(())
 }

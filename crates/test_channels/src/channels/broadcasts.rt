@@ -312,7 +312,7 @@ fn upgraded_senders(rt: HostRuntime) {
         (BReply::WrongKind, Err(REFUSED)),
     ];
     for (reply, sender) in &REPLIES {
-        same(&rt, &"upgraded senders", &reply.upgraded(), sender);
+        same(&rt, "upgraded senders", &reply.upgraded(), sender);
     }
 }
 

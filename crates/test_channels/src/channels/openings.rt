@@ -26,7 +26,8 @@ fn retained(alloc: Global, asked: u32) -> Result<u64, OpenFault> {
 #[test]
 fn capacities_of_openings(rt: HostRuntime) {
     for (asked, answer) in &CAPACITIES {
-        same(&rt, asked, &retained(rt.alloc(), *asked), answer);
+        let found = (*asked, retained(rt.alloc(), *asked));
+        same(&rt, "capacity", &found, &(*asked, *answer));
     }
 }
 
@@ -46,7 +47,7 @@ fn grows(rt: &impl Abort, machine: &mut Watch<u64>) -> Result<(), NoMemory> {
         assert!(rt; machine.weight() < machine.limit());
         let (reply, _patch) = machine.apply(&WCall::Subscribe(0));
         assert!(rt; !Watch::<u64>::waits(&reply) && !Watch::<u64>::strays(&reply));
-        same(rt, &"reply", &reply, &WReply::New(number));
+        same(rt, "reply", &reply, &WReply::New(number));
     }
     Ok(())
 }
@@ -58,7 +59,7 @@ fn calls_replies_and_patches_are_small(rt: HostRuntime) {
     let patches = [size_of::<BPatch<u64>>(), size_of::<WPatch<u64>>()];
     same(
         &rt,
-        &"calls replies and patches are small",
+        "calls replies and patches are small",
         &[calls, replies, patches],
         &[[16, 16], [16, 16], [16, 16]],
     );

@@ -31,7 +31,7 @@ where
         let _known = machine.weight();
         let (call, wanted, place) = first;
         let (reply, patch) = machine.apply(call);
-        same(rt, &"reply", &reply, wanted);
+        same(rt, "reply", &reply, wanted);
         is_at(rt, machine, place);
         make_and_undo(rt, machine, rest);
         is_at(rt, machine, place);
@@ -90,7 +90,7 @@ where
         Err(_) => return Err(NoMemory),
     };
     let wanted = if M::waits(reply) { None } else { Some(*reply) };
-    same(rt, &"taken", &taken, &wanted);
+    same(rt, "taken", &taken, &wanted);
     Ok(())
 }
 
@@ -110,7 +110,7 @@ where
 {
     let opening = walked.place();
     make_short(rt, &mut recorded, steps)?;
-    same(rt, &"play", &recorded.place(), &opening);
+    same(rt, "play", &recorded.place(), &opening);
     let mut book = Book::open(alloc, recorded)?;
     record(rt, &mut book, steps)?;
     let mut navigator = opened(alloc, walked, book)?;
@@ -140,11 +140,11 @@ fn walk<M: Reversible + Shows>(
     opening: M::Place,
     steps: &[Expected<M::Call, M::Reply, M::Place>],
 ) {
-    same(rt, &"walk", &navigator.step(Move::End), &Ok(()));
+    same(rt, "walk", &navigator.step(Move::End), &Ok(()));
     walk_back(rt, navigator, steps);
     same(
         rt,
-        &"walk",
+        "walk",
         &(navigator.place(), navigator.state().place()),
         &(0, opening),
     );
@@ -152,7 +152,7 @@ fn walk<M: Reversible + Shows>(
     let len = navigator.len();
     same(
         rt,
-        &"walk",
+        "walk",
         &(navigator.place(), navigator.turns() / 3),
         &(len, len),
     );
@@ -167,7 +167,7 @@ fn walk_back<M: Reversible + Shows>(
     for (_, reply, place) in steps.iter().rev() {
         if !M::waits(reply) {
             is_at(rt, navigator.state(), place);
-            same(rt, &"walk back", &navigator.step(Move::Back(1)), &Ok(()));
+            same(rt, "walk back", &navigator.step(Move::Back(1)), &Ok(()));
         }
     }
 }
@@ -180,7 +180,7 @@ fn walk_on<M: Reversible + Shows>(
 ) {
     for (_, reply, place) in steps {
         if !M::waits(reply) {
-            same(rt, &"walk on", &navigator.step(Move::Forward(1)), &Ok(()));
+            same(rt, "walk on", &navigator.step(Move::Forward(1)), &Ok(()));
             is_at(rt, navigator.state(), place);
         }
     }
@@ -189,6 +189,6 @@ fn walk_on<M: Reversible + Shows>(
 /// Asserts that the machine shows what the row has for a place.
 fn is_at<M: Shows>(rt: &impl Abort, machine: &M, place: &Option<M::Place>) {
     if let Some(place) = place {
-        same(rt, &"is at", &machine.place(), place);
+        same(rt, "is at", &machine.place(), place);
     }
 }

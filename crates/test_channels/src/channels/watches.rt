@@ -13,7 +13,7 @@ use support_fixtures::watches::{OPENING, Place, opening};
 fn play_at(rt: &impl Abort, alloc: Global, init: u64, steps: &[Wanted]) -> Result<(), Fail> {
     let recorded = Watch::open(alloc, init)?;
     let walked = Watch::open(alloc, init)?;
-    same(rt, &"play at", &walked.place(), &opening(init));
+    same(rt, "play at", &walked.place(), &opening(init));
     play(rt, alloc, recorded, walked, steps)
 }
 

@@ -70,17 +70,17 @@ fn takes_and_rewinds(rt: HostRuntime) -> Result<(), Fail> {
     let (waits, strays) = (Err(TakeFault::Waits), Err(TakeFault::NoChannel));
     same(
         &rt,
-        &"answers",
+        "answers",
         &answers,
         &[Ok((1, 0)), Ok((10, 1)), waits, strays, Ok((11, 7))],
     );
     same(
         &rt,
-        &"entries",
+        "entries",
         &entries,
         &[Some((11, 7)), Some((10, 1)), Some((1, 0)), None],
     );
-    same(&rt, &"takes and rewinds", &(len, is_empty), &(3, true));
+    same(&rt, "takes and rewinds", &(len, is_empty), &(3, true));
     Ok(())
 }
 
@@ -89,10 +89,10 @@ fn runs_up_to_a_fault(rt: HostRuntime) -> Result<(), Fail> {
     let mut book = open(rt.alloc(), 100)?;
     let ran = runs_twice(&mut book);
     let (stamp, value, marks) = parts(rt.alloc(), book)?;
-    same(&rt, &"ran", &ran, &[Err((2, TakeFault::NoChannel)), Ok(())]);
-    same(&rt, &"stamp and value", &(stamp, value), &(Some(2), 3));
+    same(&rt, "ran", &ran, &[Err((2, TakeFault::NoChannel)), Ok(())]);
+    same(&rt, "stamp and value", &(stamp, value), &(Some(2), 3));
     let wanted: &[(u32, u64)] = &[(0, 1), (63, 2), (5, 3)];
-    same(&rt, &"entries", &marks.as_slice(), &wanted);
+    same(&rt, "entries", &marks.as_slice(), &wanted);
     Ok(())
 }
 
@@ -156,13 +156,13 @@ fn ends_its_stamps(rt: &impl Abort, book: &mut Book<Cell>) {
     for (clock, answer) in &CLOCKS {
         same(
             rt,
-            &"ends its stamps",
+            "ends its stamps",
             &ready(book, *clock).is_ok(),
             &answer.is_ok(),
         );
         same(
             rt,
-            &"ends its stamps",
+            "ends its stamps",
             &take(book, *clock, Call::Set(1)),
             answer,
         );
@@ -185,14 +185,14 @@ fn runs_out_of_room(rt: &impl Abort, book: &mut Book<Cell>) {
         assert!(rt; take(book, 0, Call::Set(i)).is_ok());
     }
     let refused = Err(TakeFault::NoMemory);
-    same(rt, &"runs out of room", &ready(book, 0), &refused);
+    same(rt, "runs out of room", &ready(book, 0), &refused);
     for answer in [refused.map(|()| (0, 0)), Ok((20, 18))] {
         same(
             rt,
-            &"runs out of room",
+            "runs out of room",
             &take(book, 0, Call::Set(20)),
             &answer,
         );
-        same(rt, &"runs out of room", &rewind(book), &Some((20, 18)));
+        same(rt, "runs out of room", &rewind(book), &Some((20, 18)));
     }
 }

@@ -113,6 +113,6 @@ fn an_actor_of_10_000_receipts_waits(rt: HostRuntime) -> Result<(), Fail> {
     let (open, in_time) = plays(&rt, open, Play::Receive)?;
     let last = last_of(run_of_two(alloc, open)?);
     let wanted = Some((10_002, ChanReply::B(BReply::Value(5)), 10_002));
-    same(&rt, &"last", &(last, in_time), &(wanted, true));
+    same(&rt, "last", &(last, in_time), &(wanted, true));
     Ok(())
 }

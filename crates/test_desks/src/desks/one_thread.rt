@@ -105,7 +105,7 @@ fn receipts_beside_a_run(rt: HostRuntime) -> Result<(), Fail> {
     let run = run_of_one(alloc, open)?;
     let found = differences(&run, &kept);
     drop_run(run);
-    same(&rt, &"differences", &found, &[None, Some(2), Some(1)]);
+    same(&rt, "differences", &found, &[None, Some(2), Some(1)]);
     Ok(())
 }
 
@@ -135,7 +135,7 @@ fn desks_that_are_not_opened(rt: HostRuntime) -> Result<(), Fail> {
     let bad_actors = Some(DeskOpenFault::BadActors);
     same(
         &rt,
-        &"faults",
+        "faults",
         &faults,
         &[bad_actors, bad_actors, no_channels],
     );
@@ -322,7 +322,7 @@ fn comes_back<R: Wait + Abort>(rt: &R, open: &mut OfOne, heeded: u64) {
         Ok(_) => None,
         Err((fault, writer)) => Some((fault, writer.number())),
     };
-    same(rt, &"back", &back, &Some((DeskFault::JournalFull, 0)));
+    same(rt, "back", &back, &Some((DeskFault::JournalFull, 0)));
     let counts = [stamp(&open.pass), receipts(&open.pass).len() as u64];
     same_numbers(rt, "counts", &counts, &[heeded, 0]);
 }

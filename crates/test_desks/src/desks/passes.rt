@@ -99,12 +99,7 @@ fn a_pass_keeps_what_it_recorded(rt: HostRuntime) -> Result<(), Fail> {
     ];
     drop_book(book);
     drop_pass(pass);
-    same(
-        &rt,
-        &"receipts",
-        &found,
-        &[Some((5, 7, 1)), Some((5, 7, 2))],
-    );
+    same(&rt, "receipts", &found, &[Some((5, 7, 1)), Some((5, 7, 2))]);
     Ok(())
 }
 

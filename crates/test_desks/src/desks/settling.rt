@@ -96,10 +96,10 @@ fn drop_alone(_passes: [Pass<u64>; 1]) {}
 fn settles_with(rt: &impl Abort, alloc: Global, passes: &[Pass<u64>; 1]) -> Result<(), Fail> {
     for (count, answer) in &FRONTS {
         let settled = settle_numbers(alloc, &CALLS[..(*count).min(3)], passes)?;
-        same(rt, count, &settled, answer);
+        same(rt, "a front", &(*count, settled), &(*count, *answer));
     }
     let settled = settle_numbers(alloc, &TWICE, passes)?;
-    same(rt, &"twice", &settled, &Err(CloseFault::Strayed(5, 1)));
+    same(rt, "twice", &settled, &Err(CloseFault::Strayed(5, 1)));
     Ok(())
 }
 

@@ -57,7 +57,7 @@ fn has_entries(
 ) -> Result<(), AllocError> {
     let shown = shown(alloc, &run);
     drop_run(run);
-    same(rt, &"has entries", &shown?.as_slice(), &wanted);
+    same(rt, "has entries", &shown?.as_slice(), &wanted);
     Ok(())
 }
 

@@ -232,6 +232,6 @@ fn two_threads_wait_on_one_channel(rt: HostRuntime) -> Result<(), Fail> {
     drop_desk(desk);
     // A receive and a send for each value, and the receive that finds the channel closed.
     let calls = 2 * VALUES as usize + 1;
-    same(&rt, &"asked", &asked, &Some((calls, calls, true)));
+    same(&rt, "asked", &asked, &Some((calls, calls, true)));
     Ok(())
 }

@@ -50,7 +50,7 @@ fn is_order(
         Ok(order) => Ok(order.as_slice()),
         Err(fault) => Err(*fault),
     };
-    same(rt, &"found", &found, &wanted);
+    same(rt, "found", &found, &wanted);
 }
 
 /// Merges the journals of a case.

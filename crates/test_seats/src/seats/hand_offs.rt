@@ -239,7 +239,7 @@ fn looked<B: Recorded + Drop, R: Wait>(
 #[test]
 fn hand_off_of_one(rt: HostRuntime) -> Result<(), Fail> {
     let looked = looked::<Book<Chan<u64>>, _>(&rt, rt.alloc())?;
-    same(&rt, &"looked", &looked, &((0, None), 0));
+    same(&rt, "looked", &looked, &((0, None), 0));
     Ok(())
 }
 
@@ -264,7 +264,7 @@ fn second_seat_finds_the_entry(rt: HostRuntime) -> Result<(), Fail> {
     let sent = sent::<Book<Chan<u64>>, _>(&rt, rt.alloc(), 4)?;
     same(
         &rt,
-        &"sent",
+        "sent",
         &sent,
         &(Ok(ChanReply::B(BReply::Sent(1))), (1, Some(0)), 1),
     );
@@ -290,6 +290,6 @@ fn read_by_all<B: Recorded + Drop, R: Wait>(
 #[test]
 fn hand_off_of_64(rt: HostRuntime) -> Result<(), Fail> {
     let read = read_by_all::<Book<Chan<u64>>, _>(&rt, rt.alloc(), 4)?;
-    same(&rt, &"read by all", &read, &(64, 63, 1));
+    same(&rt, "read by all", &read, &(64, 63, 1));
     Ok(())
 }

@@ -69,6 +69,6 @@ fn seat_desk_of_64_channels_and_64_seats(rt: HostRuntime) -> Result<(), Fail> {
         // Seat 63 was the first, and each stamp is above that of the call before it on the channel.
         wanted.push((MOST - 1 - before, u64::from(before) + 1, MOST - 1))?;
     }
-    same(&rt, &"sent", &found, &(MOST, wanted));
+    same(&rt, "sent", &found, &(MOST, wanted));
     Ok(())
 }

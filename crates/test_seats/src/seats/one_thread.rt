@@ -89,7 +89,7 @@ fn plays(rt: &(impl Wait + Abort), alloc: Global, row: &Row) -> Result<(), Fail>
     let recorded = row.order.len();
     same(
         rt,
-        &"played",
+        "played",
         &(answers.as_slice(), known, fault, order.as_slice()),
         &(
             row.answers,
@@ -194,7 +194,7 @@ fn seat_of_two_channels(rt: HostRuntime) -> Result<(), Fail> {
     let wanted = [answered(BReply::Sent(1), 1, 1), Ok(stored)];
     same(
         &rt,
-        &"seat of two channels",
+        "seat of two channels",
         &(answers.as_slice(), met, order.as_slice()),
         &(
             wanted.as_slice(),
@@ -234,7 +234,7 @@ fn seat_desks_that_are_not_opened(rt: HostRuntime) -> Result<(), Fail> {
     let bad_actors = DeskOpenFault::BadActors;
     same(
         &rt,
-        &"faults",
+        "faults",
         &faults,
         &[bad_actors, bad_actors, no_channels],
     );

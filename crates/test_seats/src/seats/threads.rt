@@ -88,13 +88,13 @@ fn seats_of_two_threads(rt: HostRuntime) -> Result<(), Fail> {
     };
     same(
         &rt,
-        &"seats of two threads",
+        "seats of two threads",
         &(first.max(second), met),
         &(200, [Some(200), None]),
     );
     same(
         &rt,
-        &"seats of two threads",
+        "seats of two threads",
         &(order.len(), calls_of(&order, 0), calls_of(&order, 1)),
         &(200, 100, 100),
     );

@@ -125,6 +125,6 @@ where
 #[test]
 fn a_seat_waits_for_the_book(rt: HostRuntime) -> Result<(), Fail> {
     let waited = waited::<Book<Chan<u64>>, _>(&rt, rt.alloc(), 4)?;
-    same(&rt, &"waited", &waited, &(true, (1, Some(0)), 1));
+    same(&rt, "waited", &waited, &(true, (1, Some(0)), 1));
     Ok(())
 }

@@ -20,7 +20,7 @@ fn moved<V: Copy>(
     told: &[Result<(), OutOfRange>],
 ) -> Result<(u64, u64), NoMemory> {
     let answers = debugger.walk(alloc, moves)?;
-    same(rt, &"answers", &answers.as_slice(), &told);
+    same(rt, "answers", &answers.as_slice(), &told);
     drop(answers);
     Ok((debugger.place(), debugger.turns()))
 }
@@ -44,6 +44,6 @@ fn a_run_is_walked(rt: HostRuntime) -> Result<(), Fail> {
     let run = run_of(rt.alloc(), OVERRUN)?;
     let found = walked(&rt, rt.alloc(), &run, WALK.moves, WALK.answers);
     drop(run);
-    same(&rt, &"place and turns", &found?, &(7, 15));
+    same(&rt, "place and turns", &found?, &(7, 15));
     Ok(())
 }

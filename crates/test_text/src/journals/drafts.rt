@@ -1,7 +1,7 @@
 //! Drafts of runs.
 
 use super::walks::{ENDS, walked};
-use crate::plain::{counts_of, draft_of, finish, push, same, step_of};
+use crate::plain::{counts_of, draft_of, finish, push, same, same_at, step_of};
 use rw_broadcast::{BCall, BReply};
 use rw_journal::{PushFault, Run, RunDraft};
 use rw_law::Payload;
@@ -28,14 +28,14 @@ type Push<V> = (
 fn answers<V: Payload>(rt: &impl Abort, draft: &mut RunDraft<V>, pushes: &[Push<V>]) {
     for (actor, stamp, channel, call, reply, answer) in pushes {
         let found = push(draft, *actor, *stamp, *channel, *call, *reply);
-        same(rt, stamp, &found, answer);
+        same_at(rt, *stamp, &found, answer);
     }
 }
 
 /// Asserts that a run has entries of these actors at these stamps.
 fn has_steps<V: Copy>(rt: &impl Abort, run: &Run<V>, steps: &[(u32, u64)]) {
     for (i, step) in steps.iter().enumerate() {
-        same(rt, &"a step", &step_of(run, i), &Some(*step));
+        same(rt, "a step", &step_of(run, i), &Some(*step));
     }
 }
 
@@ -96,7 +96,7 @@ fn pushes_what_comes_next(rt: HostRuntime) -> Result<(), Fail> {
     let mut draft = draft_of(rt.alloc(), &[Spec::Broadcast(2), Spec::Watch(5u64)])?;
     answers(&rt, &mut draft, &PUSHES);
     let run = finish(draft);
-    same(&rt, &"counts", &counts_of(&run), &(2, PUSHED.len()));
+    same(&rt, "counts", &counts_of(&run), &(2, PUSHED.len()));
     has_steps(&rt, &run, &PUSHED);
     drop(run);
     Ok(())
@@ -131,10 +131,10 @@ fn a_channel_is_full(rt: HostRuntime) -> Result<(), Fail> {
     let counts = counts_of(&run);
     let found = walked(&rt, rt.alloc(), &run, &ENDS);
     drop(run);
-    same(&rt, &"pushes", &answers, &(true, [LIMIT, Ok(())]));
-    same(&rt, &"counts", &counts, &(2, 1_048_577));
+    same(&rt, "pushes", &answers, &(true, [LIMIT, Ok(())]));
+    same(&rt, "counts", &counts, &(2, 1_048_577));
     let (_, _, [(end, _), (start, _), _, _]) = found?;
-    same(&rt, &"ends", &[end, start], &[Ok(1_048_577), Ok(0)]);
+    same(&rt, "ends", &[end, start], &[Ok(1_048_577), Ok(0)]);
     Ok(())
 }
 
@@ -149,5 +149,5 @@ fn opens_as_a_world_does(rt: HostRuntime) {
     let bad = [Spec::Watch(1), Spec::Broadcast(0), Spec::Broadcast(0)];
     let faults = [fault_of(rt.alloc(), &none), fault_of(rt.alloc(), &bad)];
     let told = [Some(OpenFault::NoChannels), Some(OpenFault::BadCapacity(1))];
-    same(&rt, &"faults", &faults, &told);
+    same(&rt, "faults", &faults, &told);
 }

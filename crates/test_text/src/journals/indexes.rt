@@ -109,7 +109,7 @@ fn an_index_has_the_hits_below_and_above_a_place(rt: HostRuntime) -> Result<(), 
         (Some(5), None),
         (Some(6), None),
     ];
-    same(&rt, &"hits", &hits, &Some((told, true)));
+    same(&rt, "hits", &hits, &Some((told, true)));
     Ok(())
 }
 

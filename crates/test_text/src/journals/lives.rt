@@ -45,9 +45,9 @@ fn lived(life: &Life) -> Lived {
 
 /// Asserts that these are the lives.
 fn are_lived(rt: &impl Abort, lives: &[Life], told: &[Lived]) {
-    same(rt, &"handles", &lives.len(), &told.len());
+    same(rt, "handles", &lives.len(), &told.len());
     for (life, told) in lives.iter().zip(told) {
-        same(rt, &"a life", &lived(life), told);
+        same(rt, "a life", &lived(life), told);
     }
 }
 

@@ -108,9 +108,9 @@ fn peak_in(peaks: &Peaks, stretch: usize) -> u64 {
 /// Asserts that receiver 1 has the peaks of a row, with those that are 0.
 fn has_peaks(rt: &impl Abort, peaks: &Peaks, row: &Peaked) {
     let count = row.peaks.len() as u64;
-    same(rt, &row.name, &row.stretches.count, &count);
+    same(rt, row.name, &row.stretches.count, &count);
     for (i, peak) in row.peaks.iter().enumerate() {
-        same(rt, &row.name, &peak_in(peaks, i), peak);
+        same(rt, row.name, &peak_in(peaks, i), peak);
     }
 }
 

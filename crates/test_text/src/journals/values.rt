@@ -58,9 +58,9 @@ fn found_in<V: Copy>(alloc: Global, run: Run<V>) -> Result<Vec<ChannelValue<V>>,
 
 /// Asserts that these are the values.
 fn are_had(rt: &impl Abort, name: &str, values: &[ChannelValue<u64>], told: &[Had]) {
-    same(rt, &name, &values.len(), &told.len());
+    same(rt, name, &values.len(), &told.len());
     for (it, had) in values.iter().zip(told) {
-        same(rt, &name, &(it.value, it.since, it.overwritten), had);
+        same(rt, name, &(it.value, it.since, it.overwritten), had);
     }
 }
 

@@ -94,7 +94,7 @@ fn moved<R: Reversible>(
     asked: &Walk,
 ) -> Result<(u64, u64), NoMemory> {
     let answers = walk(alloc, navigator, asked.moves)?;
-    same(rt, &"answers", &answers.as_slice(), &asked.answers);
+    same(rt, "answers", &answers.as_slice(), &asked.answers);
     drop(answers);
     Ok(place_and_turns(navigator))
 }

@@ -114,7 +114,7 @@ fn takes_and_rewinds(rt: HostRuntime) -> Result<(), Fail> {
     let ran = Err((1, TakeFault::NoChannel));
     let taken = [Ok((10, one)), Err(TakeFault::Waits)];
     let told = (true, taken, Some((10, 1)), Ok((2, one)), Some((2, 1)));
-    same(&rt, &"run and answers", &found, &(ran, true, told));
+    same(&rt, "run and answers", &found, &(ran, true, told));
     Ok(())
 }
 
@@ -126,7 +126,7 @@ fn a_full_book_takes_no_entry(rt: HostRuntime) -> Result<(), Fail> {
     let full = Err(TakeFault::JournalFull);
     let rewound = Some((1_048_576, 1_048_575));
     let told = (false, [full, full], rewound, Ok((1_048_576, one)), rewound);
-    same(&rt, &"a full book", &found, &(Ok(()), true, told));
+    same(&rt, "a full book", &found, &(Ok(()), true, told));
     Ok(())
 }
 
@@ -147,7 +147,7 @@ fn starts(
     let is_start = is_start(alloc, run)?;
     let (openings, _, [(end, _), (start, _), _, _]) = walked(rt, alloc, run, &ENDS)?;
     let told = (true, [true, true], [Ok(entries), Ok(0)]);
-    same(rt, &name, &(is_start, openings, [end, start]), &told);
+    same(rt, name, &(is_start, openings, [end, start]), &told);
     Ok(())
 }
 
@@ -202,6 +202,6 @@ fn a_run_is_walked(rt: HostRuntime) -> Result<(), Fail> {
     let found = walked(&rt, rt.alloc(), &run, &WALK);
     drop(run);
     let told = WALKED;
-    same(&rt, &"a walk", &found?, &told);
+    same(&rt, "a walk", &found?, &told);
     Ok(())
 }

@@ -1,7 +1,6 @@
 //! How runs of the program end.
 
 use crate::plain::same;
-use std::fmt::Display;
 use std::process::Abort;
 use support_devices::FailingWriter;
 
@@ -11,7 +10,7 @@ pub type Ending = (u8, &'static [u8], &'static [u8]);
 /// Asserts that a run ends in this way.
 pub fn ends_as(
     rt: &impl Abort,
-    case: &impl Display,
+    case: &str,
     status: u8,
     out: &FailingWriter,
     err: &FailingWriter,

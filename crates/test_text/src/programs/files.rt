@@ -1,7 +1,7 @@
 //! Scripts and journal texts in files, each kind of work once, and streams that fail.
 
 use super::endings::{Ending, ends_as};
-use crate::plain::same;
+use crate::plain::same_at;
 use crate::streams::{checked, debugged, recorded, salvaged};
 use std::alloc::Global;
 use std::process::Abort;
@@ -28,7 +28,7 @@ fn salvages_journals(rt: HostRuntime) {
     let mut out = FailingWriter::new(rt.alloc(), 64, None);
     let mut err = FailingWriter::new(rt.alloc(), 64, None);
     let status = salvaged(rt.alloc(), &mut file, &mut out, &mut err);
-    ends_as(&rt, &"salvage", status, &out, &err, &SALVAGED);
+    ends_as(&rt, "salvage", status, &out, &err, &SALVAGED);
 }
 
 static DEBUGGED: Ending = (
@@ -44,7 +44,7 @@ fn debugs_journals(rt: HostRuntime) {
     let mut out = FailingWriter::new(rt.alloc(), 4096, None);
     let mut err = FailingWriter::new(rt.alloc(), 64, None);
     let status = debugged(rt.alloc(), &mut file, &mut input, &mut out, &mut err);
-    ends_as(&rt, &"debug", status, &out, &err, &DEBUGGED);
+    ends_as(&rt, "debug", status, &out, &err, &DEBUGGED);
 }
 
 /// Whether a run over streams that fail after this many calls is complete. If not, it asserts that no earlier run was, that a
@@ -66,7 +66,7 @@ fn is_whole(
         _ => b"write fault\n",
     };
     let found = (is_whole || is_front, err.written());
-    same(rt, &calls, &found, &(true, told));
+    same_at(rt, calls, &found, &(true, told));
     is_whole
 }
 
@@ -126,7 +126,7 @@ fn is_told<R: Abort + Threads + Wait + Sync>(rt: &R, alloc: Global, calls: u64, 
     let is_front = b"would wait 2\n".starts_with(told);
     let journal: &[u8] = b"ttd-journal 2\nbroadcast 2\nsteps\nend\n";
     let found = (status, out.handed_on(), told.len(), is_front);
-    same(rt, &calls, &found, &(3, journal, length, true));
+    same_at(rt, calls, &found, &(3, journal, length, true));
 }
 
 // A failed write on the stream for errors changes neither the status nor what is written.

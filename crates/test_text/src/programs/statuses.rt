@@ -63,7 +63,7 @@ fn is_run(rt: &impl Abort, alloc: Global, (input, reads, writes, ending): &Case)
     let mut out = FailingWriter::new(alloc, 64, *writes);
     let mut err = FailingWriter::new(alloc, 64, None);
     let status = session_by(alloc, &mut reader, &mut out, &mut err);
-    ends_as(rt, &"a run", status, &out, &err, ending);
+    ends_as(rt, "a run", status, &out, &err, ending);
 }
 
 #[test]

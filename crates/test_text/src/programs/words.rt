@@ -59,7 +59,7 @@ static ASKED: [(&[&str], Asked<'static>); 9] = [
 /// Asserts that the words ask for this.
 fn ask_for(rt: &impl Abort, alloc: Global, words: &[String], asked: &Asked<'static>) {
     match read_words(alloc, words) {
-        Ok(read) => same(rt, &"words", &read, asked),
+        Ok(read) => same(rt, "words", &read, asked),
         Err(error) => assert!(rt; false, "{error}"),
     }
 }
@@ -144,7 +144,7 @@ fn led_to<T: Threads + Wait + Sync, F: Read + Drop, R: Read, W: Write>(
 /// Asserts that a run that has ended has this status, output and line.
 fn has_ended(rt: &impl Abort, ended: &Ended, out: &FailingWriter, ending: &Ending) {
     let found = (ended.status(), out.handed_on(), ended.line().as_bytes());
-    same(rt, &"words", &found, ending);
+    same(rt, "words", &found, ending);
 }
 
 /// Asserts that the words lead to this ending.
@@ -181,6 +181,6 @@ fn words_that_are_not_taken(rt: HostRuntime) -> Result<(), Fail> {
     drop(words);
     let told =
         "error: unrecognized subcommand 'walk'\n\nUsage: ttd <COMMAND>\n\nFor more information, try '--help'.\n";
-    same(&rt, &"words", &(ended.status(), ended.line()), &(2, told));
+    same(&rt, "words", &(ended.status(), ended.line()), &(2, told));
     Ok(())
 }

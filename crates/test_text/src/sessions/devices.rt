@@ -71,5 +71,5 @@ fn a_writer_that_takes_nothing(rt: HostRuntime) {
     let mut writer = FailingWriter::new(rt.alloc(), 0, None);
     let ended = session_of(rt.alloc(), &mut reader, &mut writer);
     let told = (Err(SessionFault::Write), b"".as_slice());
-    same(&rt, &"a session", &(ended, writer.written()), &told);
+    same(&rt, "a session", &(ended, writer.written()), &told);
 }

@@ -22,5 +22,5 @@ fn too_much_input(rt: HostRuntime) {
     let mut writer = FailingWriter::new(rt.alloc(), 64, None);
     let ended = session_of(rt.alloc(), &mut EndlessLines, &mut writer);
     drop(writer);
-    same(&rt, &"a session", &ended, &Err(SessionFault::TooMuch));
+    same(&rt, "a session", &ended, &Err(SessionFault::TooMuch));
 }

@@ -27,7 +27,7 @@ fn say<F: Display>(rt: &impl Abort, alloc: Global, faults: &[(F, &str)]) {
 /// Asserts that the fault has this text.
 fn says<F: Display>(rt: &impl Abort, alloc: Global, fault: &F, text: &str) {
     let said = format!(in alloc; "{fault}").unwrap_or_else(|_| String::new(alloc));
-    same(rt, &"a fault", &said.as_str(), &text);
+    same(rt, "a fault", &said.as_str(), &text);
     drop(said);
 }
 
@@ -173,7 +173,7 @@ static TEXTS: [(TextFault, &str); 6] = [
 /// Asserts that the fault of a journal text has this line.
 fn reports(rt: &impl Abort, alloc: Global, fault: TextFault, line: &str) {
     let told = fault.line(alloc).unwrap_or_else(|_| String::new(alloc));
-    same(rt, &"a fault's line", &told.as_str(), &line);
+    same(rt, "a fault's line", &told.as_str(), &line);
     drop(told);
 }
 

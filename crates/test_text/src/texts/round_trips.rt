@@ -29,7 +29,7 @@ static TEXTS: [(&[u8], usize); 2] = [
 fn a_run_is_read_back(rt: HostRuntime) -> Result<(), Fail> {
     for (text, entries) in &TEXTS {
         let found = entries_read_back::<u64>(rt.alloc(), text)?;
-        same(&rt, &"entries", &found, entries);
+        same(&rt, "entries", &found, entries);
     }
     Ok(())
 }
@@ -55,6 +55,6 @@ fn a_run_of_100_000_entries_is_read_back(rt: HostRuntime) -> Result<(), Fail> {
     let text = text_of_calls(rt.alloc(), 100_000)?;
     let found = entries_read_back::<u64>(rt.alloc(), text.as_bytes());
     drop(text);
-    same(&rt, &"entries", &found?, &100_000);
+    same(&rt, "entries", &found?, &100_000);
     Ok(())
 }

@@ -139,7 +139,7 @@ fn is_same<V: Copy + PartialEq + Debug>(
 ) {
     same(
         rt,
-        &name,
+        name,
         &(one.actor, one.stamp, one.call, one.reply, one.patch),
         &(
             other.actor,
@@ -175,12 +175,12 @@ fn compare<V: Copy + PartialEq + Debug>(
     let counts = (counts_of(run), counts_of(again));
     same(
         rt,
-        &name,
+        name,
         &counts,
         &((channels, entries), (channels, entries)),
     );
     let has_specs = specs_of(run) == specs_of(again);
-    same(rt, &name, &has_specs, &true);
+    same(rt, name, &has_specs, &true);
     are_same(rt, name, entries_of(run), entries_of(again));
 }
 
@@ -214,7 +214,7 @@ fn write_and_read<V: Payload + PartialEq + Debug>(
     let (first, text) = written(alloc, run, 4096, None)?;
     let kept = read_and_write(rt, alloc, name, run, entries, &text);
     drop(text);
-    same(rt, &name, &(first.is_ok(), kept?), &(true, true));
+    same(rt, name, &(first.is_ok(), kept?), &(true, true));
     Ok(())
 }
 

@@ -2,7 +2,7 @@
 
 use super::rows::run_of;
 use super::writing::{OLD, SMALL};
-use crate::plain::{length, run_in, salvage_in, same, written};
+use crate::plain::{length, run_in, salvage_in, same, same_at, written};
 use rw_journal::Run;
 use rw_law::Payload;
 use rw_text::TextFault;
@@ -40,8 +40,13 @@ fn held_by_front(n: usize) -> Result<(usize, u64), TextFault> {
 fn a_text_is_cut_at_each_byte(rt: HostRuntime) {
     for n in 0..111 {
         let answer = held_by_front(n);
-        same(&rt, &n, &held::<u64>(rt.alloc(), &SMALL[..n]), &answer);
-        same(&rt, &n, &held::<u64>(rt.alloc(), &OLD[..n]), &answer);
+        same_at(
+            &rt,
+            n as u64,
+            &held::<u64>(rt.alloc(), &SMALL[..n]),
+            &answer,
+        );
+        same_at(&rt, n as u64, &held::<u64>(rt.alloc(), &OLD[..n]), &answer);
     }
 }
 
@@ -111,7 +116,7 @@ fn found_in_damaged(
 fn other_damage_is_answered_as_where_it_is_read(rt: HostRuntime) -> Result<(), Fail> {
     let long = found_in_damaged(rt.alloc(), 83, "#", "", 256)?;
     let told = (Ok((2, 83)), Err(TextFault::Truncated));
-    same(&rt, &"a long line", &long, &told);
+    same(&rt, "a long line", &long, &told);
     for (n, from, to, letters, fault) in &DAMAGES {
         let found = found_in_damaged(rt.alloc(), *n, from, to, *letters)?;
         same(&rt, to, &found, &(Err(*fault), Err(*fault)));
@@ -177,7 +182,7 @@ fn is_kept(
     let read = read_whole::<u64>(alloc, &written);
     let found = (kept, written.strip_suffix(b"end\n"), read);
     let told = (lines.len() as u64, Some(lines), Ok(entries));
-    same(rt, &entries, &found, &told);
+    same_at(rt, entries as u64, &found, &told);
     drop(written);
     Ok(())
 }
@@ -189,7 +194,7 @@ fn is_read_back(rt: &impl Abort, alloc: Global, text: &[u8], opening: usize) -> 
         return is_kept(rt, alloc, text, lines, count - opening);
     }
     let found = held::<u64>(alloc, text);
-    same(rt, &count, &found, &Err(TextFault::Truncated));
+    same_at(rt, count as u64, &found, &Err(TextFault::Truncated));
     Ok(())
 }
 
@@ -213,6 +218,6 @@ fn each_front_of_a_long_text_is_read_back(rt: HostRuntime) -> Result<(), Fail> {
     }
     let (found, length) = (held::<u64>(rt.alloc(), &whole), whole.len() as u64);
     drop(whole);
-    same(&rt, &"the whole text", &found, &Ok((200, length)));
+    same(&rt, "the whole text", &found, &Ok((200, length)));
     Ok(())
 }

@@ -43,7 +43,7 @@ fn is_written(
     (answer, want): (Result<u64, WriteFault>, &[u8]),
 ) -> Result<(), Fail> {
     let (found, bytes) = rewritten::<u64>(alloc, text, most, calls)?;
-    same(rt, &"a text", &(found, bytes.as_slice()), &(answer, want));
+    same(rt, "a text", &(found, bytes.as_slice()), &(answer, want));
     drop(bytes);
     Ok(())
 }

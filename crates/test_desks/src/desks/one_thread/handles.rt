@@ -162,7 +162,7 @@ fn last_clone<R: Wait + Abort>(
 fn has_no_clone<R: Wait + Abort>(rt: &R, desk: &Desk<u64>, pass: &mut Pass<u64>, sender: &BTx) {
     let refused = b_clone_sender(desk, rt, pass, sender);
     let wanted = Ok(Made::Refused(BReply::TooManyHandles));
-    same(rt, &"refused", &refused, &wanted);
+    same(rt, "refused", &refused, &wanted);
 }
 
 /// A sender's clone is dropped.
@@ -218,7 +218,7 @@ fn comes_back<R: Wait + Abort>(rt: &R, open: &mut OfOne, beyond: BTx) {
         Ok(_) => None,
         Err((fault, back)) => Some((fault, back.channel())),
     };
-    same(rt, &"back", &back, &Some((DeskFault::NoChannel, 1)));
+    same(rt, "back", &back, &Some((DeskFault::NoChannel, 1)));
 }
 
 /// A clone of the first channel's sender, its receiver, and the second channel's sender.
