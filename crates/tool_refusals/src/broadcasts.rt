@@ -2,11 +2,9 @@
 
 use crate::callers::{ask_all, ask_drop, say_reply};
 use crate::calls::Calls;
-use crate::desks::{last_hands, new_desk, say_closed};
 use crate::met::Met;
 use rw_broadcast::BCall;
-use rw_world::{ChanCall, Spec};
-use std::alloc::Global;
+use rw_world::ChanCall;
 use std::io;
 use std::sync::Wait;
 
@@ -33,7 +31,7 @@ static BY_RECEIVER: [ChanCall<u64>; 4] = [
 const CALLERS: usize = 11;
 
 /// How many actors there are: those, and two who drop the handles.
-const ACTORS: u32 = 13;
+pub const ACTORS: u32 = 13;
 
 /// Drops the two handles, each by a pass of its own.
 fn drop_both<D: Calls, R: Wait + Print>(
@@ -76,7 +74,7 @@ fn call_each<D: Calls, R: Wait + Print>(
 }
 
 /// Makes all calls by the two handles, and drops them.
-fn play_handles<D: Calls, R: Wait + Print>(
+pub fn play_handles<D: Calls, R: Wait + Print>(
     rt: &R,
     met: &mut Met,
     desk: &D,
@@ -92,38 +90,4 @@ where
     let (calling, dropping) = passes.split_at_mut(CALLERS.min(passes.len()));
     let called = call_each(rt, met, desk, calling, &sender, &receiver);
     called.and(drop_both(rt, met, desk, dropping, sender, receiver))
-}
-
-/// Opens a desk of one broadcast, and plays that.
-fn play_desk<D: Calls + Drop, R: Wait + Print>(
-    rt: &R,
-    alloc: Global,
-    met: &mut Met,
-) -> io::Result<()>
-where
-    D::Pass: Drop,
-    D::Hand: Drop,
-    D::Ends: Drop,
-{
-    let specs = [Spec::Broadcast(2)];
-    let Ok((desk, mut passes, ends)) = new_desk::<D>(alloc, met, &specs, ACTORS) else {
-        return println!(rt; "  no desk");
-    };
-    let played = play_handles(rt, met, &desk, &mut passes, last_hands::<D>(ends));
-    played.and(say_closed(rt, alloc, met, desk, passes))
-}
-
-/// Plays a broadcast of a desk.
-pub fn play<D: Calls + Drop, R: Wait + Print>(
-    rt: &R,
-    alloc: Global,
-    met: &mut Met,
-) -> io::Result<()>
-where
-    D::Pass: Drop,
-    D::Hand: Drop,
-    D::Ends: Drop,
-{
-    println!(rt; "a broadcast of a desk, by its handles")?;
-    play_desk::<D, R>(rt, alloc, met)
 }

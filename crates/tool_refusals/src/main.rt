@@ -9,6 +9,7 @@ ghost use Rattle.std.specs.Prelude.{◌≡◌};
 
 mod books;
 mod broadcasts;
+mod by_handles;
 mod callers;
 mod calls;
 mod desks;
@@ -58,8 +59,7 @@ where
     D::Ends: Drop,
 {
     desks::play::<D, R>(rt, alloc, met)?;
-    broadcasts::play::<D, R>(rt, alloc, met)?;
-    watches::play::<D, R>(rt, alloc, met)
+    by_handles::play::<D, R>(rt, alloc, met)
 }
 
 /// Plays what threads share.

@@ -2,12 +2,11 @@
 
 use crate::callers::{ask, ask_all, ask_drop, say_reply};
 use crate::calls::Calls;
-use crate::desks::{hands_in, last_hands, new_desk, say_closed};
+use crate::desks::{hands_in, last_hands};
 use crate::met::Met;
 use rw_desk::DeskFault;
 use rw_watch::{WCall, WReply};
-use rw_world::{ChanCall, Spec};
-use std::alloc::Global;
+use rw_world::ChanCall;
 use std::io;
 use std::sync::Wait;
 
@@ -46,7 +45,7 @@ static BY_RECEIVER: [ChanCall<u64>; 9] = [
 ];
 
 /// How many actors there are: one for each of these calls, and one who waits for a value.
-const ACTORS: u32 = 19;
+pub const ACTORS: u32 = 19;
 
 /// Waits for a value that is at least this. Values that were read before a refusal stay recorded, and are read again.
 fn wait_for<D: Calls, R: Wait>(
@@ -88,7 +87,7 @@ fn say_wait<D: Calls, R: Wait + Print>(
 }
 
 /// Makes all calls by the two handles, and waits for a value that is there already. The handles are forgotten then.
-fn play_handles<D: Calls, R: Wait + Print>(
+pub fn play_handles<D: Calls, R: Wait + Print>(
     rt: &R,
     met: &mut Met,
     desk: &D,
@@ -148,7 +147,7 @@ where
 }
 
 /// Closes a desk's first watch for its sender, and the second for its receiver.
-fn close_both<D: Calls, R: Wait + Print>(
+pub fn close_both<D: Calls, R: Wait + Print>(
     rt: &R,
     met: &mut Met,
     desk: &D,
@@ -163,59 +162,4 @@ where
     let first = last_hands::<D>(ends);
     let for_sender = close_for_sender(rt, met, desk, passes, first);
     for_sender.and(close_for_receiver(rt, met, desk, passes, second))
-}
-
-/// Plays a watch whose receiver is dropped, and one whose sender is, of one desk.
-fn play_closed<D: Calls + Drop, R: Wait + Print>(
-    rt: &R,
-    alloc: Global,
-    met: &mut Met,
-) -> io::Result<()>
-where
-    D::Pass: Drop,
-    D::Hand: Drop,
-    D::Ends: Drop,
-{
-    let specs = [Spec::Watch(7), Spec::Watch(8)];
-    let Ok((desk, mut passes, ends)) = new_desk::<D>(alloc, met, &specs, 4) else {
-        return println!(rt; "  no desk");
-    };
-    let closed = close_both(rt, met, &desk, &mut passes, ends);
-    closed.and(say_closed(rt, alloc, met, desk, passes))
-}
-
-/// Plays a watch of a desk, by its handles.
-fn play_open<D: Calls + Drop, R: Wait + Print>(
-    rt: &R,
-    alloc: Global,
-    met: &mut Met,
-) -> io::Result<()>
-where
-    D::Pass: Drop,
-    D::Hand: Drop,
-    D::Ends: Drop,
-{
-    let specs = [Spec::Watch(7)];
-    let Ok((desk, mut passes, ends)) = new_desk::<D>(alloc, met, &specs, ACTORS) else {
-        return println!(rt; "  no desk");
-    };
-    let played = play_handles(rt, met, &desk, &mut passes, last_hands::<D>(ends));
-    played.and(say_closed(rt, alloc, met, desk, passes))
-}
-
-/// Plays watches of desks.
-pub fn play<D: Calls + Drop, R: Wait + Print>(
-    rt: &R,
-    alloc: Global,
-    met: &mut Met,
-) -> io::Result<()>
-where
-    D::Pass: Drop,
-    D::Hand: Drop,
-    D::Ends: Drop,
-{
-    println!(rt; "a watch of a desk, by its handles")?;
-    play_open::<D, R>(rt, alloc, met)?;
-    println!(rt; "watches of a desk that close")?;
-    play_closed::<D, R>(rt, alloc, met)
 }
