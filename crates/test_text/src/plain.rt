@@ -29,7 +29,7 @@ pub fn same<T: PartialEq + Debug>(rt: &impl Abort, case: &str, found: &T, told: 
 
 /// The same of a case that has a number.
 pub fn same_at<T: PartialEq + Debug>(rt: &impl Abort, case: u64, found: &T, told: &T) {
-    assert_eq!(rt; found, told, "{case}");
+    same(rt, "case and what is found", &(case, found), &(case, told));
 }
 
 /// Opens a book of a world with these specs.

@@ -104,9 +104,13 @@ fn is_full(rt: &impl Abort, reader: &mut ScriptReader) {
 /// Returns how many steps the script of a reader has.
 fn steps_of(reader: ScriptReader) -> Result<usize, Fail> {
     if reader.lines() > 2_000_000 {
+        drop(reader);
         return Err(Fail::from("too many lines"));
     }
-    Ok(reader.finish()?.steps().len())
+    let script = reader.finish()?;
+    let steps = script.steps().len();
+    drop(script);
+    Ok(steps)
 }
 
 #[test]

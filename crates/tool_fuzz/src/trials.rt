@@ -71,16 +71,23 @@ fn try_commands(alloc: Global, run: &Run<u64>, commands: &[u8]) -> Result<()> {
     }
 }
 
+/// Runs the commands of a text over a run. Returns whether the run is written as this text.
+fn try_run(alloc: Global, run: &Run<u64>, text: &[u8], commands: &[u8]) -> Result<bool> {
+    try_commands(alloc, run, commands)?;
+    let Some(again) = text_of(alloc, run) else {
+        return Ok(false);
+    };
+    Ok(behind_version(&again) == behind_version(text))
+}
+
 /// Tries to read a journal. Returns `false` if it is accepted but isn't written again as its own bytes.
 fn try_journal(alloc: Global, text: &[u8], commands: &[u8], tally: &mut Tally) -> Result<bool> {
     match read(alloc, text) {
         Ok(run) => {
             count(&mut tally.journals_read);
-            try_commands(alloc, &run, commands)?;
-            let Some(again) = text_of(alloc, &run) else {
-                return Ok(false);
-            };
-            Ok(behind_version(&again) == behind_version(text))
+            let tried = try_run(alloc, &run, text, commands);
+            drop(run);
+            tried
         }
         Err(fault) => {
             count_fault(tally, fault)?;
@@ -106,7 +113,9 @@ fn try_salvage(alloc: Global, text: &[u8], tally: &mut Tally) -> Result<bool> {
         Ok((run, bytes)) => {
             count(&mut tally.salvaged);
             let (lines, _) = text.split_at((bytes as usize).min(text.len()));
-            Ok(is_written_as(alloc, &run, lines))
+            let is_written = is_written_as(alloc, &run, lines);
+            drop(run);
+            Ok(is_written)
         }
         Err(TextFault::NoMemory) => bail!("memory was refused"),
         Err(_) => {
@@ -116,11 +125,17 @@ fn try_salvage(alloc: Global, text: &[u8], tally: &mut Tally) -> Result<bool> {
     }
 }
 
+/// Reads a journal, and drops its run.
+fn read_once(alloc: Global, text: &[u8]) -> std::result::Result<(), TextFault> {
+    let run: Run<u64> = read(alloc, text)?;
+    drop(run);
+    Ok(())
+}
+
 /// Checks that the journals that mutations begin with are accepted: refused ones would test little when mutated.
 pub fn try_unchanged(alloc: Global) -> Result<()> {
     for text in JOURNALS {
-        let read: std::result::Result<Run<u64>, TextFault> = read(alloc, text);
-        if let Err(fault) = read {
+        if let Err(fault) = read_once(alloc, text) {
             bail!("a journal to be mutated is refused: {fault}");
         }
     }

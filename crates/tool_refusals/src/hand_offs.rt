@@ -1,6 +1,6 @@
 //! Hand-offs: opened, the book taken, called and given back, two seats that meet, and closed.
 
-ghost use Rattle.std.specs.Prelude.{◌≡◌, ◌∷◌, [], All, IfOk, IfSome};
+ghost use Rattle.std.specs.Prelude.{◌≡◌, ◌∷◌, [], All, IfOk};
 ghost use Rattle.rw_seat.specs.Journals.{Adds};
 
 use crate::met::{Met, TRIES};
@@ -10,9 +10,10 @@ use rw_journal::{Book, Keeps, TakeFault};
 use rw_law::{NoMemory, Payload};
 use rw_seat::{HandOff, HandSeat};
 use rw_world::{Chan, ChanCall, ChanReply, Spec};
-use std::alloc::{AllocError, Global};
+use std::alloc::Global;
 use std::io;
 use std::sync::Wait;
+use support_seats::hand_offs::{last_seat, with_seat};
 
 /// A book of a broadcast. What is played has it as a parameter, so that no proof but those of its one `impl` looks into a book.
 trait Recorded: Keeps {
@@ -81,32 +82,6 @@ fn new_hand_off<B: Recorded + Drop>(alloc: Global, met: &mut Met) -> Result<Open
         }
     }
     Err(NoMemory)
-}
-
-/// The last of a hand-off's seats, taken off.
-fn last_seat<B: Keeps + Drop>(
-    hand_off: &HandOff<B>,
-    seats: &mut Vec<HandSeat<B>>,
-) -> Option<HandSeat<B>>
-    requires { All (λ s. s.home ≡ hand_off.now.home) seats.old.items }
-    ensures seat { IfSome result (λ s. s.home ≡ hand_off.now.home) }
-    ensures rest { All (λ s. s.home ≡ hand_off.now.home) seats.new.items }
-{
-    seats.pop()
-}
-
-/// A hand-off's seats, with one more behind them. There is room for it, since it was among them before.
-fn with_seat<B: Keeps + Drop>(
-    hand_off: &HandOff<B>,
-    mut seats: Vec<HandSeat<B>>,
-    seat: HandSeat<B>,
-) -> Result<Vec<HandSeat<B>>, AllocError>
-    requires seats { All (λ s. s.home ≡ hand_off.now.home) seats.items }
-    requires seat { seat.home ≡ hand_off.now.home }
-    ensures { IfOk result (λ all. All (λ s. s.home ≡ hand_off.now.home) all.items) }
-{
-    seats.push(seat)?;
-    Ok(seats)
 }
 
 /// Sends a value, and asks for it again. At a refusal the book is as before.

@@ -1,6 +1,6 @@
 //! Desks with seats: opened, called, seats that meet, and closed.
 
-ghost use Rattle.std.specs.Prelude.{All, IfOk, IfSome};
+ghost use Rattle.std.specs.Prelude.{All, IfErr, IfOk};
 
 use crate::desks::{ended, say_end};
 use crate::met::{Met, say};
@@ -8,133 +8,14 @@ use crate::readings::SPECS;
 use crate::runs::length_of;
 use rw_broadcast::BCall;
 use rw_desk::{CloseFault, DeskFault, DeskOpenFault};
-use rw_law::Payload;
-use rw_seat::{Answered, DeskSeat, SeatDesk};
+use rw_seat::{Answered, SeatDesk};
 use rw_watch::WCall;
 use rw_world::{ChanCall, OpenFault, Spec};
-use std::alloc::{AllocError, Global};
+use std::alloc::Global;
 use std::fmt::Debug;
 use std::io;
 use std::sync::Wait;
-
-/// What seats make their calls on. What is played has it as a parameter, so that no proof but those of its one `impl` looks into a
-/// desk or a seat. Of a desk's contracts it has that a seat stays the desk's.
-trait Seated {
-    ghost use Rattle.std.specs.Prelude.{All, IfErr, IfOk};
-
-    /// What the calls carry.
-    type Value: Payload;
-
-    /// A seat.
-    type Seat;
-
-    /// Whether a seat is one of its own.
-    ghost owns: { Self → Self.Seat → Type 0 };
-
-    /// A desk with its seats.
-    fn open(
-        alloc: Global,
-        specs: &[Spec<Self::Value>],
-        actors: u32,
-    ) -> Result<(Self, Vec<Self::Seat>), DeskOpenFault>
-        ensures { IfOk result (λ r. All (Self.owns r.0) r.1.items) };
-
-    /// How many receipts a seat has, and its clock.
-    fn held(seat: &Self::Seat) -> (usize, u64);
-
-    /// One call.
-    fn call<R: Wait>(
-        &self,
-        rt: &R,
-        seat: Self::Seat,
-        channel: u32,
-        call: ChanCall<Self::Value>,
-    ) -> (Self::Seat, Result<Answered<Self::Value>, DeskFault>)
-        requires { Self.owns self.now seat }
-        ensures { Self.owns self.now result.0 };
-
-    /// Lets two seats meet on a channel. It allocates nothing.
-    fn meet<R: Wait>(
-        &self,
-        rt: &R,
-        one: Self::Seat,
-        two: Self::Seat,
-        channel: u32,
-    ) -> (Self::Seat, Self::Seat, Option<u64>)
-        requires { Self.owns self.now one × Self.owns self.now two }
-        ensures { Self.owns self.now result.0 × Self.owns self.now result.1 };
-
-    /// Closes a desk, and returns the length of its run. At a fault the desk and the seats are returned.
-    fn close<R: Wait>(
-        self,
-        rt: &R,
-        alloc: Global,
-        seats: Vec<Self::Seat>,
-    ) -> Result<u64, (CloseFault, Self, Vec<Self::Seat>)>
-        requires { All (Self.owns self) seats.items }
-        ensures { IfErr result (λ e. All (Self.owns e.1) e.2.items) };
-}
-
-impl<V: Payload> Seated for SeatDesk<V> {
-    ghost use Rattle.std.specs.Prelude.{All, IfErr};
-    ghost use Rattle.rw_seat.specs.SeatDesks.{IsSeatOf};
-
-    type Value = V;
-
-    type Seat = DeskSeat<V>;
-
-    ghost owns = { IsSeatOf };
-
-    fn open(
-        alloc: Global,
-        specs: &[Spec<V>],
-        actors: u32,
-    ) -> Result<(SeatDesk<V>, Vec<DeskSeat<V>>), DeskOpenFault> {
-        SeatDesk::open(alloc, specs, actors)
-    }
-
-    fn held(seat: &DeskSeat<V>) -> (usize, u64) {
-        (seat.kept().len(), seat.stamp())
-    }
-
-    fn call<R: Wait>(
-        &self,
-        rt: &R,
-        seat: DeskSeat<V>,
-        channel: u32,
-        call: ChanCall<V>,
-    ) -> (DeskSeat<V>, Result<Answered<V>, DeskFault>)
-        requires { IsSeatOf self.now seat }
-        ensures { IsSeatOf self.now result.0 }
-    {
-        SeatDesk::call(self, rt, seat, channel, call)
-    }
-
-    fn meet<R: Wait>(
-        &self,
-        rt: &R,
-        one: DeskSeat<V>,
-        two: DeskSeat<V>,
-        channel: u32,
-    ) -> (DeskSeat<V>, DeskSeat<V>, Option<u64>) {
-        SeatDesk::meet(self, rt, one, two, channel)
-    }
-
-    fn close<R: Wait>(
-        self,
-        rt: &R,
-        alloc: Global,
-        seats: Vec<DeskSeat<V>>,
-    ) -> Result<u64, (CloseFault, SeatDesk<V>, Vec<DeskSeat<V>>)>
-        requires { All (IsSeatOf self) seats.items }
-        ensures { IfErr result (λ e. All (IsSeatOf e.1) e.2.items) }
-    {
-        match SeatDesk::close(self, rt, alloc, seats) {
-            Ok(run) => Ok(length_of(run)),
-            Err(back) => Err(back),
-        }
-    }
-}
+use support_seats::desks::{Seated, last_seat, with_seat};
 
 /// What is called by a seat, each time by the channel's number.
 static CALLS: [(u32, ChanCall<u64>); 6] = [
@@ -166,32 +47,7 @@ where
     }
 }
 
-/// The last of a desk's seats, taken off.
-fn last_seat<D: Seated>(desk: &D, seats: &mut Vec<D::Seat>) -> Option<D::Seat>
-    requires { All (D.owns desk.now) seats.old.items }
-    ensures seat { IfSome result (D.owns desk.now) }
-    ensures rest { All (D.owns desk.now) seats.new.items }
-{
-    seats.pop()
-}
-
-/// A desk's seats, with one more behind them. There is room for it, since it was among them before.
-fn with_seat<D: Seated>(
-    desk: &D,
-    mut seats: Vec<D::Seat>,
-    seat: D::Seat,
-) -> Result<Vec<D::Seat>, AllocError>
-where
-    D::Seat: Drop,
-    requires seats { All (D.owns desk.now) seats.items }
-    requires seat { D.owns desk.now seat }
-    ensures { IfOk result (λ all. All (D.owns desk.now) all.items) }
-{
-    seats.push(seat)?;
-    Ok(seats)
-}
-
-/// Makes a call, with one retry. At a refusal the seat has the receipts and the clock that it had.
+/// Makes a call, with one retry. At a refusal the seat has the clock and the receipts that it had.
 fn ask<D: Seated, R: Wait>(
     rt: &R,
     met: &mut Met,
@@ -203,10 +59,10 @@ fn ask<D: Seated, R: Wait>(
     requires { D.owns desk.now seat }
     ensures { D.owns desk.now result.0 }
 {
-    let before = D::held(&seat);
+    let before = D::known(&seat);
     match desk.call(rt, seat, channel, made) {
         (seat, Err(DeskFault::NoMemory)) => {
-            met.refused(D::held(&seat) == before);
+            met.refused(D::known(&seat) == before);
             desk.call(rt, seat, channel, made)
         }
         answered => answered,
@@ -262,13 +118,29 @@ where
 fn counts_of<D: Seated>(seats: &[D::Seat]) -> (usize, usize) {
     let mut count: usize = 0;
     for seat in seats {
-        let (receipts, _) = D::held(seat);
+        let (_, _, receipts) = D::known(seat);
         count = count.saturating_add(receipts);
     }
     (seats.len(), count)
 }
 
-/// Closes a desk, and returns the length of its run. At a refusal the desk and the seats are returned, and it is closed again.
+/// Closes a desk, and returns the length of its run. At a fault the desk and the seats are returned.
+fn close<D: Seated, R: Wait>(
+    rt: &R,
+    alloc: Global,
+    desk: D,
+    seats: Vec<D::Seat>,
+) -> Result<u64, (CloseFault, D, Vec<D::Seat>)>
+    requires { All (D.owns desk) seats.items }
+    ensures { IfErr result (λ e. All (D.owns e.1) e.2.items) }
+{
+    match desk.close(rt, alloc, seats) {
+        Ok(run) => Ok(length_of(run)),
+        Err(back) => Err(back),
+    }
+}
+
+/// The same. At a refusal of memory it is closed again.
 fn ask_close<D: Seated + Drop, R: Wait>(
     rt: &R,
     alloc: Global,
@@ -281,10 +153,10 @@ where
     requires { All (D.owns desk) seats.items }
 {
     let before = counts_of::<D>(&seats);
-    match desk.close(rt, alloc, seats) {
+    match close(rt, alloc, desk, seats) {
         Err((CloseFault::NoMemory, desk, seats)) => {
             met.refused(counts_of::<D>(&seats) == before);
-            ended(desk.close(rt, alloc, seats))
+            ended(close(rt, alloc, desk, seats))
         }
         closed => ended(closed),
     }

@@ -1,6 +1,6 @@
 //! Hand-offs of a book, without a desk.
 
-ghost use Rattle.std.specs.Prelude.{◌≡◌, ◌<◌, ◌≤◌, All, IfOk, IfSome};
+ghost use Rattle.std.specs.Prelude.{◌≡◌, ◌<◌, ◌≤◌, All, IfOk};
 
 use crate::comparing::same;
 use rw_broadcast::{BCall, BReply};
@@ -11,6 +11,7 @@ use rw_world::{Chan, ChanCall, ChanReply, Spec, open_channel};
 use std::alloc::{AllocError, Global};
 use std::sync::Wait;
 use std::test::Fail;
+use support_seats::hand_offs::{last_seat, with_seat};
 
 /// A book of a broadcast. The tests are generic over it, so that only the proofs of its one `impl` look into a book.
 pub trait Recorded: Keeps {
@@ -72,18 +73,6 @@ pub fn open<B: Recorded + Drop>(
     HandOff::open(alloc, B::open(alloc)?, seats)
 }
 
-/// Pops the last of a hand-off's seats.
-pub fn last_seat<B: Keeps + Drop>(
-    hand_off: &HandOff<B>,
-    seats: &mut Vec<HandSeat<B>>,
-) -> Option<HandSeat<B>>
-    requires { All (λ s. s.home ≡ hand_off.now.home) seats.old.items }
-    ensures seat { IfSome result (λ s. s.home ≡ hand_off.now.home) }
-    ensures rest { All (λ s. s.home ≡ hand_off.now.home) seats.new.items }
-{
-    seats.pop()
-}
-
 /// Pops the last of a hand-off's seats, which has to be seat 0.
 fn seat_zero<B: Keeps + Drop>(
     hand_off: &HandOff<B>,
@@ -115,20 +104,6 @@ pub fn open_two<B: Recorded + Drop>(
     };
     let zero = seat_zero(&hand_off, &mut seats)?;
     Ok((hand_off, zero, one))
-}
-
-/// Pushes one more seat onto a hand-off's seats.
-pub fn with_seat<B: Keeps + Drop>(
-    hand_off: &HandOff<B>,
-    mut seats: Vec<HandSeat<B>>,
-    seat: HandSeat<B>,
-) -> Result<Vec<HandSeat<B>>, AllocError>
-    requires seats { All (λ s. s.home ≡ hand_off.now.home) seats.items }
-    requires seat { seat.home ≡ hand_off.now.home }
-    ensures { IfOk result (λ all. All (λ s. s.home ≡ hand_off.now.home) all.items) }
-{
-    seats.push(seat)?;
-    Ok(seats)
 }
 
 /// Acquires the book with seat 0, sends a value, and releases the book.

@@ -2,7 +2,7 @@
 
 ghost use Rattle.std.specs.Prelude.{All, IfOk};
 
-use super::shared::{Seated, close_all, last_seat, with_seat};
+use super::shared::close_all;
 use crate::comparing::same;
 use rw_broadcast::{BCall, BReply};
 use rw_seat::SeatDesk;
@@ -10,6 +10,7 @@ use rw_world::{ChanCall, ChanReply, Spec};
 use std::alloc::{AllocError, Global};
 use std::sync::Wait;
 use std::test::Fail;
+use support_seats::desks::{Seated, last_seat, with_seat};
 
 /// How many channels and seats a desk has at most.
 const MOST: u32 = 64;

@@ -2,7 +2,7 @@
 
 ghost use Rattle.std.specs.Prelude.{IfOk};
 
-use super::shared::{Seated, close_late, meet_and_close, open_one, open_two};
+use super::shared::{close_late, meet_and_close, open_one, open_two};
 use crate::comparing::same;
 use rw_broadcast::{BCall, BReply};
 use rw_desk::{CloseFault, DeskFault, DeskOpenFault};
@@ -13,6 +13,7 @@ use std::alloc::{AllocError, Global};
 use std::process::Abort;
 use std::sync::Wait;
 use std::test::Fail;
+use support_seats::desks::Seated;
 
 /// The result of a call.
 type Answer<V> = Result<Answered<V>, DeskFault>;

@@ -1,6 +1,6 @@
 //! Seats that make calls in two threads.
 
-use super::shared::{Seated, meet_and_close, open_two};
+use super::shared::{meet_and_close, open_two};
 use crate::comparing::same;
 use rw_broadcast::BCall;
 use rw_seat::SeatDesk;
@@ -10,6 +10,7 @@ use std::sync::Wait;
 use std::test::Fail;
 use std::thread;
 use std::thread::Threads;
+use support_seats::desks::Seated;
 
 /// Sends 100 values by sender 0. Returns the length of the last front, if each is longer than the one before it.
 fn send_hundred<D: Seated<Value = u64>, R: Wait>(

@@ -2,7 +2,7 @@
 
 ghost use Rattle.std.specs.Prelude.{◌≡◌};
 
-use super::hand_offs::{Recorded, close_with, look, open_two, with_seat};
+use super::hand_offs::{Recorded, close_with, look, open_two};
 use crate::comparing::same;
 use rw_journal::Book;
 use rw_seat::{HandOff, HandSeat};
@@ -13,6 +13,7 @@ use std::sync::atomic::{AtomicBool, Ordering};
 use std::test::Fail;
 use std::thread;
 use std::thread::{Threads, yield_now};
+use support_seats::hand_offs::with_seat;
 
 /// How often a flag is looked at: some seconds.
 const MOST_LOOKS: u64 = 10_000_000;

@@ -126,7 +126,9 @@ pub fn handle_limit(alloc: Global) -> Result<Vec<u8>, AllocError> {
 /// Returns the run of a script. It has no contract, so that the tests' proofs stay short.
 pub fn run_of(alloc: Global, script: &[u8]) -> Result<Run<u64>, Fail> {
     let script = Script::read(alloc, script)?;
-    let (run, _) = run_one(alloc, &script)?;
+    let ran = run_one(alloc, &script);
+    drop(script);
+    let (run, _) = ran?;
     Ok(run)
 }
 

@@ -1,5 +1,5 @@
 use Rattle.std.proofs.lemmas.List.Elements.{All-pop}
-use Rattle.test_seats.proofs.seats.shared.last_seat.Goals as goal
+use Rattle.support_seats.proofs.desks.last_seat.Goals as goal
 
 pub returns-clause-seat : goal.returns-clause-seat
 returns-clause-seat g c = (All-pop (g.D.Seated.owns c.args.desk.now) _ _ c.pop.result c.pop.ensures.items c.requires).1

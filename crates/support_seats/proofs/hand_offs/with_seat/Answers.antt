@@ -1,7 +1,7 @@
 use Rattle.std.proofs.Common.{◌≡◌}
 use Rattle.std.proofs.lemmas.List.Elements.{All-push, All-same}
 use Rattle.rw_seat.specs.HandOffs.{HandSeat}
-use Rattle.test_seats.proofs.seats.hand_offs.with_seat.Goals as goal
+use Rattle.support_seats.proofs.hand_offs.with_seat.Goals as goal
 
 pub returns : goal.returns
 returns g c =

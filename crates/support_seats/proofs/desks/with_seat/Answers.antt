@@ -1,5 +1,5 @@
 use Rattle.std.proofs.lemmas.List.Elements.{All-push, All-same}
-use Rattle.test_seats.proofs.seats.shared.with_seat.Goals as goal
+use Rattle.support_seats.proofs.desks.with_seat.Goals as goal
 
 pub returns : goal.returns
 returns g c =

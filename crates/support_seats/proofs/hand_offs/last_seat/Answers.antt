@@ -1,7 +1,7 @@
 use Rattle.std.proofs.Common.{◌≡◌}
 use Rattle.std.proofs.lemmas.List.Elements.{All-pop}
 use Rattle.rw_seat.specs.HandOffs.{HandSeat}
-use Rattle.test_seats.proofs.seats.hand_offs.last_seat.Goals as goal
+use Rattle.support_seats.proofs.hand_offs.last_seat.Goals as goal
 
 pub returns-clause-seat : goal.returns-clause-seat
 returns-clause-seat g c = (All-pop (λ (s : HandSeat g.row.B-Entry.Denot g.row.B-Start.Denot). s.home ≡ c.args.hand_off.now.home) _ _ c.pop.result
