@@ -4,7 +4,7 @@ ghost use Rattle.std.specs.Prelude.{◌<◌, All};
 ghost use Rattle.rw_law.specs.declared.limits.TheConstants.{MOST_ACTORS};
 
 use crate::machines::MUCH;
-use crate::met::{Met, say};
+use crate::met::{Met, say, say_line};
 use crate::readings::{Readings, Shows};
 use rw_journal::{Book, TakeFault};
 use rw_law::NoMemory;
@@ -223,7 +223,7 @@ where
     requires { All (λ call. call.0 < MOST_ACTORS) listed.now }
 {
     let Ok(mut book) = new_book::<B>(alloc, met) else {
-        return println!(rt; "  isn't opened");
+        return say_line(rt, "  isn't opened");
     };
     let played = play_calls(rt, met, &mut book, single, listed);
     drop(book);

@@ -2,7 +2,7 @@
 
 use crate::callers::{ask_all, ask_drop, say_reply};
 use crate::calls::Calls;
-use crate::met::Met;
+use crate::met::{Met, say_line};
 use rw_broadcast::BCall;
 use rw_world::ChanCall;
 use std::io;
@@ -46,7 +46,7 @@ where
     D::Hand: Drop,
 {
     let [first, second] = passes else {
-        return println!(rt; "  not two passes are left");
+        return say_line(rt, "  not two passes are left");
     };
     let received = ask_drop(rt, met, desk, first, receiver);
     let sent = ask_drop(rt, met, desk, second, sender);
@@ -85,7 +85,7 @@ where
     D::Hand: Drop,
 {
     let Some((sender, receiver)) = hands else {
-        return println!(rt; "  no handles");
+        return say_line(rt, "  no handles");
     };
     let (calling, dropping) = passes.split_at_mut(CALLERS.min(passes.len()));
     let called = call_each(rt, met, desk, calling, &sender, &receiver);

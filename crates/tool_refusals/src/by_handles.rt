@@ -2,7 +2,7 @@
 
 use crate::calls::Calls;
 use crate::desks::{last_hands, new_desk, say_closed};
-use crate::met::Met;
+use crate::met::{Met, say_line};
 use crate::{broadcasts, watches};
 use rw_world::Spec;
 use std::alloc::Global;
@@ -76,7 +76,7 @@ where
 {
     let opened = new_desk::<D>(alloc, met, part.specs(), part.actors());
     let Ok((desk, mut passes, ends)) = opened else {
-        return println!(rt; "  no desk");
+        return say_line(rt, "  no desk");
     };
     let played = play_lent(rt, met, &desk, &mut passes, ends, part);
     played.and(say_closed(rt, alloc, met, desk, passes))
@@ -93,10 +93,10 @@ where
     D::Hand: Drop,
     D::Ends: Drop,
 {
-    println!(rt; "a broadcast of a desk, by its handles")?;
+    say_line(rt, "a broadcast of a desk, by its handles")?;
     play_part::<D, R>(rt, alloc, met, Part::Broadcast)?;
-    println!(rt; "a watch of a desk, by its handles")?;
+    say_line(rt, "a watch of a desk, by its handles")?;
     play_part::<D, R>(rt, alloc, met, Part::Watch)?;
-    println!(rt; "watches of a desk that close")?;
+    say_line(rt, "watches of a desk that close")?;
     play_part::<D, R>(rt, alloc, met, Part::Closing)
 }

@@ -2,7 +2,7 @@
 
 use crate::callers::say_call;
 use crate::calls::{At, Calls};
-use crate::met::Met;
+use crate::met::{Met, say_line};
 use crate::readings::SPECS;
 use rw_broadcast::BCall;
 use rw_desk::{CloseFault, DeskOpenFault};
@@ -183,7 +183,7 @@ fn call_all<D: Calls, R: Wait + Print>(
     passes: &mut [D::Pass],
 ) -> io::Result<()> {
     let [first, second] = passes else {
-        return println!(rt; "  not two passes");
+        return say_line(rt, "  not two passes");
     };
     call_broadcast(rt, met, desk, first)?;
     call_both(rt, met, desk, second)?;
@@ -202,7 +202,7 @@ where
     D::Ends: Drop,
 {
     let Ok((desk, mut passes, ends)) = new_desk::<D>(alloc, met, &SPECS, 2) else {
-        return println!(rt; "  isn't opened");
+        return say_line(rt, "  isn't opened");
     };
     drop(ends);
     let called = call_all(rt, met, &desk, &mut passes);
@@ -219,6 +219,6 @@ where
     D::Pass: Drop,
     D::Ends: Drop,
 {
-    println!(rt; "a desk")?;
+    say_line(rt, "a desk")?;
     play_desk::<D, R>(rt, alloc, met)
 }

@@ -3,7 +3,7 @@
 ghost use Rattle.std.specs.Prelude.{◌≡◌, ◌∷◌, [], All, IfOk};
 ghost use Rattle.rw_seat.specs.Journals.{Adds};
 
-use crate::met::{Met, TRIES};
+use crate::met::{Met, TRIES, say_line};
 use crate::passes::{BookReadings, open_book, readings_of};
 use rw_broadcast::BCall;
 use rw_journal::{Book, Keeps, TakeFault};
@@ -227,7 +227,7 @@ fn sent<B: Recorded + Drop, R: Wait>(
 
 /// Plays a hand-off of two seats.
 pub fn play<R: Wait + Print>(rt: &R, alloc: Global, met: &mut Met) -> io::Result<()> {
-    println!(rt; "a hand-off")?;
+    say_line(rt, "a hand-off")?;
     match sent::<Book<Chan<u64>>, _>(rt, alloc, met, 7) {
         Ok((last, length, at_end)) => println!(rt;
             "  {last:?}, then {length} entries\n  not closed without a seat\n  closed with {at_end} entries"

@@ -1,6 +1,6 @@
 //! Tables, rings and channels: opened, made ready, and called.
 
-use crate::met::{Met, TRIES, say};
+use crate::met::{Met, TRIES, say, say_line};
 use crate::readings::Shows;
 use rw_broadcast::{BCall, Broadcast};
 use rw_handles::{Kind, Table};
@@ -80,7 +80,7 @@ where
     M::Reply: Debug,
 {
     let Ok(mut machine) = new_machine::<M>(alloc, met) else {
-        return println!(rt; "  isn't opened");
+        return say_line(rt, "  isn't opened");
     };
     let made = make_all(rt, met, &mut machine, calls);
     drop(machine);
@@ -166,7 +166,7 @@ fn fill_table(rt: &impl Print, met: &mut Met, table: &mut Table<u64>) -> io::Res
 /// Plays a table.
 fn play_table(rt: &impl Print, alloc: Global, met: &mut Met) -> io::Result<()> {
     let Ok(mut table) = new_table(alloc, met) else {
-        return println!(rt; "no table");
+        return say_line(rt, "no table");
     };
     let filled = fill_table(rt, met, &mut table);
     drop(table);
@@ -187,7 +187,7 @@ fn capacity_of_ring(alloc: Global, met: &mut Met) -> Result<u64, NoMemory> {
 fn play_two(rt: &impl Print, alloc: Global, met: &mut Met) -> io::Result<()> {
     match made_by_two(alloc, met) {
         Ok(made) => println!(rt; "a table of two: made {made}"),
-        Err(NoMemory) => println!(rt; "no table of two"),
+        Err(NoMemory) => say_line(rt, "no table of two"),
     }
 }
 
@@ -195,7 +195,7 @@ fn play_two(rt: &impl Print, alloc: Global, met: &mut Met) -> io::Result<()> {
 fn play_ring(rt: &impl Print, alloc: Global, met: &mut Met) -> io::Result<()> {
     match capacity_of_ring(alloc, met) {
         Ok(capacity) => println!(rt; "a ring of {capacity}"),
-        Err(NoMemory) => println!(rt; "no ring"),
+        Err(NoMemory) => say_line(rt, "no ring"),
     }
 }
 
@@ -213,7 +213,7 @@ static ON_BROADCAST: [BCall<u64>; 8] = [
 
 /// Plays a broadcast.
 fn play_broadcast(rt: &impl Print, alloc: Global, met: &mut Met) -> io::Result<()> {
-    println!(rt; "a broadcast")?;
+    say_line(rt, "a broadcast")?;
     play_machine::<Broadcast<u64>>(rt, alloc, met, &ON_BROADCAST)
 }
 
@@ -229,7 +229,7 @@ static ON_WATCH: [WCall<u64>; 6] = [
 
 /// Plays a watch.
 fn play_watch(rt: &impl Print, alloc: Global, met: &mut Met) -> io::Result<()> {
-    println!(rt; "a watch")?;
+    say_line(rt, "a watch")?;
     play_machine::<Watch<u64>>(rt, alloc, met, &ON_WATCH)
 }
 

@@ -41,6 +41,11 @@ impl Met {
     }
 }
 
+/// Prints a line. Here alone it is put together, as below.
+pub fn say_line(rt: &impl Print, line: &str) -> io::Result<()> {
+    println!(rt; "{line}")
+}
+
 /// Prints a result on a line of its own. Here alone its text is put together, since each function that does it has the instance in its
 /// own proof.
 pub fn say<T: Debug>(rt: &impl Print, answer: &T) -> io::Result<()> {

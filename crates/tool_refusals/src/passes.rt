@@ -4,7 +4,7 @@ ghost use Rattle.std.specs.Prelude.{◌≡◌, false, IfOk};
 ghost use Rattle.rw_world.specs.Openings.{has_bad_capacity};
 ghost use Rattle.rw_desk.specs.GuardedBook.{IsOpenedFrom};
 
-use crate::met::{Met, TRIES, say};
+use crate::met::{Met, TRIES, say, say_line};
 use crate::readings::{SPECS, counted};
 use rw_broadcast::BCall;
 use rw_desk::{DeskFault, Pass};
@@ -185,7 +185,7 @@ fn play_pass<V: Copy + Debug>(
     last: ChanCall<V>,
 ) -> io::Result<()> {
     let Ok(mut both) = new_recording(alloc, met, spec) else {
-        return println!(rt; "  no book");
+        return say_line(rt, "  no book");
     };
     let said = say_records(rt, met, &mut both, call, last);
     drop(both);
@@ -199,11 +199,11 @@ fn play_both<V: Copy + Debug>(
     met: &mut Met,
     [broadcast, watch]: &[Spec<V>; 2],
 ) -> io::Result<()> {
-    println!(rt; "a pass on a broadcast")?;
+    say_line(rt, "a pass on a broadcast")?;
     let made = ChanCall::B(BCall::Subscribe(0));
     let waits = ChanCall::B(BCall::Recv(1));
     play_pass(rt, alloc, met, broadcast, made, waits)?;
-    println!(rt; "a pass on a watch")?;
+    say_line(rt, "a pass on a watch")?;
     let made = ChanCall::W(WCall::CloneReceiver(1));
     let waits = ChanCall::W(WCall::Changed(1));
     play_pass(rt, alloc, met, watch, made, waits)

@@ -1,6 +1,6 @@
 //! Runs: built entry by entry, and opened again at their start.
 
-use crate::met::{Met, TRIES};
+use crate::met::{Met, TRIES, say_line};
 use crate::readings::{Readings, SPECS, of_world};
 use rw_broadcast::{BCall, BReply};
 use rw_journal::{PushFault, Run, RunDraft};
@@ -114,7 +114,7 @@ fn say_start<V: Payload>(
 ) -> io::Result<()> {
     match start(alloc, met, run) {
         Ok(world) => println!(rt; "  {:?}", readings_in(world)),
-        Err(NoMemory) => println!(rt; "  isn't started"),
+        Err(NoMemory) => say_line(rt, "  isn't started"),
     }
 }
 
@@ -126,7 +126,7 @@ fn play_run<V: Payload>(
     specs: &[Spec<V>],
 ) -> io::Result<()> {
     let Some(run) = build(alloc, met, specs) else {
-        return println!(rt; "a run isn't built");
+        return say_line(rt, "a run isn't built");
     };
     let said = println!(rt; "a run of {} entries", run.len());
     let started = say_start(rt, alloc, met, &run);

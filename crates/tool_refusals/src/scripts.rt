@@ -1,6 +1,6 @@
 //! Scripts: read whole and line by line, played on a book, and run.
 
-use crate::met::{Met, TRIES};
+use crate::met::{Met, TRIES, say_line};
 use crate::runs::length_of;
 use rw_journal::Run;
 use rw_script::{
@@ -165,7 +165,7 @@ fn steps_of(script: Script) -> usize {
 /// Plays a script that is read whole.
 fn play_whole(rt: &impl Print, alloc: Global, met: &mut Met) -> io::Result<()> {
     let Some(script) = read_script(alloc, met, SCRIPT) else {
-        return println!(rt; "  isn't read");
+        return say_line(rt, "  isn't read");
     };
     let played = play_runs(rt, alloc, met, &script);
     drop(script);
@@ -182,7 +182,7 @@ fn play_lines(rt: &impl Print, alloc: Global, met: &mut Met) -> io::Result<()> {
 
 /// Plays a script that is read whole, and its lines one by one.
 pub fn play(rt: &impl Print, alloc: Global, met: &mut Met) -> io::Result<()> {
-    println!(rt; "a script")?;
+    say_line(rt, "a script")?;
     play_whole(rt, alloc, met)?;
     play_lines(rt, alloc, met)
 }

@@ -3,7 +3,7 @@
 ghost use Rattle.std.specs.Prelude.{All, IfErr, IfOk};
 
 use crate::desks::{ended, say_end};
-use crate::met::{Met, say};
+use crate::met::{Met, say, say_line};
 use crate::readings::SPECS;
 use crate::runs::length_of;
 use rw_broadcast::BCall;
@@ -179,10 +179,10 @@ where
     requires two { D.owns desk two }
 {
     let Ok(seats) = with_seat(&desk, seats, one) else {
-        return println!(rt; "  no room for a seat");
+        return say_line(rt, "  no room for a seat");
     };
     let Ok(seats) = with_seat(&desk, seats, two) else {
-        return println!(rt; "  no room for a seat");
+        return say_line(rt, "  no room for a seat");
     };
     say_end(rt, ask_close(rt, alloc, met, desk, seats))
 }
@@ -200,13 +200,13 @@ where
     D::Value: Debug,
 {
     let Ok((desk, mut seats)) = new_desk::<D>(alloc, met, specs, 2) else {
-        return println!(rt; "  isn't opened");
+        return say_line(rt, "  isn't opened");
     };
     let Some(two) = last_seat(&desk, &mut seats) else {
-        return println!(rt; "  no second seat");
+        return say_line(rt, "  no second seat");
     };
     let Some(one) = last_seat(&desk, &mut seats) else {
-        return println!(rt; "  no first seat");
+        return say_line(rt, "  no first seat");
     };
     let (one, called) = call_all(rt, met, &desk, one, calls);
     let (two, again) = call_again(rt, met, &desk, two, calls, 6);
@@ -217,6 +217,6 @@ where
 
 /// Plays a desk of two seats.
 pub fn play<R: Wait + Print>(rt: &R, alloc: Global, met: &mut Met) -> io::Result<()> {
-    println!(rt; "a desk with seats")?;
+    say_line(rt, "a desk with seats")?;
     play_desk::<SeatDesk<u64>, _>(rt, alloc, met, &SPECS, &CALLS)
 }

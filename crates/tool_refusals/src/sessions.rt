@@ -1,6 +1,6 @@
 //! Sessions over a script, and commands over a run.
 
-use crate::met::Met;
+use crate::met::{Met, say_line};
 use crate::texts::{JOURNAL, read_text};
 use rw_console::{Outcome, SessionFault, debug, session};
 use rw_journal::Run;
@@ -119,7 +119,7 @@ fn ask_debug(
 fn print_written(rt: &impl Print, writer: &FailingWriter) -> io::Result<()> {
     match from_utf8(writer.written()) {
         Ok(text) => print!(rt; "{text}"),
-        Err(_) => println!(rt; "  what was written isn't text"),
+        Err(_) => say_line(rt, "  what was written isn't text"),
     }
 }
 
@@ -134,9 +134,9 @@ fn play_session(rt: &impl Print, alloc: Global, met: &mut Met, input: &[u8]) -> 
 
 /// Plays commands over the run of a journal text.
 fn play_debug(rt: &impl Print, alloc: Global, met: &mut Met) -> io::Result<()> {
-    println!(rt; "commands over a run")?;
+    say_line(rt, "commands over a run")?;
     let Ok(run) = read_text(alloc, met, JOURNAL) else {
-        return println!(rt; "  no run");
+        return say_line(rt, "  no run");
     };
     let (writer, ended) = ask_debug(alloc, met, &run, COMMANDS);
     drop(run);

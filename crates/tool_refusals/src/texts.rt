@@ -1,6 +1,6 @@
 //! Journal texts: read, written, written and read again, and salvaged.
 
-use crate::met::{Met, TRIES};
+use crate::met::{Met, TRIES, say_line};
 use crate::runs::length_of;
 use rw_journal::Run;
 use rw_law::{NoMemory, Payload};
@@ -113,7 +113,7 @@ fn play_again<V: Payload>(
 ) -> io::Result<()> {
     match write_and_read(alloc, met, run) {
         Ok(again) => println!(rt; "  read again: {} entries", length_of(again)),
-        Err(NoMemory) => println!(rt; "  isn't read again"),
+        Err(NoMemory) => say_line(rt, "  isn't read again"),
     }
 }
 
@@ -184,6 +184,6 @@ fn play_both<V: Payload>(
 
 /// Plays a journal text. What is played has the values as a parameter, so that one function alone names them.
 pub fn play(rt: &impl Print, alloc: Global, met: &mut Met) -> io::Result<()> {
-    println!(rt; "a journal text")?;
+    say_line(rt, "a journal text")?;
     play_both::<u64>(rt, alloc, met, JOURNAL)
 }

@@ -4,7 +4,7 @@ ghost use Rattle.std.specs.Prelude.{◌≤◌, ◌^◌, length};
 ghost use Rattle.rw_law.specs.Journal.{IsLegal};
 ghost use Rattle.rw_navigator.specs.declared.places.TheConstants.{MOST_PLACES};
 
-use crate::met::{Met, TRIES};
+use crate::met::{Met, TRIES, say_line};
 use crate::readings::SPECS;
 use crate::runs::build;
 use rw_journal::Run;
@@ -207,7 +207,7 @@ fn say_walk<W: Walker>(
     walker: &mut W,
 ) -> io::Result<()> {
     let Ok(answers) = walk(alloc, met, walker) else {
-        return println!(rt; "  isn't walked");
+        return say_line(rt, "  isn't walked");
     };
     let (place, _) = walker.stands();
     let said = println!(rt; "  {:?}, then place {place}", answers.as_slice());
@@ -224,7 +224,7 @@ fn say_around<W: Walker>(
 ) -> io::Result<()> {
     match around(alloc, met, walker, 20) {
         Ok(around) => println!(rt; "  around place 20: {around:?}"),
-        Err(NoMemory) => println!(rt; "  no index"),
+        Err(NoMemory) => say_line(rt, "  no index"),
     }
 }
 
@@ -257,7 +257,7 @@ fn play_navigator<R: Reversible + Drop, P: Probe<R> + Copy>(
 ) -> io::Result<()> {
     match opened {
         Ok(navigator) => play_walker(rt, alloc, met, Searching { navigator, cond }, looks_up),
-        Err(NoMemory) => println!(rt; "  isn't opened"),
+        Err(NoMemory) => say_line(rt, "  isn't opened"),
     }
 }
 
@@ -286,7 +286,7 @@ fn play_debugger_of<V: Payload>(
             let cond = Cond::Channel(0);
             play_walker(rt, alloc, met, Debugging { debugger, cond }, true)
         }
-        Err(NoMemory) => println!(rt; "  isn't opened"),
+        Err(NoMemory) => say_line(rt, "  isn't opened"),
     }
 }
 
@@ -310,7 +310,7 @@ fn play_built<V: Payload>(
     specs: &[Spec<V>],
 ) -> io::Result<()> {
     let Some(run) = build(alloc, met, specs) else {
-        return println!(rt; "  no run");
+        return say_line(rt, "  no run");
     };
     let played = play_run(rt, alloc, met, &run);
     drop(run);
@@ -319,6 +319,6 @@ fn play_built<V: Payload>(
 
 /// Plays walks.
 pub fn play(rt: &impl Print, alloc: Global, met: &mut Met) -> io::Result<()> {
-    println!(rt; "walks")?;
+    say_line(rt, "walks")?;
     play_built(rt, alloc, met, &SPECS)
 }

@@ -3,7 +3,7 @@
 use crate::callers::{ask, ask_all, ask_drop, say_reply};
 use crate::calls::Calls;
 use crate::desks::{hands_in, last_hands};
-use crate::met::Met;
+use crate::met::{Met, say_line};
 use rw_desk::DeskFault;
 use rw_watch::{WCall, WReply};
 use rw_world::ChanCall;
@@ -82,7 +82,7 @@ fn say_wait<D: Calls, R: Wait + Print>(
 ) -> io::Result<()> {
     match passes {
         [pass] => say_value(rt, &wait_for(rt, met, desk, pass, receiver, 11)),
-        _ => println!(rt; "  not one pass is left"),
+        _ => say_line(rt, "  not one pass is left"),
     }
 }
 
@@ -98,7 +98,7 @@ where
     D::Hand: Drop,
 {
     let Some((sender, receiver)) = hands else {
-        return println!(rt; "  no handles");
+        return say_line(rt, "  no handles");
     };
     let (by_sender, rest) = passes.split_at_mut(BY_SENDER.len().min(passes.len()));
     let (by_receiver, rest) = rest.split_at_mut(BY_RECEIVER.len().min(rest.len()));
@@ -119,7 +119,7 @@ where
     D::Hand: Drop,
 {
     let (Some((sender, receiver)), [first, second, ..]) = (hands, passes) else {
-        return println!(rt; "  no handles or passes");
+        return say_line(rt, "  no handles or passes");
     };
     let dropped = ask_drop(rt, met, desk, first, receiver);
     let awaited = ChanCall::W(WCall::AwaitClosed(0));
@@ -139,7 +139,7 @@ where
     D::Hand: Drop,
 {
     let (Some((sender, receiver)), [.., third, fourth]) = (hands, passes) else {
-        return println!(rt; "  no handles or passes");
+        return say_line(rt, "  no handles or passes");
     };
     let dropped = ask_drop(rt, met, desk, third, sender);
     let closed = wait_for(rt, met, desk, fourth, &receiver, 9);

@@ -5,7 +5,7 @@ ghost use Rattle.rw_law.specs.declared.limits.TheConstants.{MOST_ACTORS};
 
 use crate::books::play_book;
 use crate::machines::play_machine;
-use crate::met::Met;
+use crate::met::{Met, say_line};
 use crate::readings::Shows;
 use rw_broadcast::BCall;
 use rw_journal::Book;
@@ -104,9 +104,9 @@ where
     M::Reply: Debug,
     requires { All (λ call. call.0 < MOST_ACTORS) listed.now }
 {
-    println!(rt; "a world")?;
+    say_line(rt, "a world")?;
     play_machine::<M>(rt, alloc, met, calls)?;
-    println!(rt; "a book")?;
+    say_line(rt, "a book")?;
     play_book::<Book<M>>(rt, alloc, met, single, listed)
 }
 
