@@ -120,11 +120,11 @@ fn a_ledger_makes_the_entries_of_a_book(rt: HostRuntime) -> Result<(), Fail> {
     let (noted, taken) = (note_five(&mut ledger), take_five(&mut book));
     let parts = ledger_parts(rt.alloc(), ledger)?;
     let wanted = book_parts(rt.alloc(), book)?;
-    same(&rt, &"answers", &noted, &taken);
-    same(&rt, &"length and value", &(parts.0, parts.1), &(3, 8));
-    same(&rt, &"entries", &parts.2.as_slice(), &wanted.2.as_slice());
+    same(&rt, "answers", &noted, &taken);
+    same(&rt, "length and value", &(parts.0, parts.1), &(3, 8));
+    same(&rt, "entries", &parts.2.as_slice(), &wanted.2.as_slice());
     let marks: &[Mark] = &[(63, 1, 0), (63, 10, 1), (63, 11, 7)];
-    same(&rt, &"marks", &parts.2.as_slice(), &marks);
-    same(&rt, &"bytes", &size_of::<NotedCall<Call>>(), &32);
+    same(&rt, "marks", &parts.2.as_slice(), &marks);
+    same(&rt, "bytes", &size_of::<NotedCall<Call>>(), &32);
     Ok(())
 }
