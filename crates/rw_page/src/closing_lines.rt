@@ -5,10 +5,9 @@ ghost use Rattle.std.specs.List.{flat_map};
 ghost use Rattle.rw_page.specs.ClosingLines.{IsClosingPage, closing_line, late_line};
 
 use crate::lines::{push_number_or_dash, push_with_number};
-use crate::pages::fault_page;
+use crate::pages::read_run;
 use rw_findings::{Closing, Closings, LateReader, closings_of};
 use rw_law::NoMemory;
-use rw_text::TextFault;
 use std::alloc::{AllocError, Global};
 
 /// Appends the line of a closing.
@@ -57,10 +56,9 @@ fn push_readers(out: &mut Vec<u8>, readers: &[LateReader]) -> Result<(), AllocEr
 pub fn closings_page(alloc: Global, journal: &[u8]) -> Result<Vec<u8>, NoMemory>
     ensures { IfOk result (λ text. IsClosingPage journal.now text.items) }
 {
-    let run = match rw_text::read::<u64>(alloc, journal) {
+    let run = match read_run(alloc, journal)? {
         Ok(run) => run,
-        Err(TextFault::NoMemory) => return Err(NoMemory),
-        Err(fault) => return fault_page(alloc, fault),
+        Err(line) => return Ok(line),
     };
     let Closings { channels, readers } = closings_of(alloc, &run)?;
     let mut text = Vec::new(alloc);

@@ -66,10 +66,7 @@ pub extern "C" fn ttd_debug(
     ensures none { result ≡ 2 → count.new ≡ count.old }
     ensures limit { result < 2 → IsWithin MOST_BYTES (page_of journal.now) commands.now }
 {
-    match debug_page(alloc, journal, commands) {
-        Ok(text) => hand_over(&text, out, count),
-        Err(_) => NO_ANSWER,
-    }
+    hand_over(debug_page(alloc, journal, commands), out, count)
 }
 
 /// Reads a script, a line `---` and commands, and writes the session's output to the start of `out`. Its return values are
@@ -84,10 +81,7 @@ pub extern "C" fn ttd_session(alloc: Global, input: &[u8], out: &mut [u8], count
     ensures none { result ≡ 2 → count.new ≡ count.old }
     ensures limit { result < 2 → IsWithin MOST_BYTES report input.now }
 {
-    match session_page(alloc, input) {
-        Ok(text) => hand_over(&text, out, count),
-        Err(_) => NO_ANSWER,
-    }
+    hand_over(session_page(alloc, input), out, count)
 }
 
 /// Reads a journal text that may have been cut off, and writes to the start of `out` how many bytes its whole lines have, and
@@ -101,10 +95,7 @@ pub extern "C" fn ttd_salvage(alloc: Global, journal: &[u8], out: &mut [u8], cou
     ensures kept { 0 < result → out.new ≡ out.old }
     ensures none { result ≡ 2 → count.new ≡ count.old }
 {
-    match salvage_page(alloc, journal) {
-        Ok(text) => hand_over(&text, out, count),
-        Err(_) => NO_ANSWER,
-    }
+    hand_over(salvage_page(alloc, journal), out, count)
 }
 
 /// Reads a journal text, and writes a line for each loss of its run to the start of `out`. Its return values are those of
@@ -118,10 +109,7 @@ pub extern "C" fn ttd_losses(alloc: Global, journal: &[u8], out: &mut [u8], coun
     ensures kept { 0 < result → out.new ≡ out.old }
     ensures none { result ≡ 2 → count.new ≡ count.old }
 {
-    match losses_page(alloc, journal) {
-        Ok(text) => hand_over(&text, out, count),
-        Err(_) => NO_ANSWER,
-    }
+    hand_over(losses_page(alloc, journal), out, count)
 }
 
 /// Reads a journal text, and writes a line for each receiver of its run with its totals to the start of `out`. Its
@@ -135,10 +123,7 @@ pub extern "C" fn ttd_totals(alloc: Global, journal: &[u8], out: &mut [u8], coun
     ensures kept { 0 < result → out.new ≡ out.old }
     ensures none { result ≡ 2 → count.new ≡ count.old }
 {
-    match totals_page(alloc, journal) {
-        Ok(text) => hand_over(&text, out, count),
-        Err(_) => NO_ANSWER,
-    }
+    hand_over(totals_page(alloc, journal), out, count)
 }
 
 /// Reads a journal text, and writes a line for each closing of its run, and for each receiver that was there then, to the start of `out`. Its
@@ -152,10 +137,7 @@ pub extern "C" fn ttd_closings(alloc: Global, journal: &[u8], out: &mut [u8], co
     ensures kept { 0 < result → out.new ≡ out.old }
     ensures none { result ≡ 2 → count.new ≡ count.old }
 {
-    match closings_page(alloc, journal) {
-        Ok(text) => hand_over(&text, out, count),
-        Err(_) => NO_ANSWER,
-    }
+    hand_over(closings_page(alloc, journal), out, count)
 }
 
 /// The greatest number of stretches that `ttd_levels` accepts.
@@ -193,10 +175,7 @@ pub extern "C" fn ttd_levels(
         each,
         count: stretches,
     };
-    match peaks_page(alloc, journal, cut, channels) {
-        Ok(text) => hand_over(&text, out, count),
-        Err(_) => NO_ANSWER,
-    }
+    hand_over(peaks_page(alloc, journal, cut, channels), out, count)
 }
 
 /// Reads a journal text, and writes a line for each handle of its run to the start of `out`: when and by whom it was made, when it
@@ -210,10 +189,7 @@ pub extern "C" fn ttd_lives(alloc: Global, journal: &[u8], out: &mut [u8], count
     ensures kept { 0 < result → out.new ≡ out.old }
     ensures none { result ≡ 2 → count.new ≡ count.old }
 {
-    match lives_page(alloc, journal) {
-        Ok(text) => hand_over(&text, out, count),
-        Err(_) => NO_ANSWER,
-    }
+    hand_over(lives_page(alloc, journal), out, count)
 }
 
 /// Reads a journal text, and writes a line for each value of a channel of its run to the start of `out`: since when the value is
@@ -233,8 +209,5 @@ pub extern "C" fn ttd_values(
     ensures kept { 0 < result → out.new ≡ out.old }
     ensures none { result ≡ 2 → count.new ≡ count.old }
 {
-    match values_page(alloc, journal, channel) {
-        Ok(text) => hand_over(&text, out, count),
-        Err(_) => NO_ANSWER,
-    }
+    hand_over(values_page(alloc, journal, channel), out, count)
 }

@@ -5,12 +5,11 @@ ghost use Rattle.rw_page.specs.LifeLines.{AreLifeTexts, IsLifePage, IsLifeText, 
 ghost use Rattle.rw_page.specs.PeakLines.{Appended};
 
 use crate::lines::{push_number_or_dash, push_with_number};
-use crate::pages::fault_page;
+use crate::pages::read_run;
 use rw_findings::{Life, lives_of};
 use rw_handles::Kind;
 use rw_journal::Run;
 use rw_law::NoMemory;
-use rw_text::TextFault;
 use std::alloc::{AllocError, Global};
 
 fn kind_word(kind: Kind) -> &'static [u8]
@@ -97,10 +96,9 @@ fn push_channels(alloc: Global, out: &mut Vec<u8>, run: &Run<u64>) -> Result<(),
 pub fn lives_page(alloc: Global, journal: &[u8]) -> Result<Vec<u8>, NoMemory>
     ensures { IfOk result (λ text. IsLifePage journal.now text.items) }
 {
-    let run = match rw_text::read::<u64>(alloc, journal) {
+    let run = match read_run(alloc, journal)? {
         Ok(run) => run,
-        Err(TextFault::NoMemory) => return Err(NoMemory),
-        Err(fault) => return fault_page(alloc, fault),
+        Err(line) => return Ok(line),
     };
     let mut text = Vec::new(alloc);
     push_channels(alloc, &mut text, &run)?;

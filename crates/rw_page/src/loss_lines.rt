@@ -5,10 +5,9 @@ ghost use Rattle.std.specs.List.{flat_map};
 ghost use Rattle.rw_page.specs.LossLines.{IsLossPage, end_words, loss_line};
 
 use crate::lines::push_with_number;
-use crate::pages::fault_page;
+use crate::pages::read_run;
 use rw_findings::{Loss, LossEnd, losses_of};
 use rw_law::NoMemory;
-use rw_text::TextFault;
 use std::alloc::{AllocError, Global};
 
 /// Appends how a loss ended.
@@ -49,10 +48,9 @@ fn push_losses(out: &mut Vec<u8>, losses: &[Loss]) -> Result<(), AllocError>
 pub fn losses_page(alloc: Global, journal: &[u8]) -> Result<Vec<u8>, NoMemory>
     ensures { IfOk result (λ text. IsLossPage journal.now text.items) }
 {
-    let run = match rw_text::read::<u64>(alloc, journal) {
+    let run = match read_run(alloc, journal)? {
         Ok(run) => run,
-        Err(TextFault::NoMemory) => return Err(NoMemory),
-        Err(fault) => return fault_page(alloc, fault),
+        Err(line) => return Ok(line),
     };
     let losses = losses_of(alloc, &run)?;
     let mut text = Vec::new(alloc);

@@ -1,11 +1,14 @@
 //! The debugger over bytes in memory.
 
-ghost use Rattle.std.specs.Prelude.{◌≡◌, ◌≤◌, ◌<◌, ◌↔◌, length, IfOk, OnOk, IsErrOf};
+ghost use Rattle.std.specs.Prelude.{◌≡◌, ◌≤◌, ◌<◌, ◌↔◌, length, IfErr, IfOk, IsErrOf, IsOk, Ok, OnOk};
 ghost use Rattle.rw_console.specs.SessionReport.{report};
-ghost use Rattle.rw_page.specs.Pages.{Holds, IsWithin, Lacks, page_of};
+ghost use Rattle.rw_law.specs.Numbers.{numbers};
+ghost use Rattle.rw_page.specs.Pages.{Holds, IsFaultPage, IsWithin, Lacks, page_of};
 ghost use Rattle.rw_text.specs.Faults.{text_fault_line};
+ghost use Rattle.rw_text.specs.Reading.{reading_of};
 
 use rw_console::{MOST_BYTES, SessionFault, debug, session};
+use rw_journal::Run;
 use rw_law::NoMemory;
 use rw_text::TextFault;
 use std::alloc::Global;
@@ -16,6 +19,18 @@ pub fn fault_page(alloc: Global, fault: TextFault) -> Result<Vec<u8>, NoMemory>
 {
     let line = fault.line(alloc)?;
     Ok(line.into_bytes())
+}
+
+/// Returns the run of a journal text, or else the line of its first fault.
+pub fn read_run(alloc: Global, journal: &[u8]) -> Result<Result<Run<u64>, Vec<u8>>, NoMemory>
+    ensures run { IfOk result (λ read. IfOk read (λ run. reading_of numbers journal.now ≡ Ok run)) }
+    ensures fault { IfOk result (λ read. IfErr read (λ line. IsFaultPage journal.now line.items)) }
+{
+    match rw_text::read::<u64>(alloc, journal) {
+        Ok(run) => Ok(Ok(run)),
+        Err(TextFault::NoMemory) => Err(NoMemory),
+        Err(fault) => Ok(Err(fault_page(alloc, fault)?)),
+    }
 }
 
 /// Returns what the commands write over the run of a journal text, or that text's first fault. Only if more than `MOST_BYTES` bytes
@@ -62,15 +77,19 @@ const TOO_SMALL: u8 = 1;
 /// There is no text.
 pub const NO_ANSWER: u8 = 2;
 
-/// Copies a text to the start of a buffer if it fits, and returns `ANSWERED`. Otherwise the buffer is unchanged, and it returns
-/// `TOO_SMALL`. `count` becomes the text's length.
-pub fn hand_over(text: &Vec<u8>, out: &mut [u8], count: &mut u64) -> u8
-    ensures known { result ≤ 1 }
-    ensures answer { result ≡ 0 → Holds out.new count.new text.now.items }
-    ensures room { result ≡ 1 → Lacks out.new count.new text.now.items }
-    ensures fits { (result ≡ 0) ↔ (length text.now.items ≤ length out.old) }
+/// Copies a page's text to the start of a buffer if it fits, and returns `ANSWERED`. Otherwise the buffer is unchanged, and it
+/// returns `TOO_SMALL`. `count` becomes the text's length. If there is no text, nothing changes, and it returns `NO_ANSWER`.
+pub fn hand_over<E: Drop>(page: Result<Vec<u8>, E>, out: &mut [u8], count: &mut u64) -> u8
+    ensures known { result ≤ 2 }
+    ensures answer { result ≡ 0 → IsOk page × IfOk page (λ text. Holds out.new count.new text.items) }
+    ensures room { result ≡ 1 → IsOk page × IfOk page (λ text. Lacks out.new count.new text.items) }
+    ensures fits { result < 2 → IsOk page × IfOk page (λ text. (result ≡ 0) ↔ (length text.items ≤ length out.old)) }
     ensures kept { 0 < result → out.new ≡ out.old }
+    ensures none { result ≡ 2 → count.new ≡ count.old }
 {
+    let Ok(text) = page else {
+        return NO_ANSWER;
+    };
     let size = text.len();
     *count = size as u64;
     if size > out.len() {

@@ -6,11 +6,10 @@ ghost use Rattle.rw_page.specs.PeakLines.{Appended, AreChannelTexts, IsChannelTe
 ghost use Rattle.rw_page.specs.PeakLines.{measure_word, peak_numbers, row_line, shown_row, shown_rows};
 
 use crate::lines::push_with_number;
-use crate::pages::fault_page;
+use crate::pages::read_run;
 use rw_findings::{Measure, Peaks, Stretches, peaks_of};
 use rw_journal::Run;
 use rw_law::NoMemory;
-use rw_text::TextFault;
 use std::alloc::{AllocError, Global};
 
 fn measure_word(measure: Measure) -> &'static [u8]
@@ -166,10 +165,9 @@ pub fn peaks_page(
 ) -> Result<Vec<u8>, NoMemory>
     ensures { IfOk result (λ text. IsPeakPage journal.now stretches channels.now text.items) }
 {
-    let run = match rw_text::read::<u64>(alloc, journal) {
+    let run = match read_run(alloc, journal)? {
         Ok(run) => run,
-        Err(TextFault::NoMemory) => return Err(NoMemory),
-        Err(fault) => return fault_page(alloc, fault),
+        Err(line) => return Ok(line),
     };
     let mut text = Vec::new(alloc);
     push_channels(alloc, &mut text, &run, stretches, channels)?;

@@ -5,10 +5,9 @@ ghost use Rattle.std.specs.List.{flat_map};
 ghost use Rattle.rw_page.specs.TotalLines.{IsTotalPage, broadcast_line, receiver_words, totals_line, watch_line};
 
 use crate::lines::{push_number_or_dash, push_with_number};
-use crate::pages::fault_page;
+use crate::pages::read_run;
 use rw_findings::{BroadcastCounts, Counts, Totals, WatchCounts, totals_of};
 use rw_law::NoMemory;
-use rw_text::TextFault;
 use std::alloc::{AllocError, Global};
 
 /// Appends a receiver, with the kind of its channel.
@@ -84,10 +83,9 @@ fn push_totals(out: &mut Vec<u8>, totals: &[Totals]) -> Result<(), AllocError>
 pub fn totals_page(alloc: Global, journal: &[u8]) -> Result<Vec<u8>, NoMemory>
     ensures { IfOk result (λ text. IsTotalPage journal.now text.items) }
 {
-    let run = match rw_text::read::<u64>(alloc, journal) {
+    let run = match read_run(alloc, journal)? {
         Ok(run) => run,
-        Err(TextFault::NoMemory) => return Err(NoMemory),
-        Err(fault) => return fault_page(alloc, fault),
+        Err(line) => return Ok(line),
     };
     let totals = totals_of(alloc, &run)?;
     let mut text = Vec::new(alloc);

@@ -4,10 +4,9 @@ ghost use Rattle.std.specs.Prelude.{◌≡◌, ◌++◌, IfOk, OnOk, length};
 ghost use Rattle.rw_page.specs.ValueLines.{IsValuePage, value_line, value_lines};
 
 use crate::lines::{push_number_or_dash, push_with_number};
-use crate::pages::fault_page;
+use crate::pages::read_run;
 use rw_findings::{ChannelValue, values_of};
 use rw_law::NoMemory;
-use rw_text::TextFault;
 use std::alloc::{AllocError, Global};
 
 /// Appends the line of a value.
@@ -46,10 +45,9 @@ fn push_values(
 pub fn values_page(alloc: Global, journal: &[u8], channel: u32) -> Result<Vec<u8>, NoMemory>
     ensures { IfOk result (λ text. IsValuePage journal.now channel text.items) }
 {
-    let run = match rw_text::read::<u64>(alloc, journal) {
+    let run = match read_run(alloc, journal)? {
         Ok(run) => run,
-        Err(TextFault::NoMemory) => return Err(NoMemory),
-        Err(fault) => return fault_page(alloc, fault),
+        Err(line) => return Ok(line),
     };
     let values = values_of(alloc, &run, channel)?;
     let mut text = Vec::new(alloc);
