@@ -14,12 +14,12 @@ pub(super) struct Tried {
 /// The core needs an alignment of 16 bytes at most. Each block begins with 16 bytes for its size, which `std`'s `dealloc` needs.
 const ALIGN: usize = 16;
 
-/// A block that grows to this size is allocated for a whole recording, so that it isn't moved when it grows from then on. What isn't written
-/// needs only addresses. No other block of a channel is as large: room for 65,536 handles is up to 1.5 MiB.
+/// A block that grows to this size is allocated as a whole one, so that it isn't moved when it grows from then on. What isn't written needs
+/// only addresses. No other block of a channel is as large: room for 65,536 handles is up to 1.5 MiB.
 pub(super) const LARGE: usize = 1 << 21;
 
-/// The size of a whole recording: 1,048,576 calls of 32 bytes.
-pub(super) const RECORDING: usize = 1_048_576 * 32;
+/// The size of a whole block: twice that of all calls of a recording, 1,048,576 of 32 bytes. So their text mostly fits too.
+pub(super) const WHOLE: usize = 2 * 1_048_576 * 32;
 
 impl Tried {
     const NO_MEMORY: Tried = Tried {
@@ -155,7 +155,7 @@ pub(super) unsafe extern "C" fn rattle_realloc(
         // SAFETY: `p` is the pointer of a block.
         return unsafe { resized(p, new) };
     }
-    let mut moved = allocate(new.max(RECORDING));
+    let mut moved = allocate(new.max(WHOLE));
     if !moved.ok {
         moved = allocate(new);
     }

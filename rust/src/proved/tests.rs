@@ -1,6 +1,6 @@
 //! Tests of the declarations and the heap alone: what the tests in `tests/` reach late or not at all. `rust/test` runs them under valgrind.
 
-use super::heap::{LARGE, RECORDING, rattle_alloc, rattle_dealloc, rattle_realloc};
+use super::heap::{LARGE, WHOLE, rattle_alloc, rattle_dealloc, rattle_realloc};
 use super::run::{CallFound, Run};
 use super::{CoreChannel, Cut, Found, Held};
 use crate::core::{Actor, Caller};
@@ -176,8 +176,8 @@ fn a_block_keeps_its_bytes_whatever_its_size_becomes() {
         LARGE - 1,
         LARGE,
         LARGE + 1,
-        RECORDING,
-        RECORDING + 1,
+        WHOLE,
+        WHOLE + 1,
         LARGE,
         LARGE - 1,
         100,
