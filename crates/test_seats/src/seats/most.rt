@@ -15,6 +15,9 @@ use support_seats::desks::{Seated, last_seat, with_seat};
 /// How many channels and seats a desk has at most.
 const MOST: u32 = 64;
 
+/// As many channels.
+static SPECS: [Spec<u64>; 64] = [Spec::Broadcast(2); 64];
+
 /// Sends a value on the last channel by each seat, from the last seat to the first. Returns the seats, and how many values were sent.
 fn send_each<D: Seated<Value = u64>, R: Wait>(
     rt: &R,
@@ -64,7 +67,7 @@ where
 #[test]
 fn seat_desk_of_64_channels_and_64_seats(rt: HostRuntime) -> Result<(), Fail> {
     let alloc = rt.alloc();
-    let found = sent::<SeatDesk<u64>, _>(&rt, alloc, &[Spec::Broadcast(2); 64])?;
+    let found = sent::<SeatDesk<u64>, _>(&rt, alloc, &SPECS)?;
     let mut wanted = Vec::new(alloc);
     for before in 0..MOST {
         // Seat 63 was the first, and each stamp is above that of the call before it on the channel.
