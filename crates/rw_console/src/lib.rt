@@ -14,9 +14,11 @@ mod debugging;
 mod entries;
 mod index;
 mod reading;
+mod session_lines;
 mod sessions;
 mod text;
 mod walk;
 
 pub use debugging::debug;
+pub use session_lines::{fault_line, waiting_line};
 pub use sessions::{MOST_BYTES, Outcome, SessionFault, session};

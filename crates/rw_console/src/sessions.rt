@@ -11,6 +11,7 @@ ghost use Rattle.rw_console.specs.Streams.{Answers, Stops};
 
 use crate::console::commands;
 use crate::reading::{SessionScript, read_script};
+use crate::session_lines::{fault_line, waiting_line};
 use crate::walk::Walk;
 pub use rw_lines::StreamFault as SessionFault;
 use rw_lines::put_whole;
@@ -37,7 +38,7 @@ fn refuse<W: Write>(alloc: Global, writer: &mut W, fault: ScriptFault) -> Result
     ensures ok { OnOk result (Appends (W.contents writer.old) (W.contents writer.new) (fault_line fault)) }
     ensures err { IfErr result (StopsWriting (W.contents writer.old) (W.contents writer.new) (fault_line fault)) }
 {
-    let Ok(line) = format!(in alloc; "{fault}\n") else {
+    let Ok(line) = fault_line(alloc, fault) else {
         return Err(SessionFault::NoMemory);
     };
     put_whole(writer, line.as_bytes())
@@ -55,7 +56,7 @@ fn say_waiting<W: Write>(
     let Some(number) = waits else {
         return Ok(());
     };
-    let Ok(line) = format!(in alloc; "would wait {number}\n") else {
+    let Ok(line) = waiting_line(alloc, number) else {
         return Err(SessionFault::NoMemory);
     };
     put_whole(writer, line.as_bytes())

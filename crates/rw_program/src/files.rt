@@ -17,7 +17,7 @@ use crate::reading::{Refusal, read_run, read_salvage, read_script};
 use crate::statuses::{REFUSED_INPUT, WOULD_WAIT};
 use crate::threads::record_by;
 use crate::words::Verb;
-use rw_console::{Outcome, SessionFault, debug};
+use rw_console::{Outcome, SessionFault, debug, fault_line, waiting_line};
 use rw_journal::Run;
 use rw_lines::{flush, put_whole};
 use rw_script::run_one;
@@ -45,7 +45,7 @@ fn tell(alloc: Global, why: Refusal) -> Ended
 {
     match why {
         Refusal::Stream(fault) => Ended::of(Err(fault)),
-        Refusal::Script(fault) => match format!(in alloc; "{fault}\n") {
+        Refusal::Script(fault) => match fault_line(alloc, fault) {
             Ok(line) => Ended::told_by(line, REFUSED_INPUT),
             Err(_) => Ended::of(Err(SessionFault::NoMemory)),
         },
@@ -76,7 +76,7 @@ fn say_waiting(alloc: Global, waits: Option<u64>) -> Ended
     let Some(number) = waits else {
         return Ended::of(Ok(Outcome::Done));
     };
-    match format!(in alloc; "would wait {number}\n") {
+    match waiting_line(alloc, number) {
         Ok(line) => Ended::told_by(line, WOULD_WAIT),
         Err(_) => Ended::of(Err(SessionFault::NoMemory)),
     }
