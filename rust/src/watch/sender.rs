@@ -2,15 +2,14 @@
 
 use super::error::SendError;
 use super::{Receiver, Ref, WatchHandle, channel};
-use crate::channel::{CoreChannel, LockedChannel, call_site};
-use crate::core::Caller;
+use crate::channel::{CallSite, CoreChannel, LockedChannel, call_site};
 use crate::handle::Kind;
 use crate::recorder::{Handle, RecordedHandle, TextOf};
 use crate::replay::{Permit, Word};
 use crate::reply::Reply;
 use crate::wait::{Method, WaitFor};
-use crate::wakers::Wakers;
 use std::future::Future;
+use std::sync::RwLockWriteGuard;
 use std::{fmt, mem, panic};
 
 /// The sending half of a watch channel.
@@ -87,42 +86,60 @@ impl<T> Sender<T> {
     /// ```
     #[track_caller]
     pub fn send(&self, value: T) -> Result<(), SendError<T>> {
-        let mut text = self.handle.channel.text(&value);
-        let mut permit = self.handle.pass(Word::Send, call_site());
-        let lock = &self.handle.channel.values;
-        let mut stored = match lock.try_write() {
-            Some(stored) => stored,
-            // The value is locked, perhaps by this thread. Without receivers the send changes nothing, so it doesn't wait.
-            None if self.send_is_refused(&mut text, &mut permit) => return Err(SendError(value)),
-            None => lock.write(),
-        };
-        let mut channel = self.handle.lock_with(permit, call_site());
-        let (_, reply) = channel.send(text, CoreChannel::watch_send);
-        if matches!(reply, Reply::NoReceivers(_)) {
-            return Err(SendError(value));
+        match self.handle.channel.text(&value) {
+            None => self.send_with(value, None, call_site()),
+            Some(text) => self.send_with_text(value, text, call_site()),
         }
-        let wakers = channel.remove_wakers(WaitFor::Value);
-        drop(channel);
-        let before = mem::replace(&mut *stored, value);
-        drop(stored);
-        wakers.wake();
-        drop(before);
-        Ok(())
     }
 
-    /// If there is no receiver, makes the send, which is then refused, and returns `true`. The check and the send are under one lock.
+    /// Sends a value that has a text. It is apart, so that what is sent without one carries nothing of it.
     #[cold]
-    #[track_caller]
-    fn send_is_refused<'a>(&'a self, text: &mut Option<String>, permit: &mut Permit<'a>) -> bool {
-        let turn = permit.take();
-        let mut channel = self.handle.lock_with(turn, call_site());
-        if channel.core().receivers() > 0 {
-            *permit = channel.into_permit();
-            return false;
+    fn send_with_text(
+        &self,
+        value: T,
+        text: String,
+        called_at: CallSite,
+    ) -> Result<(), SendError<T>> {
+        self.send_with(value, Some(text), called_at)
+    }
+
+    /// Sends a value, given its text if it has one.
+    #[inline(always)]
+    fn send_with(
+        &self,
+        value: T,
+        text: Option<String>,
+        called_at: CallSite,
+    ) -> Result<(), SendError<T>> {
+        let permit = self.handle.pass(Word::Send, called_at);
+        match self.handle.channel.values.try_write() {
+            Some(stored) => {
+                let channel = self.handle.lock_with(permit, called_at);
+                send_to(stored, channel, value, text)
+            }
+            None => self.send_to_locked(value, text, permit, called_at),
         }
-        let (_, reply) = channel.send(text.take(), CoreChannel::watch_send);
-        assert!(matches!(reply, Reply::NoReceivers(_)), "{reply:?}");
-        true
+    }
+
+    /// Sends a value while the one before is locked, perhaps by this thread. Without receivers the send changes nothing, so it doesn't wait.
+    #[cold]
+    fn send_to_locked<'a>(
+        &'a self,
+        value: T,
+        text: Option<String>,
+        permit: Permit<'a>,
+        called_at: CallSite,
+    ) -> Result<(), SendError<T>> {
+        let mut channel = self.handle.lock_with(permit, called_at);
+        if channel.core().receivers() == 0 {
+            let (_, reply) = channel.send(text, CoreChannel::watch_send);
+            assert!(matches!(reply, Reply::NoReceivers(_)), "{reply:?}");
+            return Err(SendError(value));
+        }
+        let permit = channel.into_permit();
+        let stored = self.handle.channel.values.write();
+        let channel = self.handle.lock_with(permit, called_at);
+        send_to(stored, channel, value, text)
     }
 
     /// Changes the value where it is stored, and notifies all receivers.
@@ -216,12 +233,15 @@ impl<T> Sender<T> {
             Ok(text) => (text, None),
             Err(panicked) => (None, Some(panicked)),
         };
-        let channel = self.handle.lock_at(Word::Modify, called_at);
-        let wakers = make_send(channel, text, notify, |core, caller, sender, number| {
+        let mut channel = self.handle.lock_at(Word::Modify, called_at);
+        channel.send(text, |core, caller, sender, number| {
             core.watch_modify(caller, notify, sender, number)
         });
         drop(value);
-        wakers.wake();
+        match notify {
+            true => channel.unlock_and_wake(WaitFor::Value),
+            false => drop(channel),
+        }
         match (result, text_panic) {
             (Err(panicked), _) | (Ok(_), Some(panicked)) => panic::resume_unwind(panicked),
             (Ok(is_modified), None) => is_modified,
@@ -249,11 +269,11 @@ impl<T> Sender<T> {
         let (word, called_at) = (Word::SendReplace, call_site());
         let permit = self.handle.pass(word, called_at);
         let mut stored = self.handle.channel.values.write();
-        let channel = self.handle.lock_with(permit, called_at);
-        let wakers = make_send(channel, text, true, CoreChannel::watch_send_replace);
+        let mut channel = self.handle.lock_with(permit, called_at);
+        channel.send(text, CoreChannel::watch_send_replace);
         let before = mem::replace(&mut *stored, value);
         drop(stored);
-        wakers.wake();
+        channel.unlock_and_wake(WaitFor::Value);
         before
     }
 
@@ -418,19 +438,24 @@ impl<T> Sender<T> {
     }
 }
 
-/// Makes a call with a new value. Returns the receivers that wait for one, if they are notified. They are to be woken once the value is stored
-/// and no lock is held, since a waker may look at it.
-fn make_send(
+/// Makes the call that sends a value, and stores the value if there is a receiver.
+#[inline(always)]
+fn send_to<T>(
+    mut stored: RwLockWriteGuard<'_, T>,
     mut channel: LockedChannel<'_>,
+    value: T,
     text: Option<String>,
-    notify: bool,
-    call: impl Fn(&mut CoreChannel, Caller, u32, u64) -> Reply,
-) -> Wakers {
-    channel.send(text, call);
-    match notify {
-        true => channel.remove_wakers(WaitFor::Value),
-        false => Wakers::default(),
+) -> Result<(), SendError<T>> {
+    let (_, reply) = channel.send(text, CoreChannel::watch_send);
+    if matches!(reply, Reply::NoReceivers(_)) {
+        return Err(SendError(value));
     }
+    let before = mem::replace(&mut *stored, value);
+    // A waker may look at the value, so it is unlocked before those who wait for it are woken.
+    drop(stored);
+    channel.unlock_and_wake(WaitFor::Value);
+    drop(before);
+    Ok(())
 }
 
 impl<T> Clone for Sender<T> {
