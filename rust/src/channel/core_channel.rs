@@ -319,7 +319,7 @@ macro_rules! calls_of_all_machines {
         impl CoreChannel {
             $(#[inline]
             pub(crate) fn $method(&mut self, caller: Caller, sender: u32, $($arg: $type),*) -> Reply {
-                self.call_all(sender, |core, sender| core.$method(caller, sender, $($arg),*), $fold)
+                self.call_all(sender, move |core, sender| core.$method(caller, sender, $($arg),*), $fold)
             })*
         }
     };

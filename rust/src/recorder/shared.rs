@@ -147,7 +147,7 @@ impl Shared {
     /// Returns the actor of a call that is made here in the source.
     #[inline]
     pub(crate) fn actor(&self, called_at: CallSite) -> Actor {
-        actors::current(self.id, |task| self.find_actor(task, called_at))
+        actors::current(self.id, move |task| self.find_actor(task, called_at))
     }
 
     #[cold]
