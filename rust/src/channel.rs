@@ -74,6 +74,12 @@ impl<T, S> Channel<T, S> {
         }
     }
 
+    /// Whether the channel has a function for the texts of values.
+    #[inline]
+    pub(crate) fn has_text_of(&self) -> bool {
+        self.text_of.get().is_some()
+    }
+
     /// Returns the text of a value, if the channel has a function for it.
     #[inline]
     pub(crate) fn text(&self, value: &T) -> Option<String> {

@@ -95,17 +95,18 @@ impl<T> Sender<T> {
     /// ```
     #[track_caller]
     pub fn send(&self, value: T) -> Result<usize, SendError<T>> {
-        match self.handle.channel.text(&value) {
-            None => self.send_with(value, None),
-            Some(text) => self.send_with_text(value, text),
+        match self.handle.channel.has_text_of() {
+            true => self.send_with_text(value),
+            false => self.send_with(value, None),
         }
     }
 
-    /// Sends a value that has a text. It is apart, so that what is sent without one carries nothing of it.
+    /// Sends a value with its text. It is apart, so that what is sent without one carries nothing of it.
     #[cold]
     #[track_caller]
-    fn send_with_text(&self, value: T, text: String) -> Result<usize, SendError<T>> {
-        self.send_with(value, Some(text))
+    fn send_with_text(&self, value: T) -> Result<usize, SendError<T>> {
+        let text = self.handle.channel.text(&value);
+        self.send_with(value, text)
     }
 
     /// Sends a value, given its text if it has one.

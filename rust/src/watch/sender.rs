@@ -86,21 +86,17 @@ impl<T> Sender<T> {
     /// ```
     #[track_caller]
     pub fn send(&self, value: T) -> Result<(), SendError<T>> {
-        match self.handle.channel.text(&value) {
-            None => self.send_with(value, None, call_site()),
-            Some(text) => self.send_with_text(value, text, call_site()),
+        match self.handle.channel.has_text_of() {
+            true => self.send_with_text(value, call_site()),
+            false => self.send_with(value, None, call_site()),
         }
     }
 
-    /// Sends a value that has a text. It is apart, so that what is sent without one carries nothing of it.
+    /// Sends a value with its text. It is apart, so that what is sent without one carries nothing of it.
     #[cold]
-    fn send_with_text(
-        &self,
-        value: T,
-        text: String,
-        called_at: CallSite,
-    ) -> Result<(), SendError<T>> {
-        self.send_with(value, Some(text), called_at)
+    fn send_with_text(&self, value: T, called_at: CallSite) -> Result<(), SendError<T>> {
+        let text = self.handle.channel.text(&value);
+        self.send_with(value, text, called_at)
     }
 
     /// Sends a value, given its text if it has one.
