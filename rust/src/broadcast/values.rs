@@ -91,8 +91,7 @@ impl<T> Values<T> {
     /// Returns the value with this number, for a receiver that has yet to receive it.
     #[inline(always)]
     pub(super) fn receive(&mut self, number: u64) -> Value<T> {
-        let index = self.index_of(number);
-        let value = self.slots[index].receive();
+        let value = self.slot_of(number).receive();
         value.expect("a value that a receiver has yet to get")
     }
 
@@ -102,24 +101,27 @@ impl<T> Values<T> {
         (self.first + age) & (self.capacity - 1)
     }
 
-    /// Returns the index of the value with this number. Numbers rise by one, or by more where sends failed in between.
+    /// Returns the slot of the value with this number. Numbers rise by one, or by more where sends failed in between.
     #[inline]
-    fn index_of(&self, number: u64) -> usize {
+    fn slot_of(&mut self, number: u64) -> &mut Slot<T> {
         let oldest = self.slots[self.first].number;
         let guess = self.index_at((number - oldest) as usize);
         match self.slots.get(guess) {
-            Some(slot) if slot.number == number => guess,
+            Some(slot) if slot.number == number => &mut self.slots[guess],
             _ => self.search(number),
         }
     }
 
-    /// Finds the index of the value with this number by binary search.
+    /// Finds the slot of the value with this number by binary search.
     #[cold]
-    fn search(&self, number: u64) -> usize {
-        let (newer, older) = self.slots.split_at(self.first);
+    fn search(&mut self, number: u64) -> &mut Slot<T> {
+        let (newer, older) = self.slots.split_at_mut(self.first);
         match older.binary_search_by_key(&number, |slot| slot.number) {
-            Ok(index) => self.first + index,
-            Err(_) => newer.partition_point(|slot| slot.number < number),
+            Ok(index) => &mut older[index],
+            Err(_) => {
+                let index = newer.partition_point(|slot| slot.number < number);
+                &mut newer[index]
+            }
         }
     }
 
@@ -154,7 +156,7 @@ mod tests {
             let expected = sent.checked_sub(4).map(|before| SENT[before] * 10);
             assert_eq!(overwritten, expected, "at {number}");
             for retained in &SENT[sent.saturating_sub(3)..=sent] {
-                assert_eq!(values.slots[values.index_of(*retained)].number, *retained);
+                assert_eq!(values.slot_of(*retained).number, *retained);
             }
         }
     }
