@@ -17,13 +17,9 @@ impl<T: Clone> Value<T> {
     pub(super) fn cloned(self) -> T {
         match self {
             Value::Own(value) => value.clone(),
-            Value::Shared(value) => clone_of_shared(value),
+            Value::Shared(value) => value.with(T::clone),
         }
     }
-}
-
-fn clone_of_shared<T: Clone>(value: Arc<Reentrant<T>>) -> T {
-    value.with(T::clone)
 }
 
 /// The values that a receiver may still receive.
