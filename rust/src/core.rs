@@ -2,9 +2,9 @@
 //! and a plain one in safe Rust. `build.rs` chooses: the proved one where an archive fits the target. Tests compare them call by call.
 
 #[cfg(not(proved_core))]
-pub(crate) use crate::plain::{CoreChannel, Cut, calls_of, findings_of};
+pub(crate) use crate::plain::{CoreChannel, Cut, ask_for_large_pages, calls_of, findings_of};
 #[cfg(proved_core)]
-pub(crate) use crate::proved::{CoreChannel, Cut, calls_of, findings_of};
+pub(crate) use crate::proved::{CoreChannel, Cut, ask_for_large_pages, calls_of, findings_of};
 
 use std::fmt;
 

@@ -15,6 +15,7 @@ mod run;
 mod tests;
 
 pub(crate) use findings::findings_of;
+pub(crate) use heap::ask_for_large_pages;
 pub(crate) use run::calls_of;
 
 use crate::core::{Caller, CutFault, OpenFault};

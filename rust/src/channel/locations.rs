@@ -1,5 +1,6 @@
 //! Where the calls of a channel were made.
 
+use crate::core::ask_for_large_pages;
 use std::mem;
 use std::panic::Location;
 
@@ -15,6 +16,12 @@ pub(crate) fn call_site() -> CallSite {
 
 /// How many call sites a block has. It has 32 KiB.
 const BLOCK: usize = 4096;
+
+/// How many blocks there are of that size. The one after them has room for the rest of a recording.
+const SMALL_BLOCKS: usize = 16;
+
+/// How many call sites that block has room for: as many as a recording has calls. What isn't written needs only addresses.
+const LARGE_BLOCK: usize = 1_048_576;
 
 /// A list of call sites. It grows by blocks, so what is in a whole block is never copied.
 #[derive(Default)]
@@ -37,11 +44,21 @@ impl CallSites {
         match self.last.capacity() {
             0 => self.last.reserve_exact(16),
             BLOCK.. => {
-                let block = mem::replace(&mut self.last, Vec::with_capacity(BLOCK));
-                self.whole.push(block);
+                let next = self.next_block();
+                self.whole.push(mem::replace(&mut self.last, next));
             }
             some => self.last.reserve_exact(some),
         }
+    }
+
+    /// Allocates the block after the last one. Where there are many calls it asks for large pages, since else each 512th call is a page fault.
+    fn next_block(&self) -> Vec<CallSite> {
+        if self.whole.len() + 1 < SMALL_BLOCKS {
+            return Vec::with_capacity(BLOCK);
+        }
+        let mut block = Vec::with_capacity(LARGE_BLOCK);
+        ask_for_large_pages(block.spare_capacity_mut());
+        block
     }
 
     /// Removes the call site that was added last.
@@ -86,5 +103,17 @@ mod tests {
         let wanted = (0..3 * BLOCK + 7).map(site_of);
         assert!(sites.iter().copied().eq(wanted));
         assert_eq!((sites.whole.len(), sites.last.capacity()), (3, BLOCK));
+    }
+
+    #[test]
+    fn a_long_list_is_in_order() {
+        const COUNT: usize = (SMALL_BLOCKS + 1) * BLOCK;
+        let site = call_site();
+        let site_of = |number: usize| site.filter(|_| number % 7 == 0);
+        let mut sites = CallSites::default();
+        (0..COUNT).for_each(|number| sites.push(site_of(number)));
+        assert_eq!(sites.len(), COUNT);
+        assert!(sites.iter().copied().eq((0..COUNT).map(site_of)));
+        assert_eq!((sites.whole.len(), sites.last.len()), (SMALL_BLOCKS, BLOCK));
     }
 }

@@ -2,6 +2,7 @@
 
 use std::alloc::{Layout, alloc, dealloc, realloc};
 use std::arch::global_asm;
+use std::mem::MaybeUninit;
 use std::ptr;
 
 /// The result of an allocation: whether there is memory, and its address.
@@ -43,7 +44,7 @@ fn allocate(size: usize) -> Tried {
         return Tried::NO_MEMORY;
     }
     if size >= LARGE {
-        ask_for_large_pages(block, size);
+        back_by_large_pages(block, size);
     }
     // SAFETY: the block begins with 16 bytes for its size, and its alignment is 16.
     unsafe {
@@ -55,9 +56,12 @@ fn allocate(size: usize) -> Tried {
     }
 }
 
-/// Asks the system to back a new block by large pages, so that the first write to each 4 KiB of it isn't a page fault. This affects only
-/// speed.
-fn ask_for_large_pages(block: *mut u8, size: usize) {
+/// Asks the system to back room by large pages, so that the first write to each 4 KiB of it isn't a page fault. This affects only speed.
+pub(crate) fn ask_for_large_pages<T>(room: &mut [MaybeUninit<T>]) {
+    back_by_large_pages(room.as_mut_ptr().cast(), size_of_val(room));
+}
+
+fn back_by_large_pages(block: *mut u8, size: usize) {
     unsafe extern "C" {
         fn madvise(addr: *mut u8, len: usize, advice: i32) -> i32;
     }
