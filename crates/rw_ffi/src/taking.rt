@@ -11,6 +11,7 @@ use std::alloc::Global;
 use std::mem;
 
 /// Makes a call of the channel that is held. Until recording ends, the call is recorded, unless it would wait.
+#[inline(always)]
 pub fn take(alloc: Global, held: &mut Held, actor: u32, clock: u64, call: ChanCall<u64>) -> Answer
     requires held { IsSome held.old.value }
     requires actor { actor < MOST_ACTORS }

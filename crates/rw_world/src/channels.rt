@@ -181,6 +181,7 @@ impl<V: Copy> Reversible for Chan<V> {
         }
     }
 
+    #[inline(always)]
     fn apply(&mut self, call: &ChanCall<V>) -> (ChanReply<V>, ChanPatch<V>) {
         match (self, call) {
             (Chan::Broadcast(machine), ChanCall::B(call)) => {

@@ -70,6 +70,7 @@ impl<V: Copy> Reversible for Broadcast<V> {
 
     /// Makes a call, as documented. For every record that shows what this machine shows, the reply is that of the record's
     /// step, and the machine shows what the record shows after its step.
+    #[inline(always)]
     fn apply(&mut self, call: &BCall<V>) -> (BReply<V>, BPatch<V>)
         requires { weight self.old.shown < self.old.limit }
         ensures view { self.new.shown ≡ next self.old.shown call.now }

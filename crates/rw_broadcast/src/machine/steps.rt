@@ -124,6 +124,7 @@ impl<V: Copy> Broadcast<V> {
     }
 
     /// Makes a call with the live handle that was found.
+    #[inline(always)]
     fn perform(&mut self, call: &BCall<V>, kind: Kind, position: u64) -> (BReply<V>, BPatch<V>)
         requires room { weight self.old.shown < self.old.limit }
         requires found { lookup (wanted_kind call.now) self.old.shown.slots (handle_of call.now) ≡ Handle kind position }
@@ -149,6 +150,7 @@ impl<V: Copy> Broadcast<V> {
     }
 
     /// Makes a call, after checks of its handle and of the number of handles.
+    #[inline(always)]
     pub(super) fn step(&mut self, call: &BCall<V>) -> (BReply<V>, BPatch<V>)
         requires { weight self.old.shown < self.old.limit }
         ensures taken { Takes self.old self.new result (effect (channel_of self.old.shown) call.now) }

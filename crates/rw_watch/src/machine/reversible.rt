@@ -69,6 +69,7 @@ impl<V: Copy> Reversible for Watch<V> {
 
     /// Makes a call, as documented. For every record that shows what this machine shows, the reply is that of the record's
     /// step, and the machine shows what the record shows after its step.
+    #[inline(always)]
     fn apply(&mut self, call: &WCall<V>) -> (WReply<V>, WPatch<V>)
         requires { weight self.old.shown < self.old.limit }
         ensures view { self.new.shown ≡ next self.old.shown call.now }

@@ -151,6 +151,7 @@ impl<V: Copy> Watch<V> {
     }
 
     /// Makes a call with the live handle that was found.
+    #[inline(always)]
     fn perform(&mut self, call: &WCall<V>, kind: Kind, mark: Option<u64>) -> (WReply<V>, WPatch<V>)
         requires room { weight self.old.shown < self.old.limit }
         requires found { lookup (wanted_kind call.now) self.old.shown.slots (handle_of call.now) ≡ Handle kind mark }
@@ -178,6 +179,7 @@ impl<V: Copy> Watch<V> {
     }
 
     /// Makes a call, after checks of its handle and of the number of handles.
+    #[inline(always)]
     pub(super) fn step(&mut self, call: &WCall<V>) -> (WReply<V>, WPatch<V>)
         requires { weight self.old.shown < self.old.limit }
         ensures { Takes self.old self.new result (effect self.old.shown call.now) }
