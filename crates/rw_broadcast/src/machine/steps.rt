@@ -42,6 +42,7 @@ impl<V: Copy> Broadcast<V> {
     }
 
     /// Moves a receiver from one position to another.
+    #[inline(always)]
     fn move_receiver(
         &mut self,
         handle: u32,
@@ -67,6 +68,7 @@ impl<V: Copy> Broadcast<V> {
     }
 
     /// Sends a value, if there is a receiver.
+    #[inline(always)]
     fn send(&mut self, value: V) -> (BReply<V>, BPatch<V>)
         requires { weight self.old.shown < self.old.limit }
         ensures { Takes self.old self.new result (send (channel_of self.old.shown) value) }
@@ -80,6 +82,7 @@ impl<V: Copy> Broadcast<V> {
     }
 
     /// Receives the value at a receiver's position, if there is one.
+    #[inline(always)]
     fn read(&mut self, handle: u32, position: u64, nothing: BReply<V>) -> (BReply<V>, BPatch<V>)
         requires here { slice_get self.old.shown.slots handle ≡ Some (Live Receiver position) }
         requires retained { oldest (channel_of self.old.shown) ≤ position }
@@ -98,6 +101,7 @@ impl<V: Copy> Broadcast<V> {
     }
 
     /// Receives a receiver's next value, or reports its lag. `nothing` is the reply where there is no value yet.
+    #[inline(always)]
     fn receive(&mut self, handle: u32, position: u64, nothing: BReply<V>) -> (BReply<V>, BPatch<V>)
         requires { slice_get self.old.shown.slots handle ≡ Some (Live Receiver position) }
         ensures { Takes self.old self.new result (receive (channel_of self.old.shown) handle position nothing) }
