@@ -48,6 +48,17 @@ fn empty(calls: u64) -> Timed {
     })
 }
 
+fn subscribe_and_drop(calls: u64) -> Timed {
+    let (tx, _rx) = broadcast::channel::<u64>(1024);
+    // A journal names no more handles of a channel.
+    let rounds = (calls / 2).min(65_000);
+    timed(rounds * 2, || {
+        for _ in 0..rounds {
+            drop(black_box(tx.subscribe()));
+        }
+    })
+}
+
 fn watch_pairs(calls: u64) -> Timed {
     let (tx, mut rx) = watch::channel(0);
     timed(calls / 2 * 2, || {
@@ -136,17 +147,18 @@ fn main() {
         .collect();
     let calls = numbers.first().copied().unwrap_or(1_000_000).min(1_048_000);
     let repeats = numbers.get(1).copied().unwrap_or(5);
-    let cases: [Case; 7] = [
+    let cases: [Case; 8] = [
         ("broadcast-1024-pairs-1rx", |calls| pairs(calls, 1)),
         ("broadcast-1024-pairs-8rx", |calls| pairs(calls, 8)),
         ("broadcast-2-overrun", overrun),
         ("broadcast-1024-empty", empty),
+        ("broadcast-1024-subscribe-drop", subscribe_and_drop),
         ("watch-pairs-1rx", watch_pairs),
         ("2t-broadcast-16-ping", ping),
         ("2t-own-channels-pairs", two_threads),
     ];
     println!(
-        "{:28} {:>9} {:>9} {:>10} {:>13} {:>9}",
+        "{:30} {:>9} {:>9} {:>10} {:>13} {:>9}",
         "case", "calls", "least ns", "median ns", "save ns/call", "bytes"
     );
     for (name, case) in cases {
@@ -155,7 +167,7 @@ fn main() {
         runs.sort_by(|a, b| a.call.total_cmp(&b.call));
         let (least, median) = (&runs[0], &runs[runs.len() / 2]);
         println!(
-            "{name:28} {:>9} {:>9.1} {:>10.1} {:>13.1} {bytes:>9}",
+            "{name:30} {:>9} {:>9.1} {:>10.1} {:>13.1} {bytes:>9}",
             least.calls, least.call, median.call, least.save
         );
     }
