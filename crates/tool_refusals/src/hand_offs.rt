@@ -13,7 +13,7 @@ use rw_world::{Chan, ChanCall, ChanReply, Spec};
 use std::alloc::Global;
 use std::io;
 use std::sync::Wait;
-use support_seats::hand_offs::{last_seat, with_seat};
+use support_desks::hand_offs::{last_seat, with_seat};
 
 /// A book of a broadcast. What is played has it as a parameter, so that no proof but those of its one `impl` looks into a book.
 trait Recorded: Keeps {

@@ -15,7 +15,7 @@ use std::alloc::Global;
 use std::fmt::Debug;
 use std::io;
 use std::sync::Wait;
-use support_seats::desks::{Seated, last_seat, with_seat};
+use support_desks::seats::{Seated, last_seat, with_seat};
 
 /// What is called by a seat, each time by the channel's number.
 static CALLS: [(u32, ChanCall<u64>); 6] = [
