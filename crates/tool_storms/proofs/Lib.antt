@@ -1,1 +1,2 @@
+pub mod CallLists
 mod Sharing

@@ -1,4 +1,4 @@
-//! Threads on desks: storms, which look for a call that is lost, and what calls cost.
+//! Threads on desks: storms, which look for a call that is lost, and what calls and steps cost.
 //!
 //! `tool_storms storm SEEDS CALLS` makes CALLS calls for each of the seeds 0, 1, .., while other threads wait for them. Then it
 //! makes as many by seats, which meet. Standard output has a line for each of the two, which doesn't depend on the order of the
@@ -7,7 +7,11 @@
 //! `tool_storms bench COUNT` makes COUNT calls of each workload. The times go to standard error, with the bytes of an entry, of a receipt,
 //! and of memory in use. Standard output has what was done, which is the same each time.
 //!
-//! Without arguments it does a little of both. Start reading at `storm.rt` and `bench.rt`.
+//! `tool_storms steps COUNT` makes COUNT steps of each workload on machines and books, without threads. The times go to standard
+//! error, with the bytes of an entry and those that handles, retained values and channels take. Standard output has the result of
+//! each workload.
+//!
+//! Without arguments it does a little of each. Start reading at `storm.rt`, `bench.rt` and `steps.rt`.
 #![tactic(auto)]
 
 ghost use Rattle.std.specs.Prelude.{◌≡◌};
@@ -16,6 +20,7 @@ mod bench;
 mod desks;
 mod passes;
 mod seats;
+mod steps;
 mod storm;
 
 use anyhow::{Context, Result, bail};
@@ -31,6 +36,7 @@ use std::sync::{Arc, Wait};
 use std::thread::Threads;
 use std::time::{Clock, Duration};
 use std::{io, thread};
+use steps::measure_steps;
 use storm::{PLAYERS, SEATS, WAITERS, play_seats, play_seed};
 
 /// How many seeds are played if no number is given.
@@ -126,6 +132,7 @@ enum Verb {
     None,
     Storm,
     Bench,
+    Steps,
     Other,
 }
 
@@ -136,6 +143,8 @@ struct Work {
     storms: Option<(u64, u64)>,
     /// How many calls of each workload are measured.
     bench: Option<u64>,
+    /// How many steps of each workload are measured.
+    steps: Option<u64>,
 }
 
 /// Returns the first word of the command line.
@@ -147,6 +156,8 @@ fn first_word(rt: &(impl Env + Alloc)) -> Result<Verb> {
         Ok(Verb::Storm)
     } else if word.as_str() == "bench" {
         Ok(Verb::Bench)
+    } else if word.as_str() == "steps" {
+        Ok(Verb::Steps)
     } else {
         Ok(Verb::Other)
     }
@@ -158,6 +169,7 @@ fn work_asked(rt: &(impl Env + Alloc)) -> Result<Work> {
         Verb::None => Ok(Work {
             storms: Some((DEFAULT_SEEDS, DEFAULT_CALLS)),
             bench: Some(DEFAULT_COUNT),
+            steps: Some(DEFAULT_COUNT),
         }),
         Verb::Storm => {
             let seeds = asked(rt, 2, DEFAULT_SEEDS)?;
@@ -165,13 +177,20 @@ fn work_asked(rt: &(impl Env + Alloc)) -> Result<Work> {
             Ok(Work {
                 storms: Some((seeds, calls)),
                 bench: None,
+                steps: None,
             })
         }
         Verb::Bench => Ok(Work {
             storms: None,
             bench: Some(asked(rt, 2, DEFAULT_COUNT)?),
+            steps: None,
         }),
-        Verb::Other => bail!("the words are: storm SEEDS CALLS, or bench COUNT"),
+        Verb::Steps => Ok(Work {
+            storms: None,
+            bench: None,
+            steps: Some(asked(rt, 2, DEFAULT_COUNT)?),
+        }),
+        Verb::Other => bail!("the words are: storm SEEDS CALLS, bench COUNT, or steps COUNT"),
     }
 }
 
@@ -190,6 +209,9 @@ where
     }
     if let Some(count) = work.bench {
         measure::<P, S, R>(rt, alloc, count)?;
+    }
+    if let Some(count) = work.steps {
+        measure_steps(rt, alloc, count)?;
     }
     Ok(())
 }

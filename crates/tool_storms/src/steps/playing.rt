@@ -1,7 +1,7 @@
 //! The steps that are timed, of any machine.
 
 ghost use Rattle.std.specs.Prelude.{◌≡◌, ◌+◌, ◌≤◌, ◌++◌, length, OnOk};
-ghost use Rattle.tool_bench.specs.Calls.{after_calls, calls_of, last_reply};
+ghost use Rattle.tool_storms.specs.Calls.{after_calls, calls_of, last_reply};
 
 use rw_journal::{Book, TakeFault};
 use rw_law::Reversible;

@@ -1,8 +1,8 @@
 use Rattle.std.proofs.Common.{◌≡◌, ◌+◌, ◌≤◌, length, take, ap, sym, ◌∙◌, Some, arith}
 use Rattle.std.proofs.lemmas.List.{length-take}
-use Rattle.tool_bench.specs.Calls.{after_calls}
-use Rattle.tool_bench.proofs.CallLists.{after_more, last_more, weigh_after}
-use Rattle.tool_bench.proofs.steps.play.Goals as goal
+use Rattle.tool_storms.specs.Calls.{after_calls}
+use Rattle.tool_storms.proofs.CallLists.{after_more, last_more, weigh_after}
+use Rattle.tool_storms.proofs.steps.playing.play.Goals as goal
 
 pub apply-reply-requires : goal.apply-reply-requires
 apply-reply-requires g c =

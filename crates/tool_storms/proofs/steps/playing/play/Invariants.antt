@@ -1,6 +1,6 @@
 use Rattle.std.proofs.Common.{◌≡◌, take}
-use Rattle.tool_bench.specs.Calls.{after_calls, last_reply}
-use Rattle.tool_bench.proofs.steps.play.Given as goal
+use Rattle.tool_storms.specs.Calls.{after_calls, last_reply}
+use Rattle.tool_storms.proofs.steps.playing.play.Given as goal
 
 -- the calls so far were made, and the room is as before
 abbrev pub invariant-loop-call : goal.invariant-loop-call

@@ -3,7 +3,7 @@ use Rattle.std.proofs.Common.{◌≡◌, ℕ, ◌+◌, ◌<◌, ◌≤◌, List,
 use Rattle.std.proofs.lemmas.List.{take_more}
 use Rattle.rw_law.specs.declared.machine.Reversible.{Ghosts}
 use Rattle.rw_law.specs.Journal.{LawsOf}
-use Rattle.tool_bench.specs.Calls.{after_calls, last_reply}
+use Rattle.tool_storms.specs.Calls.{after_calls, last_reply}
 
 module _ {M C R P : Type 0} (m : Ghosts M C R P) where
   after_calls-push : (x : m.View) (cs : List C) (c : C) → after_calls m x (cs ++ c ∷ []) ≡ m.next (after_calls m x cs) c

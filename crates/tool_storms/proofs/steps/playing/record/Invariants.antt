@@ -1,6 +1,6 @@
 use Rattle.std.proofs.Common.{◌≡◌, ◌++◌, take}
-use Rattle.tool_bench.specs.Calls.{calls_of}
-use Rattle.tool_bench.proofs.steps.record.Given as goal
+use Rattle.tool_storms.specs.Calls.{calls_of}
+use Rattle.tool_storms.proofs.steps.playing.record.Given as goal
 
 -- the calls so far were recorded
 abbrev pub invariant-loop-call : goal.invariant-loop-call

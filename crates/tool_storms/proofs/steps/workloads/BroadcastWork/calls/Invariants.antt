@@ -1,5 +1,5 @@
 use Rattle.std.proofs.Common.{◌≡◌, ◌≤◌, vec_len, vec_capacity}
-use Rattle.tool_bench.proofs.workloads.BroadcastWork.calls.Given as goal
+use Rattle.tool_storms.proofs.steps.workloads.BroadcastWork.calls.Given as goal
 
 -- a call for each step so far, with room for the rest
 abbrev pub invariant-loop-i : goal.invariant-loop-i

@@ -1,22 +1,18 @@
 //! How long a step takes, in nanoseconds: of a machine alone, of a book that records its calls, and of a navigator that redoes
 //! and undoes them.
 //!
-//! `tool_bench COUNT` makes COUNT steps of each workload, or 1,000. The times go to standard error, with the bytes of an entry and
-//! those that handles, retained values and channels take. Standard output has the result of each workload, which is the same each
-//! time.
 //! Start reading at `workloads.rt`, which says what is done. Then read `measure.rt`, which says what is timed, and `memory.rt`,
 //! which says what memory is counted.
-#![tactic(auto)]
 
 ghost use Rattle.std.specs.Prelude.{◌≡◌, ◌≤◌, ◌^◌, length};
 
 mod channels;
 mod measure;
 mod memory;
-mod steps;
+mod playing;
 mod workloads;
 
-use anyhow::{Context, Result};
+use anyhow::Result;
 use channels::{on_broadcast, on_watch, on_world};
 use measure::Measured;
 use memory::report_memory;
@@ -25,23 +21,12 @@ use rw_law::Entry;
 use rw_watch::WCall;
 use rw_world::{ChanCall, RowCall, Spec, World};
 use std::alloc::Global;
-use std::env::{self, Env};
 use std::fmt::Debug;
 use std::io;
 use std::num::nearest_u64_to_f64;
+use std::rt::Files;
 use std::time::{Clock, Duration};
 use workloads::{BroadcastWork, MOST_STEPS, WatchWork, to_broadcast, to_watch};
-
-/// How many steps are made if no number is given.
-const DEFAULT_STEPS: u64 = 1_000;
-
-/// Returns how many steps the command line asks for.
-fn asked_steps(rt: &(impl Env + Alloc)) -> Result<u64> {
-    match env::args(rt)?.nth(1) {
-        Some(count) => count.parse::<u64>().context("COUNT must be a number"),
-        None => Ok(DEFAULT_STEPS),
-    }
-}
 
 /// Returns how many bytes an entry of a world's journal takes. A journal has up to a million of them.
 fn entry_bytes() -> usize
@@ -166,18 +151,21 @@ static WATCHES: [WatchWork; 3] = [
     WatchWork::HasChanged,
 ];
 
-fn main(rt: HostRuntime) -> Result<()> {
-    let alloc = rt.alloc();
-    let asked = asked_steps(&rt)?;
-    report_memory(&rt)?;
+/// Measures this many steps of each workload, and the memory of handles, retained values and channels.
+pub fn measure_steps(
+    rt: &(impl Clock + Files + AllocGlobal + Print + Eprint),
+    alloc: Global,
+    asked: u64,
+) -> Result<()> {
+    report_memory(rt)?;
     eprintln!(rt; "bytes of an entry: {}", entry_bytes())?;
     eprintln!(rt; "nanoseconds a step:")?;
     eprintln!(rt; "  apply    take    redo    undo")?;
     for (capacity, work) in &BROADCASTS {
-        broadcast(&rt, alloc, *capacity, *work, asked)?;
+        broadcast(rt, alloc, *capacity, *work, asked)?;
     }
     for work in &WATCHES {
-        watch(&rt, alloc, *work, asked)?;
+        watch(rt, alloc, *work, asked)?;
     }
     Ok(())
 }

@@ -4,7 +4,7 @@ ghost use Rattle.std.specs.Prelude.{◌≡◌, ◌^◌, ◌≤◌, length, OnOk,
 ghost use Rattle.rw_journal.specs.Book.{opening_of};
 ghost use Rattle.rw_navigator.specs.Moves.{MovedBy};
 
-use crate::steps::{play, record};
+use super::playing::{play, record};
 use anyhow::{Result, bail};
 use rw_journal::Book;
 use rw_law::Reversible;

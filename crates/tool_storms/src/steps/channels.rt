@@ -7,7 +7,7 @@ ghost use Rattle.rw_watch.specs.Record.{opening_record as opening_watch};
 ghost use Rattle.rw_watch.specs.Shown.{shown as watch_shown};
 ghost use Rattle.rw_world.specs.Openings.{opening_row};
 
-use crate::measure::{Measured, measure};
+use super::measure::{Measured, measure};
 use anyhow::{Result, bail};
 use rw_broadcast::{BCall, BReply, Broadcast};
 use rw_law::Reversible;
