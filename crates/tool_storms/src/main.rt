@@ -1,4 +1,4 @@
-//! Threads on desks: storms, which look for a call that is lost, and what calls and steps cost.
+//! Storms of calls by threads on desks, which look for a call that is lost, mutated texts, and what calls and steps cost.
 //!
 //! `tool_storms storm SEEDS CALLS` makes CALLS calls for each of the seeds 0, 1, .., while other threads wait for them. Then it
 //! makes as many by seats, which meet. Standard output has a line for each of the two, which doesn't depend on the order of the
@@ -11,13 +11,17 @@
 //! error, with the bytes of an entry and those that handles, retained values and channels take. Standard output has the result of
 //! each workload.
 //!
-//! Without arguments it does a little of each. Start reading at `storm.rt`, `bench.rt` and `steps.rt`.
+//! `tool_storms fuzz SEEDS COUNT` makes COUNT texts for each of the seeds 0, 1, .., and tries each. Standard output has a line for
+//! each seed, and standard error has how often each result occurred.
+//!
+//! Without arguments it does a little of each. Start reading at `storm.rt`, `bench.rt`, `steps.rt` and `fuzz.rt`.
 #![tactic(auto)]
 
 ghost use Rattle.std.specs.Prelude.{◌≡◌};
 
 mod bench;
 mod desks;
+mod fuzz;
 mod passes;
 mod seats;
 mod steps;
@@ -26,6 +30,7 @@ mod storm;
 use anyhow::{Context, Result, bail};
 use bench::measure;
 use desks::{Calls, Seated};
+use fuzz::try_texts;
 use passes::PassDesk;
 use rw_seat::SeatDesk;
 use std::alloc::Global;
@@ -47,6 +52,9 @@ const DEFAULT_CALLS: u64 = 16_000;
 
 /// How many calls of each workload are made if no number is given.
 const DEFAULT_COUNT: u64 = 1_000;
+
+/// How many texts are made for each seed if no number is given.
+const DEFAULT_TEXTS: u64 = 300;
 
 /// How many times to check whether a seed was played, a hundredth of a second apart. A seed takes a second or two.
 const MOST_LOOKS: u64 = 10_000;
@@ -133,6 +141,7 @@ enum Verb {
     Storm,
     Bench,
     Steps,
+    Fuzz,
     Other,
 }
 
@@ -145,7 +154,17 @@ struct Work {
     bench: Option<u64>,
     /// How many steps of each workload are measured.
     steps: Option<u64>,
+    /// How many seeds of texts there are, and how many texts are made for each.
+    texts: Option<(u64, u64)>,
 }
+
+/// No work.
+const NO_WORK: Work = Work {
+    storms: None,
+    bench: None,
+    steps: None,
+    texts: None,
+};
 
 /// Returns the first word of the command line.
 fn first_word(rt: &(impl Env + Alloc)) -> Result<Verb> {
@@ -158,9 +177,16 @@ fn first_word(rt: &(impl Env + Alloc)) -> Result<Verb> {
         Ok(Verb::Bench)
     } else if word.as_str() == "steps" {
         Ok(Verb::Steps)
+    } else if word.as_str() == "fuzz" {
+        Ok(Verb::Fuzz)
     } else {
         Ok(Verb::Other)
     }
+}
+
+/// Returns how many seeds the command line asks for, and how much of each.
+fn seeds_and(rt: &(impl Env + Alloc), default: u64) -> Result<(u64, u64)> {
+    Ok((asked(rt, 2, DEFAULT_SEEDS)?, asked(rt, 3, default)?))
 }
 
 /// Returns the work that the command line asks for.
@@ -170,27 +196,27 @@ fn work_asked(rt: &(impl Env + Alloc)) -> Result<Work> {
             storms: Some((DEFAULT_SEEDS, DEFAULT_CALLS)),
             bench: Some(DEFAULT_COUNT),
             steps: Some(DEFAULT_COUNT),
+            texts: Some((DEFAULT_SEEDS, DEFAULT_TEXTS)),
         }),
-        Verb::Storm => {
-            let seeds = asked(rt, 2, DEFAULT_SEEDS)?;
-            let calls = asked(rt, 3, DEFAULT_CALLS)?;
-            Ok(Work {
-                storms: Some((seeds, calls)),
-                bench: None,
-                steps: None,
-            })
-        }
+        Verb::Storm => Ok(Work {
+            storms: Some(seeds_and(rt, DEFAULT_CALLS)?),
+            ..NO_WORK
+        }),
         Verb::Bench => Ok(Work {
-            storms: None,
             bench: Some(asked(rt, 2, DEFAULT_COUNT)?),
-            steps: None,
+            ..NO_WORK
         }),
         Verb::Steps => Ok(Work {
-            storms: None,
-            bench: None,
             steps: Some(asked(rt, 2, DEFAULT_COUNT)?),
+            ..NO_WORK
         }),
-        Verb::Other => bail!("the words are: storm SEEDS CALLS, bench COUNT, or steps COUNT"),
+        Verb::Fuzz => Ok(Work {
+            texts: Some(seeds_and(rt, DEFAULT_TEXTS)?),
+            ..NO_WORK
+        }),
+        Verb::Other => {
+            bail!("the words are: storm SEEDS CALLS, bench COUNT, steps COUNT, or fuzz SEEDS COUNT")
+        }
     }
 }
 
@@ -212,6 +238,9 @@ where
     }
     if let Some(count) = work.steps {
         measure_steps(rt, alloc, count)?;
+    }
+    if let Some((seeds, count)) = work.texts {
+        try_texts(rt, alloc, seeds, count)?;
     }
     Ok(())
 }

@@ -1,4 +1,0 @@
-//! Books and ledgers of a small machine.
-
-mod books;
-mod ledgers;
