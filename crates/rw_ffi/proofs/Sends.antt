@@ -13,22 +13,22 @@ use Rattle.rw_world.specs.contracts.channels.ChanPatch as CP
 use Rattle.rw_world.specs.contracts.channels.ChanReversible.TheImpl as chan
 use Rattle.rw_world.proofs.channels.Chan.TheSendSync as Chan
 use Rattle.rw_ffi.proofs.recording.Ended.TheSendSync as Ended
-use Rattle.rw_ffi.proofs.stored_call.StoredCall.TheSendSync as Stored
-use Rattle.rw_ffi.specs.contracts.stored_call.StoredCall as S
-use Rattle.rw_ffi.specs.contracts.stored_call.StoredCallCallFormChanCallU64.TheImpl as form
+use Rattle.rw_journal.proofs.stored_call.StoredCall.TheSendSync as Stored
+use Rattle.rw_journal.specs.contracts.stored_call.StoredCall as S
+use Rattle.rw_journal.specs.contracts.stored_call.StoredCallCallFormChanCall.TheImpl as form
 use Rattle.rw_ffi.specs.contracts.recording.Recording as Recording
 use Rattle.rw_ffi.specs.contracts.recording.Recording.TheInside as Inside
 
 chan_send : IsSend (C.the_row u64)
 chan_send = search (sendable, crosses, Chan.the_send) depth 20
 
-stored_send : IsSend S.the_row
+stored_send : IsSend (S.the_row u64)
 stored_send = search (sendable, crosses, Stored.the_send) depth 20
 
-recorded_ledger_send : IsSend (Ledger.the_row (C.the_row u64) S.the_row (CC.the_row u64) (CR.the_row u64) (CP.the_row u64)
-    (chan.ghosts u64 number.ghosts chan.no_dict) form.ghosts)
-recorded_ledger_send = ledger_send (C.the_row u64) S.the_row (CC.the_row u64) (CR.the_row u64) (CP.the_row u64)
-    (chan.ghosts u64 number.ghosts chan.no_dict) form.ghosts chan_send stored_send
+recorded_ledger_send : IsSend (Ledger.the_row (C.the_row u64) (S.the_row u64) (CC.the_row u64) (CR.the_row u64) (CP.the_row u64)
+    (chan.ghosts u64 number.ghosts chan.no_dict) (form.ghosts u64 number.ghosts form.no_dict))
+recorded_ledger_send = ledger_send (C.the_row u64) (S.the_row u64) (CC.the_row u64) (CR.the_row u64) (CP.the_row u64)
+    (chan.ghosts u64 number.ghosts chan.no_dict) (form.ghosts u64 number.ghosts form.no_dict) chan_send stored_send
 
 inside_send : IsSend Inside.the_row
 inside_send =

@@ -9,4 +9,3 @@ pub mod HeldRun
 pub mod Questions
 pub mod Recordings
 pub mod RunCalls
-pub mod StoredCalls

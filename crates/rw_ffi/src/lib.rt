@@ -24,6 +24,5 @@ mod questions;
 mod recording;
 mod run_calls;
 mod run_reader;
-mod stored_call;
 mod taking;
 mod watch_calls;
