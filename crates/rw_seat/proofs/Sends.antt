@@ -14,13 +14,13 @@ use Rattle.rw_world.specs.contracts.channels.ChanPatch as Patch
 use Rattle.rw_world.specs.contracts.channels.ChanReversible.TheImpl as machine
 use Rattle.rw_world.specs.contracts.opening.Spec as Spec
 use Rattle.rw_world.proofs.channels.Chan.TheSendSync as chan
-use Rattle.rw_world.proofs.channels.ChanCall.TheSendSync as call
-use Rattle.rw_world.proofs.channels.ChanReply.TheSendSync as reply
-use Rattle.rw_world.proofs.channels.ChanPatch.TheSendSync as patch
 use Rattle.rw_world.proofs.opening.Spec.TheSendSync as spec
 use Rattle.rw_journal.specs.declared.keeps.Keeps as keeps
-use Rattle.rw_journal.specs.contracts.book.Book as Book
-use Rattle.rw_journal.proofs.Sends.{book_send}
+use Rattle.rw_journal.specs.contracts.ledger.Ledger as Ledger
+use Rattle.rw_journal.specs.contracts.stored_call.StoredCall as Stored
+use Rattle.rw_journal.specs.contracts.stored_call.StoredCallCallFormChanCall.TheImpl as form
+use Rattle.rw_journal.proofs.Sends.{ledger_send}
+use Rattle.rw_journal.proofs.stored_call.StoredCall.TheSendSync as stored
 use Rattle.rw_desk.proofs.OfKind.{Books}
 use Rattle.rw_desk.proofs.pass.Pass.TheSendSync as pass
 use Rattle.rw_seat.specs.contracts.hand_off.HandOff as HandOff
@@ -33,35 +33,36 @@ use Rattle.rw_seat.proofs.hand_off.HandOff.TheSendSync as hand_off
 use Rattle.rw_seat.proofs.hand_off.HandSeat.TheSendSync as hand_seat
 
 module _ (V : RattleType) (p : payload.Ghosts V.Denot) (k : clone.Ghosts V.Denot) where
-  abbrev book : RattleType
-  book = Book.the_row (Chan.the_row V) (Call.the_row V) (Reply.the_row V) (Patch.the_row V) (machine.ghosts V k machine.no_dict)
+  abbrev ledger : RattleType
+  ledger = Ledger.the_row (Chan.the_row V) (Stored.the_row V) (Call.the_row V) (Reply.the_row V) (Patch.the_row V)
+      (machine.ghosts V k machine.no_dict) (form.ghosts V k form.no_dict)
 
   abbrev entry : RattleType
   entry = Entry.the_row (Chan.the_row V) (Call.the_row V) (Reply.the_row V) (Patch.the_row V)
 
-  abbrev kept : keeps.Ghosts book.Denot entry.Denot (Chan.the_row V).Denot
+  abbrev kept : keeps.Ghosts ledger.Denot entry.Denot (Chan.the_row V).Denot
   kept = record { author = λ (e : ChanEntry V.Denot). e.actor; start = λ (b : Books V.Denot). b.opening; journal = λ (b : Books V.Denot). b.entries }
 
   module _ (s : IsSend V) where
-    book_sent : IsSend book
-    book_sent =
-        book_send (Chan.the_row V) (Call.the_row V) (Reply.the_row V) (Patch.the_row V) (machine.ghosts V k machine.no_dict)
-        (chan.the_send V s) (call.the_send V s) (reply.the_send V s) (patch.the_send V s)
+    ledger_sent : IsSend ledger
+    ledger_sent =
+        ledger_send (Chan.the_row V) (Stored.the_row V) (Call.the_row V) (Reply.the_row V) (Patch.the_row V)
+        (machine.ghosts V k machine.no_dict) (form.ghosts V k form.no_dict) (chan.the_send V s) (stored.the_send V s)
 
-    hand_sent : IsSend (HandSeat.the_row book entry (Chan.the_row V) kept)
-    hand_sent = hand_seat.the_send book entry (Chan.the_row V) kept book_sent
+    hand_sent : IsSend (HandSeat.the_row ledger entry (Chan.the_row V) kept)
+    hand_sent = hand_seat.the_send ledger entry (Chan.the_row V) kept ledger_sent
 
     inside_sent : IsSend (InsideSeat.the_row V p k)
     inside_sent =
         recorded_send (InsideSeat.the_field V p k).row _ _ (InsideSeat.the_type V p k).to_one
         (struct_send (Declared.shape (InsideSeat.the_type V p k))
-        (pass.the_send V s, (Vec-send (HandSeat.the_row book entry (Chan.the_row V) kept) hand_sent, tt)))
+        (pass.the_send V s, (Vec-send (HandSeat.the_row ledger entry (Chan.the_row V) kept) hand_sent, tt)))
 
     pub seat_sent : IsSend (Seat.the_row V p k)
     seat_sent = view_send (InsideSeat.the_row V p k) _ _ _ _ inside_sent
 
-    hand_off_shared : IsSync (HandOff.the_row book entry (Chan.the_row V) kept)
-    hand_off_shared = hand_off.the_sync book entry (Chan.the_row V) kept book_sent
+    hand_off_shared : IsSync (HandOff.the_row ledger entry (Chan.the_row V) kept)
+    hand_off_shared = hand_off.the_sync ledger entry (Chan.the_row V) kept ledger_sent
 
     module _ (y : IsSync V) where
       inside_shared : IsSync (InsideDesk.the_row V p k)
@@ -69,7 +70,7 @@ module _ (V : RattleType) (p : payload.Ghosts V.Denot) (k : clone.Ghosts V.Denot
           recorded_sync (InsideDesk.the_field V p k).row _ _ (InsideDesk.the_type V p k).to_one
           (struct_sync (Declared.shape (InsideDesk.the_type V p k)) (
             Vec-sync (Spec.the_row V) (spec.the_sync V y),
-            (plain_sync _ _ _ _ _, (Vec-sync (HandOff.the_row book entry (Chan.the_row V) kept) hand_off_shared, tt)),
+            (plain_sync _ _ _ _ _, (Vec-sync (HandOff.the_row ledger entry (Chan.the_row V) kept) hand_off_shared, tt)),
           ))
 
       pub desk_shared : IsSync (Desk.the_row V p k)

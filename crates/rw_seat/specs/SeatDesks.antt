@@ -1,5 +1,5 @@
 -- Desks with seats, and a hand-off for each channel's book.
-use Rattle.std.specs.Prelude.{◌≡◌, ◌↔◌, ℕ, ◌<◌, ◌≤◌, None, Some, List, [], ◌∷◌, length, map, slice_get}
+use Rattle.std.specs.Prelude.{◌≡◌, ◌↔◌, ℕ, ◌<◌, ◌≤◌, false, None, Some, List, [], ◌∷◌, length, map, slice_get}
 use Rattle.std.specs.Prelude.{All, MatchOption, MatchResult, IsErrOf, IsTrue, Option, Result}
 use Rattle.std.specs.Option.{option_map}
 use Rattle.rw_law.specs.declared.limits.TheConstants.{MOST_ACTORS}
@@ -8,7 +8,7 @@ use Rattle.rw_world.specs.declared.channels.Chan.{Chan}
 use Rattle.rw_world.specs.declared.channels.ChanCall.{ChanCall}
 use Rattle.rw_world.specs.Channel.{strays_at}
 use Rattle.rw_world.specs.Machines.{ChanShown, of_chan}
-use Rattle.rw_world.specs.Openings.{spec_kind, opened_channel, refusal}
+use Rattle.rw_world.specs.Openings.{has_bad_capacity, spec_kind, opened_channel, refusal}
 use Rattle.rw_world.specs.Shapes.{stray_of}
 use Rattle.rw_desk.specs.declared.faults.DeskFault.{DeskFault}
 use Rattle.rw_desk.specs.declared.faults.DeskFault.TheVariants.{NoChannel}
@@ -33,6 +33,7 @@ module _ {V : Type 0} where
   -- the invariant of a desk: its specs open, it has 1 to 64 actors, and for each spec a hand-off of a book that was opened from it
   pub record IsSeatDesk (specs : List (Spec V)) (actors : ℕ) (hand_offs : List (HandOff (Chan V))) : Type 0 where
     pub opens : refusal specs ≡ None
+    pub good : All (λ spec. has_bad_capacity spec ≡ false) specs
     pub some_actor : 0 < actors
     pub few_actors : actors ≤ MOST_ACTORS
     pub one_each : length hand_offs ≡ length specs

@@ -8,20 +8,19 @@ ghost use Rattle.rw_seat.specs.DeskSeats.{IsDeskSeat, with_hand_seat};
 
 use crate::hand_off::HandSeat;
 use rw_desk::{HasPass, Kept, Pass};
-use rw_journal::Book;
+use rw_journal::ChanLedger;
 use rw_law::{NoMemory, Payload};
-use rw_world::Chan;
 use std::alloc::Global;
 use std::marker::Model;
 
 /// A seat of a channel's hand-off.
-pub(crate) type ChannelSeat<V> = HandSeat<Book<Chan<V>>>;
+pub(crate) type ChannelSeat<V> = HandSeat<ChanLedger<V>>;
 
 /// An actor's seat at a desk: its clock and receipts, and what it has seen of each channel.
 #[derive(Drop)]
 pub struct DeskSeat<V: Payload> {
     pass: Pass<V>,
-    hand_seats: Vec<HandSeat<Book<Chan<V>>>>,
+    hand_seats: Vec<HandSeat<ChanLedger<V>>>,
 }
 
 impl<V: Payload> Model for DeskSeat<V> {
@@ -71,7 +70,7 @@ impl<V: Payload> DeskSeat<V> {
     }
 
     /// Adds a `HandSeat` to a seat that has made no call. The `HandSeat` has seen nothing.
-    pub(crate) fn add(&mut self, hand_seat: HandSeat<Book<Chan<V>>>) -> Result<(), NoMemory>
+    pub(crate) fn add(&mut self, hand_seat: HandSeat<ChanLedger<V>>) -> Result<(), NoMemory>
         requires pass { self.old.pass ≡ fresh_pass hand_seat.number }
         requires front { hand_seat.front ≡ [] }
         ensures { OnOk result (self.new ≡ with_hand_seat self.old hand_seat) }
@@ -86,8 +85,8 @@ impl<V: Payload> DeskSeat<V> {
         at: usize,
     ) -> (
         Pass<V>,
-        Vec<HandSeat<Book<Chan<V>>>>,
-        HandSeat<Book<Chan<V>>>,
+        Vec<HandSeat<ChanLedger<V>>>,
+        HandSeat<ChanLedger<V>>,
     )
         requires { at < length self.hand_seats }
         ensures pass { result.0 ≡ self.pass }
@@ -108,9 +107,9 @@ impl<V: Payload> DeskSeat<V> {
     /// Puts together what `reach` has split.
     pub(crate) fn whole(
         pass: Pass<V>,
-        mut hand_seats: Vec<HandSeat<Book<Chan<V>>>>,
+        mut hand_seats: Vec<HandSeat<ChanLedger<V>>>,
         at: usize,
-        hand_seat: HandSeat<Book<Chan<V>>>,
+        hand_seat: HandSeat<ChanLedger<V>>,
     ) -> DeskSeat<V>
         requires within { at ≤ vec_len hand_seats }
         requires room { vec_len hand_seats < vec_capacity hand_seats }

@@ -15,18 +15,20 @@ use crate::calling::{call_by_seat, length_by_seat};
 use crate::desk_seat::DeskSeat;
 use crate::hand_off::HandOff;
 use rw_desk::DeskFault;
-use rw_journal::Book;
+use rw_journal::ChanLedger;
 use rw_law::Payload;
-use rw_world::{Chan, ChanCall, Spec};
+use rw_world::{ChanCall, Spec};
 use std::marker::Model;
 use std::sync::Wait;
 
 /// Channels that threads share by reference, each with a hand-off of its book, and the number of actors.
+///
+/// The calls of a book are stored in a ledger, without replies and patches. Callers see it as the book of these calls.
 #[derive(Drop)]
 pub struct SeatDesk<V: Payload> {
     pub(crate) specs: Vec<Spec<V>>,
     pub(crate) actors: u32,
-    pub(crate) hand_offs: Vec<HandOff<Book<Chan<V>>>>,
+    pub(crate) hand_offs: Vec<HandOff<ChanLedger<V>>>,
 }
 
 impl<V: Payload> Model for SeatDesk<V> {
@@ -97,7 +99,7 @@ impl<V: Payload> SeatDesk<V> {
     }
 
     /// Returns the hand-off of a call's channel, or `None` if the call strays.
-    fn hand_off(&self, channel: u32, call: &ChanCall<V>) -> Option<&HandOff<Book<Chan<V>>>>
+    fn hand_off(&self, channel: u32, call: &ChanCall<V>) -> Option<&HandOff<ChanLedger<V>>>
         ensures none { IsNone result ↔ IsTrue (stray_of strays_at (map spec_kind self.now.specs) (row_call channel call.now)) }
         ensures home { IfSome result (λ h. slice_get self.now.homes channel ≡ Some h.now.home) }
         ensures spec { IfSome result (λ h. (spec : Specs V) × (slice_get self.now.specs channel ≡ Some spec)
@@ -111,7 +113,7 @@ impl<V: Payload> SeatDesk<V> {
     }
 
     /// Returns the hand-off of a channel, or `None` if there is no such channel.
-    pub(crate) fn hand_off_at(&self, at: usize) -> Option<&HandOff<Book<Chan<V>>>>
+    pub(crate) fn hand_off_at(&self, at: usize) -> Option<&HandOff<ChanLedger<V>>>
         ensures none { IsNone result ↔ length self.now.specs ≤ at }
         ensures home { IfSome result (λ h. slice_get self.now.homes at ≡ Some h.now.home) }
         ensures spec { IfSome result (λ h. (spec : Specs V) × (slice_get self.now.specs at ≡ Some spec)

@@ -1,9 +1,9 @@
-use Rattle.std.proofs.Common.{◌≡◌, ◌<◌, ℕ, None, Some, [], List, length, map, refl, sym, ap, ◌∙◌, subst}
+use Rattle.std.proofs.Common.{◌≡◌, ◌<◌, ℕ, false, None, Some, [], All, List, length, map, refl, sym, ap, ◌∙◌, subst}
 use Rattle.std.specs.Prelude.{slice_get}
 use Rattle.std.proofs.lemmas.List.{length-map}
 use Rattle.rw_world.specs.declared.opening.Spec.{Spec}
 use Rattle.rw_world.specs.declared.channels.Chan.{Chan}
-use Rattle.rw_world.specs.Openings.{opened_channel, refusal}
+use Rattle.rw_world.specs.Openings.{has_bad_capacity, opened_channel, refusal}
 use Rattle.rw_seat.specs.HandOffs.{HandOff, Home}
 use Rattle.rw_seat.specs.DeskSeats.{DeskSeat, fresh_seat}
 use Rattle.rw_seat.specs.SeatDesks.{SeatDesk, opening_at}
@@ -27,6 +27,7 @@ invariant_of-desk g c =
     sym (length-map hand_offs (λ (h : HandOff (Chan V)). opening_at h.home))
     ∙ (ap length c.in-Ok.ensures.opened ∙ length-map specs (λ (s : Spec V). Some (opened_channel s))) in record {
       opens = subst (λ ss. refusal ss ≡ None) (sym c.in-Ok-from_slice.ensures.items) c.requires.opens;
+      good = subst (All (λ (s : Spec V). has_bad_capacity s ≡ false)) (sym c.in-Ok-from_slice.ensures.items) c.requires.good;
       some_actor = c.requires.some;
       few_actors = c.requires.few;
       one_each = many ∙ ap length (sym c.in-Ok-from_slice.ensures.items);

@@ -8,4 +8,4 @@ pub returns-clause-seats : goal.returns-clause-seats
 returns-clause-seats g c =
     IfOk-weaker c.open-2.result _ _
     (λ r same. same ∙ ap (λ (f : List (ChanEntry g.row.V.Denot)). map (λ n. record { number = n; home = r.0.home; front = f }) (numbers_from 0 c.args.seats))
-    c.in_ok-book.ensures.empty) c.open-2.ensures.seats
+    c.in_ok-ledger.ensures.empty) c.open-2.ensures.seats
