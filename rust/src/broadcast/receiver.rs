@@ -348,10 +348,13 @@ impl<T: Clone> Receiver<T> {
 impl<T> Drop for Receiver<T> {
     fn drop(&mut self) {
         let mut channel = self.handle.lock_at(Word::Drop, None);
-        let unread = channel.core().unread(self.handle.number);
+        let values = &self.handle.channel.values;
+        let unread = match channel.guarded(values).has_unread() {
+            true => channel.core().unread(self.handle.number),
+            false => 0,
+        };
         let wakers = channel.drop_handle(Kind::Receiver, CoreChannel::broadcast_drop);
-        let values = channel.guarded(&self.handle.channel.values);
-        let unwanted = values.drop_receiver(unread);
+        let unwanted = channel.guarded(values).drop_receiver(unread);
         drop(channel);
         wakers.wake();
         drop(unwanted);

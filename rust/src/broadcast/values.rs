@@ -121,8 +121,28 @@ impl<T> Values<T> {
         }
     }
 
+    /// Whether some receiver has yet to receive the newest value. If none has, none has yet to receive any value: who has an older one to receive
+    /// was there when the newest was sent, and receives in order.
+    #[inline]
+    pub(super) fn has_unread(&self) -> bool {
+        let newest = match self.first {
+            0 => self.slots.last(),
+            first => self.slots.get(first - 1),
+        };
+        newest.is_some_and(|slot| slot.receivers > 0)
+    }
+
     /// Removes a dropped receiver from the counts of its unread values. Returns the values that no receiver has yet to receive.
+    #[inline]
     pub(super) fn drop_receiver(&mut self, unread: u64) -> Vec<Value<T>> {
+        match unread {
+            0 => Vec::new(),
+            _ => self.remove_unread(unread),
+        }
+    }
+
+    /// As [`drop_receiver`](Values::drop_receiver), of a receiver that has yet to receive something.
+    fn remove_unread(&mut self, unread: u64) -> Vec<Value<T>> {
         let count = self.slots.len();
         let mut unwanted = Vec::new();
         for age in count - count.min(unread as usize)..count {
@@ -164,12 +184,14 @@ mod tests {
             assert!(values.push(number, (), 2).is_none_or(|_| number == 2));
         }
         values.receive(1).cloned();
+        assert!(values.has_unread());
         assert_eq!(
             values.drop_receiver(2).len(),
             1,
             "the value 1, which the other has"
         );
         values.receive(2).cloned();
+        assert!(!values.has_unread());
         assert!(values.slots.iter().all(|slot| slot.value.is_none()));
     }
 }

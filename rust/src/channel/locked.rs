@@ -236,9 +236,14 @@ impl<'a> LockedChannel<'a> {
             let entry = self.state.last_entry();
             self.state.cancelled.extend(entry);
         }
+        // The core counts only where somebody waits for its answer.
         match kind {
-            Kind::Sender if self.core().senders() == 0 => self.remove_wakers(WaitFor::Value),
-            Kind::Receiver if self.core().receivers() == 0 => {
+            Kind::Sender if self.has_waiting(WaitFor::Value) && self.core().senders() == 0 => {
+                self.remove_wakers(WaitFor::Value)
+            }
+            Kind::Receiver
+                if self.has_waiting(WaitFor::NoReceiver) && self.core().receivers() == 0 =>
+            {
                 self.remove_wakers(WaitFor::NoReceiver)
             }
             _ => Wakers::default(),
@@ -257,10 +262,16 @@ impl<'a> LockedChannel<'a> {
         value.borrow_mut(&mut self.state)
     }
 
+    /// Whether a future waits for this.
+    #[inline]
+    fn has_waiting(&mut self, wait_for: WaitFor) -> bool {
+        !self.state.queue(wait_for).is_empty()
+    }
+
     /// Unlocks the channel, and then wakes the futures that wait for this.
     #[inline(always)]
     pub(crate) fn unlock_and_wake(mut self, wait_for: WaitFor) {
-        if !self.state.queue(wait_for).is_empty() {
+        if self.has_waiting(wait_for) {
             self.unlock_and_wake_each(wait_for);
         }
     }
