@@ -422,6 +422,7 @@ impl<F> Drop for Named<F> {
 }
 
 /// Whether this thread drops a named future, which makes no further call then.
+#[inline]
 pub(crate) fn is_dropping_future() -> bool {
     IS_DROPPING.get()
 }

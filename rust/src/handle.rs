@@ -58,6 +58,7 @@ impl<T, S> ChannelHandle<T, S> {
 
     /// Creates a handle of the same channel, by this call.
     #[track_caller]
+    #[inline]
     pub(crate) fn create(&self, kind: Kind, word: Word, call: Call) -> Self {
         self.sibling(kind, self.lock(word).create(call).new_handle())
     }

@@ -72,6 +72,7 @@ impl CoreChannel {
     }
 
     /// Whether the channel has created as many handles as a journal can name.
+    #[inline]
     pub(crate) fn has_named_all(&self) -> bool {
         self.first.is_full()
     }
@@ -176,6 +177,7 @@ impl CoreChannel {
     }
 
     /// Makes a call that creates a handle: in the first machine by the caller, or else in the newest one by a handle that stands for it.
+    #[inline(always)]
     fn create(
         &mut self,
         caller: u32,
@@ -186,6 +188,13 @@ impl CoreChannel {
             let reply = by_caller(&mut self.first.core, caller);
             return self.first.count_made(reply);
         }
+        self.create_further(by_other)
+    }
+
+    /// As [`create`](CoreChannel::create), where the first machine is full.
+    #[cold]
+    #[inline(never)]
+    fn create_further(&mut self, by_other: impl FnOnce(&mut Machine) -> Reply) -> Reply {
         let number = self.machine_with_room();
         let machine = self.machine(number);
         let reply = by_other(machine);
@@ -230,6 +239,7 @@ impl CoreChannel {
     }
 
     /// Makes the call that drops a handle.
+    #[inline(always)]
     fn drop_handle(
         &mut self,
         handle: u32,
@@ -340,7 +350,8 @@ calls_of_all_machines! {
 macro_rules! calls_that_create_senders {
     ($($method:ident by $other:ident;)*) => {
         impl CoreChannel {
-            $(pub(crate) fn $method(&mut self, caller: Caller, handle: u32) -> Reply {
+            $(#[inline]
+            pub(crate) fn $method(&mut self, caller: Caller, handle: u32) -> Reply {
                 self.create(
                     handle,
                     |core, handle| core.$method(caller, handle),
@@ -374,6 +385,7 @@ impl CoreChannel {
         )
     }
 
+    #[inline]
     pub(crate) fn broadcast_subscribe(&mut self, caller: Caller, sender: u32) -> Reply {
         self.create(
             sender,
@@ -382,6 +394,7 @@ impl CoreChannel {
         )
     }
 
+    #[inline]
     pub(crate) fn broadcast_resubscribe(&mut self, caller: Caller, receiver: u32) -> Reply {
         self.create(
             receiver,
@@ -395,10 +408,12 @@ impl CoreChannel {
         )
     }
 
+    #[inline]
     pub(crate) fn broadcast_drop(&mut self, caller: Caller, handle: u32) -> Reply {
         self.drop_handle(handle, |core, handle| core.broadcast_drop(caller, handle))
     }
 
+    #[inline]
     pub(crate) fn watch_subscribe(&mut self, caller: Caller, sender: u32) -> Reply {
         self.create(
             sender,
@@ -408,6 +423,7 @@ impl CoreChannel {
     }
 
     /// Clones a receiver. One that is created in another machine is marked as the original is.
+    #[inline]
     pub(crate) fn watch_clone_receiver(&mut self, caller: Caller, receiver: u32) -> Reply {
         let is_seen = self.seen(receiver);
         self.create(
@@ -430,6 +446,7 @@ impl CoreChannel {
         )
     }
 
+    #[inline]
     pub(crate) fn watch_drop(&mut self, caller: Caller, handle: u32) -> Reply {
         self.drop_handle(handle, |core, handle| core.watch_drop(caller, handle))
     }

@@ -113,6 +113,7 @@ impl<'a> LockedChannel<'a> {
     }
 
     /// Makes a call that creates a handle. If a journal can't name that handle, the recording of this channel ends before.
+    #[inline(always)]
     pub(crate) fn create(&mut self, call: Call) -> Reply {
         if self.state.is_recorded && self.state.core.has_named_all() {
             self.channel.end_for_handles(&mut self.state);
@@ -230,6 +231,7 @@ impl<'a> LockedChannel<'a> {
 
     /// Makes the call that drops the handle. Returns the futures that wait for it: those of receivers if it was the last sender, and those
     /// of senders if it was the last receiver.
+    #[inline(always)]
     pub(crate) fn drop_handle(&mut self, kind: Kind, call: Call) -> Wakers {
         self.call(call);
         if actors::is_dropping_future() {

@@ -106,6 +106,7 @@ impl Machine {
         }
     }
 
+    #[inline]
     pub(super) fn is_full(&self) -> bool {
         self.room == 0
     }
@@ -116,6 +117,7 @@ impl Machine {
     }
 
     /// Counts the handle that a call has created, if it has.
+    #[inline]
     pub(super) fn count_made(&mut self, reply: Reply) -> Reply {
         self.room -= u32::from(matches!(reply, Reply::New(_)));
         reply
@@ -166,6 +168,7 @@ impl Machine {
     }
 
     /// Drops a handle. If other senders send by it, it stays and stands for them.
+    #[inline]
     pub(super) fn drop_handle(
         &mut self,
         handle: u32,

@@ -69,6 +69,7 @@ impl ChannelState {
     }
 
     /// Stores where a handle was made, if the journal names it. Handles are made in the order of their numbers.
+    #[inline]
     pub(crate) fn store_making(&mut self, made_at: CallSite) {
         if self.is_recorded {
             self.locations.of_handles.push(made_at);
