@@ -6,21 +6,21 @@ ghost use Rattle.rw_law.specs.declared.limits.TheConstants.{MOST_ACTORS};
 ghost use Rattle.rw_desk.specs.Passes.{IsPass, fresh_pass};
 ghost use Rattle.rw_seat.specs.DeskSeats.{IsDeskSeat, with_hand_seat};
 
+use crate::boxed_ledger::BoxedLedger;
 use crate::hand_off::HandSeat;
 use rw_desk::{HasPass, Kept, Pass};
-use rw_journal::ChanLedger;
 use rw_law::{NoMemory, Payload};
 use std::alloc::Global;
 use std::marker::Model;
 
 /// A seat of a channel's hand-off.
-pub(crate) type ChannelSeat<V> = HandSeat<ChanLedger<V>>;
+pub(crate) type ChannelSeat<V> = HandSeat<BoxedLedger<V>>;
 
 /// An actor's seat at a desk: its clock and receipts, and what it has seen of each channel.
 #[derive(Drop)]
 pub struct DeskSeat<V: Payload> {
     pass: Pass<V>,
-    hand_seats: Vec<HandSeat<ChanLedger<V>>>,
+    hand_seats: Vec<ChannelSeat<V>>,
 }
 
 impl<V: Payload> Model for DeskSeat<V> {
@@ -70,7 +70,7 @@ impl<V: Payload> DeskSeat<V> {
     }
 
     /// Adds a `HandSeat` to a seat that has made no call. The `HandSeat` has seen nothing.
-    pub(crate) fn add(&mut self, hand_seat: HandSeat<ChanLedger<V>>) -> Result<(), NoMemory>
+    pub(crate) fn add(&mut self, hand_seat: ChannelSeat<V>) -> Result<(), NoMemory>
         requires pass { self.old.pass ≡ fresh_pass hand_seat.number }
         requires front { hand_seat.front ≡ [] }
         ensures { OnOk result (self.new ≡ with_hand_seat self.old hand_seat) }
@@ -80,14 +80,7 @@ impl<V: Payload> DeskSeat<V> {
     }
 
     /// Splits the seat into its pass, its other `HandSeat`s, and its `HandSeat` at a channel.
-    pub(crate) fn reach(
-        self,
-        at: usize,
-    ) -> (
-        Pass<V>,
-        Vec<HandSeat<ChanLedger<V>>>,
-        HandSeat<ChanLedger<V>>,
-    )
+    pub(crate) fn reach(self, at: usize) -> (Pass<V>, Vec<ChannelSeat<V>>, ChannelSeat<V>)
         requires { at < length self.hand_seats }
         ensures pass { result.0 ≡ self.pass }
         ensures others { result.1.items ≡ remove self.hand_seats at }
@@ -107,9 +100,9 @@ impl<V: Payload> DeskSeat<V> {
     /// Puts together what `reach` has split.
     pub(crate) fn whole(
         pass: Pass<V>,
-        mut hand_seats: Vec<HandSeat<ChanLedger<V>>>,
+        mut hand_seats: Vec<ChannelSeat<V>>,
         at: usize,
-        hand_seat: HandSeat<ChanLedger<V>>,
+        hand_seat: ChannelSeat<V>,
     ) -> DeskSeat<V>
         requires within { at ≤ vec_len hand_seats }
         requires room { vec_len hand_seats < vec_capacity hand_seats }

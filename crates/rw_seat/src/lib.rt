@@ -7,6 +7,7 @@
 
 mod acquiring;
 mod answered;
+mod boxed_ledger;
 mod calling;
 mod closing;
 mod desk_closing;

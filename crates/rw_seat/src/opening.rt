@@ -12,13 +12,13 @@ ghost use Rattle.rw_seat.specs.HandOffs.{HandOff as HandOffs};
 ghost use Rattle.rw_seat.specs.Rule.{numbers_from};
 ghost use Rattle.rw_seat.specs.SeatDesks.{HasOpened, opening_at};
 
-use crate::desk_seat::DeskSeat;
-use crate::hand_off::{HandOff, HandSeat};
+use crate::boxed_ledger::BoxedLedger;
+use crate::desk_seat::{ChannelSeat, DeskSeat};
+use crate::hand_off::HandOff;
 use crate::seat_desk::SeatDesk;
 use rw_desk::{DeskOpenFault, refusal_to_open};
-use rw_journal::{ChanLedger, Ledger};
 use rw_law::{NoMemory, Payload};
-use rw_world::{OpenFault, Spec, open_channel};
+use rw_world::{OpenFault, Spec};
 use std::alloc::Global;
 
 impl<V: Payload> SeatDesk<V> {
@@ -81,7 +81,7 @@ fn open_hand_offs<V: Payload>(
     specs: &[Spec<V>],
     actors: u32,
     seats: &mut [DeskSeat<V>],
-) -> Result<Vec<HandOff<ChanLedger<V>>>, NoMemory>
+) -> Result<Vec<HandOff<BoxedLedger<V>>>, NoMemory>
     requires good { All (λ spec. has_bad_capacity spec ≡ false) specs.now }
     requires some { 0 < actors }
     requires few { actors ≤ MOST_ACTORS }
@@ -107,7 +107,7 @@ fn open_to_seats<V: Payload>(
     alloc: Global,
     spec: &Spec<V>,
     seats: &mut [DeskSeat<V>],
-    hand_offs: &mut Vec<HandOff<ChanLedger<V>>>,
+    hand_offs: &mut Vec<HandOff<BoxedLedger<V>>>,
     actors: u32,
 ) -> Result<(), NoMemory>
     requires good { has_bad_capacity spec.now ≡ false }
@@ -150,22 +150,21 @@ fn open_hand_off<V: Payload>(
     alloc: Global,
     spec: &Spec<V>,
     seats: u32,
-) -> Result<(HandOff<ChanLedger<V>>, Vec<HandSeat<ChanLedger<V>>>), NoMemory>
+) -> Result<(HandOff<BoxedLedger<V>>, Vec<ChannelSeat<V>>), NoMemory>
     requires good { has_bad_capacity spec.now ≡ false }
     requires some { 0 < seats }
     requires few { seats ≤ MOST_ACTORS }
     ensures opened { IfOk result (λ r. opening_at r.0.home ≡ Some (opened_channel spec.now)) }
     ensures seats { IfOk result (λ r. r.1.items ≡ map (λ n. fresh_hand_seat n r.0.home) (numbers_from 0 seats)) }
 {
-    let channel = open_channel(alloc, spec)?;
-    let ledger = Ledger::open(alloc, channel)?;
+    let ledger = BoxedLedger::open(alloc, spec)?;
     HandOff::open(alloc, ledger, seats)
 }
 
 /// Adds each `HandSeat` to the seat with its number. A `HandSeat` whose allocation fails is dropped.
 fn add_hand_seats<V: Payload>(
     seats: &mut [DeskSeat<V>],
-    mut hand_seats: Vec<HandSeat<ChanLedger<V>>>,
+    mut hand_seats: Vec<ChannelSeat<V>>,
 ) -> Result<(), NoMemory>
     requires all { length seats.old ≡ length hand_seats.items }
     requires fresh { (a : ℕ) → IfSome (slice_get seats.old a) (λ s. s.pass ≡ fresh_pass a) }

@@ -11,11 +11,11 @@ ghost use Rattle.rw_seat.specs.DeskSeats.{HasSeen, IsElsewhereAsBefore, front_at
 ghost use Rattle.rw_seat.specs.SeatDesks.{IsAnswered, IsSeatOf, opening_at};
 
 use crate::answered::Answered;
+use crate::boxed_ledger::BoxedLedger;
 use crate::calling::{call_by_seat, length_by_seat};
 use crate::desk_seat::DeskSeat;
 use crate::hand_off::HandOff;
 use rw_desk::DeskFault;
-use rw_journal::ChanLedger;
 use rw_law::Payload;
 use rw_world::{ChanCall, Spec};
 use std::marker::Model;
@@ -28,7 +28,7 @@ use std::sync::Wait;
 pub struct SeatDesk<V: Payload> {
     pub(crate) specs: Vec<Spec<V>>,
     pub(crate) actors: u32,
-    pub(crate) hand_offs: Vec<HandOff<ChanLedger<V>>>,
+    pub(crate) hand_offs: Vec<HandOff<BoxedLedger<V>>>,
 }
 
 impl<V: Payload> Model for SeatDesk<V> {
@@ -99,7 +99,7 @@ impl<V: Payload> SeatDesk<V> {
     }
 
     /// Returns the hand-off of a call's channel, or `None` if the call strays.
-    fn hand_off(&self, channel: u32, call: &ChanCall<V>) -> Option<&HandOff<ChanLedger<V>>>
+    fn hand_off(&self, channel: u32, call: &ChanCall<V>) -> Option<&HandOff<BoxedLedger<V>>>
         ensures none { IsNone result ↔ IsTrue (stray_of strays_at (map spec_kind self.now.specs) (row_call channel call.now)) }
         ensures home { IfSome result (λ h. slice_get self.now.homes channel ≡ Some h.now.home) }
         ensures spec { IfSome result (λ h. (spec : Specs V) × (slice_get self.now.specs channel ≡ Some spec)
@@ -113,7 +113,7 @@ impl<V: Payload> SeatDesk<V> {
     }
 
     /// Returns the hand-off of a channel, or `None` if there is no such channel.
-    pub(crate) fn hand_off_at(&self, at: usize) -> Option<&HandOff<ChanLedger<V>>>
+    pub(crate) fn hand_off_at(&self, at: usize) -> Option<&HandOff<BoxedLedger<V>>>
         ensures none { IsNone result ↔ length self.now.specs ≤ at }
         ensures home { IfSome result (λ h. slice_get self.now.homes at ≡ Some h.now.home) }
         ensures spec { IfSome result (λ h. (spec : Specs V) × (slice_get self.now.specs at ≡ Some spec)
