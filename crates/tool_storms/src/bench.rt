@@ -126,7 +126,7 @@ where
     report(rt, name, time, (calls.len() as u64).saturating_mul(2))
 }
 
-/// Measures this many sends on a desk, which another thread receives.
+/// Measures the sends of this many values on a desk, and their receives in another thread.
 fn made_beside<D: Calls + Sync + Drop, R: Clock + Threads + Wait + Sync + Print + Eprint>(
     rt: &R,
     alloc: Global,
@@ -137,7 +137,7 @@ where
     D::Actor: Send + Drop,
 {
     let time = time_beside::<D, R>(rt, alloc, count);
-    report(rt, name, time, count)
+    report(rt, name, time, count.saturating_mul(2))
 }
 
 /// Measures the close of a desk of 8 channels, after an eighth of the calls on each.
@@ -182,7 +182,7 @@ where
     made_beside::<P, R>(
         rt,
         alloc,
-        "sends on a desk, received in another thread",
+        "sends on a desk, and receives of all in another thread",
         calls.len() as u64 / 2,
     )?;
     made::<S, R>(rt, alloc, "broadcast pairs by a seat", BROADCAST, calls)?;

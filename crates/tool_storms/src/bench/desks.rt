@@ -139,7 +139,7 @@ where
     Ok(begin.elapsed(rt)?)
 }
 
-/// Measures how long it takes to send this many values in one thread and receive them in another.
+/// Measures how long it takes to send this many values in one thread and receive all of them in another.
 pub fn time_beside<D: Calls + Sync + Drop, R: Clock + Threads + Wait + Sync>(
     rt: &R,
     alloc: Global,

@@ -3,9 +3,15 @@
 use crate::desks::{Calls, Shared};
 use rw_broadcast::{BCall, BReply};
 use rw_world::{ChanCall, ChanReply};
+use std::hint::spin_loop;
 use std::sync::Wait;
+use std::sync::atomic::AtomicU64;
+use std::sync::atomic::Ordering::SeqCst;
 use std::thread;
 use std::thread::Threads;
+
+/// How many values may be unread before their sender waits. The channel keeps 1,024, so no receiver lags.
+const MOST_UNREAD: u64 = 1_000;
 
 /// Makes the calls on channel 0 and on channel 1, each in its own thread.
 pub fn make_apart<D: Shared + Sync, R: Threads + Wait + Sync>(
@@ -43,27 +49,51 @@ where
     back
 }
 
+/// Waits until fewer than `MOST_UNREAD` of the values sent are unread.
+fn wait_for_reader<R: Wait>(rt: &R, read: &AtomicU64, sent: u64) {
+    for _ in rt.forever() {
+        if sent.saturating_sub(read.load(SeqCst)) < MOST_UNREAD {
+            return;
+        }
+        spin_loop();
+    }
+}
+
 /// Sends this many values, and drops the sender.
-fn send_all<D: Calls, R: Wait>(rt: &R, desk: &D, pass: &mut D::Actor, count: u64) {
+fn send_all<D: Calls, R: Wait>(
+    rt: &R,
+    desk: &D,
+    pass: &mut D::Actor,
+    read: &AtomicU64,
+    count: u64,
+) {
     for i in 0..count {
-        let _ = desk.wait_call(rt, pass, 0, ChanCall::B(BCall::Send(0, i)));
+        wait_for_reader(rt, read, i);
+        let sent = desk.wait_call(rt, pass, 0, ChanCall::B(BCall::Send(0, i)));
+        if sent.is_err() {
+            break;
+        }
     }
     let _ = desk.wait_call(rt, pass, 0, ChanCall::B(BCall::DropHandle(0)));
 }
 
-/// Receives until the channel is closed. Returns whether it was.
-fn receive_all<D: Calls, R: Wait>(rt: &R, desk: &D, pass: &mut D::Actor) -> bool {
-    for _ in 0..u64::MAX {
+/// Receives until the channel is closed, and counts what it has read. Returns whether the channel was closed.
+fn receive_all<D: Calls, R: Wait>(rt: &R, desk: &D, pass: &mut D::Actor, read: &AtomicU64) -> bool {
+    for i in 0..u64::MAX {
         match desk.wait_call(rt, pass, 0, ChanCall::B(BCall::Recv(1))) {
             Ok(ChanReply::B(BReply::Closed)) => return true,
-            Ok(_) => {}
-            Err(_) => return false,
+            Ok(_) => read.store(i + 1, SeqCst),
+            Err(_) => {
+                // Or the sender would wait for it.
+                read.store(u64::MAX, SeqCst);
+                return false;
+            }
         }
     }
     false
 }
 
-/// Sends this many values in one thread, and receives them in another, which waits.
+/// Sends this many values in one thread, and receives all of them in another.
 pub fn send_beside<D: Calls + Sync, R: Threads + Wait + Sync>(
     rt: &R,
     desk: &D,
@@ -75,13 +105,15 @@ where
     D::Actor: Send + Drop,
 {
     let mut back = None;
+    let read = AtomicU64::new(0);
+    let read = &read;
     thread::scope(thread::scope_env(), rt, |scope| {
         let other = scope.spawn(move || {
-            send_all(rt, desk, &mut second, count);
+            send_all(rt, desk, &mut second, read, count);
             second
         });
         if let Ok(other) = other {
-            let closed = receive_all(rt, desk, &mut first);
+            let closed = receive_all(rt, desk, &mut first, read);
             let second = other.join(rt);
             if closed {
                 back = Some((first, second));
