@@ -10,6 +10,14 @@ export YOVANELUM_OUT=$out TMPDIR=$work PYTHONDONTWRITEBYTECODE=1
 export YOVANELUM_TTD=${YOVANELUM_TTD:-$top/rust/built/x86_64-linux/ttd}
 passed=0
 failed=0
+skipped=0
+
+# Whether a part of the script is left out: the variable YOVANELUM_SKIP names those that are. The sum says how many were.
+left_out() {
+  [[ " ${YOVANELUM_SKIP:-} " == *" $1 "* ]] || return
+  skipped=$((skipped + 1))
+  echo "${0#"$top/"}: $1 is left out, as YOVANELUM_SKIP says" >&2
+}
 
 # Counts a failure, and prints what failed.
 fail() {
@@ -28,13 +36,14 @@ step() {
   fi
 }
 
-# Runs a command whose last line is 'N passed, M failed', adds that, and prints how long it took.
+# Runs a command whose last line is 'N passed, M failed', perhaps with ', K skipped', adds that, and prints how long it took.
 count() {
   local since=$SECONDS last
   last=$("$@" | tee >(cat >&2) | tail -n 1)
-  if [[ $last =~ ^([0-9]+)\ passed,\ ([0-9]+)\ failed ]]; then
+  if [[ $last =~ ^([0-9]+)\ passed,\ ([0-9]+)\ failed(,\ ([0-9]+)\ skipped)? ]]; then
     passed=$((passed + BASH_REMATCH[1]))
     failed=$((failed + BASH_REMATCH[2]))
+    skipped=$((skipped + ${BASH_REMATCH[4]:-0}))
   else
     fail "$* gave no count; its last line: $last"
   fi
@@ -50,18 +59,20 @@ each() {
     number=$((number + 1))
     while [ "$(jobs -rp | wc -l)" -ge "$(nproc)" ]; do wait -n; done
     {
-      passed=0 failed=0
+      passed=0 failed=0 skipped=0
       "$@" "$line" >"$counts/$number.said" </dev/null
-      echo "$passed $failed" >"$counts/$number"
+      echo "$passed $failed $skipped" >"$counts/$number"
       cat "$counts/$number.said"
     } &
   done
   wait
   for ((; number > 0; number--)); do
-    counted='0 1'
+    counted='0 1 0'
     [ ! -f "$counts/$number" ] || counted=$(<"$counts/$number")
-    passed=$((passed + ${counted% *}))
-    failed=$((failed + ${counted#* }))
+    read -r -a counted <<<"$counted"
+    passed=$((passed + counted[0]))
+    failed=$((failed + counted[1]))
+    skipped=$((skipped + counted[2]))
   done
   rm -rf "$counts"
 }
@@ -74,21 +85,36 @@ need() {
   done
 }
 
+# Installs Debian's packages. Parts of ./test run side by side, so one waits for the other.
+install_packages() {
+  (
+    flock 9 && apt-get update && DEBIAN_FRONTEND=noninteractive apt-get install -y --no-install-recommends "$@"
+  ) 9>"$out/packages.lock" </dev/null
+}
+
 # Installs the packages of a command that is missing, if that is allowed. If not, `missing` has the message about it.
 install_tool() {
   local command=$1
   shift
   command -v "$command" >/dev/null && return
   echo "${0#"$top/"}: installing $*" >&2
-  { apt-get update && DEBIAN_FRONTEND=noninteractive apt-get install -y --no-install-recommends "$@"; } >/dev/null 2>&1
+  install_packages "$@" >/dev/null 2>&1
   command -v "$command" >/dev/null && return
   missing="$command isn't there, and can't be installed here: apt-get install $*"
   return 1
 }
 
-# Prints the sum, which is a script's last line, and ends with status 0 if nothing failed.
+# Has cargo install the program, as users do, and sets `installed` to its path.
+install_program() {
+  installed=$out/program/bin/ttd
+  CARGO_NET_OFFLINE=true CARGO_TARGET_DIR=$out/source step cargo install -q --locked --path "$top/rust" --bin ttd --root "$out/program" --force
+}
+
+# Prints the sum, which is a script's last line, and ends with status 0 if nothing failed. What was left out isn't counted as passed.
 finish() {
-  echo "$passed passed, $failed failed"
+  local left=''
+  [ "$skipped" -eq 0 ] || left=", $skipped skipped"
+  echo "$passed passed, $failed failed$left"
   [ "$failed" -eq 0 ]
   exit
 }

@@ -4,6 +4,10 @@ import shutil
 import subprocess
 
 
+# What programs and libraries are compiled for.
+TARGET = "x86_64-unknown-linux-gnu"
+
+
 class Refused(Exception):
     """Why nothing is built."""
 
@@ -61,8 +65,8 @@ def library_words(top, crate):
     return words
 
 
-def compile_words(top, crate, made, target="x86_64-unknown-linux-gnu", cpu="x86-64", toolchain=None):
-    """The arguments of `rattle build` for a program or a static library over its proved libraries, for a target's most basic processor.
+def compile_words(top, crate, made, toolchain=None):
+    """The arguments of `rattle build` for a program or a static library over its proved libraries, for the most basic processor of the target.
 
     It is run in the crate's folder. The same sources make the same bytes, wherever the repository is.
     """
@@ -71,5 +75,5 @@ def compile_words(top, crate, made, target="x86_64-unknown-linux-gnu", cpu="x86-
     kind = ["src/main.rt"] if is_program else ["src/lib.rt", "--crate-type", "staticlib"]
     return [f"{kit}/bin/rattle", "build", "--crate-name", crate, *kind, *library_words(top, crate),
             "--antt-project", f"{kit}/rattle/logic/antt-project.json", "--logic-built", f"{kit}/logic_built", "--jobs", "1",
-            "--links", f"{crate}=", "--target", target, "--cpu", cpu, "--backend", "llvm", "--incremental", "out/incremental",
+            "--links", f"{crate}=", "--target", TARGET, "--cpu", "x86-64", "--backend", "llvm", "--incremental", "out/incremental",
             "--toolchain", toolchain or f"{kit}/toolchain", "-o", made]

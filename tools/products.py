@@ -1,4 +1,4 @@
-"""What is built: the program, the archives for C and Rust, and the page, each as the bytes of its files under rust/built/."""
+"""What is built: the Rust source, the program and the page, each as the bytes of its files under rust/."""
 import hashlib
 import os
 import sys
@@ -7,15 +7,17 @@ import tempfile
 import kit
 
 HERE = os.path.dirname(os.path.realpath(__file__))
-sys.path.append(os.path.join(os.path.dirname(HERE), "page", "tools"))
+sys.path += [os.path.join(os.path.dirname(HERE), "page", "tools"), os.path.join(HERE, "erasing")]
 
 import document
+import eraser.layout
+import eraser.source
 import module
 
-# The folder of each target for which the core's archive is built, with its triple and its most basic processor.
-TARGETS = {"x86_64-linux": ("x86_64-unknown-linux-gnu", "x86-64"), "aarch64-linux": ("aarch64-unknown-linux-gnu", "generic")}
-PAGE = "yovanelum.html"
-PROGRAM = "x86_64-linux/ttd"
+# Folders in which nothing stands that isn't built, and the list of the library's modules.
+BUILT, SOURCE, LIST = "built", "src/source", "src/source.rs"
+PAGE = "built/yovanelum.html"
+PROGRAM = "built/x86_64-linux/ttd"
 
 
 def read(path):
@@ -38,25 +40,20 @@ def sources(top, crate):
     return "".join(f"{digest}  {path}\n" for path, digest in sorted(lines)).encode()
 
 
+def source(top, _):
+    """The Rust source of the proved crates. It needs no kit."""
+    files, _ = eraser.layout.made(top)
+    return {f"src/{path}": text.encode() for path, text in files.items()}
+
+
 def program(top, work):
-    """The program, its object as an archive, which `cargo install` links, and the checksums of their sources."""
+    """The program, and the checksums of its sources."""
     folder = kit.folder()
-    made, linked, archive = f"{work}/ttd.o", f"{work}/ttd", f"{work}/ttd.a"
+    made, linked = f"{work}/ttd.o", f"{work}/ttd"
     kit.run(*kit.compile_words(top, "rw_ttd", made), cwd=f"{top}/crates/rw_ttd")
-    kit.run(f"{folder}/bin/rattle-link", "--target", TARGETS["x86_64-linux"][0], "--toolchain", f"{folder}/toolchain", "-o", linked,
-            made, f"{folder}/c/libos_c.a", f"{folder}/c/liblibc_c.a")
-    kit.run(f"{folder}/toolchain/bin/llvm-ar", "rcsD", archive, "ttd.o", cwd=work)
-    return {PROGRAM: read(linked), "x86_64-linux/libyovanelum_ttd.a": read(archive), f"{PROGRAM}.sources": sources(top, "rw_ttd")}
-
-
-def core(top, work):
-    """The archives of the core, one for each target."""
-    made = {}
-    for name, (target, cpu) in TARGETS.items():
-        archive = f"{work}/{name}.a"
-        kit.run(*kit.compile_words(top, "rw_ffi", archive, target, cpu), cwd=f"{top}/crates/rw_ffi")
-        made[f"{name}/libyovanelum_core.a"] = read(archive)
-    return made
+    kit.run(f"{folder}/bin/rattle-link", "--target", kit.TARGET, "--toolchain", f"{folder}/toolchain", "-o", linked, made,
+            f"{folder}/c/libos_c.a", f"{folder}/c/liblibc_c.a")
+    return {PROGRAM: read(linked), f"{PROGRAM}.sources": sources(top, "rw_ttd")}
 
 
 def page(top, work):
@@ -66,18 +63,18 @@ def page(top, work):
 
 def page_again(top):
     """The page with the current scripts and the module of the built page, for work on the page alone. It needs no kit."""
-    built = read(f"{top}/rust/built/{PAGE}").decode()
+    built = read(f"{top}/rust/{PAGE}").decode()
     module_there = document.module_of(built)
     if module_there is None:
-        raise kit.Refused(f"rust/built/{PAGE} has no module: build it whole")
+        raise kit.Refused(f"rust/{PAGE} has no module: build it whole")
     try:
         return {PAGE: document.page(f"{top}/page", module_there).encode()}
     except document.Refused as why:
         raise kit.Refused(str(why)) from why
 
 
-# What is built under each name: how, and of which crate.
-PRODUCTS = {"ttd": (program, "rw_ttd"), "core": (core, "rw_ffi"), "page": (page, "rw_page")}
+# What is built under each name: how, and of which crate, which has to be proved first.
+PRODUCTS = {"source": (source, None), "ttd": (program, "rw_ttd"), "page": (page, "rw_page")}
 
 
 def build(name, top):
@@ -85,5 +82,5 @@ def build(name, top):
     try:
         with tempfile.TemporaryDirectory() as work:
             return make(top, work)
-    except document.Refused as why:
+    except (document.Refused, eraser.source.Refused) as why:
         raise kit.Refused(str(why)) from why

@@ -30,8 +30,12 @@ export function hasEmbeddedRun() {
   return byId("run").firstChild !== null;
 }
 
-// Returns a run's file name, its bytes, and those of its file of names, if it has one, for a page that has a run. Each part is one line.
+// Returns a run's file name, its bytes, and those of its file of names, if it has one, for a page that has a run. Each part is one line in base64.
+// A journal may be the text of an element of its own instead, since nothing in a journal is markup.
 export function embeddedRun() {
-  const [name, bytes, names] = byId("run").textContent.split("\n").slice(1, -1).map(fromBase64);
+  const parts = byId("run").textContent.split("\n").slice(1, -1).map(fromBase64);
+  const journal = document.getElementById("journal");
+  if (journal !== null) parts.splice(1, 0, new TextEncoder().encode(journal.textContent.slice(1)));
+  const [name, bytes, names] = parts;
   return { key: OWN, name: new TextDecoder().decode(name), bytes, names };
 }

@@ -50,7 +50,8 @@ export function totalsIn(engine, journal) {
     const isBroadcast = scanner.word() === "broadcast";
     const channel = scanner.number();
     const receiver = scanner.number();
-    totals.push({ channel, receiver, counts: isBroadcast ? countsIn(scanner) : null, missed: isBroadcast ? null : missedIn(scanner) });
+    const counted = isBroadcast ? { counts: countsIn(scanner), missed: null, unlooked: null } : { counts: null, ...changesIn(scanner) };
+    totals.push({ channel, receiver, ...counted });
   }
   return totals;
 }
@@ -62,9 +63,10 @@ function countsIn(scanner) {
   return { received, lost: scanner.number(), worst: scanner.number(), worstPlace: scanner.number(), unread: scanner.numberOrNone() };
 }
 
-function missedIn(scanner) {
+/** @returns {Pick<Totals, "missed" | "unlooked">} */
+function changesIn(scanner) {
   scanner.skipBehind(SPACE);
-  return scanner.number();
+  return { missed: scanner.number(), unlooked: scanner.number() };
 }
 
 // Returns the place from which on each of so many channels is closed, or null, and where each receiver that was there then was told so, or null.

@@ -24,11 +24,11 @@ export class Folds {
     return this.keys.has(key);
   }
 
-  // The channels in their order: those that lost most first, or by number.
+  // The channels in their order: those first whose receivers that were ever read by lost most, and then those of others; or by number.
   get channels() {
     const { sums } = this.run.losses;
     const numbers = [...this.run.channels.keys()];
-    return this.isByNumber ? numbers : numbers.sort((a, b) => sums[b].lost - sums[a].lost || a - b);
+    return this.isByNumber ? numbers : numbers.sort((a, b) => sums[b].read - sums[a].read || sums[b].lost - sums[a].lost || a - b);
   }
 
   turn(key) {

@@ -39,11 +39,23 @@ function showTab(page, tab) {
   page.walk?.table.draw();
 }
 
+// The steps that the account tells of. One of a loss has the loss chosen.
+function listenToAnswer(page) {
+  byId("answer-box").addEventListener("click", event => {
+    const target = /** @type {HTMLElement} */ (event.target);
+    /** @type {HTMLElement} */
+    const link = target.closest("[data-place]");
+    if (!link) return;
+    const [channel, receiver] = (link.dataset.receiver ?? "").split(" ").map(Number);
+    page.walk?.lossMoves.toStep(Number(link.dataset.place), channel, receiver);
+  });
+}
+
 // The table of receivers: its line folds it, a head sorts it, and a row goes to its receiver.
 function listenToTable(page) {
   const box = byId("table-box");
   press(page, "loss-line", walk => walk.lossMoves.turnTable());
-  chosenIn("table-box", "sort", key => page.walk?.table.sort(key));
+  chosenIn("table-box", "sort", key => page.walk?.table.sortBy(key));
   box.addEventListener("scroll", () => page.walk?.table.draw());
   const go = row => {
     const [channel, receiver] = row.split(" ").map(Number);
@@ -153,6 +165,7 @@ export function listenToHands(page) {
   listenToStops(page);
   chosenIn("tabs", "tab", tab => showTab(page, tab));
   listenToTable(page);
+  listenToAnswer(page);
   pointed(byId("picture-box"), {
     press: (x, y) => page.walk?.pressPicture(x, y),
     follow: x => page.walk?.toPointInPicture(x),

@@ -11,6 +11,10 @@ const MOST_NAMED = 4;
 
 const WORDS = { told: "told", dropped: "dropped untold", open: "not told by the end" };
 
+function word(run, loss) {
+  return run.losses.isUnwound(loss) ? "not told when the test failed" : WORDS[loss.end];
+}
+
 function who(run, actor) {
   return [run.actors.badge(actor), " ", outside(run.actors.names[actor])];
 }
@@ -64,7 +68,7 @@ function end(run, loss) {
   const { actor } = run.entry(loss.to);
   const next = run.losses.firstOf(loss) + loss.lost;
   const told = loss.end === "told" ? [` was told “lagged ${loss.lost}”, and goes on with `, quoted(run.values.text(loss.channel, next))]
-    : [" dropped it: nobody was ever told"];
+    : [run.losses.isUnwound(loss) ? " dropped it after the test failed" : " dropped it: nobody was ever told"];
   return part("end", toPlace("end", loss.to, "E"), " ", ...who(run, actor), ...told);
 }
 
@@ -77,13 +81,13 @@ export function lossCard(run, here, place, isAll) {
   const turn = here.length > 1 ? [element("p", { class: "turn" }, `${grouped(here.length)} receivers lose values here `,
     element("button", { type: "button", "data-loss": "turn", title: "the next of them (N)" }, "next"))] : [];
   const head = element("h3", {}, ...rowName(run, loss.channel, run.lifeOf(loss.channel, loss.receiver)), ` lost ${count} `,
-    element("span", { class: `pill ${loss.end}` }, WORDS[loss.end]));
+    element("span", { class: `pill ${loss.end}` }, word(run, loss)));
   return [element("section", { class: `loss ${loss.end}`, "aria-label": "the loss at the place" }, ...turn, head,
     element("dl", {}, cause(run, loss), values(run, loss, place, isAll), reader(run, loss), end(run, loss)))];
 }
 
 // The same in one line, for a narrow screen.
 export function lossPeek(run, [loss]) {
-  return [element("b", {}, outside(run.titleOf(loss.channel, loss.receiver)), ` lost ${grouped(loss.lost)}`), ` · ${WORDS[loss.end]} · `,
+  return [element("b", {}, outside(run.titleOf(loss.channel, loss.receiver)), ` lost ${grouped(loss.lost)}`), ` · ${word(run, loss)} · `,
     quoted(run.losses.valuesOf(loss, 1)[0].text)];
 }

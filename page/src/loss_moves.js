@@ -52,6 +52,13 @@ export class LossMoves {
     this.walk.jumpTo(place);
   }
 
+  // To a step that the account tells of, with the loss of this receiver chosen that it is in, if it is in one.
+  toStep(place, channel, receiver) {
+    const loss = this.walk.run.losses.at(place).find(it => it.channel === channel && it.receiver === receiver);
+    if (loss) return this.show(loss, place);
+    this.walk.jumpTo(place);
+  }
+
   // To the next receiver that lags at the place.
   turn() {
     this.losses.turn();

@@ -23,21 +23,32 @@ const COLUMNS = [
 // On a narrow screen, who lost what comes first.
 const NARROW_ORDER = ["title", "lost", "never", "name", "greatest", "told", "received", "rest", "ending"];
 
-function endOf({ end, to, lost }) {
+function endOf(run, loss) {
+  const { end, to, lost } = loss;
   if (end === "told") return `${grouped(lost)} told at ${grouped(to)}`;
+  if (run.losses.isUnwound(loss)) return `${grouped(lost)} not told when the test failed`;
   return end === "dropped" ? `${grouped(lost)} never told, dropped at ${grouped(to)}` : `${grouped(lost)} not told by the end`;
 }
 
-// Says what was lost in the run.
-function lineOf(receivers) {
+// Says what was lost in the run. Where not all of it is known, it doesn't say that nothing was. Beside an account, which has the losses in its own
+// order, it has numbers alone.
+function lineOf(run, receivers) {
+  const { account } = run.names;
   const losers = receivers.filter(({ lost }) => lost > 0);
-  if (losers.length === 0) return [`no value was lost: ${countOf(receivers.length, "receiver")}`];
+  const none = account !== null && account.unknown.length > 0 ? "" : "no value was lost: ";
+  if (losers.length === 0) return [none + countOf(receivers.length, "receiver")];
   const lost = losers.reduce((sum, it) => sum + it.lost, 0);
+  const sum = element("b", {}, `${countOf(losers.length, "receiver")} lost ${countOf(lost, "value")}`);
+  return account === null ? [sum, ...worstOf(run, losers, lost)] : [sum];
+}
+
+// Which receiver lost the most: of those that were read by, if there are any.
+function worstOf(run, losers, lost) {
   const never = losers.reduce((sum, it) => sum + it.never, 0);
-  const worst = losers.reduce((most, it) => (it.greatest > most.greatest ? it : most));
+  const read = losers.filter(({ isHeld }) => !isHeld);
+  const worst = (read.length > 0 ? read : losers).reduce((most, it) => (it.greatest > most.greatest ? it : most));
   return [
-    element("b", {}, `${countOf(losers.length, "receiver")} lost ${countOf(lost, "value")}`), "; worst: ", outside(worst.name), ", ",
-    outside(worst.title), `, ${endOf(worst.worst)}`,
+    "; worst: ", outside(worst.name), ", ", outside(worst.title), `, ${endOf(run, worst.worst)}`,
     ...(never > 0 && never !== worst.greatest ? ["; ", element("b", {}, `${grouped(never)} of the ${grouped(lost)} never told`)] : []),
   ];
 }
@@ -61,6 +72,8 @@ export class LossTable {
     /** @type {Loss | null} */
     this.chosen = null;
     this.sorted = { key: "lost", isDown: true };
+    // At first, receivers that lost values and were never read by are below the others.
+    this.isAtFirst = true;
     this.isOpen = isOpen && !run.isBeginning && run.losses.all.length > 0;
     this.fill();
   }
@@ -70,7 +83,7 @@ export class LossTable {
     const { isBeginning, totals } = this.run;
     this.receivers = totals === null ? [] : receiversOf(this.run);
     const line = isBeginning ? ["the first calls: what was lost is counted when all of them are read"]
-      : totals === null ? ["what was lost is being counted"] : lineOf(this.receivers);
+      : totals === null ? ["what was lost is being counted"] : lineOf(this.run, this.receivers);
     byId("loss-line").replaceChildren(element("span", {}, ...line), element("span", { id: "fold-word" }));
     byId("loss-line").classList.toggle("none", isBeginning || this.run.losses.all.length === 0);
     this.turn(this.isOpen);
@@ -93,10 +106,17 @@ export class LossTable {
   sort(key, isDown = this.sorted.key === key ? !this.sorted.isDown : !COLUMNS.find(it => it.key === key).isText) {
     this.sorted = { key, isDown };
     const sign = isDown ? -1 : 1;
-    this.rows = [...this.receivers].sort((a, b) => sign * compared(a[key], b[key]) || a.channel - b.channel || a.life.handle - b.life.handle);
+    const held = (a, b) => (this.isAtFirst ? Number(a.isHeld) - Number(b.isHeld) : 0);
+    this.rows = [...this.receivers].sort((a, b) => held(a, b) || sign * compared(a[key], b[key]) || a.channel - b.channel || a.life.handle - b.life.handle);
     byId("table-head").replaceChildren(element("tr", {}, ...this.columns.map(it => this.headCell(it))));
     this.shown = null;
     this.draw();
+  }
+
+  // The same by hand.
+  sortBy(key) {
+    this.isAtFirst = false;
+    this.sort(key);
   }
 
   headCell(column) {

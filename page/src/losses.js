@@ -1,5 +1,6 @@
 // The losses of a run, by receiver and by place.
 
+import { RECEIVED } from "./marks.js";
 import { Overlaps } from "./overlaps.js";
 import { countUpTo } from "./values.js";
 
@@ -13,19 +14,27 @@ export class Losses {
     this.byLives = new WeakMap();
     this.stops = Uint32Array.from(new Set(all.flatMap(({ from, end, to }) => (end === "open" ? [from] : [from, to])))).sort();
     this.byReceiver = run.channels.map(() => new Map());
-    // How many values each channel's receivers lost, and of how many of them nobody was told.
-    this.sums = run.channels.map(() => ({ lost: 0, untold: 0 }));
+    // How many values each channel's receivers lost, of how many of them nobody was told, and how many receivers lost that were ever read by.
+    this.sums = run.channels.map(() => ({ lost: 0, untold: 0, read: 0 }));
+    const reading = readersIn(run, all);
     for (const loss of all) {
-      if (!run.isBeginning) this.count(loss);
+      if (!run.isBeginning) this.count(loss, reading.has(keyOf(loss.channel, loss.receiver)));
       const those = this.byReceiver[loss.channel].get(loss.receiver);
       if (those) those.push(loss);
       else this.byReceiver[loss.channel].set(loss.receiver, [loss]);
     }
   }
 
-  count({ channel, lost, end }) {
+  count({ channel, lost, end }, isRead) {
     this.sums[channel].lost += lost;
+    if (isRead) this.sums[channel].read += lost;
     if (end !== "told") this.sums[channel].untold += lost;
+  }
+
+  // Whether a loss ended by a drop after the panic or error that ended the test. Its receiver wasn't told by then.
+  isUnwound({ end, to }) {
+    const failure = this.run.names.account?.failure ?? null;
+    return end === "dropped" && failure !== null && to > failure;
   }
 
   /** @returns {Loss[]} */
@@ -99,6 +108,22 @@ export class Losses {
       overwritten: values.overwritten(loss.channel)[first + i],
     }));
   }
+}
+
+// A receiver as a number. A channel has fewer handles than this.
+function keyOf(channel, receiver) {
+  return channel * 2 ** 20 + receiver;
+}
+
+// The receivers that lost values and were ever read by: they were told of a loss, or received a value.
+function readersIn({ columns, lastPlace }, losses) {
+  const readers = new Set(losses.filter(({ end }) => end === "told").map(({ channel, receiver }) => keyOf(channel, receiver)));
+  if (losses.every(({ channel, receiver }) => readers.has(keyOf(channel, receiver)))) return readers;
+  const last = Math.min(lastPlace, columns.marks.length - 1);
+  for (let place = 1; place <= last; place++) {
+    if (columns.marks[place] === RECEIVED) readers.add(keyOf(columns.channels[place], columns.handles[place]));
+  }
+  return readers;
 }
 
 // Sorts losses by their channels.

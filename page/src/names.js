@@ -1,9 +1,10 @@
 // Names of actors, channels and handles, texts of values, and places in sources: from a file of names if there is one, else numbers. What hides
 // in them is written out. Such a file may also have a note on the core that answered the calls, and the calls that waited when it was written.
 
+import { isAccount, known } from "./account.js";
 import { visible } from "./text.js";
 
-const NEWEST = 2;
+const NEWEST = 3;
 
 function isText(value) {
   return typeof value === "string";
@@ -29,9 +30,10 @@ function isWait(value) {
   return isTable(value, () => true) && isText(value.call) && ["actor", "channel", "handle", "since"].every(key => isNumber(value[key]));
 }
 
-// Each key that a file of names may have, with the test of its value, and what is wrong where that fails.
+// Each key that the page uses, with the test of its value, and what is wrong where that fails. Other keys are ignored: `made_by` and others are
+// for a replay, and later writers add keys within a version.
 const KEYS = {
-  version: [value => isNumber(value) && value <= NEWEST, `its version isn't one up to ${NEWEST}`],
+  version: [isNumber, "its version is no number"],
   core: [isText, "its note on the core is no text"],
   actors: [value => isTable(value, isText), "its actors are no names by number"],
   channels: [value => isTable(value, isText), "its channels are no names by number"],
@@ -42,16 +44,24 @@ const KEYS = {
   calls: [value => isTable(value, list => isList(list, it => it === null || isNumber(it))), "its calls are no lists of locations by channel"],
   tasks: [value => isTable(value, isNumber), "its tasks are no numbers of locations by actor"],
   waiting: [value => isList(value, isWait), "its waiting calls have no actor, channel, handle, call and stamp"],
+  waited: [value => isTable(value, list => isList(list, isNumber)), "its key \"waited\" has no lists of entries by channel"],
+  account: [isAccount, "its account has no facts with their lines and places"],
 };
 
-// Reads a file of names, or throws an error that says what is wrong with it.
+// What a call that waits is to users, where the journal has the word of a call that doesn't.
+const WAITED = { "receiver-count": "closed", update: "wait_for" };
+
+// Reads a file of names, or throws an error that says what is wrong with it. The version is looked at first, since a later one may have other keys.
 export function readNames(text) {
   const tables = JSON.parse(text);
   if (!isTable(tables, () => true)) throw new Error("it is no object");
-  for (const [key, value] of Object.entries(tables)) {
-    if (!Object.hasOwn(KEYS, key)) throw new Error(`it has a key "${key}"`);
-    const [isRight, fault] = KEYS[key];
-    if (!isRight(value)) throw new Error(fault);
+  if (tables.version > NEWEST) throw new Error(`it has version ${tables.version}, and this page reads versions up to ${NEWEST}`);
+  const keys = Object.keys(tables);
+  const known = keys.filter(key => Object.hasOwn(KEYS, key));
+  if (keys.length > 0 && known.length === 0) throw new Error("it has none of the keys that names have");
+  for (const key of known) {
+    const [isRight, wrong] = KEYS[key];
+    if (!isRight(tables[key])) throw new Error(wrong);
   }
   return new Names(tables);
 }
@@ -65,9 +75,14 @@ function named(table, number, otherwise) {
 }
 
 export class Names {
-  constructor({ core = "", actors = {}, channels = {}, values = {}, handles = {}, locations = [], made = {}, calls = {}, tasks = {}, waiting = [] } = {}) {
+  constructor(tables = {}) {
+    const { core = "", actors = {}, channels = {}, values = {}, handles = {}, locations = [], made = {}, calls = {}, tasks = {}, waiting = [] } = tables;
     this.tables = { actors, channels, values, handles, locations, made, calls, tasks };
     this.core = visible(core);
+    /** @type {Account | null} what was found in the run, in words */
+    this.account = known(tables.account);
+    // By channel, which of its entries are of calls that wait.
+    this.waited = new Map(Object.entries(tables.waited ?? {}).map(([channel, entries]) => [Number(channel), new Set(entries)]));
     /** @type {{ actor: number, channel: number, handle: number, call: string, since: number, location?: number }[]} */
     this.waiting = waiting;
     // The names that the run's own script gives to handles.
@@ -113,6 +128,11 @@ export class Names {
   // Where one of a channel's calls was made in the sources, or undefined.
   calledAt(channel, index) {
     return this.location(lookUp(this.tables.calls, channel)?.[index]);
+  }
+
+  // The name of a channel's call, which is its word but for two calls that wait.
+  method(channel, index, word) {
+    return (this.waited.get(channel)?.has(index) && WAITED[word]) || word;
   }
 
   get hasCalls() {

@@ -1,5 +1,6 @@
 // Opens a run: reads it with the debugger, and shows it, or why it is refused.
 
+import { showAccount } from "./account.js";
 import { pushRun, readAddress } from "./address.js";
 import { asBeginning, beginningOf } from "./beginning.js";
 import { bindingsOf } from "./bindings.js";
@@ -173,7 +174,8 @@ export class Opener {
   walkOver(run) {
     showPart("walk");
     const view = new View(run.lastPlace, run.lastColumn, columnsThatFit(byId("picture-box").clientWidth));
-    const table = new LossTable(run, innerWidth >= NARROW);
+    showAccount(run.names.account);
+    const table = new LossTable(run, innerWidth >= NARROW && run.names.account === null);
     const screen = new Screen(run, view);
     byId("legend").replaceChildren(...legend(run, screen.palette));
     const walk = new Walk(run, view, screen, table, tellFault);
@@ -188,6 +190,7 @@ export class Opener {
     if (names === null) return;
     tell();
     walk.rename(names);
+    showAccount(names.account);
     byId("facts").replaceChildren(...factsOf(source, walk.run));
     source.names = bytes;
     source.namesFile = name;

@@ -31,15 +31,15 @@ function numbersOf(losses, { received, lost, worst, worstPlace, unread }) {
   const last = losses.at(-1) ?? { end: "told", lost: 0 };
   const never = last.end === "told" ? 0 : last.lost;
   return {
-    received, lost, told: lost - never, never, greatest: worst, rest: unread === null ? null : unread - never,
+    received, lost, told: lost - never, never, isHeld: received === 0 && lost > 0 && never === lost, greatest: worst, rest: unread === null ? null : unread - never,
     worst: losses.find(({ from, to }) => from <= worstPlace && worstPlace < to) ?? null,
   };
 }
 
 // As many that a receiver of a watch doesn't have.
-const NONE = { received: null, lost: null, told: null, never: null, greatest: null, rest: null, worst: null };
+const NONE = { received: null, lost: null, told: null, never: null, isHeld: false, greatest: null, rest: null, worst: null };
 
-function receiverOf(run, { channel, receiver, counts, missed }, state) {
+function receiverOf(run, { channel, receiver, counts, unlooked }, state) {
   const life = run.lifeOf(channel, receiver);
   return {
     channel, life, name: run.names.channel(channel),
@@ -49,7 +49,7 @@ function receiverOf(run, { channel, receiver, counts, missed }, state) {
     ...(counts ? numbersOf(run.losses.of(channel, receiver), counts) : NONE),
     // Where it was made and dropped is loaded later than its counts.
     get ending() {
-      return endingOf(run, channel, life, state) + (missed ? `, never saw ${countOf(missed, "change")}` : "");
+      return endingOf(run, channel, life, state) + (unlooked ? `, never looked at ${countOf(unlooked, "change")}` : "");
     },
   };
 }

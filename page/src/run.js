@@ -104,11 +104,20 @@ export class Run {
     return readEntry(this.line(number));
   }
 
+  // The name of an entry's call, as users write it where it is one that waits.
+  methodOf({ number, channel, word }) {
+    return this.names.waited.has(channel) ? this.names.method(channel, this.orderOf(number), word) : word;
+  }
+
   // Where the call of an entry stands in the sources, if the names say so: they have one item for each of a channel's entries.
   sourceOf(number) {
-    if (!this.names.hasCalls) return undefined;
+    return this.names.hasCalls ? this.names.calledAt(this.columns.channels[number], this.orderOf(number)) : undefined;
+  }
+
+  // How many entries of its channel come before an entry.
+  orderOf(number) {
     this.orders ??= ordersOf(this.columns.channels, this.channels.length);
-    return this.names.calledAt(this.columns.channels[number], this.orders[number]);
+    return this.orders[number];
   }
 
   // The last place up to a stamp. Entries are in the order of their stamps.

@@ -33,6 +33,7 @@ function lossMeaning(entry, run, here) {
   const those = here.filter(({ channel }) => channel === entry.channel);
   const ended = those.find(({ receiver, to }) => receiver === entry.handle && to === entry.number);
   if (ended?.end === "told") return [lag(": lost ", ...lostTexts(run, ended, ended.lost))];
+  if (ended && run.losses.isUnwound(ended)) return [lag(` after the test failed: it had lost ${grouped(ended.lost)}, `, ...lostTexts(run, ended, ended.lost))];
   if (ended) return [lag(` and was never told that it lost ${grouped(ended.lost)}: `, ...lostTexts(run, ended, ended.lost))];
   const lagging = those.filter(({ to }) => to > entry.number);
   if (lagging.length === 0) return [];
@@ -56,8 +57,8 @@ function meaning(entry, run) {
   return text === null ? [] : [" ", quoted(text)];
 }
 
-export function callText(entry) {
-  return [entry.word, entry.handle, entry.rest].filter(part => part !== "").join(" ");
+export function callText(entry, run) {
+  return [run.methodOf(entry), entry.handle, entry.rest].filter(part => part !== "").join(" ");
 }
 
 export function replyText(entry) {
@@ -72,7 +73,7 @@ export function sentence(entry, run, here) {
   return [
     actors.badge(entry.actor), " ", coloured(actorColour(entry.actor), outside(names.actor(entry.actor))),
     " on ", outside(names.channel(entry.channel)), ": ",
-    element("b", {}, callText(entry)), " → ", element("b", { class: entry.reply }, replyText(entry)),
+    element("b", {}, callText(entry, run)), " → ", element("b", { class: entry.reply }, replyText(entry)),
     // What was lost comes before the call's own text, since what is last may be cut.
     ...losses, ...(losses.length > 0 ? [] : meaning(entry, run)),
     ...(source ? [element("span", { class: "mute" }, " at ", outside(source))] : []),
@@ -89,7 +90,7 @@ export function shortLine(entry, run) {
   const text = textOf(entry, run.names);
   const source = run.sourceOf(entry.number);
   return [
-    element("span", {}, `${entry.channel}: ${callText(entry)} → ${replyText(entry)}`, ...(text === null ? [] : [" ", quoted(text)])),
+    element("span", {}, `${entry.channel}: ${callText(entry, run)} → ${replyText(entry)}`, ...(text === null ? [] : [" ", quoted(text)])),
     ...(source ? [element("small", {}, outside(source))] : []),
   ];
 }

@@ -61,6 +61,17 @@ interface Address {
   stop: string | null;
 }
 
+/** What was found in a run, as the names have it. */
+interface Account {
+  version: number;
+  unknown: string[];
+  facts: { kind: string; channel: number; receiver?: number; places: { place: number; line: number }[]; text: string[] }[];
+  rest: { after: number; text: string | null };
+  nothing: string | null;
+  waiting: { text: string; since: number }[];
+  failure: number | null;
+}
+
 interface RunState {
   place: number;
   len: number;
@@ -84,13 +95,15 @@ interface Life {
 
 /**
  * What a receiver of a broadcast received and lost in the whole run, its greatest lag with the first place that has it, and how many values it has
- * yet to receive, the overwritten ones too, unless it was dropped. Of a receiver of a watch, how many changes it missed.
+ * yet to receive, the overwritten ones too, unless it was dropped. Of a receiver of a watch, how many changes it missed, and how many it
+ * never looked at.
  */
 interface Totals {
   channel: number;
   receiver: number;
   counts: { received: number, lost: number, worst: number, worstPlace: number, unread: number | null } | null;
   missed: number | null;
+  unlooked: number | null;
 }
 
 /** By channel: the place from which on it is closed, and where the receivers that were there then were told so. */

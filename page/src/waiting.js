@@ -30,12 +30,20 @@ export function waitsOf(run) {
   }));
 }
 
-function waitText({ actor, channel, handle, call, since, location }, run) {
+// Whose look holds the lock of a watch's value that a call waits for, as far as the names say it.
+function holderText(holder, run) {
+  if (!holder) return "";
+  if (!Number.isSafeInteger(holder.actor)) return ", for the lock of the value";
+  const place = run.names.location(holder.location);
+  return `, for a look taken${place ? ` at ${place}` : ""} by ${isolated(run.names.actor(holder.actor))}`;
+}
+
+function waitText({ actor, channel, handle, call, since, location, held_by: holder }, run) {
   const place = run.names.location(location);
   const whose = run.lifeOf(channel, handle) ? run.titleOf(channel, handle) : `handle ${handle}`;
   const who = isolated(run.names.actor(actor));
   const where = isolated(run.names.channel(channel));
-  return `${who} waits in ${visible(call)} of ${whose} on ${where} since place ${grouped(run.placeOf(since))}${place ? `, at ${place}` : ""}`;
+  return `${who} waits in ${visible(call)} of ${whose} on ${where} since place ${grouped(run.placeOf(since))}${place ? `, at ${place}` : ""}${holderText(holder, run)}`;
 }
 
 /** @param {Drawing} drawing */

@@ -40,7 +40,7 @@ export function wholeCall(entry, run) {
   const made = run.names.madeAt(channel, handle);
   return [
     line(element("b", {}, grouped(number)), " ", run.actors.badge(actor), " ", outside(run.actors.names[actor]), " on ", outside(run.names.channel(channel))),
-    line(element("code", {}, `${callText(entry)} → `, element("b", { class: entry.reply }, replyText(entry)))),
+    line(element("code", {}, `${callText(entry, run)} → `, element("b", { class: entry.reply }, replyText(entry)))),
     ...(text === null ? [] : [line(element("code", { class: "text" }, outside(text)))]),
     ...(called ? [line("called at ", outside(called))] : []),
     ...(life ? [line(outside(run.titleOf(channel, handle)), ...(made ? [", made at ", outside(made)] : [])), ...ownersOf(run, life)] : []),

@@ -476,5 +476,21 @@ def greatest_from_far(tab, folder, journals):
         assert max(amber[:at - 4] + amber[at + 5:]) == 0, name
 
 
-TESTS = [struck_out, greatest_from_far, silent_loss, stops_of_losses, table_of_receivers, table_of_pool, row_without_loss, table_folds, room_for_the_table,
+def held_are_last(tab, folder, journals):
+    """A receiver that lost values and never received one comes after another that lost less: in the line, in the table, and with its channel."""
+    calls = [f"0 0 send 0 {value}" for value in range(1, 5)]
+    calls += ["0 1 send 0 1", "0 1 try-recv 1", "0 1 send 0 2", "0 1 send 0 3", "0 1 try-recv 1"]
+    script = "broadcast 1\nbroadcast 1\n" + "".join(f"{call}\n" for call in calls)
+    opening.load(tab, opening.page_of(folder, "held.journal", native.record(script.encode())), 0)
+    line = tab.run("document.querySelector('#loss-line span').textContent")
+    assert line == "2 receivers lost 4 values; worst: channel 1, actor 0 · receiver 1, 1 told at 9; 3 of the 4 never told", line
+    assert list(tab.run(TABLE)) == ["1 1", "0 1"], tab.run(TABLE)
+    assert tab.run("[...document.querySelectorAll('#state .channel')].map(it => it.dataset.channel)") == ["1", "0"]
+    # By hand the table is sorted by numbers alone.
+    tab.click("[data-sort=lost]")
+    tab.click("[data-sort=lost]")
+    assert list(tab.run(TABLE)) == ["0 1", "1 1"], tab.run(TABLE)
+
+
+TESTS = [held_are_last, struck_out, greatest_from_far, silent_loss, stops_of_losses, table_of_receivers, table_of_pool, row_without_loss, table_folds, room_for_the_table,
          closed_for_receivers, lost_by_name, lost_everywhere, readers_of_losses, cause_and_end, whole_calls, to_read, texts_of_values]

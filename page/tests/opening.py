@@ -22,16 +22,16 @@ def page_of(folder, name, data):
     return made.stdout.decode().rstrip("\n")
 
 
-def load(tab, path, place=None):
+def load(tab, path, place=None, seconds=20):
     tab.load(path, place)
-    settle(tab, place)
+    settle(tab, place, seconds)
 
 
-def settle(tab, place=None):
+def settle(tab, place=None, seconds=20):
     """Waits until a run is shown with what is counted in it, and the state at its place."""
     shown = ("!document.getElementById('walk').hidden && !document.getElementById('losses').hasAttribute('aria-busy')"
              " && document.getElementById('state').dataset.place")
-    tab.wait(f"{shown} !== undefined" if place is None else f"{shown} === '{place}'")
+    tab.wait(f"{shown} !== undefined" if place is None else f"{shown} === '{place}'", seconds)
 
 
 def standing(receiver, channel):

@@ -85,7 +85,7 @@ def told_apart(tab, folder, journals):
 
 
 def versions(tab, folder, journals):
-    """A watch's reader shows which version it has and how many it never saw, in the table of the whole run. At a closed watch a question leaves one change open."""
+    """A watch's reader shows which version it has and how many changes it never looked at, in the table of the whole run. At a closed watch a question leaves one change open."""
     opening.load(tab, opening.page_of(folder, "versions.ttd", SCRIPT))
     ask = opening.asker(native.record(SCRIPT))
     wanted = {2: "has 0, seen", 3: "has 0 of 1", 4: "has 0 of 2, missed 1", 5: "has 0 of 3, missed 2", 6: "has 3, seen", 7: "has 3 of 4"}
@@ -98,7 +98,7 @@ def versions(tab, folder, journals):
             assert text.replace("has ", "") in drawn_on_cursor(tab), drawn_on_cursor(tab)
         tab.key("ArrowRight")
     ends = tab.run("Object.fromEntries([...document.querySelectorAll('#table-rows tr[data-receiver]')].map(it => [it.dataset.receiver, it.lastChild.textContent]))")
-    assert ends["1 1"] == "has 0 of 4, never saw 4 changes" and ends["1 2"].endswith(", never saw 2 changes"), ends
+    assert ends["1 1"] == "has 0 of 4, never looked at 4 changes" and ends["1 2"].endswith(", never looked at 3 changes"), ends
     for place, ending in ((10, "one change that it hasn't seen may still come)"), (12, "nothing more will come)")):
         tab.run(f"void (location.hash = '#place={place}')")
         opening.settle(tab, place)

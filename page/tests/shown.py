@@ -87,7 +87,7 @@ def hostile_names(tab, folder, journals):
     for _ in range(3):
         tab.key("l")
     tab.run("new Promise(done => setTimeout(done, 100))")
-    assert tab.run("[document.querySelectorAll('img').length, document.querySelectorAll('script').length, window.alerted ?? false]") == [0, 6, False]
+    assert tab.run("[document.querySelectorAll('img').length, document.querySelectorAll('script').length, window.alerted ?? false]") == [0, 7, False]
 
 
 def refused_markup(tab, folder, journals):

@@ -1,4 +1,4 @@
-"""What a file of names of version 2 has: the places of calls in the sources, names of handles, tasks, and the calls that waited."""
+"""What a file of names has: the places of calls in the sources, names of handles, tasks, and the calls that waited."""
 import json
 
 import native
@@ -13,9 +13,9 @@ NAMES = {
 }
 
 
-def named_page(folder, name, names):
+def named_page(folder, name, names, script=SCRIPT):
     opening.put(folder, f"{name}.names", json.dumps(names).encode())
-    return opening.page_of(folder, f"{name}.journal", native.record(SCRIPT))
+    return opening.page_of(folder, f"{name}.journal", native.record(script))
 
 
 def source_lines(tab, folder, journals):
@@ -40,16 +40,40 @@ def waiting_calls(tab, folder, journals):
     assert tab.text("facts").endswith(told), tab.text("facts")
     assert "recv waits" in drawn_texts(tab)
     assert "waits in recv since 3" in tab.text("table-rows")
+    holders = {
+        ", for a look taken at src/worker.rs:30 by main": {"actor": 0, "location": 1}, ", for a look taken by main": {"actor": 0, "location": None},
+        ", for the lock of the value": {"actor": None, "location": None},
+    }
+    for number, (said, holder) in enumerate(holders.items()):
+        held = {**NAMES, "actors": {"0": "main"}, "waiting": [{**NAMES["waiting"][0], "held_by": holder}]}
+        opening.load(tab, named_page(folder, f"held{number}", held))
+        assert tab.text("facts").endswith(f", at src/bus.rs:15{said}"), tab.text("facts")
     quiet = {key: value for key, value in NAMES.items() if key != "waiting"}
     opening.load(tab, named_page(folder, "quiet", quiet))
     assert "waits" not in tab.text("facts") + tab.text("table-rows") and "recv waits" not in drawn_texts(tab)
 
 
+def calls_that_waited(tab, folder, journals):
+    """The calls of `closed` and `wait_for` have these names, where the names of the run say which they are. The journal has the words of others."""
+    script = b"broadcast 1\nwatch 5\n0 0 drop 1\n0 0 receiver-count 0\n0 0 receiver-count 0\n0 1 update 1\n0 1 update 1\n"
+    opening.load(tab, named_page(folder, "waited", {"waited": {"0": [2], "1": [0]}}, script), 0)
+    calls = {2: "receiver-count 0 → count 0", 3: "closed 0 → count 0", 4: "wait_for 1 → value 5", 5: "update 1 → value 5"}
+    for place, call in calls.items():
+        tab.run(f"document.querySelector('#calls [data-place=\"{place}\"]').click()")
+        opening.settle(tab, place)
+        assert f": {call}" in tab.text("sentence"), tab.text("sentence")
+        row = tab.run(f"document.querySelector('#calls [data-place=\"{place}\"] span:nth-of-type(2)').textContent")
+        assert row.endswith(f": {call}"), row
+
+
 def wrong_sources(tab, folder, journals):
     """Names of a later version, of another shape, or with another number of calls are reported, and the run is shown by its numbers."""
     wrong = {
-        "isn't read: its version isn't one up to 2.": {"version": 3}, "isn't read: its locations are no": {"locations": [["a", 1]]},
-        "isn't read: its calls are no": {"calls": {"0": ["x"]}}, "isn't read: its waiting calls": {"waiting": [{"actor": 1}]},
+        "isn't read: it has version 4, and this page reads versions up to 3.": {"version": 4, "calls": 1},
+        "isn't read: its account has no facts with their lines and places.": {"account": {"version": 1, "unknown": [], "facts": [{"kind": "loss"}]}},
+        "isn't read: its version is no number.": {"version": "2.0"}, "isn't read: its tasks are no": {"tasks": {"1": None}},
+        "isn't read: its locations are no": {"locations": [["a", 1]]}, "isn't read: its calls are no": {"calls": {"0": ["x"]}},
+        "isn't read: its waiting calls": {"waiting": [{"actor": 1}]},
         "isn't of this run: it has 2 calls of channel 0, and this run has 3.": {"calls": {"0": [1, 1]}},
     }
     for told, change in wrong.items():
@@ -58,4 +82,4 @@ def wrong_sources(tab, folder, journals):
         check_place(tab, opening.asker(native.record(SCRIPT)), 1)
 
 
-TESTS = [source_lines, waiting_calls, wrong_sources]
+TESTS = [source_lines, waiting_calls, calls_that_waited, wrong_sources]

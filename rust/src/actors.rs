@@ -1,8 +1,9 @@
 //! Who makes a call: the innermost named future, or else the task of a runtime that tells its tasks apart, or else the thread.
 
+use crate::backend::Actor;
 use crate::block_on::is_blocked_on_future;
 use crate::channel::CallSite;
-use crate::core::Actor;
+use crate::explore;
 use crate::reentrant::thread_number;
 use crate::replay::{self, UNNAMED_THREAD};
 use std::cell::{Cell, RefCell};
@@ -105,19 +106,25 @@ pub(crate) struct Actors {
     free: VecDeque<usize>,
 }
 
-/// Returns the current actor for the recorder with this number. Unless it is cached, `find` looks it up, given the current task.
+/// Returns the current actor for the recorder with this number, if it is cached and each thread runs one task.
 #[inline]
-pub(crate) fn current(recorder: u64, find: impl FnOnce(Option<u64>) -> Actor) -> Actor {
-    let cached = CACHED.get();
-    if cached.recorder == recorder && TASK_ID.get().is_none() {
-        return cached.actor;
+pub(crate) fn cached(recorder: u64) -> Option<Actor> {
+    match CACHED.try_with(Cell::get) {
+        Ok(cached) if cached.recorder == recorder && TASK_ID.get().is_none() => Some(cached.actor),
+        _ => None,
     }
-    current_of_task(recorder, find)
 }
 
-/// As [`current`], where the actor isn't cached or a thread may run several tasks.
+/// Whether the last recorded call of this thread, or of the future that it polls, was one for the recorder with this number.
+pub(crate) fn has_called(recorder: u64) -> bool {
+    CACHED
+        .try_with(Cell::get)
+        .is_ok_and(|cached| cached.recorder == recorder)
+}
+
+/// Returns the current actor for the recorder with this number. Unless it is cached, `find` looks it up, given the current task.
 #[inline(never)]
-fn current_of_task(recorder: u64, find: impl FnOnce(Option<u64>) -> Actor) -> Actor {
+pub(crate) fn current(recorder: u64, find: impl FnOnce(Option<u64>) -> Actor) -> Actor {
     let (cached, current) = (CACHED.get(), current_task());
     let task = current.map_or(0, |task| task.wrapping_add(1));
     if cached.recorder == recorder && cached.task == task {
@@ -173,6 +180,16 @@ impl Actors {
             Some(actor) => (actor, false),
             None => self.find_named(name_of_thread()),
         }
+    }
+
+    /// Returns the number of the current actor, if it has one.
+    pub(crate) fn known(&self) -> Option<Actor> {
+        if let Some(name) = name_of_future() {
+            return self.numbers.get(&name).copied();
+        }
+        let of_task = current_task().and_then(|task| self.tasks.get(&task));
+        let known = of_task.or_else(|| self.numbers.get(&name_of_thread()));
+        known.copied()
     }
 
     /// Returns the number of a task without a name, unless so many others have one that this one gets none.
@@ -334,6 +351,7 @@ pub fn named<F: Future>(name: &str, future: F) -> Named<F> {
     Named {
         name: Some(name.into()),
         cached: NOT_CACHED,
+        explored: None,
         future: Some(Box::pin(future)),
     }
 }
@@ -360,6 +378,8 @@ pub fn named<F: Future>(name: &str, future: F) -> Named<F> {
 pub struct Named<F> {
     name: Option<Arc<str>>,
     cached: CachedActor,
+    // Its name in a run that is explored, where no other task has it.
+    explored: Option<Arc<str>>,
     // `None` once this is dropped.
     future: Option<Pin<Box<F>>>,
 }
@@ -372,13 +392,13 @@ impl<F> Named<F> {
         let _ = NAME.try_with(|name| std::mem::swap(&mut *name.borrow_mut(), &mut self.name));
     }
 
-    /// Whether a replay holds this poll back, since it isn't this future's turn.
+    /// Whether a replay holds this poll back, or a run that is explored, since it isn't this future's turn.
     #[inline]
-    fn is_held(&self, context: &Context<'_>) -> bool {
+    fn is_held(&mut self, context: &Context<'_>) -> bool {
         // None before the first call, when the recorder isn't known yet.
         let recorder = Some(self.cached.recorder).filter(|recorder| *recorder != 0);
-        let name = self.name.as_ref();
-        name.is_some_and(|name| replay::holds(name, recorder, context))
+        let (name, task) = (self.name.as_ref(), &mut self.explored);
+        name.is_some_and(|name| replay::holds(name, task, recorder, context))
     }
 }
 
@@ -414,6 +434,9 @@ impl<F: Future> Future for Named<F> {
 impl<F> Drop for Named<F> {
     /// Drops the future under its name, so that the drop's calls are recorded for its actor, also if it is cancelled.
     fn drop(&mut self) {
+        if let (Some(task), Some(explorer)) = (&self.explored, explore::current()) {
+            explorer.leave(task);
+        }
         let guard = NameGuard::new(self);
         let was_dropping = IS_DROPPING.replace(true);
         guard.0.future = None;

@@ -69,6 +69,7 @@ mod tests {
     }
 
     #[test]
+    #[cfg_attr(target_family = "wasm", ignore = "WebAssembly has no threads")]
     fn no_addition_of_a_thread_is_lost() {
         static NUMBER: locked::AtomicU64 = locked::AtomicU64::new(0);
         let threads = [(); 4].map(|()| {

@@ -66,8 +66,8 @@ pub use receiver::Receiver;
 pub use sender::Sender;
 pub use weak::WeakSender;
 
+use crate::backend::OpenFault;
 use crate::channel::{Channel, ChannelState, CoreChannel, RecordedChannel, call_site};
-use crate::core::OpenFault;
 use crate::guarded_by::GuardedBy;
 use crate::handle::ChannelHandle;
 use crate::lock::lock;
@@ -115,8 +115,8 @@ fn open<T>(capacity: usize) -> (Sender<T>, Receiver<T>) {
     );
     let core = match CoreChannel::broadcast(capacity as u32) {
         Ok(core) => core,
-        Err(OpenFault::BadCapacity) => unreachable!("the capacity is 1 to 65536"),
         Err(OpenFault::NoMemory) => panic!("yovanelum: no memory for a channel"),
+        Err(fault) => unreachable!("the capacity is 1 to 65536: {fault}"),
     };
     let recorded = RecordedChannel::add(core, 0, call_site());
     let values = GuardedBy::new(&*lock(&recorded.state), Values::new(capacity));

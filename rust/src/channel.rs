@@ -7,14 +7,15 @@ mod locked;
 mod machine;
 mod state;
 
-pub(crate) use core_channel::{Call, CoreChannel};
+pub(crate) use core_channel::{Call, CoreChannel, Send};
 pub(crate) use locations::{CallSite, CallSites, call_site};
 pub(crate) use locked::LockedChannel;
 pub(crate) use state::ChannelState;
 
+use crate::explore;
 use crate::lock::lock;
-use crate::recorder::{RecordedBy, Recorder, TextOf};
-use crate::replay::ReplayedChannel;
+use crate::recorder::{RecordedBy, Recorder, TextOf, say_that_none_replays};
+use crate::replay::{ReplayedChannel, Turns};
 use std::sync::{Arc, Mutex, OnceLock};
 
 /// A channel with its recorder, if it has one. All calls are made through it.
@@ -29,7 +30,11 @@ impl RecordedChannel {
     /// Adds a channel that was opened with this many values to the current recorder. If there is none, or its run has no room for one more, the
     /// channel isn't recorded. Its first two handles are made here in the source.
     pub(crate) fn add(core: CoreChannel, value_count: u64, made_at: CallSite) -> RecordedChannel {
-        let recorder = Recorder::current().map(|current| current.0);
+        let current = Recorder::current_or_off();
+        if current.is_none() {
+            say_that_none_replays(made_at);
+        }
+        let recorder = current.map(|current| current.0).filter(|it| !it.is_off());
         let mut state = ChannelState::new(core, value_count);
         if let Some(recorder) = &recorder {
             state.made_by = Some(recorder.maker());
@@ -37,11 +42,13 @@ impl RecordedChannel {
             state.store_making(made_at);
         }
         let replayed = recorder.as_ref().and_then(|recorder| {
-            let number = recorder
-                .gate
-                .as_ref()?
-                .channel_by(state.made_by.as_ref()?)?;
-            Some(ReplayedChannel::new(recorder.gate.clone()?, number))
+            if let Some(explorer) = explore::current() {
+                let number = explorer.next_channel();
+                return Some(ReplayedChannel::new(Turns::Explored(explorer), number));
+            }
+            let gate = recorder.gate.clone()?;
+            let number = gate.channel_by(state.made_by.as_ref()?)?;
+            Some(ReplayedChannel::new(Turns::Journal(gate), number))
         });
         let state = Arc::new(Mutex::new(state));
         let is_added = recorder

@@ -2,21 +2,21 @@
 //!
 //! It is in the library since it uses parts of it that no other program may.
 
-use crate::findings::{Findings, Loss, LossEnd, TextFault};
 use crate::names::Names;
 use crate::report::{self, Report, page};
+use crate::run::{self, TextFault};
 use std::ffi::OsString;
-use std::fmt::Write as _;
 use std::fs::{self, File};
 use std::io::{self, IsTerminal, Read, Write};
 use std::path::{Path, PathBuf};
 
 const USAGE: &str = "\
-Usage: yovanelum why JOURNAL [--json]
+Usage: yovanelum why JOURNAL [--json | --sarif]
        yovanelum open JOURNAL
 
-why    prints which values were lost in the run of a journal, by whom and where
-       --json   prints the losses as a list of objects
+why    prints what was found in the run of a journal: which values were lost, by whom and where
+       --json    prints it as an object
+       --sarif   prints it as a SARIF log
 open   writes the page with the run inside beside the journal, and prints its name
 
 Names are read from the file NAME.names beside NAME.journal.
@@ -27,9 +27,17 @@ const MOST_BYTES: u64 = 268_435_456;
 
 /// What the command line asks for.
 enum Verb {
-    Why { as_json: bool },
+    Why(Form),
     Open,
     Help,
+}
+
+/// What `why` prints.
+#[derive(Clone, Copy, PartialEq, Eq)]
+enum Form {
+    Lines,
+    Json,
+    Sarif,
 }
 
 /// Why the command ends before its work is done. Each is one line.
@@ -62,15 +70,14 @@ pub fn command(
 ) -> u8 {
     let done = parsed(words).and_then(|(verb, path)| match verb {
         Verb::Help => write_to(out, USAGE),
-        Verb::Why { as_json: true } => write_to(out, &json(&Journal::read(&path)?)?),
-        Verb::Why { as_json: false } => why(&Journal::read(&path)?, out, told),
+        Verb::Why(form) => why(&Journal::read(&path)?, form, out, told),
         Verb::Open => open(&Journal::read(&path)?, page, out, told),
     });
     let Err(fault) = done else { return 0 };
     // A fault of a writer leaves no better way to say so than the status.
     let _ = match &fault {
         Fault::Refused(TextFault::NoMemory) => writeln!(told, "no memory"),
-        Fault::Refused(fault) => writeln!(out, "{fault}"),
+        Fault::Refused(fault) => writeln!(out, "{}", run::said(*fault)),
         Fault::Usage(line) => write!(told, "yovanelum: {line}\n\n{USAGE}"),
         Fault::Read(line) => writeln!(told, "read fault: {line}"),
         Fault::Write(line) => writeln!(told, "write fault: {line}"),
@@ -81,11 +88,18 @@ pub fn command(
 /// Reads the command line.
 fn parsed(words: impl IntoIterator<Item = OsString>) -> Result<(Verb, PathBuf), Fault> {
     let usage = |line: &str| Err(Fault::Usage(line.to_string()));
-    let (mut as_json, mut names) = (false, vec![]);
+    let (mut form, mut names) = (Form::Lines, vec![]);
     for word in words {
         match word.to_str() {
             Some("--help" | "-h") => return Ok((Verb::Help, PathBuf::new())),
-            Some("--json") => as_json = true,
+            Some(flag @ ("--json" | "--sarif")) if form == Form::Lines => {
+                form = if flag == "--json" {
+                    Form::Json
+                } else {
+                    Form::Sarif
+                };
+            }
+            Some("--json" | "--sarif") => return usage("give one of `--json` and `--sarif`"),
             Some(flag) if flag.len() > 1 && flag.starts_with('-') => {
                 return usage(&format!("there is no option `{flag}`"));
             }
@@ -96,10 +110,11 @@ fn parsed(words: impl IntoIterator<Item = OsString>) -> Result<(Verb, PathBuf), 
     let Some(verb) = names.next() else {
         return usage("a command is missing");
     };
-    let verb = match (verb.to_str(), as_json) {
-        (Some("why"), as_json) => Verb::Why { as_json },
-        (Some("open"), false) => Verb::Open,
-        (Some("open"), true) => return usage("`--json` is an option of `why`"),
+    let verb = match (verb.to_str(), form) {
+        (Some("why"), form) => Verb::Why(form),
+        (Some("open"), Form::Lines) => Verb::Open,
+        (Some("open"), Form::Json) => return usage("`--json` is an option of `why`"),
+        (Some("open"), Form::Sarif) => return usage("`--sarif` is an option of `why`"),
         _ => return usage(&format!("there is no command `{}`", verb.to_string_lossy())),
     };
     match (names.next(), names.next()) {
@@ -126,10 +141,11 @@ impl Journal {
     fn read(path: &Path) -> Result<Journal, Fault> {
         let text = read_whole(path)
             .map_err(|error| Fault::Read(format!("{}: {error}", path.display())))?;
+        let names = fs::read_to_string(path.with_extension("names"));
         Ok(Journal {
             path: path.to_path_buf(),
+            names: names.and_then(|names| Names::beside(names, &text).map_err(io::Error::other)),
             text,
-            names: fs::read_to_string(path.with_extension("names")),
         })
     }
 
@@ -145,12 +161,7 @@ impl Journal {
             let _ = writeln!(told, "yovanelum: {} is left out: {fault}", path.display());
             Names::default()
         });
-        let text = match std::str::from_utf8(&self.text) {
-            Ok(text) => text,
-            // Its fault is found in the bytes.
-            Err(_) => return Err(refusal(&self.text)),
-        };
-        Report::new(text, &names).map_err(Fault::Refused)
+        Report::new(&self.text, &names).map_err(Fault::Refused)
     }
 
     /// Returns the path of the page.
@@ -166,11 +177,6 @@ impl Journal {
     }
 }
 
-/// Returns why a text that isn't even UTF-8 is refused.
-fn refusal(text: &[u8]) -> Fault {
-    Fault::Refused(Findings::of(text).err().unwrap_or(TextFault::Truncated))
-}
-
 /// Reads a file, unless it has too many bytes.
 fn read_whole(path: &Path) -> io::Result<Vec<u8>> {
     let mut text = vec![];
@@ -181,13 +187,19 @@ fn read_whole(path: &Path) -> io::Result<Vec<u8>> {
     }
 }
 
-/// Prints the report.
+/// Prints the account of the run.
 fn why(
     journal: &Journal,
+    form: Form,
     out: &mut (impl Write + IsTerminal),
     told: &mut impl Write,
 ) -> Result<(), Fault> {
     let report = journal.report(told)?;
+    match form {
+        Form::Lines => {}
+        Form::Json => return write_to(out, &format!("{}\n", report.account().to_json())),
+        Form::Sarif => return write_to(out, &report::sarif(report.account())),
+    }
     let (page, place) = (journal.page(), report.place());
     let look = match page.is_file() {
         true => page::address(&absolute(&page), place),
@@ -224,38 +236,4 @@ fn open(
 
 fn absolute(path: &Path) -> PathBuf {
     std::path::absolute(path).unwrap_or_else(|_| path.to_path_buf())
-}
-
-/// Returns the losses as JSON: a list of objects, one on each line.
-fn json(journal: &Journal) -> Result<String, Fault> {
-    let losses = Findings::of(&journal.text).map_err(Fault::Refused)?.losses;
-    let objects: Vec<_> = losses.iter().map(object).collect();
-    Ok(match objects.is_empty() {
-        true => "[]\n".to_string(),
-        false => format!("[\n  {}\n]\n", objects.join(",\n  ")),
-    })
-}
-
-fn object(loss: &Loss) -> String {
-    let Loss {
-        channel,
-        receiver,
-        from,
-        lost,
-        end,
-    } = loss;
-    let word = match end {
-        LossEnd::Told(_) => "told",
-        LossEnd::Dropped(_) => "dropped",
-        LossEnd::Open => "open",
-    };
-    let to = end
-        .place()
-        .map_or("null".to_string(), |place| place.to_string());
-    let mut object = String::new();
-    let _ = write!(
-        object,
-        "{{\"channel\": {channel}, \"receiver\": {receiver}, \"from\": {from}, \"to\": {to}, \"lost\": {lost}, \"end\": \"{word}\"}}"
-    );
-    object
 }

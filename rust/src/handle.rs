@@ -5,9 +5,10 @@ use crate::channel::{
 };
 use crate::lock::lock;
 use crate::recorder::RecordedHandle;
-use crate::replay::{Permit, Word};
+use crate::replay::Permit;
 use crate::reply::Reply;
 use crate::wait::{ComingCall, Method, Pending, WaitFor, WaitingCall};
+use crate::word::Word;
 use std::future::poll_fn;
 use std::mem;
 use std::panic::{RefUnwindSafe, UnwindSafe};

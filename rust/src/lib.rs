@@ -74,29 +74,32 @@
 //! assertion `left == right` failed
 //!   left: Err(Lagged(1))
 //!  right: Ok(71)
-//! yovanelum: `audit` lost 1 of 3 values of `orders` (capacity 2)
+//! error: `audit` lost 1 of 3 values of `orders` (capacity 2)
+//!   --> tests/shop.rs:17:18
+//! note: step 6, the send that overwrote the first of them
+//!   --> tests/shop.rs:14:12
 //!   step 6   orders.send("order 73")   slow_audit  tests/shop.rs:14   overwrote "order 71", which audit had not read
 //!   step 8   told: lagged 1            slow_audit  tests/shop.rs:17   its last receive: none before
 //!   lost: "order 71"
-//! look: file:///shop/target/yovanelum/slow_audit.html#place=6
-//! replay: YOVANELUM_REPLAY=/shop/target/yovanelum/slow_audit.journal cargo test slow_audit
+//! look: file:///shop/target/yovanelum/shop/test-shop/slow_audit.html#place=6
+//! replay: YOVANELUM_REPLAY=/shop/target/yovanelum/shop/test-shop/slow_audit.journal cargo test -p shop --test shop -- slow_audit --exact
 //! ```
 //!
 //! It was call 6, the send of the third order. The channel then retained the two newer orders, and the audit had not received the first one.
-//! Call 8 told it. If no value was lost, the report says which channels closed and which changes of a watch channel were never seen. Calls
-//! that still wait are in its last lines.
+//! Call 8 told it. The report also says which changes of a watch channel a receiver never looked at, and which channels closed. Calls that
+//! still wait are in its last lines.
 //!
 //! The address is that of a page with this run inside, which is opened at that call. It draws the run in a browser. The key `L` goes to the
-//! next receive that returned `Lagged`.
+//! next place where a loss begins or ends.
 //!
 //! # Finding the step
 //!
 //! `cargo install --path ../yovanelum/rust` installs two commands. `yovanelum why JOURNAL` prints the report again, and with `--json` the
-//! losses for a program. `ttd` reads a journal, and commands from its standard input. Numbers count from 0 in the order of creation, and
+//! same for a program. `ttd` reads a journal, and commands from its standard input. Numbers count from 0 in the order of creation, and
 //! `channel` creates sender 0 and receiver 1. So the audit is receiver 1 of channel 0. `rback` searches backwards from the end:
 //!
 //! ```text
-//! $ printf 'rback lagging 0 1\nstep\nstate\n' | ttd debug target/yovanelum/slow_audit.journal
+//! $ printf 'rback lagging 0 1\nstep\nstate\n' | ttd debug target/yovanelum/shop/test-shop/slow_audit.journal
 //! hit 6 of 11
 //! #6 6 0 0 send 0 2 = sent 2
 //! place 6 of 11
@@ -128,65 +131,82 @@
 //! - The futures need no runtime: [`block_on`] runs them. They do not count towards tokio's cooperative budget.
 //! - `blocking_recv` does not panic within a runtime, it blocks there.
 //! - A closure of `send_modify`, `send_if_modified` or `wait_for` that waits for its own channel panics, where tokio has a deadlock.
-//! - Calls are slower, since they are recorded, and an entry of the journal needs about 100 bytes of memory. [`Recorder`] lists the limits
-//!   of what is recorded. Calls go on past them.
+//! - Calls are slower, since they are recorded, and a recorded call needs 33 to 41 bytes of memory. [`Recorder`] lists the limits of what is
+//!   recorded. Calls go on past them.
 //! - tokio's other channels are not included. Streams of these two are in the package `yovanelum-stream`, beside the source of this one.
 //!
 //! # Platforms
 //!
-//! Two cores can answer the calls. They return the same, and record the same journals:
+//! The crate and its two commands run on every target of Rust's standard library whose pointers have 32 bits or more. It is source alone, has
+//! no dependencies, and needs no other tool than cargo. The README beside this source says where its tests were run.
 //!
-//! - On Linux on x86-64 and on ARM (aarch64), the proved core answers. It is built already, so nothing but cargo is needed.
-//! - Elsewhere, as on macOS and Windows, a plain core answers, which is written in safe Rust and not proved. A warning of `cargo build` and
-//!   the names beside a journal say so: "answered by the plain core; the page's proved reader checks each recorded reply when it opens the
-//!   run".
+//! Tests compile it without optimization. Two lines in the manifest of your package make a call three times as fast:
 //!
-//! The feature `plain-core` chooses the plain core on Linux too. Under [Miri](https://github.com/rust-lang/miri) it is chosen without that.
-//! The tests of this crate run over both cores on x86-64, and compare them call by call. On other targets, the crate was not yet run.
-//!
-//! The command `ttd` is for Linux on x86-64. Elsewhere the page opens the journals.
+//! ```toml
+//! [profile.dev.package.yovanelum]
+//! opt-level = 3
+//! ```
 //!
 //! # What is proved
 //!
-//! The proved core has a machine-checked proof: each call returns what tokio's documentation says after the calls before it, and the
-//! journal is a legal run that has each recorded call exactly once. The Rust code around the core is tested and not proved: it holds the
-//! values, wakes the futures that wait, and calls the core. The plain core is tested too. What it has recorded is checked when the journal
-//! is opened: the page and `ttd` make each call again by the proved code, and refuse the journal if a reply differs.
+//! The core of this crate has a machine-checked proof: each call returns what tokio's documentation says after the calls before it, and the
+//! journal is a legal run that has each recorded call exactly once. Its sources are written in Rattle, which is Rust with contracts. Without
+//! their contracts they are Rust, and they stand in `src/source/`, where the contracts are comments. The Rust code around the core is tested
+//! and not proved: it holds the values, wakes the futures that wait, and calls the core.
 #![deny(unsafe_code)]
 
+#[cfg(target_pointer_width = "16")]
+compile_error!("yovanelum needs a target whose pointers have 32 bits or more");
+
+mod account;
 mod actors;
 mod atomic;
+mod backend;
 mod block_on;
 pub mod broadcast;
 mod channel;
 mod command;
-mod core;
-mod findings;
+mod cut;
+mod explore;
+#[doc(hidden)]
+pub mod given;
 mod guarded_by;
 mod handle;
+mod large_pages;
 mod lock;
 mod names;
-#[cfg(any(test, not(proved_core)))]
-mod plain;
 mod polled;
-#[cfg(proved_core)]
-mod proved;
+mod program;
 mod queue;
 mod recorder;
 mod reentrant;
 mod replay;
 mod reply;
 mod report;
+mod run;
+// `ttd` uses more of it.
+#[allow(dead_code)]
+mod shim;
+#[rustfmt::skip]
+mod source;
+#[cfg(test)]
+#[path = "../tests/support/temporary.rs"]
+mod temporary;
 mod wait;
 mod wakers;
 pub mod watch;
+mod word;
 
 pub use actors::{Named, named, set_task_id};
 pub use block_on::block_on;
 #[doc(hidden)]
 pub use command::command;
 #[doc(hidden)]
+pub use explore::{Explored, explored, is_explored};
+#[doc(hidden)]
 pub use polled::Polled;
+#[doc(hidden)]
+pub use program::set_patch;
 pub use recorder::{
     Entered, ForTest, Handle, Installed, Recorder, SaveOnPanic, Scoped, Waiting, follow_this_thread,
 };

@@ -1,18 +1,23 @@
-//! The names beside a journal, as JSON: what its numbers mean, where its calls were made, and which calls still wait. If the plain core
-//! answered, a note says so. `docs/use/FORMATS.md` in the repository describes the format.
+//! The names beside a journal, as JSON: what its numbers mean, where its calls were made, and which calls still wait.
+//! `docs/use/FORMATS.md` in the repository describes the format.
 
+mod ending;
 mod json;
 mod matching;
 mod reading;
+mod sources;
 
+pub(crate) use ending::{Ending, Panic, Returned, TestId, Unrecorded, checksum};
+pub(crate) use json::Json;
 pub(crate) use matching::{Maker, Matching};
 
+use crate::run::Run;
 use std::collections::BTreeMap;
 use std::fmt::{Display, Write};
 use std::panic::Location;
 
-/// The version of the format that is written. A document of version 1 has no such key.
-const VERSION: u64 = 2;
+/// The version of the format that is written, and the last one that is read. A document of version 1 has no such key.
+const VERSION: u64 = 3;
 
 /// A location in a source: the file as the compiler was given it, with the line and the column, which count from 1.
 #[derive(Clone, Debug, PartialEq, Eq)]
@@ -44,14 +49,22 @@ pub(crate) struct WaitingCall {
     pub(crate) since: u64,
     /// An index into the locations.
     pub(crate) location: Option<usize>,
+    /// If it waits for the lock of a watch's value, who holds that.
+    pub(crate) held_by: Option<HeldBy>,
+}
+
+/// The look that holds the lock of a watch's value, as far as it is known.
+#[derive(Clone, Copy, Debug, PartialEq, Eq)]
+pub(crate) struct HeldBy {
+    pub(crate) actor: Option<u64>,
+    /// An index into the locations.
+    pub(crate) location: Option<usize>,
 }
 
 /// What is known of a run beside its journal. Keys are the journal's numbers, and where a location is meant, values are indexes into
 /// `locations`.
 #[derive(Clone, Debug, Default, PartialEq, Eq)]
 pub(crate) struct Names {
-    /// A note on the core, unless the proved one answered.
-    pub(crate) core: Option<String>,
     pub(crate) actors: BTreeMap<u64, String>,
     pub(crate) channels: BTreeMap<u64, String>,
     /// The texts of values, by channel.
@@ -67,38 +80,41 @@ pub(crate) struct Names {
     pub(crate) tasks: BTreeMap<u64, usize>,
     pub(crate) waiting: Vec<WaitingCall>,
     pub(crate) matching: Matching,
+    pub(crate) ending: Ending,
+    /// The account of the run as JSON, for readers that don't find it themselves. It is written and never read.
+    pub(crate) account: Option<String>,
 }
 
 impl Names {
-    /// Makes these the names of this journal text: calls that were recorded after it are left out, and each wait is since a stamp that the
-    /// text has, or 0.
-    pub(crate) fn fit_to(&mut self, journal: &str) {
-        let mut stamps: Vec<u64> = vec![];
-        let mut entries: BTreeMap<u64, usize> = BTreeMap::new();
-        // The words of an entry are its stamp, its actor and its channel, and then the call.
-        for line in journal.lines().skip_while(|line| *line != "steps") {
-            let mut words = line.split(' ').map(str::parse);
-            if let (Some(Ok(stamp)), Some(Ok(channel))) = (words.next(), words.nth(1)) {
-                stamps.push(stamp);
-                *entries.entry(channel).or_default() += 1;
-            }
-        }
+    /// Returns the index of a location, which is added if it isn't there.
+    pub(crate) fn index_of(&mut self, location: &SourceLocation) -> usize {
+        let known = self.locations.iter().position(|other| other == location);
+        known.unwrap_or_else(|| {
+            self.locations.push(location.clone());
+            self.locations.len() - 1
+        })
+    }
+
+    /// Makes these the names of this run, whose journal text this is: calls that were recorded after it are left out, and each wait and each end
+    /// is since a stamp that the run has, or 0.
+    pub(crate) fn fit_to(&mut self, run: &Run, journal: &str) {
+        let entries = run.entries_by_channel();
         for (channel, calls) in &mut self.calls {
-            calls.truncate(entries.get(channel).copied().unwrap_or(0));
+            calls.truncate(entries.get(*channel as usize).copied().unwrap_or(0));
         }
         self.calls.retain(|_, calls| !calls.is_empty());
-        for wait in &mut self.waiting {
-            let before = stamps.partition_point(|stamp| *stamp <= wait.since);
-            wait.since = stamps[..before].last().copied().unwrap_or(0);
+        let waits = self.waiting.iter_mut().map(|wait| &mut wait.since);
+        let panics = self.ending.panics.iter_mut().map(|panic| &mut panic.since);
+        let returned = self.ending.returned.iter_mut().map(|it| &mut it.since);
+        for since in waits.chain(panics).chain(returned) {
+            *since = run.last_stamp(*since);
         }
+        self.ending.journal = Some(checksum(journal.as_bytes()));
     }
 
     /// Returns the document. What is empty is left out, unless version 1 had it.
     pub(crate) fn to_json(&self) -> String {
         let mut out = format!("{{\n  \"version\": {VERSION}");
-        if let Some(note) = &self.core {
-            push_member(&mut out, "core", |out| push_string(out, note));
-        }
         push_member(&mut out, "actors", |out| push_texts(out, &self.actors));
         push_member(&mut out, "channels", |out| push_texts(out, &self.channels));
         push_member(&mut out, "values", |out| {
@@ -107,6 +123,10 @@ impl Names {
         self.push_handles(&mut out);
         self.push_calls(&mut out);
         self.matching.push(&mut out);
+        self.ending.push(&mut out);
+        if let Some(account) = &self.account {
+            push_member(&mut out, "account", |out| push_nested(out, account));
+        }
         out.push_str("\n}\n");
         out
     }
@@ -158,8 +178,16 @@ fn push_member(out: &mut String, key: &str, push: impl FnOnce(&mut String)) {
     push(out);
 }
 
+/// Appends a document of several lines, which are moved to the right.
+fn push_nested(out: &mut String, document: &str) {
+    for (index, line) in document.lines().enumerate() {
+        out.push_str(if index > 0 { "\n  " } else { "" });
+        out.push_str(line);
+    }
+}
+
 /// Appends a text as a JSON string.
-fn push_string(out: &mut String, text: &impl AsRef<str>) {
+pub(crate) fn push_string(out: &mut String, text: &(impl AsRef<str> + ?Sized)) {
     out.push('"');
     for c in text.as_ref().chars() {
         match c {
@@ -182,7 +210,7 @@ fn push_number(out: &mut String, number: &impl Display) {
     let _ = write!(out, "{number}");
 }
 
-fn push_optional(out: &mut String, number: &Option<usize>) {
+fn push_optional(out: &mut String, number: &Option<impl Display>) {
     match number {
         Some(number) => push_number(out, number),
         None => out.push_str("null"),
@@ -204,6 +232,13 @@ fn push_waiting(out: &mut String, wait: &WaitingCall) {
     push_string(out, &wait.call);
     let _ = write!(out, ", \"since\": {}, \"location\": ", wait.since);
     push_optional(out, &wait.location);
+    if let Some(HeldBy { actor, location }) = &wait.held_by {
+        out.push_str(", \"held_by\": {\"actor\": ");
+        push_optional(out, actor);
+        out.push_str(", \"location\": ");
+        push_optional(out, location);
+        out.push('}');
+    }
     out.push('}');
 }
 
@@ -261,7 +296,7 @@ mod tests {
     fn what_is_empty_and_new_is_left_out() {
         assert_eq!(
             Names::default().to_json(),
-            "{\n  \"version\": 2,\n  \"actors\": {},\n  \"channels\": {},\n  \"values\": {}\n}\n"
+            "{\n  \"version\": 3,\n  \"actors\": {},\n  \"channels\": {},\n  \"values\": {}\n}\n"
         );
     }
 
@@ -274,6 +309,7 @@ mod tests {
             call: "recv".into(),
             since,
             location: None,
+            held_by: None,
         });
         let mut names = Names {
             calls: [
@@ -287,7 +323,7 @@ mod tests {
         };
         let journal = "ttd-journal 2\nbroadcast 2\nwatch 0\nwatch 0\nsteps\n\
             2 0 0 send 0 0 = sent 1\n5 1 0 try-recv 1 = value 0\n7 0 2 borrow 0 = value 0\nend\n";
-        names.fit_to(journal);
+        names.fit_to(&Run::read(journal.as_bytes()).unwrap(), journal);
         let calls = [(0, vec![Some(0), None]), (2, vec![None])];
         assert_eq!(names.calls, calls.into());
         let since: Vec<u64> = names.waiting.iter().map(|wait| wait.since).collect();
@@ -297,7 +333,6 @@ mod tests {
     #[test]
     fn each_key_is_on_a_line_of_its_own() {
         let names = Names {
-            core: Some("\"plain\"".into()),
             actors: [(0, "ticker".into()), (3, "task 17".into())].into(),
             channels: [(0, "prices".into())].into(),
             values: [(0, [(0, "101 EUR".into()), (1, "102 EUR".into())].into())].into(),
@@ -314,21 +349,25 @@ mod tests {
                     call: "recv".into(),
                     since: 12,
                     location: Some(1),
+                    held_by: None,
                 },
                 WaitingCall {
                     actor: 0,
                     channel: 1,
                     handle: 0,
-                    call: "closed".into(),
+                    call: "send".into(),
                     since: 0,
                     location: None,
+                    held_by: Some(HeldBy {
+                        actor: Some(3),
+                        location: None,
+                    }),
                 },
             ],
-            matching: Matching::default(),
+            ..Names::default()
         };
         let wanted = r#"{
-  "version": 2,
-  "core": "\"plain\"",
+  "version": 3,
   "actors": {"0": "ticker", "3": "task 17"},
   "channels": {"0": "prices"},
   "values": {"0": {"0": "101 EUR", "1": "102 EUR"}},
@@ -337,7 +376,7 @@ mod tests {
   "made": {"0": {"0": 0, "1": 0, "2": 1}, "1": {"0": 1}},
   "calls": {"0": [1, null, 0]},
   "tasks": {"3": 1},
-  "waiting": [{"actor": 3, "channel": 0, "handle": 1, "call": "recv", "since": 12, "location": 1}, {"actor": 0, "channel": 1, "handle": 0, "call": "closed", "since": 0, "location": null}]
+  "waiting": [{"actor": 3, "channel": 0, "handle": 1, "call": "recv", "since": 12, "location": 1}, {"actor": 0, "channel": 1, "handle": 0, "call": "send", "since": 0, "location": null, "held_by": {"actor": 3, "location": null}}]
 }
 "#;
         assert_eq!(names.to_json(), wanted);

@@ -2,13 +2,17 @@
 
 mod current;
 mod ending;
+mod files;
 mod for_test;
 mod handle;
 mod named;
+mod panic_hook;
+mod replay_line;
 mod replaying;
 mod run;
 mod scope;
 mod shared;
+mod test_run;
 mod texts;
 mod waiting;
 mod watchdog;
@@ -16,8 +20,10 @@ mod watchdog;
 pub use current::{Entered, Installed, follow_this_thread};
 pub use for_test::{ForTest, SaveOnPanic};
 pub use handle::{Handle, RecordedHandle};
+pub(crate) use replaying::say_that_none_replays;
 pub use scope::Scoped;
 pub(crate) use shared::{RecordedBy, Shared};
+pub(crate) use test_run::NotedPanic;
 pub use texts::TextOf;
 pub use waiting::Waiting;
 
@@ -237,7 +243,6 @@ impl Recorder {
     ///
     /// `actors` has the names of threads, tasks and [`named`](crate::named) futures, `channels` those of channels, both by number, and
     /// `handles` those of senders and receivers by channel. `values` has the texts of each channel's values. What has no name is left out.
-    /// If the [plain core](crate#platforms) answered the calls, `core` says so.
     ///
     /// `locations` has locations in the source, as file, line and column. The other keys have indexes into it: `made` where each sender and
     /// receiver was made, `calls` where each call of a channel was made, in the order of its entries, `tasks` where each task without a name
@@ -265,7 +270,9 @@ impl Recorder {
     /// assert!(recorder.names().contains(wanted));
     /// ```
     pub fn names(&self) -> String {
-        self.0.run().names().to_json()
+        let run = self.0.run();
+        let names = run.saved(None).map(|saved| saved.names);
+        names.unwrap_or_else(|_| run.names()).to_json()
     }
 
     /// Writes the journal to a file, and the names to a file beside it: those of `RUN.journal` to `RUN.names`.

@@ -66,6 +66,7 @@ mod tests {
     use std::thread;
 
     #[test]
+    #[cfg_attr(target_family = "wasm", ignore = "WebAssembly has no threads")]
     fn threads_use_a_value_in_turn_and_each_within_its_use() {
         const EACH: u32 = 5_000;
         let counter = Reentrant::new(Cell::new(0));
@@ -87,6 +88,7 @@ mod tests {
     }
 
     #[test]
+    #[cfg_attr(target_family = "wasm", ignore = "WebAssembly ends at the first panic")]
     fn a_use_that_panics_ends_its_turn() {
         let value = Reentrant::new(5);
         let panicked = catch_unwind(AssertUnwindSafe(|| value.with(|_| panic!("in the use"))));

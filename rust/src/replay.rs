@@ -10,26 +10,24 @@ mod opening;
 mod outcome;
 mod permit;
 mod plan;
-mod recorded;
 mod state;
 #[cfg(test)]
 mod tests;
-mod word;
+mod turns;
 
 pub(crate) use gate::Gate;
-pub(crate) use opening::{holds, open};
+pub(crate) use opening::{hold_polls, holds, open};
 pub use outcome::Replayed;
 pub(crate) use outcome::{TestEnd, say};
 pub(crate) use permit::Permit;
 pub(crate) use plan::UNNAMED_THREAD;
-pub(crate) use recorded::RecordedCall;
 pub(crate) use state::Ticket;
-pub(crate) use word::Word;
+pub(crate) use turns::Turns;
 
 use crate::actors::Identity;
+use crate::backend::Actor;
 use crate::channel::CallSite;
-use crate::core::Actor;
-use std::sync::Arc;
+use crate::word::Word;
 use std::sync::atomic::{AtomicBool, Ordering};
 
 /// A call that comes to a gate: on which channel of the journal, by which handle, what, and who calls.
@@ -44,7 +42,7 @@ pub(crate) struct Coming {
 
 /// A channel whose calls pass a gate.
 pub(crate) struct ReplayedChannel {
-    gate: Arc<Gate>,
+    turns: Turns,
     /// Its number in the journal.
     number: u32,
     /// Whether its recording has ended. Then its calls pass: the journal doesn't have them.
@@ -52,9 +50,9 @@ pub(crate) struct ReplayedChannel {
 }
 
 impl ReplayedChannel {
-    pub(crate) fn new(gate: Arc<Gate>, number: u32) -> ReplayedChannel {
+    pub(crate) fn new(turns: Turns, number: u32) -> ReplayedChannel {
         ReplayedChannel {
-            gate,
+            turns,
             number,
             is_free: AtomicBool::new(false),
         }
@@ -62,7 +60,7 @@ impl ReplayedChannel {
 
     /// Leaves the gate, where a future waits by this ticket.
     pub(crate) fn leave(&self, ticket: Ticket) {
-        self.gate.leave(ticket);
+        self.turns.leave(ticket);
     }
 
     /// Lets all calls of this channel pass.
@@ -77,7 +75,7 @@ impl ReplayedChannel {
         word: Word,
         actor: Actor,
         called_at: CallSite,
-    ) -> Option<(&Gate, Coming)> {
+    ) -> Option<(&Turns, Coming)> {
         if self.is_free.load(Ordering::Relaxed) {
             return None;
         }
@@ -88,6 +86,6 @@ impl ReplayedChannel {
             actor,
             called_at,
         };
-        Some((&self.gate, coming))
+        Some((&self.turns, coming))
     }
 }

@@ -1,6 +1,7 @@
 //! What the core replies to a call, and what each reply means to the caller.
 
 use crate::broadcast::error::{RecvError, TryRecvError};
+use crate::source::rw_recording::{BReply, ChanReply, TakeFault, WReply};
 use crate::watch;
 use std::task::Poll;
 
@@ -31,18 +32,74 @@ pub(crate) enum Reply {
     Done,
     NoChannel,
     JournalFull,
-    #[cfg_attr(not(proved_core), allow(dead_code))]
     NoMemory,
     NoSender,
 }
 
 impl Reply {
+    /// Returns what a call returns that the core has made, or hasn't.
+    #[inline(always)]
+    pub(crate) fn of(made: &Result<ChanReply<u64>, TakeFault>) -> Reply {
+        match made {
+            Ok(ChanReply::B(reply)) => Reply::of_broadcast(reply),
+            Ok(ChanReply::W(reply)) => Reply::of_watch(reply),
+            Ok(ChanReply::NoChannel) | Err(TakeFault::NoChannel) => Reply::NoChannel,
+            Err(TakeFault::Waits) => Reply::Waits,
+            Err(TakeFault::JournalFull) => Reply::JournalFull,
+            Err(TakeFault::NoMemory) => Reply::NoMemory,
+        }
+    }
+
     pub(crate) fn flag(flag: bool) -> Reply {
         Reply::Flag(flag.into())
     }
 
+    #[inline(always)]
+    fn of_broadcast(reply: &BReply<u64>) -> Reply {
+        match *reply {
+            BReply::Sent(receivers) => Reply::Sent(receivers),
+            BReply::NoReceivers(value) => Reply::NoReceivers(value),
+            BReply::Value(value) => Reply::Value(value),
+            BReply::Lagged(count) => Reply::Lagged(count),
+            BReply::Empty => Reply::Empty,
+            BReply::Closed => Reply::Closed,
+            BReply::Waits => Reply::Waits,
+            BReply::New(handle) => Reply::New(handle.into()),
+            BReply::Dropped => Reply::Dropped,
+            BReply::Count(count) => Reply::Count(count),
+            BReply::Unknown => Reply::Unknown,
+            BReply::Gone => Reply::Gone,
+            BReply::WrongKind => Reply::WrongKind,
+            BReply::TooManyHandles => Reply::TooManyHandles,
+            BReply::NoSender => Reply::NoSender,
+        }
+    }
+
+    #[inline(always)]
+    fn of_watch(reply: &WReply<u64>) -> Reply {
+        match *reply {
+            WReply::Stored => Reply::Stored,
+            WReply::NoReceivers(value) => Reply::NoReceivers(value),
+            WReply::Old(value) => Reply::Old(value),
+            WReply::Told(told) => Reply::Told(told.into()),
+            WReply::New(handle) => Reply::New(handle.into()),
+            WReply::Value(value) => Reply::Value(value),
+            WReply::Flag(flag) => Reply::Flag(flag.into()),
+            WReply::Done => Reply::Done,
+            WReply::Closed => Reply::Closed,
+            WReply::Waits => Reply::Waits,
+            WReply::Dropped => Reply::Dropped,
+            WReply::Count(count) => Reply::Count(count),
+            WReply::Unknown => Reply::Unknown,
+            WReply::Gone => Reply::Gone,
+            WReply::WrongKind => Reply::WrongKind,
+            WReply::TooManyHandles => Reply::TooManyHandles,
+        }
+    }
+
     /// Whether a call that is recorded has left an entry, of which this is the reply.
-    #[inline]
+    #[cfg_attr(debug_assertions, inline(never))]
+    #[cfg_attr(not(debug_assertions), inline)]
     pub(crate) fn leaves_entry(self) -> bool {
         !matches!(
             self,
@@ -61,7 +118,8 @@ impl Reply {
 /// Each of these methods is for the calls that have no other replies. That is proved of the core.
 impl Reply {
     /// Panics if the call was not made. Nothing has changed then.
-    #[inline]
+    #[cfg_attr(debug_assertions, inline(never))]
+    #[cfg_attr(not(debug_assertions), inline)]
     pub(crate) fn expect_made(self) -> Reply {
         match self {
             Reply::JournalFull | Reply::NoMemory => panic!("yovanelum: no memory for a call"),
@@ -100,7 +158,8 @@ impl Reply {
     }
 
     /// Returns how many receivers the value was sent to, or `None` if there is none.
-    #[inline]
+    #[cfg_attr(debug_assertions, inline(never))]
+    #[cfg_attr(not(debug_assertions), inline)]
     pub(crate) fn sent(self) -> Option<u64> {
         match self {
             Reply::Sent(receivers) => Some(receivers),
@@ -110,7 +169,8 @@ impl Reply {
     }
 
     /// Returns the number of the value that a receive has received.
-    #[inline]
+    #[cfg_attr(debug_assertions, inline(never))]
+    #[cfg_attr(not(debug_assertions), inline)]
     pub(crate) fn received(self) -> Poll<Result<u64, RecvError>> {
         match self {
             Reply::Value(number) => Poll::Ready(Ok(number)),
@@ -122,7 +182,8 @@ impl Reply {
     }
 
     /// Returns the number of the value that a receive which doesn't wait has received.
-    #[inline]
+    #[cfg_attr(debug_assertions, inline(never))]
+    #[cfg_attr(not(debug_assertions), inline)]
     pub(crate) fn received_at_once(self) -> Result<u64, TryRecvError> {
         match self {
             Reply::Value(number) => Ok(number),

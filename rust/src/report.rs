@@ -1,58 +1,32 @@
-//! The text that a failing test prints: which values were lost, by whom, where, and who still waits.
-//!
-//! It is made of a journal text, the names beside it, and what is found in the run ([`Findings`]). Its words say what was found, and add no
-//! judgement: a test may lose values on purpose, and fail for another reason. `docs/use/FORMATS.md` in the repository has each form.
+//! The text that a failing test prints: the [`Account`] of its run, in the form in which rustc writes its errors, which editors read.
 
-mod closings;
-mod history;
-mod layout;
-mod losses;
-mod naming;
+mod colours;
 pub(crate) mod page;
-mod run;
+mod sarif;
 #[cfg(test)]
 mod tests;
-mod visible;
-mod waits;
-mod watches;
+mod workflow;
 
-use crate::findings::{Findings, TextFault};
-use crate::names::Names;
-use history::History;
-use layout::ReportLine;
-use naming::Naming;
-use run::Run;
+pub(crate) use sarif::sarif;
+
+use crate::account::visible::{first, path};
+use crate::account::{Account, Fact, MOST_TOLD};
+use crate::names::{Names, SourceLocation};
+use crate::run::{Run, TextFault};
+use colours::Colours;
 use std::env;
 use std::io::IsTerminal;
+use workflow::Workflow;
 
-/// How many findings are told in full. The others are counted.
-const TOLD_IN_FULL: usize = 3;
+/// The level of each fact that is told in full.
+const LEVELS: [&str; MOST_TOLD] = ["error", "warning", "warning"];
 
-/// How many lines the text has at most, without the two that may follow it: where to look, and how to make the calls again.
-const MOST_LINES: usize = 13;
+/// How many calls that wait are told.
+const SHOWN_WAITS: usize = 3;
 
-/// What is known of a run, and how its text calls it.
-struct Context<'a> {
-    run: &'a Run<'a>,
-    history: &'a History,
-    naming: &'a Naming<'a>,
-    findings: &'a Findings,
-}
-
-/// Some findings of a run in order of weight: the lines of each, and the place that is worth looking at. Those beyond the most that are
-/// told in full are counted in `others`.
-#[derive(Default)]
-struct Told {
-    blocks: Vec<(u64, Vec<ReportLine>)>,
-    others: Vec<String>,
-}
-
-/// The text on a run, of 13 lines at most, and the first place worth looking at.
+/// The account of a run, to be printed.
 #[derive(Debug)]
-pub(crate) struct Report {
-    lines: Vec<ReportLine>,
-    place: u64,
-}
+pub(crate) struct Report(Account);
 
 impl Report {
     /// Makes the report on the run of this journal text.
@@ -60,84 +34,110 @@ impl Report {
     /// # Errors
     ///
     /// Returns the first fault of the text, if it is not a journal.
-    pub(crate) fn new(text: &str, names: &Names) -> Result<Report, TextFault> {
-        let findings = Findings::of(text.as_bytes())?;
-        Ok(Report::of(&Run::of(text), names, &findings))
+    pub(crate) fn new(text: &[u8], names: &Names) -> Result<Report, TextFault> {
+        Account::read(text, names).map(Report)
     }
 
-    /// Makes the report on a run of which this was found.
-    fn of(run: &Run<'_>, names: &Names, findings: &Findings) -> Report {
-        let history = History::of(run);
-        let naming = Naming::new(names, &history);
-        let context = Context {
-            run,
-            history: &history,
-            naming: &naming,
-            findings,
-        };
-        let told = match findings.losses.is_empty() {
-            true => without_losses(&context),
-            false => losses::told(&context),
-        };
-        let place = told.blocks.first().map(|(place, _)| *place);
-        let others = told.others.join(", and ");
-        let others = (!others.is_empty()).then(|| ReportLine::Text(format!("and {others}")));
-        let waits = waits::line(&context, &names.waiting);
-        let last: Vec<_> = others.into_iter().chain(waits).collect();
-        let blocks = told.blocks.into_iter().map(|(_, lines)| lines);
-        Report {
-            place: place.unwrap_or(findings.entries),
-            lines: fitted(blocks.collect(), last),
-        }
+    /// Makes the report on a run.
+    ///
+    /// # Errors
+    ///
+    /// Returns `NoMemory` if there is none for what is found.
+    pub(crate) fn on(run: &Run, names: &Names) -> Result<Report, TextFault> {
+        Account::on(run, names).map(Report)
+    }
+
+    /// The account that it prints.
+    pub(crate) fn account(&self) -> &Account {
+        &self.0
     }
 
     /// The first place that is worth looking at.
     pub(crate) fn place(&self) -> u64 {
-        self.place
+        self.0.look
     }
 
     /// Returns the text, with a last line that says where to look, if there is one.
-    pub(crate) fn text(mut self, look: Option<String>, has_colours: bool) -> String {
-        self.lines.extend(look.map(ReportLine::Look));
-        layout::text(&self.lines, has_colours)
+    pub(crate) fn text(self, look: Option<String>, has_colours: bool) -> String {
+        let colours = Colours { has_colours };
+        let mut lines = self.before_facts();
+        for (level, fact) in self.told() {
+            push_fact(&mut lines, fact, level, colours);
+        }
+        lines.extend(self.after_facts(colours));
+        lines.extend(self.commands());
+        lines.extend(look.map(|look| format!("{} {look}", colours.look("look:"))));
+        lines.iter().map(|line| format!("{line}\n")).collect()
+    }
+
+    /// Returns the facts that are told in full, with their levels.
+    fn told(&self) -> impl Iterator<Item = (&'static str, &Fact)> {
+        let Report(account) = self;
+        let levels = LEVELS.into_iter().take(account.rest.after);
+        levels.zip(&account.facts)
+    }
+
+    /// Returns the line that says what isn't known.
+    fn before_facts(&self) -> Vec<String> {
+        let Report(account) = self;
+        let why = account.unknown.join("; ");
+        let line = format!("yovanelum: not all is known: {why}");
+        Vec::from_iter((!why.is_empty()).then_some(line))
+    }
+
+    /// Returns the lines of the other facts, of what was not found, and of the calls that wait.
+    fn after_facts(&self, colours: Colours) -> Vec<String> {
+        let Report(account) = self;
+        let nothing = account.nothing.as_ref();
+        let nothing = nothing.map(|line| format!("yovanelum: {line}"));
+        let waits = account.waiting.iter().map(|wait| wait.text.clone());
+        let waits: Vec<_> = waits.collect();
+        let label = colours.waiting("still waiting:");
+        let waiting = format!("{label} {}", first(&waits, SHOWN_WAITS, "; "));
+        let waiting = (!waits.is_empty()).then_some(waiting);
+        let lines = account.rest.text().into_iter();
+        lines.chain(nothing).chain(waiting).collect()
+    }
+
+    /// Returns the commands for the workflow that runs this program, if one does.
+    fn commands(&self) -> Vec<String> {
+        let Some(workflow) = Workflow::current() else {
+            return vec![];
+        };
+        let root = self.0.root.as_deref();
+        let told = self.told();
+        told.map(|(level, fact)| workflow.command(level, fact, root))
+            .collect()
     }
 }
 
-/// Joins the lines of what is told in full with those that come after it. If these are too many lines, the last finding that is told has one
-/// less: the values that were lost, or the names of who wasn't told.
-fn fitted(mut blocks: Vec<Vec<ReportLine>>, last: Vec<ReportLine>) -> Vec<ReportLine> {
-    let count: usize = blocks.iter().map(Vec::len).sum();
-    if count + last.len() > MOST_LINES {
-        blocks.last_mut().and_then(Vec::pop);
+/// Appends the lines of a fact. The first one has both its places in the sources on lines of their own, and the others have one.
+fn push_fact(lines: &mut Vec<String>, fact: &Fact, level: &str, colours: Colours) {
+    let is_first = level == LEVELS[0];
+    let head = colours.head(&fact.head);
+    lines.push(format!("{} {head}", colours.level(level)));
+    let mut sights = fact.sights();
+    lines.extend(sights.next().map(|(_, location)| arrow(location)));
+    if let Some((step, location)) = sights.next().filter(|_| is_first) {
+        let sentence = step.role.sentence();
+        lines.push(format!("note: {}, {sentence}", step.name()));
+        lines.push(arrow(location));
     }
-    blocks.into_iter().flatten().chain(last).collect()
+    let others = fact.text().into_iter().skip(1);
+    lines.extend(others.map(|line| match line.strip_prefix("  lost:") {
+        Some(lost) => format!("  {}{lost}", colours.lost("lost:")),
+        None => line,
+    }));
+}
+
+/// Returns a place in the sources as rustc writes it.
+fn arrow(location: &SourceLocation) -> String {
+    let SourceLocation { file, line, column } = location;
+    format!("  --> {}:{line}:{column}", path(file))
 }
 
 /// Whether colours are written to this: if it is a terminal, and the variable `NO_COLOR` isn't set.
 pub(crate) fn has_colours(out: &impl IsTerminal) -> bool {
     let is_unwanted = env::var_os("NO_COLOR").is_some_and(|value| !value.is_empty());
     out.is_terminal() && !is_unwanted
-}
-
-/// Tells closings, and changes that were never seen. If there are none either, it says so.
-fn without_losses(context: &Context<'_>) -> Told {
-    let mut told = closings::told(context);
-    watches::tell(context, &mut told);
-    match told
-        .blocks
-        .first_mut()
-        .and_then(|(_, lines)| lines.first_mut())
-    {
-        Some(ReportLine::Head(text)) => text.insert_str(0, "no value was lost; "),
-        _ => {
-            let calls = context.findings.entries;
-            let head = format!(
-                "no value was lost in {} on {}",
-                visible::counted(calls, "call"),
-                visible::counted(context.run.openings.len() as u64, "channel"),
-            );
-            told.blocks.push((calls, vec![ReportLine::Head(head)]));
-        }
-    }
-    told
 }

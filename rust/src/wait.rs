@@ -1,10 +1,12 @@
 //! Calls that wait.
 
+use crate::backend::Actor;
 use crate::channel::{CallSite, LockedChannel, RecordedChannel, call_site};
-use crate::core::Actor;
+use crate::handle::Kind;
 use crate::lock::lock;
 use crate::queue::ItemNumber;
-use crate::replay::{Permit, Ticket, Word};
+use crate::replay::{Permit, Ticket};
+use crate::word::Word;
 use std::task::{Context, Poll, Waker};
 
 /// What a future waits for.
@@ -14,6 +16,23 @@ pub(crate) enum WaitFor {
     Value,
     /// That no receiver is alive.
     NoReceiver,
+}
+
+impl WaitFor {
+    /// The kind of the handles that wait for this.
+    fn kind(self) -> Kind {
+        match self {
+            WaitFor::Value => Kind::Receiver,
+            WaitFor::NoReceiver => Kind::Sender,
+        }
+    }
+
+    fn awaited(self) -> Awaited {
+        match self {
+            WaitFor::Value => Awaited::Value,
+            WaitFor::NoReceiver => Awaited::NoReceiver,
+        }
+    }
 }
 
 /// A method that waits, as the code under test has called it.
@@ -35,12 +54,31 @@ impl Method {
     }
 }
 
+/// A look at the value of a watch, which holds the value's lock while it is alive.
+#[derive(Clone, Copy)]
+pub(crate) struct Look {
+    pub(crate) actor: Actor,
+    pub(crate) called_at: CallSite,
+}
+
+/// What a listed call waits for.
+#[derive(Clone, Copy)]
+pub(crate) enum Awaited {
+    /// A value, or that no sender is alive.
+    Value,
+    /// That no receiver is alive.
+    NoReceiver,
+    /// The lock of a watch's value, and a look that held it when the wait began, if it is known whose it was.
+    Lock(Option<Look>),
+}
+
 /// A call that has begun to wait, as its channel lists it.
 #[derive(Clone, Copy)]
 pub(crate) struct Wait {
     pub(crate) actor: Actor,
     pub(crate) handle: u32,
-    pub(crate) wait_for: WaitFor,
+    pub(crate) kind: Kind,
+    pub(crate) awaited: Awaited,
     pub(crate) method: Method,
     /// The recorder's clock when the call began to wait.
     pub(crate) since: u64,
@@ -110,7 +148,7 @@ impl<'a> WaitingCall<'a> {
                 return Poll::Ready(result);
             }
             channel.would_wait();
-            channel.list_wait(self.wait_for, self.method, since, &mut self.pending);
+            self.list(&mut channel, since);
             let queue = channel.state.queue(self.wait_for);
             if queue.wakes(self.pending.queued, context.waker()) {
                 return Poll::Pending;
@@ -136,9 +174,48 @@ impl<'a> WaitingCall<'a> {
         if passed.is_pending() && self.pending.listed.is_none() {
             let mut channel = channel.lock_unordered(handle, called_at);
             let since = channel.clock();
-            channel.list_wait(self.wait_for, self.method, since, &mut self.pending);
+            self.list(&mut channel, since);
         }
         passed
+    }
+}
+
+impl WaitingCall<'_> {
+    /// Lists the call among those that wait since this time of the clock, unless it is there.
+    fn list(&mut self, channel: &mut LockedChannel<'_>, since: u64) {
+        if self.pending.listed.is_none() {
+            let (kind, awaited) = (self.wait_for.kind(), self.wait_for.awaited());
+            self.pending.listed = channel.list_wait(kind, awaited, self.method, since);
+        }
+    }
+}
+
+/// A call that blocks its thread for the lock of a watch's value, and is listed until this is dropped.
+pub(crate) struct BlockedCall<'a> {
+    channel: &'a RecordedChannel,
+    listed: Option<ItemNumber>,
+}
+
+impl<'a> BlockedCall<'a> {
+    /// Lists a call of this handle, which waits for the lock that this look holds, if it is known whose it is.
+    pub(crate) fn list(
+        channel: &'a RecordedChannel,
+        (handle, kind): (u32, Kind),
+        method: Method,
+        held_by: impl FnOnce(&LockedChannel<'_>) -> Option<Look>,
+    ) -> BlockedCall<'a> {
+        let mut locked = channel.lock_unordered(handle, method.called_at);
+        let (since, look) = (locked.clock(), held_by(&locked));
+        let listed = locked.list_wait(kind, Awaited::Lock(look), method, since);
+        BlockedCall { channel, listed }
+    }
+}
+
+impl Drop for BlockedCall<'_> {
+    fn drop(&mut self) {
+        if let Some(listed) = self.listed {
+            lock(&self.channel.state).waits.remove(listed);
+        }
     }
 }
 

@@ -47,6 +47,7 @@
 
 mod borrowed;
 pub mod error;
+mod looks;
 mod receiver;
 mod sender;
 mod value;
@@ -55,12 +56,14 @@ pub use borrowed::Ref;
 pub use receiver::Receiver;
 pub use sender::Sender;
 
-use crate::channel::{CallSite, Channel, CoreChannel, LockedChannel, RecordedChannel, call_site};
+use crate::channel::{Channel, CoreChannel, LockedChannel, RecordedChannel, call_site};
 use crate::handle::{ChannelHandle, Kind};
 use crate::lock::lock;
 use crate::recorder::TextOf;
-use crate::replay::{Permit, Word};
-use crate::wait::{Method, WaitFor};
+use crate::replay::Permit;
+use crate::wait::{BlockedCall, Method, WaitFor};
+use crate::word::Word;
+use std::sync::{RwLockReadGuard, RwLockWriteGuard};
 use std::task::Poll;
 use value::ValueLock;
 
@@ -103,34 +106,70 @@ impl<T> WatchHandle<T> {
     /// Returns a reference to the value, without marking the value as seen.
     #[track_caller]
     fn borrow(&self) -> Ref<'_, T> {
-        let (word, called_at) = (Word::Borrow, call_site());
+        let method = Method::called("borrow");
         match self.recorded().recorder.is_quiet() {
-            true => self.borrow_by(Permit::free(), called_at, |_| ()),
-            false => self.borrow_by(self.pass(word, called_at), called_at, |channel| {
-                channel.call(CoreChannel::watch_borrow);
-            }),
+            true => self.borrow_by(Permit::free(), method, |_| ()),
+            false => {
+                let permit = self.pass(Word::Borrow, method.called_at);
+                self.borrow_by(permit, method, |channel| {
+                    channel.call(CoreChannel::watch_borrow);
+                })
+            }
         }
     }
 
-    /// Returns a reference to the value. The call that looks at it has its turn by this permit, and is made here in the source. The value is
-    /// locked before the channel, so the value that is returned is the one that the call reads.
+    /// Returns a reference to the value. The call of this method that looks at it has its turn by this permit. The value is locked before the
+    /// channel, so the value that is returned is the one that the call reads.
     fn borrow_by<'a>(
         &'a self,
         permit: Permit<'a>,
-        called_at: CallSite,
+        method: Method,
         call: impl FnOnce(&mut LockedChannel<'_>),
     ) -> Ref<'a, T> {
-        let inner = self.channel.values.read();
-        let mut channel = self.lock_with(permit, called_at);
+        let inner = self.read_value(method);
+        let mut channel = self.lock_with(permit, method.called_at);
         let has_changed = self.has_changed(&mut channel);
         call(&mut channel);
-        drop(channel);
-        Ref { inner, has_changed }
+        let look = self.channel.values.looks.note(&mut channel);
+        channel.unlock();
+        Ref {
+            _look: look,
+            inner,
+            has_changed,
+        }
+    }
+
+    /// Locks the value for this method, to look at it. A call that waits for the lock is listed meanwhile.
+    fn read_value(&self, method: Method) -> RwLockReadGuard<'_, T> {
+        let values = &self.channel.values;
+        values.try_read().unwrap_or_else(|| {
+            let _blocked = self.list_blocked(method);
+            values.read()
+        })
+    }
+
+    /// Locks the value for this method, to change it. A call that waits for the lock is listed meanwhile.
+    fn write_value(&self, method: Method) -> RwLockWriteGuard<'_, T> {
+        let values = &self.channel.values;
+        values.try_write().unwrap_or_else(|| {
+            let _blocked = self.list_blocked(method);
+            values.write()
+        })
+    }
+
+    /// Lists a call of this method, which waits for the lock of the value, until the result is dropped.
+    #[cold]
+    fn list_blocked(&self, method: Method) -> BlockedCall<'_> {
+        let looks = &self.channel.values.looks;
+        let handle = (self.number, self.kind);
+        BlockedCall::list(self.recorded(), handle, method, |channel| {
+            looks.first(channel)
+        })
     }
 
     /// Returns `true` if this is a receiver that has yet to see the value.
     fn has_changed(&self, channel: &mut LockedChannel<'_>) -> bool {
-        self.kind == Kind::Receiver && !channel.core().seen(self.number)
+        self.kind == Kind::Receiver && !channel.has_seen()
     }
 
     /// Waits for this method until there is a value that this receiver has not seen, and marks it as seen.
@@ -142,7 +181,7 @@ impl<T> WatchHandle<T> {
     fn set_text_of(&self, text_of: TextOf<T>) {
         // The first value, if it is still the last, gets its text now. It stays in the channel, so it is locked while its text is made.
         let values = &self.channel.values;
-        let value = values.read();
+        let value = values.try_read().unwrap_or_else(|| values.read());
         let text = values.run_reading(|| text_of.text(&value));
         let is_set = self.channel.set_text_of(text_of);
         if let Some(text) = text.filter(|_| is_set) {

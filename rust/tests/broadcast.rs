@@ -230,6 +230,7 @@ fn a_dropped_receive_has_received_nothing_and_is_woken_no_more() {
 }
 
 #[test]
+#[cfg_attr(target_family = "wasm", ignore = "WebAssembly has no threads")]
 fn closed_waits_until_no_receiver_is_alive() {
     let (tx, rx) = broadcast::channel::<u8>(4);
     let other = tx.subscribe();

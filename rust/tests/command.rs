@@ -5,12 +5,14 @@ mod support;
 use std::fs;
 use std::path::{Path, PathBuf};
 use std::process::{Command, Stdio};
-use support::parts::Folder;
+use support::named::checksum;
+use support::parts::{Folder, address};
 
 /// Runs the command in a folder. Returns its status, and what it writes to standard output and to standard error.
 fn run(folder: &Path, words: &[&str]) -> (i32, String, String) {
     let command = Command::new(env!("CARGO_BIN_EXE_yovanelum"))
         .args(words)
+        .env_remove("GITHUB_ACTIONS")
         .current_dir(folder)
         .output()
         .unwrap();
@@ -53,17 +55,17 @@ fn why_prints_the_report() {
     let path = journal_in(&folder);
     fs::write(path.with_extension("names"), NAMES).unwrap();
     let wanted = "\
-yovanelum: receiver 1 lost 2 of 3 values of `orders` (capacity 1)
-  step 4    orders.send(value 6)   actor 0  overwrote \"first\", which receiver 1 had not read
-  the end   not told                        its last receive: none before
-  lost: \"first\", value 6
-yovanelum: `audit` lost 2 of 3 values of `orders` (capacity 1) in 2 losses; the worst, of 1:
+error: `audit` lost 2 of 3 values of `orders` (capacity 1) in 2 losses; the one told last, of 1:
   step 4   orders.send(value 6)   actor 0  overwrote \"first\", which audit had not read
   step 5   told: lagged 1         audit    its last receive: none before
   lost: \"first\"
-yovanelum: receiver 3 lost 1 of 2 values of `orders` (capacity 1)
+warning: receiver 1 lost 2 of 3 values of `orders` (capacity 1)
+  step 4    orders.send(value 6)   actor 0  overwrote \"first\", which receiver 1 had not read
+  the end   held, never read
+  lost: \"first\", value 6
+warning: receiver 3 lost 1 of 2 values of `orders` (capacity 1)
   step 4   orders.send(value 6)   actor 0  overwrote \"first\", which receiver 3 had not read
-  step 6   dropped: never told    audit    its last receive: none before
+  step 6   held, never read       audit
   lost: \"first\"
 look: `yovanelum open orders.journal`, at place 4
 ";
@@ -71,31 +73,122 @@ look: `yovanelum open orders.journal`, at place 4
     assert_eq!(said, (0, wanted.to_string(), String::new()));
 }
 
-#[test]
-fn why_prints_the_losses_as_json() {
-    let folder = Folder::new("json");
-    journal_in(&folder);
-    let wanted = r#"[
-  {"channel": 1, "receiver": 1, "from": 4, "to": null, "lost": 2, "end": "open"},
-  {"channel": 1, "receiver": 2, "from": 4, "to": 5, "lost": 1, "end": "told"},
-  {"channel": 1, "receiver": 3, "from": 4, "to": 6, "lost": 1, "end": "dropped"},
-  {"channel": 1, "receiver": 2, "from": 7, "to": null, "lost": 1, "end": "open"}
-]
+/// What `why --json` prints of the run above, as its format is documented.
+const ACCOUNT: &str = r#"{
+  "version": 1,
+  "calls": 7,
+  "channels": 2,
+  "unknown": [],
+  "facts": [
+    {"kind": "loss", "order": 2, "channel": 1, "receiver": 2, "name": "audit", "lost": 2, "of": 3, "losses": 2, "end": "told", "places": [{"place": 4, "role": "cause", "line": 1, "actor": 0, "location": ["a.rs", 9, 5]}, {"place": 5, "role": "told", "line": 2, "actor": 1, "location": null}], "text": ["`audit` lost 2 of 3 values of `orders` (capacity 1) in 2 losses; the one told last, of 1:", "  step 4   orders.send(value 6)   actor 0  a.rs:9   overwrote \"first\", which audit had not read", "  step 5   told: lagged 1         audit             its last receive: none before", "  lost: \"first\""]},
+    {"kind": "loss", "order": 4, "channel": 1, "receiver": 1, "name": "receiver 1", "lost": 2, "of": 3, "losses": 1, "end": "open", "places": [{"place": 4, "role": "cause", "line": 1, "actor": 0, "location": ["a.rs", 9, 5]}, {"place": 7, "role": "end", "line": 2, "actor": null, "location": null}], "text": ["receiver 1 lost 2 of 3 values of `orders` (capacity 1)", "  step 4    orders.send(value 6)   actor 0  a.rs:9   overwrote \"first\", which receiver 1 had not read", "  the end   held, never read", "  lost: \"first\", value 6"]},
+    {"kind": "loss", "order": 4, "channel": 1, "receiver": 3, "name": "receiver 3", "lost": 1, "of": 2, "losses": 1, "end": "dropped", "places": [{"place": 4, "role": "cause", "line": 1, "actor": 0, "location": ["a.rs", 9, 5]}, {"place": 6, "role": "dropped", "line": 2, "actor": 1, "location": null}], "text": ["receiver 3 lost 1 of 2 values of `orders` (capacity 1)", "  step 4   orders.send(value 6)   actor 0  a.rs:9   overwrote \"first\", which receiver 3 had not read", "  step 6   held, never read       audit", "  lost: \"first\""]}
+  ],
+  "rest": {"after": 3, "losses": {"receivers": 0, "values": 0}, "unlooked": {"receivers": 0, "changes": 0}, "unmarked": {"receivers": 0, "changes": 0}, "closings": 0, "text": null},
+  "nothing": null,
+  "waiting": [
+    {"actor": 0, "channel": 0, "handle": 0, "call": "closed", "since": 3, "location": ["a.rs", 9, 5], "text": "actor 0 in `channel 0: closed` since step 3, a.rs:9"}
+  ],
+  "losses": [
+    {"channel": 1, "receiver": 1, "from": 4, "to": null, "lost": 2, "end": "open"},
+    {"channel": 1, "receiver": 2, "from": 4, "to": 5, "lost": 1, "end": "told"},
+    {"channel": 1, "receiver": 3, "from": 4, "to": 6, "lost": 1, "end": "dropped"},
+    {"channel": 1, "receiver": 2, "from": 7, "to": null, "lost": 1, "end": "open"}
+  ],
+  "failure": null,
+  "look": 4
+}
 "#;
+
+#[test]
+fn why_prints_the_account_as_json() {
+    let folder = Folder::new("json");
+    let path = journal_in(&folder);
+    let more = r#", "locations": [["a.rs", 9, 5]], "calls": {"1": [null, null, null, 0]},
+        "waiting": [{"actor": 0, "channel": 0, "handle": 0, "call": "closed", "since": 3, "location": 0}]}"#;
+    let names = NAMES.strip_suffix('}').unwrap().to_string() + more;
+    fs::write(path.with_extension("names"), names).unwrap();
     for words in [
         ["why", "orders.journal", "--json"],
         ["--json", "why", "orders.journal"],
     ] {
         let said = run(&folder.0, &words);
-        assert_eq!(said, (0, wanted.to_string(), String::new()));
+        assert_eq!(said, (0, ACCOUNT.to_string(), String::new()));
     }
     fs::write(
         folder.0.join("none"),
         "ttd-journal 1\nwatch 0\nsteps\nend\n",
     )
     .unwrap();
+    let wanted = r#"{
+  "version": 1,
+  "calls": 0,
+  "channels": 1,
+  "unknown": [],
+  "facts": [],
+  "rest": {"after": 0, "losses": {"receivers": 0, "values": 0}, "unlooked": {"receivers": 0, "changes": 0}, "unmarked": {"receivers": 0, "changes": 0}, "closings": 0, "text": null},
+  "nothing": "no value was lost in 0 calls on 1 channel",
+  "waiting": [],
+  "losses": [],
+  "failure": null,
+  "look": 0
+}
+"#;
     let said = run(&folder.0, &["why", "none", "--json"]);
-    assert_eq!(said, (0, "[]\n".to_string(), String::new()));
+    assert_eq!(said, (0, wanted.to_string(), String::new()));
+}
+
+/// Names with the place of the send at step 4, in a package of a repository.
+fn names_with_places() -> String {
+    let more = r#", "locations": [["src/a b.rs", 9, 5]], "calls": {"1": [null, null, null, 0]}, "root": "/repo/bus"}"#;
+    NAMES.strip_suffix('}').unwrap().to_string() + more
+}
+
+#[test]
+fn in_a_workflow_the_lines_have_commands() {
+    let folder = Folder::new("workflow");
+    let path = journal_in(&folder);
+    fs::write(path.with_extension("names"), names_with_places()).unwrap();
+    let said = |variables: &[(&str, &str)]| {
+        let ran = Command::new(env!("CARGO_BIN_EXE_yovanelum"))
+            .args(["why", "orders.journal"])
+            .current_dir(&folder.0)
+            .env_remove("GITHUB_ACTIONS")
+            .env_remove("GITHUB_WORKSPACE")
+            .envs(variables.iter().copied())
+            .output();
+        String::from_utf8(ran.unwrap().stdout).unwrap()
+    };
+    let plain = said(&[]);
+    assert!(!plain.contains("::error") && plain.contains("  --> src/a b.rs:9:5\n"));
+    let wanted = r#"::error file=bus/src/a b.rs,line=9,col=5,title=`audit` lost 2 of 3 values of `orders` (capacity 1) in 2 losses; the one told last%2C of 1%3A::`audit` lost 2 of 3 values of `orders` (capacity 1) in 2 losses; the one told last, of 1:%0A  step 4   orders.send(value 6)   actor 0  src/a b.rs:9   overwrote "first", which audit had not read%0A  step 5   told: lagged 1         audit                   its last receive: none before%0A  lost: "first"
+::warning file=bus/src/a b.rs,line=9,col=5,title=receiver 1 lost 2 of 3 values of `orders` (capacity 1)::receiver 1 lost 2 of 3 values of `orders` (capacity 1)%0A  step 4    orders.send(value 6)   actor 0  src/a b.rs:9   overwrote "first", which receiver 1 had not read%0A  the end   held, never read%0A  lost: "first", value 6
+::warning file=bus/src/a b.rs,line=9,col=5,title=receiver 3 lost 1 of 2 values of `orders` (capacity 1)::receiver 3 lost 1 of 2 values of `orders` (capacity 1)%0A  step 4   orders.send(value 6)   actor 0  src/a b.rs:9   overwrote "first", which receiver 3 had not read%0A  step 6   held, never read       audit%0A  lost: "first"
+"#;
+    let look = "look: ";
+    let beside = plain.replace(look, &format!("{wanted}{look}"));
+    let variables = [("GITHUB_ACTIONS", "true"), ("GITHUB_WORKSPACE", "/repo")];
+    assert_eq!(said(&variables), beside);
+    // A path isn't changed if the repository is elsewhere.
+    assert_eq!(said(&variables[..1]), beside.replace("file=bus/", "file="));
+    assert_eq!(said(&[("GITHUB_ACTIONS", "false")]), plain);
+}
+
+/// What `why --sarif` prints of a run with one loss, with the properties that SARIF 2.1.0 requires.
+const SARIF: &str = r#"{"$schema": "https://docs.oasis-open.org/sarif/sarif/v2.1.0/errata01/os/schemas/sarif-schema-2.1.0.json", "version": "2.1.0", "runs": [{"tool": {"driver": {"name": "yovanelum", "version": "0.1.0", "rules": [{"id": "loss", "shortDescription": {"text": "A receiver lost values of a broadcast channel."}}, {"id": "unlooked", "shortDescription": {"text": "A receiver never looked at changes of a watch channel."}}, {"id": "unmarked", "shortDescription": {"text": "A receiver never marked changes of a watch channel as seen."}}, {"id": "closing", "shortDescription": {"text": "A channel closed while it had receivers."}}]}}, "columnKind": "unicodeCodePoints", "originalUriBaseIds": {"SRCROOT": {"uri": "file:///repo/bus/"}}, "invocations": [{"executionSuccessful": true, "toolExecutionNotifications": [{"level": "warning", "message": {"text": "not all is known: 1 channel left the run for later ones"}}]}], "results": [{"ruleId": "loss", "ruleIndex": 0, "level": "error", "message": {"text": "`audit` lost 1 of 2 values of `orders` (capacity 1)\n  step 2   orders.send(value 1)   actor 0  src/a b.rs:9   overwrote value 0, which audit had not read\n  step 3   told: lagged 1         audit                   its last receive: none before\n  lost: value 0"}, "locations": [{"physicalLocation": {"artifactLocation": {"uri": "src/a%20b.rs", "uriBaseId": "SRCROOT"}, "region": {"startLine": 9, "startColumn": 5}}}], "codeFlows": [{"threadFlows": [{"locations": [{"executionOrder": 1, "location": {"physicalLocation": {"artifactLocation": {"uri": "src/a%20b.rs", "uriBaseId": "SRCROOT"}, "region": {"startLine": 9, "startColumn": 5}}, "message": {"text": "step 2   orders.send(value 1)   actor 0  src/a b.rs:9   overwrote value 0, which audit had not read"}}}, {"executionOrder": 2, "location": {"message": {"text": "step 3   told: lagged 1         audit                   its last receive: none before"}}}]}]}]}]}]}
+"#;
+
+#[test]
+fn why_prints_the_account_as_sarif() {
+    let folder = Folder::new("sarif");
+    let path = folder.0.join("orders.journal");
+    let journal = "ttd-journal 2\nbroadcast 1\nsteps\n1 0 0 send 0 0 = sent 1\n2 0 0 send 0 1 = sent 1\n3 1 0 recv 1 = lagged 1\nend\n";
+    fs::write(&path, journal).unwrap();
+    let names = r#"{"actors": {"1": "audit"}, "channels": {"0": "orders"}, "locations": [["src/a b.rs", 9, 5]], "calls": {"0": [null, 0, null]},
+        "root": "/repo/bus", "unrecorded": {"channels": 0, "left": 1, "calls": false, "handles": 0}}"#;
+    fs::write(path.with_extension("names"), names).unwrap();
+    let said = run(&folder.0, &["why", "orders.journal", "--sarif"]);
+    assert_eq!(said, (0, SARIF.to_string(), String::new()));
 }
 
 #[test]
@@ -103,14 +196,13 @@ fn open_writes_the_page_and_why_then_leads_to_it() {
     let folder = Folder::new("open #1");
     let path = journal_in(&folder);
     let page = path.with_extension("html");
-    let address = format!("file://{}#place=4", page.display());
+    let address = format!("{}#place=4", address(&page));
     let address = address.replace("open #1", "open%20%231");
     let (status, out, told) = run(&folder.0, &["open", "orders.journal"]);
     assert_eq!((status, out.as_str()), (0, "orders.html\n"));
     assert_eq!(told, format!("look: {address}\n"));
     let text = fs::read_to_string(&page).unwrap();
-    // The first line of the journal, `ttd-journal 2`, and its next bytes in base64.
-    assert!(text.contains("\ndHRkLWpvdXJuYWwgMgp3YXRjaCAwCmJyb2FkY2FzdCAxCnN0ZXBzCjEg"));
+    assert!(text.contains(&format!("\n{JOURNAL}</script>\n")));
     let (_, out, _) = run(&folder.0, &["why", "orders.journal"]);
     assert!(out.ends_with(&format!("look: {address}\n")), "{out}");
 }
@@ -157,6 +249,7 @@ fn a_journal_that_is_refused_has_its_fault_and_its_line() {
         for words in [
             &["why", "x.journal"][..],
             &["why", "x.journal", "--json"],
+            &["why", "x.journal", "--sarif"],
             &["open", "x.journal"],
         ] {
             assert_eq!(run(&folder.0, words), wanted);
@@ -179,11 +272,41 @@ fn names_that_cannot_be_read_are_left_out() {
     fs::write(path.with_extension("names"), "{\"channels\": [1]}").unwrap();
     let (status, out, told) = run(&folder.0, &["why", "orders.journal"]);
     assert_eq!(status, 0);
-    assert!(out.starts_with("yovanelum: receiver 1 lost 2 of 3 values of channel 1"));
+    assert!(out.starts_with("error: receiver 2 lost 2 of 3 values of channel 1"));
     assert_eq!(
         told,
         "yovanelum: orders.names is left out: its `channels`: no object\n"
     );
+}
+
+#[test]
+fn the_names_of_another_journal_are_left_out() {
+    let folder = Folder::new("another");
+    let path = journal_in(&folder);
+    let sum = checksum(JOURNAL.as_bytes());
+    let names = |sum: &str| {
+        NAMES.replace(
+            "{\"actors\"",
+            &format!("{{\"journal\": \"{sum}\", \"actors\""),
+        )
+    };
+    fs::write(path.with_extension("names"), names(&sum)).unwrap();
+    let (status, out, told) = run(&folder.0, &["why", "orders.journal"]);
+    assert_eq!((status, told.as_str()), (0, ""));
+    assert!(out.contains("`orders`"), "{out}");
+
+    fs::write(path.with_extension("names"), names("00000000000000ff")).unwrap();
+    let line = "yovanelum: orders.names is left out: it has the names of another journal\n";
+    let (status, out, told) = run(&folder.0, &["why", "orders.journal"]);
+    assert_eq!((status, told.as_str()), (0, line));
+    assert!(!out.contains("`orders`"), "{out}");
+    let (status, _, told) = run(&folder.0, &["open", "orders.journal"]);
+    assert!(status == 0 && told.starts_with(line), "{told}");
+    // The run in the page is its name, and the journal in an element of its own.
+    let page = fs::read_to_string(path.with_extension("html")).unwrap();
+    let (_, run) = page.split_once("id=\"run\">\n").unwrap();
+    assert_eq!(run.lines().position(|line| line == "</script>"), Some(1));
+    assert!(page.contains(&format!("id=\"journal\">\n{JOURNAL}</script>\n")));
 }
 
 #[test]
@@ -196,10 +319,16 @@ fn a_command_line_that_is_wrong_is_answered_by_the_usage() {
         (&["who", "a"], "there is no command `who`"),
         (&["why", "a", "--jsn"], "there is no option `--jsn`"),
         (&["open", "a", "--json"], "`--json` is an option of `why`"),
+        (&["open", "a", "--sarif"], "`--sarif` is an option of `why`"),
+        (
+            &["why", "a", "--json", "--sarif"],
+            "give one of `--json` and `--sarif`",
+        ),
     ] {
         let (status, out, told) = run(&folder.0, words);
         assert_eq!((status, out.as_str()), (2, ""));
-        let start = format!("yovanelum: {fault}\n\nUsage: yovanelum why JOURNAL [--json]\n");
+        let start =
+            format!("yovanelum: {fault}\n\nUsage: yovanelum why JOURNAL [--json | --sarif]\n");
         assert!(told.starts_with(&start), "{told}");
     }
     let (status, out, told) = run(&folder.0, &["--help"]);

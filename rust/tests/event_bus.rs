@@ -2,13 +2,13 @@
 
 mod support;
 
-use support::{debugged, poll_once};
+use support::{debugged, poll_once, temporary};
 use yovanelum::broadcast::{self, error::RecvError};
 use yovanelum::{Recorder, block_on, named};
 
 /// Returns what `ttd debug` writes for these commands over the journal so far, if the variable `YOVANELUM_TTD` names the program.
 fn walked(recorder: &Recorder, commands: &str) -> Option<String> {
-    let path = std::env::temp_dir().join(format!("yovanelum-bus-{}.journal", std::process::id()));
+    let path = temporary::path("bus.journal");
     recorder.save(&path).unwrap();
     let written = debugged(&path, commands);
     std::fs::remove_file(&path).unwrap();

@@ -6,7 +6,7 @@ use std::fs;
 use std::panic::{AssertUnwindSafe, catch_unwind};
 use std::path::Path;
 use std::process::Command;
-use support::parts::{Folder, is_part, line_after, our_lines, play};
+use support::parts::{Folder, address, files, is_part, line_after, our_lines, play};
 use yovanelum::broadcast::error::TryRecvError;
 use yovanelum::{Recorder, block_on, broadcast, named, watch};
 
@@ -14,12 +14,15 @@ use yovanelum::{Recorder, block_on, broadcast, named, watch};
 /// which says how to replay the test, is left to `tests/replayed.rs`.
 fn played(test: &str, folder: &Folder) -> (bool, Vec<String>) {
     let (succeeds, said) = play(test, &folder.0, None);
-    let files = folder.0.join("built/yovanelum").display().to_string();
+    let files = files(&folder.0);
+    let (at, path) = (address(&files), files.display().to_string());
     let lines = our_lines(&said).into_iter();
     let lines = lines.filter(|line| !line.starts_with("replay: "));
     (
         succeeds,
-        lines.map(|line| line.replace(&files, "DIR")).collect(),
+        lines
+            .map(|line| line.replace(&at, "file://DIR").replace(&path, "DIR"))
+            .collect(),
     )
 }
 
@@ -57,30 +60,37 @@ fn a_loss_that_nobody_was_told_of() {
     if is_part() {
         let recorder = Recorder::for_test("untold");
         let (jobs, mut worker) = broadcast::channel(2);
-        let log = jobs.subscribe();
+        let mut log = jobs.subscribe();
         recorder.name(&jobs, "jobs").name(&log, "log");
         send("desk", &jobs, 1);
         receive("worker", &mut worker).unwrap();
+        receive("clerk", &mut log).unwrap();
         for number in 2..=4 {
             send("desk", &jobs, number);
         }
-        // The worker is alive where the report is made, and the log is dropped.
-        std::mem::forget(worker);
         drop(log);
+        // The test fails here. The worker is dropped by that.
         panic!("the test fails");
     }
     let wanted = "\
-yovanelum: `log` lost 2 of 4 values of `jobs` (capacity 2)
-  step 5   jobs.send(value 2)    desk                            tests/failing.rs:NN   overwrote value 0, which log had not read
-  step 7   dropped: never told   a_loss_that_nobody_was_told_of                        its last receive: none before
-  lost: value 0, value 1
-yovanelum: `worker` lost 1 of 4 values of `jobs` (capacity 2)
-  step 6    jobs.send(value 3)   desk  tests/failing.rs:NN   overwrote value 1, which worker had not read
-  the end   not told                                         its last receive: step 3, value 0
+error: `worker` lost 1 of 4 values of `jobs` (capacity 2)
+  --> tests/failing.rs:NN:35
+note: the panic, it had not been told by then
+  --> tests/failing.rs:NN:9
+  step 7      jobs.send(value 3)   desk                            tests/failing.rs:NN   overwrote value 1, which worker had not read
+  the panic   not told             a_loss_that_nobody_was_told_of  tests/failing.rs:NN   its last receive: step 3, value 0
   lost: value 1
-look: file://DIR/untold.html#place=5
+warning: `log` lost 1 of 4 values of `jobs` (capacity 2)
+  --> tests/failing.rs:NN:35
+  step 7   jobs.send(value 3)    desk                            tests/failing.rs:NN   overwrote value 1, which log had not read
+  step 8   dropped: never told   a_loss_that_nobody_was_told_of                        its last receive: step 4, value 0
+  lost: value 1
+look: file://DIR/untold.html#place=7
 ";
-    assert_said("a_loss_that_nobody_was_told_of", &[SEND, SEND], wanted);
+    let source = include_str!("failing.rs");
+    let failed = line_after(source, "// The test fails here.");
+    let at = [SEND, failed, SEND, failed, SEND, SEND];
+    assert_said("a_loss_that_nobody_was_told_of", &at, wanted);
 }
 
 #[test]
@@ -94,21 +104,27 @@ fn three_receivers_of_a_hundred_are_told_of() {
         let receivers: Vec<_> = (1..100).map(|_| orders.subscribe()).collect();
         send("desk", &orders, 1);
         send("desk", &orders, 2);
-        std::mem::forget((first, receivers));
+        std::mem::forget((orders, first, receivers));
+        // A hundred were made when the test fails here.
         panic!("the test fails");
     }
     let wanted = "\
-yovanelum: receiver 1 (made at tests/failing.rs:NN) lost 1 of 2 values of `orders` (capacity 1)
-  step 101   orders.send(value 1)   desk  tests/failing.rs:NN   overwrote value 0, which receiver 1 had not read
-  the end    not told                                           its last receive: none before
+error: receiver 1 (made at tests/failing.rs:NN) lost 1 of 2 values of `orders` (capacity 1)
+  --> tests/failing.rs:NN:35
+note: the panic, it had not been told by then
+  --> tests/failing.rs:NN:9
+  step 101    orders.send(value 1)   desk                                      tests/failing.rs:NN    overwrote value 0, which receiver 1 had not read
+  the panic   held, never read       three_receivers_of_a_hundred_are_told_of  tests/failing.rs:NN
   lost: value 0
-yovanelum: receiver 2 (made at tests/failing.rs:NN) lost 1 of 2 values of `orders` (capacity 1)
-  step 101   orders.send(value 1)   desk  tests/failing.rs:NN   overwrote value 0, which receiver 2 had not read
-  the end    not told                                           its last receive: none before
+warning: receiver 2 (made at tests/failing.rs:NN) lost 1 of 2 values of `orders` (capacity 1)
+  --> tests/failing.rs:NN:35
+  step 101    orders.send(value 1)   desk                                      tests/failing.rs:NN    overwrote value 0, which receiver 2 had not read
+  the panic   held, never read       three_receivers_of_a_hundred_are_told_of  tests/failing.rs:NN
   lost: value 0
-yovanelum: receiver 3 (made at tests/failing.rs:NN) lost 1 of 2 values of `orders` (capacity 1)
-  step 101   orders.send(value 1)   desk  tests/failing.rs:NN   overwrote value 0, which receiver 3 had not read
-  the end    not told                                           its last receive: none before
+warning: receiver 3 (made at tests/failing.rs:NN) lost 1 of 2 values of `orders` (capacity 1)
+  --> tests/failing.rs:NN:35
+  step 101    orders.send(value 1)   desk                                      tests/failing.rs:NN    overwrote value 0, which receiver 3 had not read
+  the panic   held, never read       three_receivers_of_a_hundred_are_told_of  tests/failing.rs:NN
   lost: value 0
 and 97 more receivers lost 97 values
 look: file://DIR/hundred.html#place=101
@@ -116,7 +132,9 @@ look: file://DIR/hundred.html#place=101
     let source = include_str!("failing.rs");
     let first = line_after(source, "// The first receiver is made here.");
     let others = line_after(source, "// The others are made here.");
-    let at = [first, SEND, others, SEND, others, SEND];
+    let failed = line_after(source, "// A hundred were made when");
+    let others = [others, SEND, SEND, failed];
+    let at = [&[first, SEND, failed, SEND, failed], &others[..], &others].concat();
     assert_said("three_receivers_of_a_hundred_are_told_of", &at, wanted);
 }
 
@@ -135,13 +153,15 @@ fn a_close_that_a_receiver_missed() {
         panic!("the test fails");
     }
     let wanted = "\
-yovanelum: no value was lost; `orders` closed, and 1 of 2 receivers were told
+error: `orders` closed, and 1 of 2 receivers were told
+  --> tests/failing.rs:NN:35
   step 3   dropped the last sender   desk
   step 5   told: closed              audit  tests/failing.rs:NN   after 1 more value
   not told: `screen`
+yovanelum: no value was lost in 6 calls on 1 channel
 look: file://DIR/closed.html#place=3
 ";
-    assert_said("a_close_that_a_receiver_missed", &[RECEIVE], wanted);
+    assert_said("a_close_that_a_receiver_missed", &[RECEIVE; 2], wanted);
 }
 
 #[test]
@@ -159,12 +179,18 @@ fn a_watch_whose_changes_were_never_looked_at() {
         panic!("the test fails");
     }
     let wanted = "\
-yovanelum: no value was lost; `worker` never saw 2 changes of `state`, and was told of 0
+error: `worker` never looked at 2 of 2 changes of `state`
+  --> tests/failing.rs:NN:50
   step 2   state.send(\"closed\")   desk  tests/failing.rs:NN   the last change
+yovanelum: no value was lost in 2 calls on 1 channel
 look: file://DIR/unseen.html#place=2
 ";
     let at = line_after(include_str!("failing.rs"), "// The state is sent here.");
-    assert_said("a_watch_whose_changes_were_never_looked_at", &[at], wanted);
+    assert_said(
+        "a_watch_whose_changes_were_never_looked_at",
+        &[at; 2],
+        wanted,
+    );
 }
 
 #[test]
@@ -177,7 +203,8 @@ fn a_folder_that_cannot_be_written_is_said_in_one_line() {
     }
     let test = "a_folder_that_cannot_be_written_is_said_in_one_line";
     let folder = Folder::new(test);
-    fs::write(folder.0.join("built"), "a file, and no folder").unwrap();
+    fs::create_dir(folder.0.join("built")).unwrap();
+    fs::write(folder.0.join("built/yovanelum"), "a file, and no folder").unwrap();
     let (succeeds, said) = played(test, &folder);
     let [report, fault] = &said[..] else {
         panic!("{said:#?}");
@@ -187,8 +214,25 @@ fn a_folder_that_cannot_be_written_is_said_in_one_line() {
         report,
         "yovanelum: no value was lost in 3 calls on 1 channel"
     );
+    let fault = fault.replace('\\', "/");
     let start = "yovanelum: DIR/unwritten.journal isn't written: ";
     assert!(fault.starts_with(start), "{fault}");
+}
+
+#[test]
+fn a_name_of_300_characters_has_its_files() {
+    if is_part() {
+        let _recorder = Recorder::for_test(&"é".repeat(300));
+        let (orders, _audit) = broadcast::channel(4);
+        orders.send(1).unwrap();
+        panic!("the test fails");
+    }
+    let test = "a_name_of_300_characters_has_its_files";
+    let folder = Folder::new(test);
+    let (succeeds, said) = played(test, &folder);
+    assert!(!succeeds && said[1].starts_with("look: "), "{said:#?}");
+    let written = fs::read_dir(files(&folder.0)).unwrap();
+    assert_eq!(written.count(), 3, "journal, names and page");
 }
 
 /// A test that returns an error, if it is to.
@@ -211,13 +255,13 @@ fn a_test_that_returns_an_error_is_told_of() {
     let folder = Folder::new(test);
     let wanted = [
         "yovanelum: no value was lost in 3 calls on 1 channel",
-        "look: file://DIR/result.html#place=3",
+        "look: file://DIR/result.html#place=1",
     ];
     assert_eq!(
         played(test, &folder),
         (true, wanted.map(String::from).into())
     );
-    assert!(folder.0.join("built/yovanelum/result.journal").exists());
+    assert!(files(&folder.0).join("result.journal").exists());
 }
 
 #[test]
@@ -229,7 +273,7 @@ fn a_test_that_returns_ok_writes_nothing() {
     let test = "a_test_that_returns_ok_writes_nothing";
     let folder = Folder::new(test);
     assert_eq!(played(test, &folder), (true, vec![]));
-    assert!(!folder.0.join("built").exists());
+    assert!(!files(&folder.0).exists());
 }
 
 /// Its drop runs a test of its own, which panics too and is caught.
@@ -265,11 +309,12 @@ fn a_second_panic_while_one_unwinds_writes_nothing() {
         "look: file://DIR/first.html#place=2",
     ];
     assert_eq!((succeeds, said), (false, wanted.map(String::from).into()));
-    let files = fs::read_dir(folder.0.join("built/yovanelum")).unwrap();
+    let files = fs::read_dir(files(&folder.0)).unwrap();
     assert_eq!(files.count(), 3, "journal, names and page of the first");
 }
 
 #[test]
+#[cfg_attr(windows, ignore = "page/open is a script of Unix")]
 fn the_page_is_the_one_that_page_open_writes() {
     if is_part() {
         let recorder = Recorder::for_test("a/b");
@@ -286,10 +331,10 @@ fn the_page_is_the_one_that_page_open_writes() {
     let folder = Folder::new(test);
     let (succeeds, said) = played(test, &folder);
     assert!(
-        !succeeds && said[1] == "look: file://DIR/a_b.html#place=3",
+        !succeeds && said[1] == "look: file://DIR/a%252Fb.html#place=1",
         "{said:#?}"
     );
-    let journal = folder.0.join("built/yovanelum/a_b.journal");
+    let journal = files(&folder.0).join("a%2Fb.journal");
     let opened = Command::new(open).arg(&journal).output().unwrap();
     assert!(opened.status.success());
     let wanted = fs::read(journal.with_extension("journal.html")).unwrap();

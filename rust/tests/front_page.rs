@@ -4,7 +4,9 @@ mod support;
 
 use std::{fs, panic, thread};
 use support::debugged;
-use support::parts::{Folder, between, is_part, line_after, lines_of_failure, play, relocated};
+use support::parts::{
+    Folder, between, files, is_part, line_after, lines_of_failure, play, relocated,
+};
 
 const NAME: &str = "slow_audit";
 
@@ -48,6 +50,8 @@ fn the_program_is_that_of_the_front_page() {
 }
 
 #[test]
+#[cfg_attr(target_family = "wasm", ignore = "WebAssembly has no processes")]
+#[cfg_attr(windows, ignore = "the text has paths of Unix")]
 fn the_program_prints_what_the_front_page_has_of_it() {
     if is_part() {
         // There the test has this name, and so has its thread.
@@ -65,8 +69,13 @@ fn the_program_prints_what_the_front_page_has_of_it() {
         None,
     );
     assert!(!succeeds, "{said}");
-    let built = folder.0.join("built").display().to_string();
-    let wanted = between(&page, "```text\nassertion", "```").replace("/shop/target", &built);
+    let files = files(&folder.0);
+    let wanted = between(&page, "```text\nassertion", "```")
+        .replace(
+            "/shop/target/yovanelum/shop/test-shop",
+            &files.display().to_string(),
+        )
+        .replace("-p shop --test shop", "-p yovanelum --test front_page");
     // There the program begins at line 6.
     let here = line_after(include_str!("front_page.rs"), START.trim_end());
     let wanted = relocated(&wanted, ("tests/shop.rs", 6), ("tests/front_page.rs", here));
@@ -75,7 +84,7 @@ fn the_program_prints_what_the_front_page_has_of_it() {
     let walk = between(&page, "```text\n$ printf '", "```");
     let (commands, written) = walk.split_once('\n').unwrap();
     let commands = commands.split_once('\'').unwrap().0.replace("\\n", "\n");
-    let journal = folder.0.join(format!("built/yovanelum/{NAME}.journal"));
+    let journal = files.join(format!("{NAME}.journal"));
     if let Some(debugged) = debugged(&journal, &commands) {
         assert_eq!(debugged, written);
     }

@@ -5,7 +5,8 @@ mod support;
 use std::fs;
 use std::process::Command;
 use std::thread;
-use support::{accepted, kept_journal, poll_once};
+use support::named::checksum;
+use support::{accepted, kept_journal, poll_once, temporary};
 use yovanelum::{Recorder, broadcast, named, watch};
 
 #[test]
@@ -108,31 +109,31 @@ fn names_stand_beside_the_journal() {
     });
     poll_once(task).unwrap();
     rx.try_recv().unwrap();
-    let folder = std::env::temp_dir().join(format!("yovanelum-names-{}", std::process::id()));
+    let folder = temporary::path("names");
     fs::create_dir_all(&folder).unwrap();
     recorder.save(folder.join("run.journal")).unwrap();
     let thread = thread::current().name().unwrap().to_string();
-    // `build.rs` warns in the same words.
-    let note = match cfg!(proved_core) {
-        true => "",
-        false => {
-            "  \"core\": \"answered by the plain core; the page's proved reader checks each recorded reply when it opens the run\",\n"
-        }
-    };
     // Each call is some lines below, and drops have no line.
     let file = format!("{:?}", file!());
     let [line_1, line_2, line_11, line_12, line_15] = [1, 2, 11, 12, 15].map(|below| line + below);
+    let folder_of_sources = env!("CARGO_MANIFEST_DIR");
+    let source = checksum(include_bytes!("journals.rs"));
+    let journal = recorder.journal().unwrap();
+    let of_journal = checksum(journal.as_bytes());
     let wanted = format!(
         r#"{{
-  "version": 2,
-{note}  "actors": {{"0": "ticker", "1": "{thread}"}},
+  "version": 3,
+  "actors": {{"0": "ticker", "1": "{thread}"}},
   "channels": {{"0": "prices", "1": "level"}},
   "values": {{"0": {{"0": "7 EUR"}}, "1": {{"0": "1.50", "1": "3.00"}}}},
   "handles": {{"0": {{"1": "chart"}}}},
   "locations": [[{file}, {line_1}, 24], [{file}, {line_11}, 12], [{file}, {line_15}, 8], [{file}, {line_2}, 26], [{file}, {line_12}, 15]],
   "made": {{"0": {{"0": 0, "1": 0}}, "1": {{"0": 3, "1": 3}}}},
   "calls": {{"0": [1, null, 2], "1": [4, null]}},
-  "made_by": {{"0": ["{thread}", 0], "1": ["{thread}", 1]}}
+  "made_by": {{"0": ["{thread}", 0], "1": ["{thread}", 1]}},
+  "root": {folder_of_sources:?},
+  "sources": {{{file}: "{source}"}},
+  "journal": "{of_journal}"
 }}
 "#
     );
@@ -142,7 +143,7 @@ fn names_stand_beside_the_journal() {
     );
     assert_eq!(
         fs::read_to_string(folder.join("run.journal")).unwrap(),
-        recorder.journal().unwrap()
+        journal
     );
     fs::remove_dir_all(folder).unwrap();
 }
@@ -174,6 +175,7 @@ fn quiet_questions_leave_no_entry() {
 }
 
 #[test]
+#[cfg_attr(target_family = "wasm", ignore = "WebAssembly has no processes")]
 fn installed_recorders_have_the_channels_of_all_threads_until_they_no_longer_are() {
     // Runs in a process of its own, since the channels of other tests would be recorded too.
     if std::env::var_os("YOVANELUM_TEST_INSTALL").is_none() {
@@ -218,8 +220,9 @@ fn installed_recorders_have_the_channels_of_all_threads_until_they_no_longer_are
 }
 
 #[test]
+#[cfg_attr(target_family = "wasm", ignore = "WebAssembly has no threads")]
 fn a_failing_test_keeps_its_journal() {
-    let name = format!("failing-{}", std::process::id());
+    let name = temporary::name("failing");
     let failed = thread::spawn({
         let name = name.clone();
         move || {
@@ -239,8 +242,9 @@ fn a_failing_test_keeps_its_journal() {
 }
 
 #[test]
+#[cfg_attr(target_family = "wasm", ignore = "WebAssembly has no processes")]
 fn a_test_that_passes_leaves_nothing() {
-    let name = format!("passing-{}", std::process::id());
+    let name = temporary::name("passing");
     drop(Recorder::for_test(&name));
     let found = std::env::current_exe().unwrap().ancestors().any(|folder| {
         folder
@@ -252,6 +256,7 @@ fn a_test_that_passes_leaves_nothing() {
 }
 
 #[test]
+#[cfg_attr(target_family = "wasm", ignore = "WebAssembly has no threads")]
 fn a_hundred_actors_share_64_numbers() {
     let recorder = Recorder::new();
     let _entered = recorder.enter();

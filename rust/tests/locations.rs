@@ -94,7 +94,7 @@ fn a_location_is_a_file_with_the_line_and_the_column_of_the_method() {
     assert_eq!(member(&names, "locations"), wanted);
     assert_eq!(member(&names, "made"), r#"{"0": {"0": 0, "1": 0}}"#);
     assert_eq!(member(&names, "calls"), r#"{"0": [1]}"#);
-    assert_eq!(member(&names, "version"), "2");
+    assert_eq!(member(&names, "version"), "3");
 }
 
 #[test]

@@ -217,6 +217,10 @@ fn random_calls_answer_as_the_model() {
 }
 
 #[test]
+#[cfg_attr(
+    debug_assertions,
+    ignore = "the release build has it: here it takes half a minute"
+)]
 fn random_calls_answer_as_the_model_past_65_536_handles() {
     for seed in 0..2 {
         let mut random = Random::new(seed + 500);

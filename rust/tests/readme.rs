@@ -5,10 +5,14 @@ mod support;
 use std::fs;
 use std::path::Path;
 use support::debugged;
-use support::parts::{Folder, between, is_part, line_after, lines_of_failure, play, relocated};
+use support::parts::{
+    Folder, between, files, is_part, line_after, lines_of_failure, play, relocated,
+};
 
 const README: &str = include_str!("../README.md");
 const NAME: &str = "no_price_is_missing";
+
+const TEST: &str = "the_program_says_what_readme_has_of_it";
 
 /// How often the program may be run until its auditor is as late as in the README. It sleeps, but another thread may be even slower.
 const TRIES: usize = 20;
@@ -58,8 +62,11 @@ fn source() -> String {
 /// Returns the lines that the README shows of the program's output, with this folder as that of its journal.
 fn said_in_readme(folder: &Path) -> String {
     let told = between(README, "```text\nassertion", "```");
-    let built = folder.join("built").display().to_string();
-    let told = format!("assertion{told}").replace("/bus/target", &built);
+    let files = files(folder).display().to_string();
+    let told = format!("assertion{told}")
+        .replace("/bus/target/yovanelum/bus/test-bus", &files)
+        .replace("-p bus --test bus", "-p yovanelum --test readme")
+        .replace(&format!("-- {NAME} "), &format!("-- {TEST} "));
     // There the program begins at line 6.
     let here = line_after(include_str!("readme.rs"), START.trim_end());
     relocated(&told, ("tests/bus.rs", 6), ("tests/readme.rs", here))
@@ -67,7 +74,7 @@ fn said_in_readme(folder: &Path) -> String {
 
 /// Runs the program, and returns the lines of its failure on standard error.
 fn said(folder: &Path) -> String {
-    let (succeeds, said) = play("the_program_says_what_readme_has_of_it", folder, None);
+    let (succeeds, said) = play(TEST, folder, None);
     assert!(!succeeds, "{said}");
     lines_of_failure(&said)
 }
@@ -78,6 +85,8 @@ fn the_program_is_that_of_readme() {
 }
 
 #[test]
+#[cfg_attr(target_family = "wasm", ignore = "WebAssembly has no processes")]
+#[cfg_attr(windows, ignore = "the text has paths of Unix")]
 fn the_program_says_what_readme_has_of_it() {
     if is_part() {
         return program();
@@ -91,7 +100,7 @@ fn the_program_says_what_readme_has_of_it() {
     let walk = between(README, "```text\n$ printf '", "```");
     let (commands, written) = walk.split_once('\n').unwrap();
     let commands = commands.split_once('\'').unwrap().0.replace("\\n", "\n");
-    let journal = folder.0.join(format!("built/yovanelum/{NAME}.journal"));
+    let journal = files(&folder.0).join(format!("{NAME}.journal"));
     if let Some(debugged) = debugged(&journal, &commands) {
         assert_eq!(debugged, written);
     }

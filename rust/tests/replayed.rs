@@ -5,13 +5,17 @@ mod support;
 use std::fs;
 use std::path::PathBuf;
 use std::process::Command;
+use std::sync::atomic::{AtomicBool, Ordering};
 use std::thread::{self, JoinHandle};
 use std::time::Duration;
-use support::parts::{Folder, is_part, started};
+use support::parts::{Folder, files, is_part, line_after, replay_line, started, without_options};
 use yovanelum::{Recorder, broadcast};
 
-/// The variable that says which of two threads is slow.
+/// The variable that says which of two threads is slow, or that Ann waits for Bob.
 const SLOW: &str = "YOVANELUM_TEST_SLOW";
+
+/// Whether Bob has bid.
+static BOB_HAS_BID: AtomicBool = AtomicBool::new(false);
 
 /// The variable that says how the test was edited since it was recorded.
 const EDITED: &str = "YOVANELUM_TEST_EDITED";
@@ -26,7 +30,11 @@ fn spawn(name: &'static str, run: impl FnOnce() + Send + 'static) -> JoinHandle<
         if is_set(SLOW, name) {
             thread::sleep(Duration::from_millis(30));
         }
+        while name == "Ann" && is_set(SLOW, "waits") && !BOB_HAS_BID.load(Ordering::Relaxed) {
+            thread::yield_now();
+        }
         run();
+        BOB_HAS_BID.fetch_or(name == "Bob", Ordering::Relaxed);
     };
     thread.spawn(run).unwrap()
 }
@@ -55,6 +63,9 @@ fn ann_is_the_first() {
         assert_eq!(auction.len(), 2);
     }
     let first = auction.try_recv().unwrap();
+    if is_set(EDITED, "fails otherwise") {
+        assert!(first.is_empty(), "\n{first} bids\n  again");
+    }
     if !is_set(EDITED, "asserts nothing") {
         assert_eq!(first, "Ann");
     }
@@ -78,9 +89,7 @@ impl Part {
     }
 
     fn journal(&self) -> PathBuf {
-        self.folder
-            .0
-            .join("built/yovanelum/ann_is_the_first.journal")
+        files(&self.folder.0).join("ann_is_the_first.journal")
     }
 
     fn run(&self, slow: &str, with: impl FnOnce(&mut Command)) -> Done {
@@ -91,19 +100,15 @@ impl Part {
         let said = String::from_utf8(ran.stderr).unwrap();
         let lines = said.lines().filter(|line| {
             line.starts_with("replay: ")
-                || line.starts_with("yovanelum: ") && line.contains("replay")
+                || line.starts_with("yovanelum: ") && line.to_lowercase().contains("replay")
         });
-        (ran.status.success(), lines.map(String::from).collect())
+        (ran.status.success(), lines.map(without_options).collect())
     }
 
     /// Records a run in which Bob is the first.
     fn record(&self) {
-        let (succeeds, said) = self.run("Ann", |_| ());
-        let journal = self.journal();
-        let how = format!(
-            "replay: YOVANELUM_REPLAY={} cargo test ann_is_the_first",
-            journal.display()
-        );
+        let (succeeds, said) = self.run("waits", |_| ());
+        let how = replay_line(&self.journal(), self.test);
         assert_eq!((succeeds, said), (false, vec![how]));
     }
 
@@ -131,17 +136,15 @@ fn a_failure_comes_back_and_its_journal_stays() {
         .journal()
         .with_file_name("ann_is_the_first.replayed.journal");
     let wanted = [
-        format!("{LINE}all 9 calls in the recorded order; the test failed"),
-        format!(
-            "replay: YOVANELUM_REPLAY={} cargo test ann_is_the_first",
-            again.display()
-        ),
+        format!("{LINE}all 9 calls in the recorded order; the same failure"),
+        replay_line(&again, part.test),
     ];
     assert_eq!((succeeds, said), (false, wanted.to_vec()));
     assert_eq!(fs::read(part.journal()).unwrap(), recorded);
     assert!(again.exists());
     // A relative path may be one from a folder above.
-    let relative = "built/yovanelum/ann_is_the_first.journal";
+    let journal = part.journal();
+    let relative = journal.strip_prefix(&part.folder.0).unwrap();
     let below = part.folder.0.join("package");
     fs::create_dir(&below).unwrap();
     let (succeeds, said) = part.replay(|part| {
@@ -168,6 +171,24 @@ fn a_test_that_passes_in_the_recorded_order_says_so() {
 }
 
 #[test]
+fn another_failure_is_said() {
+    if is_part() {
+        return ann_is_the_first();
+    }
+    let part = Part::new("another_failure_is_said");
+    part.record();
+    let (succeeds, said) = part.replay(|part| {
+        part.env(EDITED, "fails otherwise");
+    });
+    let at = line_after(include_str!("replayed.rs"), "\"fails otherwise\") {");
+    let wanted = format!(
+        "{LINE}all 9 calls in the recorded order; \
+         another failure: Bob bids, again, at tests/replayed.rs:{at}"
+    );
+    assert_eq!((succeeds, &said[0]), (false, &wanted));
+}
+
+#[test]
 fn a_test_that_was_edited_parts_and_says_where() {
     if is_part() {
         return ann_is_the_first();
@@ -190,8 +211,11 @@ fn a_test_that_was_edited_parts_and_says_where() {
     ];
     // Out of order, either is the first.
     assert_eq!(&said[..1], &wanted[..1]);
-    let end = if succeeds { "passed" } else { "failed" };
-    assert_eq!(said[1], wanted[1].replace("passed", end));
+    let end = match succeeds {
+        true => "the test passed",
+        false => "the same failure",
+    };
+    assert_eq!(said[1], wanted[1].replace("the test passed", end));
 }
 
 #[test]
@@ -205,22 +229,92 @@ fn another_test_is_not_replayed_and_what_is_no_journal_is_refused() {
     });
     let line = "yovanelum: ann_is_the_first isn't replayed, \
                 since YOVANELUM_REPLAY names another journal: built/another.journal";
-    assert_eq!((succeeds, said), (true, vec![line.to_string()]));
+    // Bob may be the first all the same.
+    assert_eq!(said[0], line);
+    assert_eq!(succeeds, said.len() == 1, "{said:#?}");
 
     part.record();
+    let names = part.journal().with_extension("names");
+    let text = fs::read_to_string(&names).unwrap();
+    let (before, _) = text.split_once("  \"journal\": ").unwrap();
+    fs::write(
+        &names,
+        format!("{before}  \"journal\": \"00000000000000ff\"\n}}\n"),
+    )
+    .unwrap();
+    let refused = self::refused(&part);
+    let fault = format!("{}: it has the names of another journal", names.display());
+    assert!(refused.contains(&fault), "{refused}");
+
+    fs::remove_file(names).unwrap();
     fs::write(
         part.journal(),
         "ttd-journal 2\nbroadcast 4\nsteps\n1 0 0 peek 1 = empty\nend\n",
     )
     .unwrap();
+    let refused = self::refused(&part);
+    let fault = format!("{}: journal fault malformed 4", part.journal().display());
+    assert!(refused.contains(&fault), "{refused}");
+}
+
+/// Returns what a test says whose replay is refused.
+fn refused(part: &Part) -> String {
     let mut refused = started(part.test, &part.folder.0);
     refused
         .env("YOVANELUM_REPLAY", part.journal())
         .arg("--nocapture");
     let said = String::from_utf8(refused.output().unwrap().stderr).unwrap();
-    let fault = format!(
-        "yovanelum: YOVANELUM_REPLAY names no journal: {}: journal fault malformed 4",
-        part.journal().display()
+    let start = "yovanelum: YOVANELUM_REPLAY names no journal: ";
+    assert!(said.contains(start), "{said}");
+    said
+}
+
+/// The line at which a channel is made below.
+const MADE: u32 = line!() + 4;
+
+/// Makes two channels.
+fn make_channels() {
+    let _first = broadcast::channel::<u8>(2);
+    let _second = broadcast::channel::<u8>(2);
+}
+
+#[test]
+fn that_no_recorder_follows_is_said_once() {
+    if is_part() {
+        // Nobody is to follow here.
+        let off = Recorder::off().enter();
+        drop(broadcast::channel::<u8>(2));
+        drop(off);
+        make_channels();
+        return make_channels();
+    }
+    let part = Part::new("that_no_recorder_follows_is_said_once");
+    let said = part.run("", |part| {
+        part.env("YOVANELUM_REPLAY", "built/any.journal");
+    });
+    let line = format!(
+        "yovanelum: YOVANELUM_REPLAY is set, and no recorder follows it for the channel that is made at \
+         tests/replayed.rs:{MADE}: its calls are in no order"
     );
-    assert!(said.contains(&fault), "{said}");
+    assert_eq!(said, (true, vec![line]));
+    assert_eq!(part.run("", |_| ()), (true, vec![]));
+}
+
+#[test]
+fn that_a_recorder_of_a_test_does_not_follow_is_said() {
+    if is_part() {
+        let recorder = Recorder::new();
+        let _entered = recorder.enter();
+        let _saved = recorder.save_on_panic("by_a_guard");
+        return make_channels();
+    }
+    let part = Part::new("that_a_recorder_of_a_test_does_not_follow_is_said");
+    let (succeeds, said) = part.run("", |part| {
+        part.env("YOVANELUM_REPLAY", "built/by_a_guard.journal");
+    });
+    let line = "yovanelum: by_a_guard isn't replayed, though YOVANELUM_REPLAY names its journal: ";
+    assert!(
+        succeeds && said.len() == 1 && said[0].starts_with(line),
+        "{said:#?}"
+    );
 }

@@ -60,6 +60,7 @@ fn off_is_for_what_is_created_until_its_guard_is_dropped() {
 }
 
 #[test]
+#[cfg_attr(target_family = "wasm", ignore = "WebAssembly has no threads")]
 fn futures_on_one_thread_have_the_channels_that_they_create() {
     let recorders = [Recorder::new(), Recorder::new()];
     let _all = Recorder::off().enter();
@@ -106,6 +107,7 @@ fn what_a_cancelled_future_creates_while_it_is_dropped_is_in_its_scope() {
 }
 
 #[test]
+#[cfg_attr(target_family = "wasm", ignore = "WebAssembly has no threads")]
 fn threads_that_follow_have_what_is_entered_on_the_other() {
     let follow = follow_this_thread();
     let (jobs, todo) = mpsc::channel::<Box<dyn FnOnce() + Send>>();
@@ -151,6 +153,7 @@ fn threads_that_follow_have_what_is_entered_on_the_other() {
 }
 
 #[test]
+#[cfg_attr(target_family = "wasm", ignore = "WebAssembly has no threads")]
 fn a_guard_may_be_kept_for_as_long_as_its_thread() {
     thread_local! {
         static KEPT: std::cell::RefCell<Option<yovanelum::ForTest>> = const { std::cell::RefCell::new(None) };
@@ -172,8 +175,9 @@ fn is_send<T: Send>(_: &T) -> bool {
 }
 
 #[test]
+#[cfg_attr(target_family = "wasm", ignore = "WebAssembly has no threads")]
 fn a_test_that_is_a_task_may_be_sent_and_keeps_its_journal() {
-    let name = format!("task-{}", std::process::id());
+    let name = support::temporary::name("task");
     let recorder = Recorder::new();
     let saved: SaveOnPanic = recorder.save_on_panic(&name);
     let test = recorder.scope(async move {

@@ -4,7 +4,7 @@ mod support;
 
 use std::fs;
 use std::path::Path;
-use support::parts::{self, Folder, is_part, our_lines};
+use support::parts::{self, Folder, is_part, our_lines, replay_line};
 use yovanelum::{Recorder, broadcast};
 
 /// Returns whether the part of this test succeeds, and the lines of this crate that it writes to standard error.
@@ -14,8 +14,8 @@ fn played(test: &str, folder: &Path, keep: Option<&str>) -> (bool, Vec<String>) 
 }
 
 /// Returns the lines about a run of one send. Asserts that the journal, its names and the page with both exist.
-fn kept(name: &str, folder: &Path) -> Vec<String> {
-    let path = folder.join(format!("built/yovanelum/{name}.journal"));
+fn kept(name: &str, test: &str, folder: &Path, place: u64) -> Vec<String> {
+    let path = parts::files(folder).join(format!("{name}.journal"));
     let journal = fs::read_to_string(&path).unwrap();
     assert!(journal.contains(" send 0 0 = sent 1\n"), "{journal}");
     assert!(path.with_extension("names").exists());
@@ -24,11 +24,8 @@ fn kept(name: &str, folder: &Path) -> Vec<String> {
     // The entries are the send and two drops, the receiver's first.
     vec![
         "yovanelum: no value was lost in 3 calls on 1 channel".to_string(),
-        format!("look: file://{}#place=3", page.display()),
-        format!(
-            "replay: YOVANELUM_REPLAY={} cargo test {name}",
-            path.display()
-        ),
+        format!("look: {}#place={place}", parts::address(&page)),
+        replay_line(&path, test),
     ]
 }
 
@@ -49,7 +46,7 @@ fn a_test_that_fails_says_what_happened_and_where_to_look() {
     let folder = Folder::new("fails");
     let test = "a_test_that_fails_says_what_happened_and_where_to_look";
     let (succeeds, said) = played(test, &folder.0, None);
-    assert_eq!((succeeds, said), (false, kept("fails", &folder.0)));
+    assert_eq!((succeeds, said), (false, kept("fails", test, &folder.0, 1)));
 }
 
 #[test]
@@ -60,9 +57,9 @@ fn a_test_that_passes_says_so_where_the_journal_is_to_be_kept() {
     let folder = Folder::new("passes");
     let test = "a_test_that_passes_says_so_where_the_journal_is_to_be_kept";
     assert_eq!(played(test, &folder.0, None), (true, vec![]));
-    assert!(!folder.0.join("built").exists());
+    assert!(!parts::files(&folder.0).exists());
     let (succeeds, said) = played(test, &folder.0, Some("1"));
-    assert_eq!((succeeds, said), (true, kept("passes", &folder.0)));
+    assert_eq!((succeeds, said), (true, kept("passes", test, &folder.0, 3)));
 }
 
 #[test]

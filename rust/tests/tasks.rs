@@ -7,7 +7,7 @@ use std::future::Future;
 use std::pin::Pin;
 use std::sync::Arc;
 use std::task::{Context, Waker};
-use std::{env, fs, process, thread};
+use std::{fs, thread};
 use support::accepted;
 use support::named::{locations, member};
 use yovanelum::{Recorder, broadcast, named, set_task_id, watch};
@@ -187,7 +187,7 @@ fn a_replay_sees_that_tasks_share_a_sender() {
             };
             run((0..2).map(task).collect());
         };
-        let path = env::temp_dir().join(format!("shared-{}.journal", process::id()));
+        let path = support::temporary::path("shared.journal");
         let recorder = Recorder::new();
         two_sends(&recorder);
         recorder.save(&path).unwrap();

@@ -9,6 +9,7 @@ use yovanelum::broadcast::error::RecvError;
 use yovanelum::{Handle, Recorder, block_on, broadcast, watch};
 
 #[test]
+#[cfg_attr(target_family = "wasm", ignore = "WebAssembly has no threads")]
 fn a_function_that_holds_a_sender_keeps_its_broadcast_open_no_longer_than_the_recorder_lives() {
     in_time(|| {
         let recorder = Recorder::for_test("function_that_holds_a_sender");
@@ -28,6 +29,7 @@ fn a_function_that_holds_a_sender_keeps_its_broadcast_open_no_longer_than_the_re
 }
 
 #[test]
+#[cfg_attr(target_family = "wasm", ignore = "WebAssembly has no threads")]
 fn a_function_that_holds_a_weak_sender_keeps_no_broadcast_open() {
     in_time(|| {
         let recorder = Recorder::for_test("function_that_holds_a_weak_sender");
@@ -46,6 +48,7 @@ fn a_function_that_holds_a_weak_sender_keeps_no_broadcast_open() {
 }
 
 #[test]
+#[cfg_attr(target_family = "wasm", ignore = "WebAssembly has no threads")]
 fn a_function_that_holds_an_end_of_a_watch_keeps_it_open_no_longer_than_the_recorder_lives() {
     in_time(|| {
         let recorder = Recorder::new();
@@ -115,6 +118,7 @@ fn is_anothers<H: Handle<Value = u32>>(recorder: &Recorder, handle: &H) {
 }
 
 #[test]
+#[cfg_attr(target_family = "wasm", ignore = "WebAssembly ends at the first panic")]
 fn a_channel_of_another_recorder_gets_no_name_and_no_texts() {
     let (recorder, other) = (Recorder::new(), Recorder::new());
     let _entered = recorder.enter();

@@ -52,7 +52,7 @@ fn a_recorder_for_a_test_in_a_thread_local_is_dropped_with_its_thread() {
     let test = "a_recorder_for_a_test_in_a_thread_local_is_dropped_with_its_thread";
     let (succeeds, said) = parts::play(test, &folder.0, Some("1"));
     assert!(succeeds, "{said}");
-    let journal = folder.0.join("built/yovanelum/in_a_thread_local.journal");
+    let journal = parts::files(&folder.0).join("in_a_thread_local.journal");
     let journal = fs::read_to_string(journal).unwrap();
     assert!(journal.contains(" send 0 0 = sent 1\n"), "{journal}");
 }

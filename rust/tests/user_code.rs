@@ -90,6 +90,7 @@ impl Clone for Receives {
 }
 
 #[test]
+#[cfg_attr(target_family = "wasm", ignore = "WebAssembly has no threads")]
 fn a_value_whose_clone_receives_the_same_value_waits_for_nobody() {
     in_time(|| {
         let (tx, mut rx) = broadcast::channel(2);
@@ -181,6 +182,7 @@ impl Wake for LooksWhenWoken {
 }
 
 #[test]
+#[cfg_attr(target_family = "wasm", ignore = "WebAssembly has no threads")]
 fn a_waker_may_look_at_its_watch_and_sees_the_new_value() {
     let saw = in_time(|| {
         let (tx, mut rx) = watch::channel(0);
@@ -203,6 +205,7 @@ impl Wake for Panics {
 }
 
 #[test]
+#[cfg_attr(target_family = "wasm", ignore = "WebAssembly ends at the first panic")]
 fn a_waker_that_panics_leaves_the_new_value() {
     let (tx, mut rx) = watch::channel(0);
     for (change, value) in CHANGES.iter().zip(1..) {
@@ -214,6 +217,7 @@ fn a_waker_that_panics_leaves_the_new_value() {
 }
 
 #[test]
+#[cfg_attr(target_family = "wasm", ignore = "WebAssembly has no threads")]
 fn a_send_without_receivers_waits_for_nobody_who_looks() {
     in_time(|| {
         let recorder = Recorder::new();
@@ -240,6 +244,7 @@ fn message(panicked: Box<dyn std::any::Any + Send>) -> String {
 }
 
 #[test]
+#[cfg_attr(target_family = "wasm", ignore = "WebAssembly ends at the first panic")]
 fn receivers_are_told_of_a_change_whose_text_panics() {
     let recorder = Recorder::new();
     let _entered = recorder.enter();
@@ -271,6 +276,7 @@ fn receivers_are_told_of_a_change_whose_text_panics() {
 }
 
 #[test]
+#[cfg_attr(target_family = "wasm", ignore = "WebAssembly has no threads")]
 fn a_closure_or_a_text_that_uses_its_watch_is_a_panic_and_waits_for_nobody() {
     in_time(|| {
         let recorder = Recorder::new();
@@ -300,6 +306,7 @@ fn a_closure_or_a_text_that_uses_its_watch_is_a_panic_and_waits_for_nobody() {
 }
 
 #[test]
+#[cfg_attr(target_family = "wasm", ignore = "WebAssembly has no threads")]
 fn a_text_of_the_first_value_that_sends_on_its_watch_is_a_panic_and_waits_for_nobody() {
     in_time(|| {
         let recorder = Recorder::new();
@@ -323,6 +330,7 @@ fn a_text_of_the_first_value_that_sends_on_its_watch_is_a_panic_and_waits_for_no
 }
 
 #[test]
+#[cfg_attr(target_family = "wasm", ignore = "WebAssembly has no threads")]
 fn a_closure_of_wait_for_that_sends_on_its_watch_is_a_panic_and_waits_for_nobody() {
     in_time(|| {
         let (tx, mut rx) = watch::channel(0);

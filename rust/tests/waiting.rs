@@ -168,6 +168,7 @@ fn message_of_wake<R>(mut futures: Vec<Waiting<'_, R>>, wake: impl FnOnce()) -> 
 }
 
 #[test]
+#[cfg_attr(target_family = "wasm", ignore = "WebAssembly ends at the first panic")]
 fn a_waker_that_panics_leaves_nobody_asleep() {
     let (tx, rx) = broadcast::channel(1);
     let mut receivers: Vec<_> = (0..5).map(|_| rx.resubscribe()).collect();
@@ -195,6 +196,7 @@ fn a_waker_that_panics_leaves_nobody_asleep() {
 
 /// A thread that panics drops its sender, and a waker panics then too. That is the end of neither the process nor the others' sleep.
 #[test]
+#[cfg_attr(target_family = "wasm", ignore = "WebAssembly ends at the first panic")]
 fn a_waker_that_panics_during_a_panic_leaves_nobody_asleep() {
     let (tx, rx) = broadcast::channel::<()>(1);
     let mut receivers = [rx.resubscribe(), rx];

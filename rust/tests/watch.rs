@@ -103,6 +103,7 @@ fn a_silent_change_is_seen_by_who_looks() {
 }
 
 #[test]
+#[cfg_attr(target_family = "wasm", ignore = "WebAssembly ends at the first panic")]
 fn a_closure_that_panics_changes_silently() {
     let recorder = Recorder::new();
     let _entered = recorder.enter();
@@ -127,6 +128,7 @@ fn a_closure_that_panics_changes_silently() {
 }
 
 #[test]
+#[cfg_attr(target_family = "wasm", ignore = "WebAssembly has no threads")]
 fn closed_waits_until_no_receiver_is_alive() {
     let (tx, rx) = watch::channel(0);
     assert!(!tx.is_closed());

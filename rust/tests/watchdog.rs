@@ -8,7 +8,7 @@ use std::process::{Child, Stdio};
 use std::thread;
 use std::time::Duration;
 use support::in_time;
-use support::parts::{Folder, is_part, play, started};
+use support::parts::{Folder, address, files, is_part, play, started};
 use yovanelum::{Recorder, block_on, broadcast, watch};
 
 /// Longer than any test runs.
@@ -65,7 +65,7 @@ fn a_test_that_hangs_says_who_waits_and_goes_on() {
             .spawn()
             .unwrap();
         let said = read_lines(&mut part, 3);
-        let path = folder.0.join("built/yovanelum/hangs.journal");
+        let path = files(&folder.0).join("hangs.journal");
         let wanted = [
             format!(
                 "yovanelum: hangs has not ended after 1ms; its calls so far are in {}",
@@ -75,10 +75,7 @@ fn a_test_that_hangs_says_who_waits_and_goes_on() {
                 "yovanelum: still waiting: worker in `state.wait_for`, {}:{WORKER_WAITS_AT}",
                 file!()
             ),
-            format!(
-                "look: file://{}#place=1",
-                path.with_extension("html").display()
-            ),
+            format!("look: {}#place=1", address(&path.with_extension("html"))),
         ];
         assert_eq!(said, wanted);
         let journal = fs::read_to_string(&path).unwrap();
@@ -119,6 +116,54 @@ fn a_test_that_hangs_where_no_call_waits_says_so() {
     });
 }
 
+/// The line of the look below, which is alive while its thread sends.
+const LOOK_IS_AT: u32 = line!() + 7;
+
+fn a_send_under_a_look(name: &str) {
+    let recorder = Recorder::new();
+    let _entered = recorder.enter();
+    let (state, rx) = watch::channel("loading");
+    recorder.name(&state, "state");
+    let _look = rx.borrow();
+    let saved = recorder.save_on_panic(name);
+    thread::spawn(move || {
+        while recorder.waiting().is_empty() {
+            thread::yield_now();
+        }
+        let _saved = saved.watchdog(Duration::ZERO);
+        wait_for_the_end_of_input();
+    });
+    let _ = state.send("ready");
+}
+
+#[test]
+fn a_thread_that_blocks_itself_by_its_own_look_says_so() {
+    if is_part() {
+        return a_send_under_a_look("blocked");
+    }
+    in_time(|| {
+        let folder = Folder::new("blocked");
+        let mut part = started(
+            "a_thread_that_blocks_itself_by_its_own_look_says_so",
+            &folder.0,
+        )
+        .stdin(Stdio::piped())
+        .stdout(Stdio::piped())
+        .stderr(Stdio::piped())
+        .spawn()
+        .unwrap();
+        let said = read_lines(&mut part, 2);
+        let by = "a_thread_that_blocks_itself_by_its_own_look_says_so";
+        let (file, sent_at) = (file!(), LOOK_IS_AT + 9);
+        let wanted = format!(
+            "yovanelum: still waiting: {by} in `state.send`, {file}:{sent_at}, for a look taken at {file}:{LOOK_IS_AT} by {by}"
+        );
+        assert_eq!(said[1], wanted);
+        part.kill().unwrap();
+        part.wait().unwrap();
+    });
+}
+
 #[test]
 fn a_test_that_ends_in_time_writes_nothing() {
     if is_part() {
@@ -131,7 +176,7 @@ fn a_test_that_ends_in_time_writes_nothing() {
     let folder = Folder::new("ends");
     let (succeeds, said) = play("a_test_that_ends_in_time_writes_nothing", &folder.0, None);
     assert!(succeeds && !said.contains("yovanelum"), "{said}");
-    assert!(!folder.0.join("built").exists());
+    assert!(!files(&folder.0).exists());
 }
 
 #[test]
@@ -149,7 +194,7 @@ fn a_test_that_fails_in_time_writes_its_journal_once() {
         None,
     );
     assert!(!succeeds && !said.contains("has not ended"), "{said}");
-    assert!(folder.0.join("built/yovanelum/fails.journal").exists());
+    assert!(files(&folder.0).join("fails.journal").exists());
 }
 
 #[test]

@@ -210,6 +210,7 @@ fn the_names_have_the_calls_that_wait() {
 }
 
 #[test]
+#[cfg_attr(target_family = "wasm", ignore = "WebAssembly has no threads")]
 fn a_thread_that_blocks_is_listed() {
     in_time(|| {
         let recorder = Recorder::new();
@@ -276,6 +277,7 @@ fn what_waits_on_a_channel_of_another_recorder_or_of_none_is_not_listed() {
 }
 
 #[test]
+#[cfg_attr(target_family = "wasm", ignore = "WebAssembly has no threads")]
 fn the_list_can_be_asked_for_while_calls_wait_and_end() {
     in_time(|| {
         let recorder = Recorder::new();
@@ -310,5 +312,145 @@ fn the_list_can_be_asked_for_while_calls_wait_and_end() {
         drop(over);
         assert!(asking.join().unwrap() <= 2);
         assert!(recorder.waiting().is_empty());
+    });
+}
+
+/// What the one call that waits says of itself, once a call of another thread waits.
+fn blocked(recorder: &Recorder) -> String {
+    while recorder.waiting().is_empty() {
+        thread::yield_now();
+    }
+    recorder.waiting()[0].to_string()
+}
+
+#[test]
+#[cfg_attr(target_family = "wasm", ignore = "WebAssembly has no threads")]
+fn a_call_that_waits_for_a_look_says_whose_it_is() {
+    type Change = fn(&watch::Sender<u8>);
+    let changes: [(&str, Change); 4] = [
+        ("send", |state| state.send(2).unwrap()),
+        ("send_replace", |state| {
+            state.send_replace(2);
+        }),
+        ("send_modify", |state| state.send_modify(|value| *value = 2)),
+        ("send_if_modified", |state| {
+            state.send_if_modified(|value| std::mem::replace(value, 2) != 2);
+        }),
+    ];
+    in_time(move || {
+        for (method, change) in changes {
+            let recorder = Recorder::new();
+            let _entered = recorder.enter();
+            let (state, rx) = watch::channel(1);
+            recorder.name(&state, "state");
+            // It ended, and so did the send after it.
+            assert_eq!(*rx.borrow(), 1);
+            let (looked, look) = (line!(), rx.borrow());
+            let sender = thread::Builder::new().name("sender".into());
+            let sender = sender.spawn(move || change(&state)).unwrap();
+            let said = blocked(&recorder);
+            assert_eq!(listed(&recorder).len(), 1);
+            assert_eq!(
+                recorder.waiting()[0].held_by().unwrap().1.unwrap().line(),
+                looked
+            );
+            let start = format!("sender in `state.{method}`, {}:", file!());
+            let me = format!("{:?}", thread::current().id());
+            let end = format!(", for a look taken at {}:{looked} by {me}", file!());
+            assert!(said.starts_with(&start), "{said}");
+            assert!(said.ends_with(&end), "{said}");
+            drop(look);
+            sender.join().unwrap();
+            assert_eq!(listed(&recorder), [""; 0]);
+            assert_eq!(*rx.borrow(), 2);
+        }
+    });
+}
+
+#[test]
+#[cfg_attr(target_family = "wasm", ignore = "WebAssembly has no threads")]
+fn a_look_that_waits_for_a_change_is_listed() {
+    in_time(|| {
+        let recorder = Recorder::new();
+        let _entered = recorder.enter();
+        let (state, rx) = watch::channel(1);
+        let (go, gone) = mpsc::channel();
+        let (began, has_begun) = mpsc::channel();
+        let sender = thread::spawn(move || {
+            state.send_modify(|value| {
+                began.send(()).unwrap();
+                gone.recv().unwrap();
+                *value = 2;
+            });
+        });
+        has_begun.recv().unwrap();
+        let reader = thread::Builder::new().name("reader".into());
+        let reader = reader.spawn(move || *rx.borrow()).unwrap();
+        let said = blocked(&recorder);
+        assert!(said.starts_with("reader in `channel 0.borrow`, "), "{said}");
+        assert!(said.ends_with(", for the lock of the value"), "{said}");
+        go.send(()).unwrap();
+        assert_eq!(reader.join().unwrap(), 2);
+        sender.join().unwrap();
+        assert_eq!(listed(&recorder), [""; 0]);
+    });
+}
+
+#[test]
+#[cfg_attr(target_family = "wasm", ignore = "WebAssembly has no threads")]
+fn of_many_looks_those_that_are_noted_are_told() {
+    in_time(|| {
+        let recorder = Recorder::new();
+        let _entered = recorder.enter();
+        let (state, rx) = watch::channel(1);
+        let first = rx.borrow();
+        let mut others: Vec<_> = (0..7).map(|_| rx.borrow()).collect();
+        let (ninth_line, ninth) = (line!(), rx.borrow());
+        drop(first);
+        let (last_line, last) = (line!(), rx.borrow());
+        others.clear();
+        thread::scope(|scope| {
+            let sender = scope.spawn(|| state.send(2).unwrap());
+            // The last look got the place of the first one. The ninth had none.
+            let said = blocked(&recorder);
+            assert!(said.contains(&format!(":{last_line} by ")), "{said}");
+            assert!(!said.contains(&format!(":{ninth_line} by ")), "{said}");
+            drop(last);
+            drop(ninth);
+            sender.join().unwrap();
+        });
+        let ninth: Vec<_> = (0..9).map(|_| rx.borrow()).collect();
+        let last = { ninth }.pop();
+        thread::scope(|scope| {
+            let sender = scope.spawn(|| state.send(3).unwrap());
+            let said = blocked(&recorder);
+            assert!(said.ends_with(", for the lock of the value"), "{said}");
+            drop(last);
+            sender.join().unwrap();
+        });
+    });
+}
+
+#[test]
+#[cfg_attr(target_family = "wasm", ignore = "WebAssembly has no threads")]
+fn the_names_say_whose_look_a_call_waits_for() {
+    in_time(|| {
+        let recorder = Recorder::new();
+        let _entered = recorder.enter();
+        let (state, rx) = watch::channel(1);
+        let (looked, look) = (line!(), rx.borrow());
+        thread::scope(|scope| {
+            let sender = scope.spawn(|| state.send(2).unwrap());
+            blocked(&recorder);
+            let names = saved_names(&recorder, "who-holds");
+            let wanted = (file!().to_string(), looked);
+            let at = locations(&names);
+            let at = at.iter().position(|location| *location == wanted).unwrap();
+            let waiting = member(&names, "waiting");
+            let end = format!(r#""held_by": {{"actor": 0, "location": {at}}}}}]"#);
+            assert!(waiting.ends_with(&end), "{waiting}");
+            drop(look);
+            sender.join().unwrap();
+        });
     });
 }

@@ -16,6 +16,7 @@ pub mod BroadcastSteps
 pub mod BroadcastReaders
 pub mod BroadcastTallying
 pub mod WatchSteps
+pub mod Sights
 pub mod Watchers
 pub mod WatchTallying
 pub mod TallyRuns

@@ -16,7 +16,8 @@ use Rattle.rw_findings.specs.declared.totals.broadcast.Reader.{Reader}
 use Rattle.rw_findings.specs.declared.totals.watch.Watcher.{Watcher}
 use Rattle.rw_findings.specs.declared.totals.tally.Tally.{Tally}
 use Rattle.rw_findings.specs.declared.totals.tally.Tally.TheVariants.{Broadcast, Watch}
-use Rattle.rw_findings.specs.Totals.{receives, is_told, is_notified, count_on, IsGreatest, IsMissed, IsCount, lag_there, mark_there}
+use Rattle.rw_findings.specs.Totals.{receives, is_told, is_notified, looks, passes_at, count_on, IsGreatest, IsMissed, IsUnlooked, IsCount, lag_there}
+use Rattle.rw_findings.specs.Totals.{mark_there}
 use Rattle.rw_findings.specs.Totals.{version_there, AreCounts, AreBroadcastCounts, AreWatchCounts, WasThere, AreTotalsOf}
 use Rattle.rw_findings.specs.BroadcastTallies as broadcast
 use Rattle.rw_findings.specs.BroadcastTallies.{BroadcastTally}
@@ -29,8 +30,8 @@ use Rattle.rw_findings.proofs.Listed.{IsListed, none_listed, skipped, pushed, ne
 use Rattle.rw_findings.proofs.Greatest.{settled_top}
 use Rattle.rw_findings.proofs.BroadcastReaders.{settled_parts, Counted, Uncounted, IsCounted}
 use Rattle.rw_findings.proofs.BroadcastTallying.{reader_position, position_is, get_or_past}
-use Rattle.rw_findings.proofs.Watchers.{Watched, Unwatched, IsWatched, missed_count}
-use Rattle.rw_findings.proofs.TallyRuns.{IsKept, AreKept, mark_in_channel, version_in_channel, lag_on, received_on, told_on, notified_on}
+use Rattle.rw_findings.proofs.Watchers.{Watched, Unwatched, IsWatched, missed_count, unlooked_count}
+use Rattle.rw_findings.proofs.TallyRuns.{IsKept, AreKept, mark_in_channel, version_in_channel, lag_on, received_on, told_on, notified_on, looked_on}
 
 module _ {V : Type 0} (at : ℕ → List (ChanShown V)) (es : List (WorldEntry V)) where
   abbrev last : ℕ
@@ -65,13 +66,16 @@ module _ {V : Type 0} (at : ℕ → List (ChanShown V)) (es : List (WorldEntry V
 
   -- and of a watch
   watch_counts : (c h : ℕ) (t : WatchTally) (w : Watcher) → t.version ≡ version_there at c last
-      → Watched (mark_there at c h) (version_there at c) (notified_on at es c h) last w
+      → Watched (mark_there at c h) (version_there at c) (notified_on at es c h) (looked_on at es c h) last w
       → AreWatchCounts at es last c h (watch.counts_from t w)
   watch_counts c h t w version_is is = record {
     there = is.was_there;
     changes = is.changes_is ∙ all_counted c (is_notified h);
-    missed = subst (λ v. IsCount (IsMissed (mark_there at c h) (version_there at c) last) (version_there at c last) (watch.missed_at v w)) (sym version_is)
-        (missed_count (mark_there at c h) (version_there at c) (notified_on at es c h) last w is);
+    missed = subst (λ v. IsCount (IsMissed (mark_there at c h) (version_there at c) last) (version_there at c last) (watch.unseen_at w.alive v w.marks))
+        (sym version_is) (missed_count (mark_there at c h) (version_there at c) (notified_on at es c h) (looked_on at es c h) last w is);
+    unlooked = subst (λ v. IsCount (IsUnlooked (mark_there at c h) (version_there at c) last (passes_at c (looks h) es)) (version_there at c last)
+        (watch.unseen_at w.alive v w.looks)) (sym version_is)
+        (unlooked_count (mark_there at c h) (version_there at c) (notified_on at es c h) (looked_on at es c h) last w is);
   }
 
   -- the counts that are found, or none where there never was such a receiver
@@ -101,7 +105,7 @@ module _ {V : Type 0} (at : ℕ → List (ChanShown V)) (es : List (WorldEntry V
         broadcast_counts c h t r unread is
   found_in c h (Some (broadcast_shown x)) (Watch t) here kept = absurd kept
   found_in c h (Some (watch_shown y)) (Watch t) here kept = by_watcher (watch.watcher_in t h) (kept.0.watched h) where
-    by_watcher : (o : Option Watcher) → IsWatched (mark_there at c h) (version_there at c) (notified_on at es c h) last o
+    by_watcher : (o : Option Watcher) → IsWatched (mark_there at c h) (version_there at c) (notified_on at es c h) (looked_on at es c h) last o
         → IsFound c h (option_map (λ w. counts.Watch (watch.counts_from t w)) o)
     by_watcher None is = nowhere c h (kept.1 h) is.absent
     by_watcher (Some w) is = watch_counts c h t w (kept.0.tally.version ∙ sym (ap version_in_channel here)) is
@@ -118,8 +122,8 @@ module _ {V : Type 0} (at : ℕ → List (ChanShown V)) (es : List (WorldEntry V
   not_made c h (Some (broadcast_shown x)) (Watch t) kept past = absurd kept
   not_made c h (Some (watch_shown y)) (Watch t) kept past =
       let nobody : watch.watcher_in t h ≡ None = get_or_past t.watchers h None past in
-      let is : Unwatched (mark_there at c h) (version_there at c) (notified_on at es c h) last =
-      subst (λ o. IsWatched (mark_there at c h) (version_there at c) (notified_on at es c h) last o) nobody (kept.0.watched h) in
+      let is : Unwatched (mark_there at c h) (version_there at c) (notified_on at es c h) (looked_on at es c h) last =
+      subst (λ o. IsWatched (mark_there at c h) (version_there at c) (notified_on at es c h) (looked_on at es c h) last o) nobody (kept.0.watched h) in
       nowhere c h (kept.1 h) is.absent
   not_made c h (Some (watch_shown y)) (Broadcast t) kept past = absurd kept
   not_made c h None t kept past = absurd kept

@@ -18,8 +18,8 @@ use Rattle.rw_findings.specs.Tallies.{made_in, HasRoom, HaveRoom, HaveFewHandles
 use Rattle.rw_findings.proofs.LossEntries.{each_at}
 use Rattle.rw_findings.proofs.BroadcastReaders.{IsCounted}
 use Rattle.rw_findings.proofs.BroadcastTallying.{made_same}
-use Rattle.rw_findings.proofs.Watchers.{IsWatched, few_at}
-use Rattle.rw_findings.proofs.TallyRuns.{IsKept, AreKept, version_in_channel, lag_on, received_on, told_on, notified_on}
+use Rattle.rw_findings.proofs.Watchers.{IsWatched, few_marks, few_looks}
+use Rattle.rw_findings.proofs.TallyRuns.{IsKept, AreKept, version_in_channel, lag_on, received_on, told_on, notified_on, looked_on}
 
 -- what isn't there is past the end
 pub past_end : {A : Type 0} (xs : List A) (i : ℕ) → slice_get xs i ≡ None → length xs ≤ i
@@ -52,15 +52,16 @@ module _ {V : Type 0} (at : ℕ → List (ChanShown V)) (es : List (WorldEntry V
     version_is = kept.0.tally.version ∙ sym (ap version_in_channel here)
 
     by_watcher : (h : ℕ) (w : Watcher) → watch.watcher_in t h ≡ Some w → (o : Option Watcher) → watch.watcher_in t h ≡ o
-        → IsWatched (mark_there at c h) (version_there at c) (notified_on at es c h) n o → watch.HasRoomFor t w
+        → IsWatched (mark_there at c h) (version_there at c) (notified_on at es c h) (looked_on at es c h) n o → watch.HasRoomFor t w
     by_watcher h w found None is watched = let e : None ≡ Some w = sym is ∙ found in absurd cc
     by_watcher h w found (Some v) is watched =
         let same : v ≡ w = let e : Some v ≡ Some w = sym is ∙ found in cc in
-        let small = few_at (mark_there at c h) (version_there at c) (notified_on at es c h) n v watched in
+        let marks = few_marks (mark_there at c h) (version_there at c) (notified_on at es c h) (looked_on at es c h) n v watched in
+        let looks = few_looks (mark_there at c h) (version_there at c) (notified_on at es c h) (looked_on at es c h) n v watched in
         subst (λ q. watch.HasRoomFor t q) same (record {
           changes = omega (arith, watched.few_changes, few);
-          looked = omega (arith, small.0, version_is);
-          missed = omega (arith, small.0, small.1, version_is, kept.0.tally.few, few);
+          marks = record { newest = omega (arith, marks.0, version_is); unseen = omega (arith, marks.0, marks.1, version_is, kept.0.tally.few, few) };
+          looks = record { newest = omega (arith, looks.0, version_is); unseen = omega (arith, looks.0, looks.1, version_is, kept.0.tally.few, few) };
         })
   room_of c (Some (watch_shown y)) (Broadcast t) here kept = absurd kept
   room_of c None t here kept = absurd kept

@@ -2,6 +2,7 @@
 use Rattle.std.proofs.Common.{◌≡◌, ◌≢◌, ℕ, ◌+◌, ◌<◌, ◌≤◌, Bool, true, false, cond, List, length, get_or, take, inl, inr, refl, ap, sym, ◌∙◌, subst, arith}
 use Rattle.std.specs.Prelude.{Option, Some, None, MatchOption, unwrap_or, slice_get, option_map, option_and_then, nat_eq, ◌&&◌, count_by}
 use Rattle.std.proofs.lemmas.Bool.{cases_lt}
+use Rattle.std.proofs.lemmas.Option.{slice_get_read}
 use Rattle.std.proofs.lemmas.List.Sums.{count_by_more_yes, count_by_more_no}
 use Rattle.rw_broadcast.specs.Channel.{effect as broadcast_effect}
 use Rattle.rw_broadcast.specs.Shown.{channel_of}
@@ -14,8 +15,8 @@ use Rattle.rw_world.specs.declared.channels.ChanCall.{ChanCall}
 use Rattle.rw_world.specs.declared.channels.ChanCall.TheVariants as call_of
 use Rattle.rw_world.specs.declared.channels.ChanReply.{ChanReply}
 use Rattle.rw_world.proofs.Modifying.{get-modified_other}
-use Rattle.rw_navigator.specs.Conditions.{lag_at, as_watch}
-use Rattle.rw_findings.specs.Totals.{receives, is_told, is_notified, count_on, mark_there, version_there}
+use Rattle.rw_navigator.specs.Conditions.{has, lag_at, as_watch}
+use Rattle.rw_findings.specs.Totals.{receives, is_told, is_notified, looks, passes_at, count_on, mark_there, version_there}
 use Rattle.rw_findings.specs.Tallies.{with_reply, with_entry}
 use Rattle.rw_findings.specs.declared.totals.tally.Tally.{Tally}
 use Rattle.rw_findings.specs.declared.totals.tally.Tally.TheVariants.{Broadcast, Watch}
@@ -48,6 +49,12 @@ module _ {V : Type 0} where
     by_test true is = count_by_more_yes passes es n e within (ap passes (sym read) ∙ is)
     by_test false is = count_by_more_no passes es n e within (ap passes (sym read) ∙ is)
 
+  -- what the entry of a place passes
+  pub passes_next : (c n : ℕ) (test : ChanCall V → ChanReply V → Bool) (es : List (WorldEntry V)) (e : WorldEntry V) → n < length es → e ≡ get_or es n e
+      → passes_at c test es n ≡ (nat_eq e.call.channel c && test e.call.call e.reply)
+  passes_next c n test es e within read =
+      ap (λ o. has (λ (f : WorldEntry V). nat_eq f.call.channel c && test f.call.call f.reply) o) (slice_get_read es (length es) n e refl within read)
+
   -- where this is shown at each place, and these are the entries
   module _ (at : ℕ → List (ChanShown V)) (es : List (WorldEntry V)) where
     abbrev pub lag_on : (channel receiver place : ℕ) → Option ℕ
@@ -62,12 +69,15 @@ module _ {V : Type 0} where
     abbrev pub notified_on : (channel receiver place : ℕ) → ℕ
     notified_on c h place = count_on c (is_notified h) (take place es)
 
+    abbrev pub looked_on : (channel receiver place : ℕ) → Bool
+    looked_on c h place = passes_at c (looks h) es place
+
     -- what is kept of channel c at place n, if it is there
     abbrev pub IsKept : (c n : ℕ) → Option (ChanShown V) → Option Tally → Type 0
     IsKept c n (Some (broadcast_shown x)) (Some (Broadcast t)) =
         AreCounted (lag_on c) (received_on c) (told_on c) n x t × ((h place : ℕ) → place ≤ n → mark_there at c h place ≡ None)
     IsKept c n (Some (watch_shown y)) (Some (Watch t)) =
-        AreWatched (mark_there at c) (version_there at c) (notified_on c) n y t × ((h place : ℕ) → place ≤ n → lag_on c h place ≡ None)
+        AreWatched (mark_there at c) (version_there at c) (notified_on c) (looked_on c) n y t × ((h place : ℕ) → place ≤ n → lag_on c h place ≡ None)
     IsKept c n None None = Unit {0}
     IsKept c n _ _ = ⊥
 
@@ -86,6 +96,7 @@ module _ {V : Type 0} where
       pub received_is : (h : ℕ) → received_on c h (n + 1) ≡ received_on c h n
       pub told_is : (h : ℕ) → told_on c h (n + 1) ≡ told_on c h n
       pub notified_is : (h : ℕ) → notified_on c h (n + 1) ≡ notified_on c h n
+      pub looked_is : (h : ℕ) → looked_on c h n ≡ false
 
     -- a channel that stays as it is
     idle_kept : (c n : ℕ) (o : Option (ChanShown V)) (k : Option Tally) → slice_get (at n) c ≡ o → slice_get (at (n + 1)) c ≡ o → AreIdle c n → IsKept c n o k
@@ -108,10 +119,16 @@ module _ {V : Type 0} where
     idle_kept c n (Some (watch_shown y)) (Some (Watch t)) now then idle kept =
         let same : version_there at c (n + 1) ≡ version_there at c n = ap version_in_channel (then ∙ sym now) in (
           record {
-            tally = record { version = kept.0.tally.version; few = omega (arith, kept.0.tally.few); made = kept.0.tally.made };
+            tally = record {
+              version = kept.0.tally.version;
+              few = omega (arith, kept.0.tally.few);
+              made = kept.0.tally.made;
+              others = kept.0.tally.others;
+            };
             rises = below_next (λ place. version_there at c place ≤ version_there at c (n + 1)) n
                 (λ place within. omega (arith, kept.0.rises place within, same)) (omega arith);
-            watched = λ h. watchers.rests (mark_there at c h) (version_there at c) (notified_on c h) n _ kept.0.rises (idle.notified_is h)
+            watched = λ h. watchers.rests (mark_there at c h) (version_there at c) (notified_on c h) (looked_on c h) n _ kept.0.rises
+                (record { changes_is = idle.notified_is h; no_look = idle.looked_is h })
                 (ap (λ o. mark_in_channel o h) (then ∙ sym now)) (inl same) (kept.0.watched h);
           },
           λ h. below_next (λ place. lag_on c h place ≡ None) n (kept.1 h) (ap (λ o. lag_in_channel o h) then),
@@ -126,6 +143,7 @@ module _ {V : Type 0} where
       pub received_is : (h : ℕ) → received_on c h (n + 1) ≡ cond (receives h call reply) (received_on c h n + 1) (received_on c h n)
       pub told_is : (h : ℕ) → told_on c h (n + 1) ≡ cond (is_told h call reply) (told_on c h n + 1) (told_on c h n)
       pub notified_is : (h : ℕ) → notified_on c h (n + 1) ≡ cond (is_notified h call reply) (notified_on c h n + 1) (notified_on c h n)
+      pub looked_is : (h : ℕ) → looked_on c h n ≡ looks h call reply
 
     -- the channel of the entry
     step_kept : (c n : ℕ) (o : Option (ChanShown V)) (k : Option Tally) (call : ChanCall V) → slice_get (at n) c ≡ o
@@ -140,19 +158,30 @@ module _ {V : Type 0} where
         )
     step_kept c n (Some (broadcast_shown x)) (Some (Broadcast t)) (call_of.W call) now then ok counts kept =
         idle_kept c n (Some (broadcast_shown x)) (Some (Broadcast t)) now then
-        (record { received_is = counts.received_is; told_is = counts.told_is; notified_is = counts.notified_is }) kept
+        (record {
+          received_is = counts.received_is;
+          told_is = counts.told_is;
+          notified_is = counts.notified_is;
+          looked_is = counts.looked_is;
+        }) kept
     step_kept c n (Some (broadcast_shown x)) (Some (Watch t)) call now then ok counts kept = absurd kept
     step_kept c n (Some (broadcast_shown x)) None call now then ok counts kept = absurd kept
     step_kept c n (Some (watch_shown y)) (Some (Watch t)) (call_of.W call) now then ok counts kept =
         let e = watch_effect y call in (
-          watched_on (mark_there at c) (version_there at c) (notified_on c) n y t call e.0 e.1 kept.0
-              (record { marks = λ h. ap (λ o. mark_in_channel o h) now; version_is = ap version_in_channel now }) (watch.steps y ok call) counts.notified_is
+          watched_on (mark_there at c) (version_there at c) (notified_on c) (looked_on c) n y t call e.0 e.1 kept.0
+              (record { marks = λ h. ap (λ o. mark_in_channel o h) now; version_is = ap version_in_channel now }) (watch.steps y ok call)
+              (record { changes_is = counts.notified_is; look_is = counts.looked_is })
               (record { marks = λ h. ap (λ o. mark_in_channel o h) then; version_is = ap version_in_channel then }),
           λ h. below_next (λ place. lag_on c h place ≡ None) n (kept.1 h) (ap (λ o. lag_in_channel o h) then),
         )
     step_kept c n (Some (watch_shown y)) (Some (Watch t)) (call_of.B call) now then ok counts kept =
         idle_kept c n (Some (watch_shown y)) (Some (Watch t)) now then
-        (record { received_is = counts.received_is; told_is = counts.told_is; notified_is = counts.notified_is }) kept
+        (record {
+          received_is = counts.received_is;
+          told_is = counts.told_is;
+          notified_is = counts.notified_is;
+          looked_is = counts.looked_is;
+        }) kept
     step_kept c n (Some (watch_shown y)) (Some (Broadcast t)) call now then ok counts kept = absurd kept
     step_kept c n (Some (watch_shown y)) None call now then ok counts kept = absurd kept
     step_kept c n None (Some k) call now then ok counts kept = absurd kept
@@ -189,7 +218,13 @@ module _ {V : Type 0} where
               subst (λ o. IsKept k (n + 1) o (slice_get (with_entry ts e (n + 1)) k)) (sym shown)
               (subst (λ o. IsKept k (n + 1) (shown_then (slice_get (at n) k) e.call.call) o) (sym tally)
               (step_kept k n (slice_get (at n) k) (slice_get ts k) e.call.call refl shown (each_at (of_chan {V = V}).allowed (at n) k allowed)
-              (record { received_is = λ h. counted (receives h); told_is = λ h. counted (is_told h); notified_is = λ h. counted (is_notified h) }) (kept k)))
+              (record {
+                received_is = λ h. counted (receives h);
+                told_is = λ h. counted (is_told h);
+                notified_is = λ h. counted (is_notified h);
+                looked_is = λ h. passes_next k n (looks h) es e within read ∙ ap (λ b. b && looks h e.call.call e.reply) test_is
+                    ∙ ap (λ r. looks h e.call.call r) reply_is;
+              }) (kept k)))
 
           other : (c : ℕ) → e.call.channel ≢ c → IsKept c (n + 1) (slice_get (at (n + 1)) c) (slice_get (with_entry ts e (n + 1)) c)
           other c apart =
@@ -205,5 +240,10 @@ module _ {V : Type 0} where
               subst (λ o. IsKept c (n + 1) o (slice_get (with_entry ts e (n + 1)) c)) (sym shown)
               (subst (λ o. IsKept c (n + 1) (slice_get (at n) c) o) (sym tally)
               (idle_kept c n (slice_get (at n) c) (slice_get ts c) refl shown
-              (record { received_is = λ h. counted (receives h); told_is = λ h. counted (is_told h); notified_is = λ h. counted (is_notified h) })
+              (record {
+                received_is = λ h. counted (receives h);
+                told_is = λ h. counted (is_told h);
+                notified_is = λ h. counted (is_notified h);
+                looked_is = λ h. passes_next c n (looks h) es e within read ∙ ap (λ b. b && looks h e.call.call e.reply) test_is;
+              })
               (kept c)))

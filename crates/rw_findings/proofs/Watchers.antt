@@ -1,41 +1,35 @@
 -- One receiver of a watch from one place to the next, and what is kept of it.
-use Rattle.std.proofs.Common.{◌≡◌, ℕ, ◌+◌, ◌-◌, ◌<◌, ◌≤◌, ◌⊎◌, Bool, true, false, cond, inl, inr, refl, ap, sym, ◌∙◌, subst, arith}
-use Rattle.std.specs.Prelude.{Option, Some, None, IsSome, nat_lt}
+use Rattle.std.proofs.Common.{◌≡◌, ℕ, ◌+◌, ◌<◌, ◌≤◌, Bool, true, false, inl, inr, refl, ap, sym, ◌∙◌, subst, arith}
+use Rattle.std.specs.Prelude.{Option, Some, None, IsSome}
 use Rattle.std.proofs.lemmas.Bool.{cases_lt}
 use Rattle.rw_findings.specs.declared.totals.watch.Watcher.{Watcher}
-use Rattle.rw_findings.specs.Totals.{Came, IsMissed, IsCount}
-use Rattle.rw_findings.specs.WatchTallies.{new_watcher, after_look, after_change, after_end, missed_at}
-use Rattle.rw_findings.proofs.Greatest.{lt_is, not_lt_is}
-use Rattle.rw_findings.proofs.CountsOfNumbers.{count_same, count_none, count_all, count_other}
+use Rattle.rw_findings.specs.Totals.{Came, IsMissed, IsUnlooked, IsCount}
+use Rattle.rw_findings.specs.WatchTallies.{new_watcher, after_look, after_mark, after_update, after_change, after_end, ended_sight, unseen_at}
+use Rattle.rw_findings.proofs.CountsOfNumbers.{count_same}
+use Rattle.rw_findings.proofs.Sights.{Rises, IsNext, IsUnseen, IsOpen, IsEnded, IsSightOf, IsSeenBefore, open_on, ended_on, begins, sees, unseen_count}
+use Rattle.rw_findings.proofs.Sights.{ends, few_in}
 
--- where these are the mark of a receiver, the version and the count of changes at each place
-module _ (mark : ℕ → Option (Option ℕ)) (version changes : ℕ → ℕ) where
-  -- what is kept of a receiver that is there: up to the version at which it last looked, what it missed is counted
-  pub record IsAlive (n : ℕ) (w : Watcher) : Type 0 where
-    pub there : IsSome (mark n)
-    pub settled : IsCount (IsMissed mark version n) w.looked w.missed
-    pub not_looked : IsMissed mark version n w.looked → ⊥
-    pub came : (v : ℕ) → w.looked < v → v ≤ version n → Came mark version n v
-    pub marks : (place v : ℕ) → place ≤ n → mark place ≡ Some (Some v) → v ≤ w.looked
-    pub few_looked : w.looked ≤ version n
-    pub few_missed : w.missed ≤ w.looked
+-- where these are the mark of a receiver, the version, the count of changes and whether it looks at each place
+module _ (mark : ℕ → Option (Option ℕ)) (version changes : ℕ → ℕ) (looked : ℕ → Bool) where
+  -- this version is its mark
+  abbrev pub Marks : (place v : ℕ) → Type 0
+  Marks place v = mark place ≡ Some (Some v)
 
-  -- and of one that was dropped
-  pub record IsEnded (n : ℕ) (w : Watcher) : Type 0 where
-    pub gone : mark n ≡ None
-    pub settled : IsCount (IsMissed mark version n) (version n) w.missed
-    pub few_looked : w.looked ≤ version n
-    pub few_missed : w.missed ≤ version n
+  -- the call that leads to this place looked at this version
+  abbrev pub Looks : (place v : ℕ) → Type 0
+  Looks place v = (p : ℕ) × (p + 1 ≡ place) × (looked p ≡ true) × (version p ≡ v)
 
-  abbrev pub IsState : ℕ → Bool → Watcher → Type 0
-  IsState n true w = IsAlive n w
-  IsState n false w = IsEnded n w
+  abbrev pub IsThere : ℕ → (alive : Bool) → Type 0
+  IsThere n true = IsSome (mark n)
+  IsThere n false = mark n ≡ None
 
   pub record Watched (n : ℕ) (w : Watcher) : Type 0 where
     pub was_there : (place : ℕ) × (place ≤ n) × IsSome (mark place)
     pub changes_is : w.changes ≡ changes n
     pub few_changes : w.changes ≤ n
-    pub state : IsState n w.alive w
+    pub there : IsThere n w.alive
+    pub marks : IsSightOf mark version Marks w.alive n w.marks
+    pub looks : IsSightOf mark version Looks w.alive n w.looks
 
   pub record Unwatched (n : ℕ) : Type 0 where
     pub absent : (place : ℕ) → place ≤ n → mark place ≡ None
@@ -45,9 +39,41 @@ module _ (mark : ℕ → Option (Option ℕ)) (version changes : ℕ → ℕ) wh
   IsWatched n None = Unwatched n
   IsWatched n (Some w) = Watched n w
 
-  -- the version only rises
-  abbrev pub Rises : ℕ → Type 0
-  Rises n = (place : ℕ) → place ≤ n → version place ≤ version n
+  -- no change is told to it by the next call, which makes no look
+  pub record IsIdle (n : ℕ) : Type 0 where
+    pub changes_is : changes (n + 1) ≡ changes n
+    pub no_look : looked n ≡ false
+
+  -- ---- marks and looks at the next place
+
+  some_none : (o : Option (Option ℕ)) → o ≡ None → IsSome o → ⊥
+  some_none None none some = absurd cc
+  some_none (Some m) none some = absurd cc
+
+  some_is : (n : ℕ) (m : Option ℕ) → mark n ≡ Some m → IsSome (mark n)
+  some_is n m is = subst (λ o. IsSome o) (sym is) refl
+
+  same_mark : (n : ℕ) → mark (n + 1) ≡ mark n → IsSeenBefore mark version Marks n
+  same_mark n same v seen = sym same ∙ seen
+
+  no_mark : (n : ℕ) → mark (n + 1) ≡ None → IsSeenBefore mark version Marks n
+  no_mark n gone v seen = let e : ◌≡◌ {A = Option (Option ℕ)} None (Some (Some v)) = sym gone ∙ seen in absurd cc
+
+  unmarked : (n : ℕ) → mark (n + 1) ≡ Some None → IsSeenBefore mark version Marks n
+  unmarked n there v seen = let e : ◌≡◌ {A = Option (Option ℕ)} (Some None) (Some (Some v)) = sym there ∙ seen in absurd cc
+
+  marks_is : (n : ℕ) → mark (n + 1) ≡ Some (Some (version n)) → (v : ℕ) → Marks (n + 1) v → version n ≡ v
+  marks_is n there v seen = let e : ◌≡◌ {A = Option (Option ℕ)} (Some (Some (version n))) (Some (Some v)) = sym there ∙ seen in cc
+
+  no_look : (n : ℕ) → looked n ≡ false → IsSeenBefore mark version Looks n
+  no_look n none v seen =
+      let at : seen.0 ≡ n = omega (arith, seen.1) in
+      let e : true ≡ false = sym seen.2 ∙ ap looked at ∙ none in absurd cc
+
+  look_is : (n : ℕ) → (v : ℕ) → Looks (n + 1) v → version n ≡ v
+  look_is n v seen = let at : n ≡ seen.0 = omega (arith, seen.1) in ap version at ∙ seen.3
+
+  -- ---- one that is there
 
   absent_on : (n : ℕ) → ((place : ℕ) → place ≤ n → mark place ≡ None) → mark (n + 1) ≡ None → (place : ℕ) → place ≤ n + 1 → mark place ≡ None
   absent_on n absent none place within =
@@ -59,329 +85,162 @@ module _ (mark : ℕ → Option (Option ℕ)) (version changes : ℕ → ℕ) wh
   there_on : (n : ℕ) → (place : ℕ) × (place ≤ n) × IsSome (mark place) → (place : ℕ) × (place ≤ n + 1) × IsSome (mark place)
   there_on n there = (there.0, omega (arith, there.1), there.2)
 
-  came_on : (n v : ℕ) → Came mark version n v → Came mark version (n + 1) v
-  came_on n v is = record { place = is.place; within = omega (arith, is.within); there = is.there; before = is.before; after = is.after }
-
-  came_back : (n v : ℕ) → v ≤ version n → Came mark version (n + 1) v → Came mark version n v
-  came_back n v old is =
-      elim (cases_lt is.place n) [
-        | inl inside ↦ record { place = is.place; within = inside; there = is.there; before = is.before; after = is.after }
-        | inr past ↦ let here : is.place ≡ n = omega (arith, is.within, past) in
-            let below : version n < v = subst (λ k. version k < v) here is.before in absurd (omega (arith, below, old))
-      ]
-
-  missed_on : (n v : ℕ) → (mark (n + 1) ≡ Some (Some v) → IsMissed mark version n v → ⊥) → IsMissed mark version n v → IsMissed mark version (n + 1) v
-  missed_on n v apart is = (
-    came_on n v is.0,
-    λ place within seen.
-        elim (cases_lt place (n + 1)) [
-          | inl inside ↦ is.1 place (omega (arith, inside)) seen
-          | inr past ↦ let here : place ≡ n + 1 = omega (arith, within, past) in apart (subst (λ k. mark k ≡ Some (Some v)) here seen) is
-        ],
-  )
-
-  missed_back : (n v : ℕ) → v ≤ version n → IsMissed mark version (n + 1) v → IsMissed mark version n v
-  missed_back n v old is = (came_back n v old is.0, λ place within seen. is.1 place (omega (arith, within)) seen)
-
-  -- what was settled is settled at the next place
-  settled_on : (n m count : ℕ) → m ≤ version n → ((v : ℕ) → v ≤ m → mark (n + 1) ≡ Some (Some v) → IsMissed mark version n v → ⊥)
-      → IsCount (IsMissed mark version n) m count → IsCount (IsMissed mark version (n + 1)) m count
-  settled_on n m count old apart is =
-      count_same {P = IsMissed mark version n} {Q = IsMissed mark version (n + 1)} (λ v below. missed_on n v (apart v below))
-      (λ v below. missed_back n v (omega (arith, below, old))) is
-
-  -- a mark that is new at the next place is None
-  abbrev pub IsSeenBefore : ℕ → Type 0
-  IsSeenBefore n = (v : ℕ) → mark (n + 1) ≡ Some (Some v) → mark n ≡ Some (Some v)
-
-  seen_apart : (n : ℕ) → IsSeenBefore n → (v : ℕ) → mark (n + 1) ≡ Some (Some v) → IsMissed mark version n v → ⊥
-  seen_apart n before v seen is = is.1 n (omega arith) (before v seen)
-
-  marks_on : (n looked : ℕ) → IsSeenBefore n → ((place v : ℕ) → place ≤ n → mark place ≡ Some (Some v) → v ≤ looked) → (place v : ℕ) → place ≤ n + 1
-      → mark place ≡ Some (Some v) → v ≤ looked
-  marks_on n looked before marks place v within seen =
-      elim (cases_lt place (n + 1)) [
-        | inl inside ↦ marks place v (omega (arith, inside)) seen
-        | inr past ↦ let here : place ≡ n + 1 = omega (arith, within, past) in
-            marks n v (omega arith) (before v (subst (λ k. mark k ≡ Some (Some v)) here seen))
-      ]
-
-  -- a receiver that is there stays there, and the version may rise
-  alive_on : (n : ℕ) (w : Watcher) → IsSeenBefore n → IsSome (mark (n + 1)) → (version (n + 1) ≡ version n) ⊎ (version (n + 1) ≡ version n + 1) → IsAlive n w
-      → IsAlive (n + 1) w
-  alive_on n w before there rise is = record {
-    there = there;
-    settled = settled_on n w.looked w.missed is.few_looked (λ v below. seen_apart n before v) is.settled;
-    not_looked = λ missed. is.not_looked (missed_back n w.looked is.few_looked missed);
-    came = λ v above below.
-        elim (cases_lt (version n) v) [
-          | inl new ↦ record {
-            place = n;
-            within = omega arith;
-            there = is.there;
-            before = new;
-            after = elim rise [ inl same ↦ absurd (omega (arith, same, new, below)) | inr up ↦ omega (arith, up, new, below) ];
-          }
-          | inr old ↦ came_on n v (is.came v above old)
-        ];
-    marks = marks_on n w.looked before is.marks;
-    few_looked = elim rise [ inl same ↦ omega (arith, same, is.few_looked) | inr up ↦ omega (arith, up, is.few_looked) ];
-    few_missed = is.few_missed;
-  }
-
-  -- nothing comes to one that was dropped
-  never_came : (n v : ℕ) → Rises n → mark n ≡ None → version n < v → Came mark version (n + 1) v → ⊥
-  never_came n v rises gone new is =
-      elim (cases_lt is.place n) [
-        | inl inside ↦ omega (arith, rises (is.place + 1) (omega (arith, inside)), is.after, new)
-        | inr past ↦ let here : is.place ≡ n = omega (arith, is.within, past) in some_none (mark n) gone (subst (λ k. IsSome (mark k)) here is.there)
-      ] where
-        some_none : (o : Option (Option ℕ)) → o ≡ None → IsSome o → ⊥
-        some_none None none some = absurd cc
-        some_none (Some m) none some = absurd cc
-
-  ended_on : (n : ℕ) (w : Watcher) → Rises n → mark (n + 1) ≡ None → (version (n + 1) ≡ version n) ⊎ (version (n + 1) ≡ version n + 1) → IsEnded n w
-      → IsEnded (n + 1) w
-  ended_on n w rises gone rise is =
-      let settled : IsCount (IsMissed mark version (n + 1)) (version n) w.missed =
-      settled_on n (version n) w.missed (omega arith)
-      (λ v below seen missed. let e : ◌≡◌ {A = Option (Option ℕ)} None (Some (Some v)) = sym gone ∙ seen in absurd cc) is.settled in
-      record {
-        gone = gone;
-        settled = elim rise [
-          | inl same ↦ subst (λ m. IsCount (IsMissed mark version (n + 1)) m w.missed) (sym same) settled
-          | inr up ↦ subst (λ m. IsCount (IsMissed mark version (n + 1)) m w.missed) (sym up)
-              (count_other settled (λ missed. never_came n (version n + 1) rises is.gone (omega arith) missed.0))
-        ];
-        few_looked = elim rise [ inl same ↦ omega (arith, same, is.few_looked) | inr up ↦ omega (arith, up, is.few_looked) ];
-        few_missed = elim rise [ inl same ↦ omega (arith, same, is.few_missed) | inr up ↦ omega (arith, up, is.few_missed) ];
-      }
+  -- a handle that never was a receiver
+  pub stays_unwatched : (n : ℕ) → changes (n + 1) ≡ changes n → mark (n + 1) ≡ mark n → Unwatched n → Unwatched (n + 1)
+  stays_unwatched n idle same is = record { absent = absent_on n is.absent (same ∙ is.absent n (omega arith)); changes_is = idle ∙ is.changes_is }
 
   -- a receiver with which nothing happens, while the version may rise
-  pub rests : (n : ℕ) (o : Option Watcher) → Rises n → changes (n + 1) ≡ changes n → mark (n + 1) ≡ mark n
-      → (version (n + 1) ≡ version n) ⊎ (version (n + 1) ≡ version n + 1) → IsWatched n o → IsWatched (n + 1) o
-  rests n None rises idle same rise is = record { absent = absent_on n is.absent (same ∙ is.absent n (omega arith)); changes_is = idle ∙ is.changes_is }
-  rests n (Some w) rises idle same rise is = record {
-    was_there = there_on n is.was_there;
-    changes_is = is.changes_is ∙ sym idle;
-    few_changes = omega (arith, is.few_changes);
-    state = by_alive w.alive is.state;
-  } where
-    by_alive : (b : Bool) → IsState n b w → IsState (n + 1) b w
-    by_alive true state = alive_on n w (λ v seen. sym same ∙ seen) (subst (λ o. IsSome o) (sym same) state.there) rise state
-    by_alive false state = ended_on n w rises (same ∙ state.gone) rise state
-
-  -- one that is there
-  alive_at : (n : ℕ) (w : Watcher) (m : Option ℕ) → mark n ≡ Some m → Watched n w → (w.alive ≡ true) × IsAlive n w
-  alive_at n w m here is = by_alive w.alive refl is.state where
-    by_alive : (b : Bool) → w.alive ≡ b → IsState n b w → (w.alive ≡ true) × IsAlive n w
-    by_alive true alive state = (alive, state)
-    by_alive false alive state = let e : ◌≡◌ {A = Option (Option ℕ)} None (Some m) = sym state.gone ∙ here in absurd cc
-
-  -- the mark of a receiver is removed
-  pub is_unmarked : (n : ℕ) (w : Watcher) (m : Option ℕ) → changes (n + 1) ≡ changes n → mark n ≡ Some m → mark (n + 1) ≡ Some None
-      → version (n + 1) ≡ version n → Watched n w → Watched (n + 1) w
-  is_unmarked n w m idle here there same is =
-      let alive = alive_at n w m here is in
+  pub rests : (n : ℕ) (o : Option Watcher) → Rises version n → IsIdle n → mark (n + 1) ≡ mark n → IsNext version n → IsWatched n o → IsWatched (n + 1) o
+  rests n None rises idle same rise is = stays_unwatched n idle.changes_is same is
+  rests n (Some w) rises idle same rise is =
+      let on = by_alive w.alive is.there is.marks is.looks in
       record {
         was_there = there_on n is.was_there;
-        changes_is = is.changes_is ∙ sym idle;
+        changes_is = is.changes_is ∙ sym idle.changes_is;
         few_changes = omega (arith, is.few_changes);
-        state = subst (λ b. IsState (n + 1) b w) (sym alive.0)
-            (alive_on n w (λ v seen. let e : ◌≡◌ {A = Option (Option ℕ)} (Some None) (Some (Some v)) = sym there ∙ seen in absurd cc)
-            (subst (λ o. IsSome o) (sym there) refl) (inl same) alive.1);
-      }
+        there = on.0;
+        marks = on.1;
+        looks = on.2;
+      } where
+        by_alive : (b : Bool) → IsThere n b → IsSightOf mark version Marks b n w.marks → IsSightOf mark version Looks b n w.looks
+            → IsThere (n + 1) b × IsSightOf mark version Marks b (n + 1) w.marks × IsSightOf mark version Looks b (n + 1) w.looks
+        by_alive true there marks looks = (
+          subst (λ o. IsSome o) (sym same) there,
+          open_on mark version Marks n w.marks (same_mark n same) there rise marks,
+          open_on mark version Looks n w.looks (no_look n idle.no_look) there rise looks,
+        )
+        by_alive false gone marks looks = (
+          same ∙ gone,
+          ended_on mark version Marks n w.marks (same_mark n same) rises gone rise marks,
+          ended_on mark version Looks n w.looks (no_look n idle.no_look) rises gone rise looks,
+        )
 
-  -- a receiver is made
-  pub is_made : (n : ℕ) (m : Option ℕ) → changes (n + 1) ≡ changes n → mark (n + 1) ≡ Some m → ((v : ℕ) → m ≡ Some v → v ≤ version (n + 1)) → Unwatched n
-      → Watched (n + 1) (new_watcher (version (n + 1)))
-  is_made n m idle there small is = record {
-    was_there = (n + 1, omega arith, subst (λ o. IsSome o) (sym there) refl);
-    changes_is = sym (idle ∙ is.changes_is);
-    few_changes = omega arith;
-    state = record {
-      there = subst (λ o. IsSome o) (sym there) refl;
-      settled = count_none nobody (version (n + 1));
-      not_looked = λ missed. nobody (version (n + 1)) missed;
-      came = λ v above below. absurd (omega (arith, above, below));
-      marks = λ place v within seen.
-          elim (cases_lt place (n + 1)) [
-            | inl inside ↦ let e : ◌≡◌ {A = Option (Option ℕ)} None (Some (Some v)) = sym (is.absent place (omega (arith, inside))) ∙ seen in absurd cc
-            | inr past ↦ let here : place ≡ n + 1 = omega (arith, within, past) in
-                let e : ◌≡◌ {A = Option (Option ℕ)} (Some m) (Some (Some v)) = sym there ∙ sym (ap (λ k. mark k) here) ∙ seen in
-                let m_is : m ≡ Some v = cc in small v m_is
-          ];
-      few_looked = omega arith;
-      few_missed = omega arith;
-    };
-  } where
-    some_none : (o : Option (Option ℕ)) → o ≡ None → IsSome o → ⊥
-    some_none None none some = absurd cc
-    some_none (Some m) none some = absurd cc
+  alive_at : (n : ℕ) (w : Watcher) (m : Option ℕ) → mark n ≡ Some m → Watched n w → w.alive ≡ true
+  alive_at n w m here is = by_alive w.alive is.there where
+    by_alive : (b : Bool) → IsThere n b → b ≡ true
+    by_alive true there = refl
+    by_alive false gone = let e : ◌≡◌ {A = Option (Option ℕ)} None (Some m) = sym gone ∙ here in absurd cc
 
-    nobody : (v : ℕ) → IsMissed mark version (n + 1) v → ⊥
-    nobody v missed = some_none (mark missed.0.place) (is.absent missed.0.place (omega (arith, missed.0.within))) missed.0.there
-
-  -- it looks at the value
-  looked_on : (n : ℕ) (w : Watcher) → mark (n + 1) ≡ Some (Some (version n)) → version (n + 1) ≡ version n → IsAlive n w
-      → IsAlive (n + 1) (after_look (version n) w)
-  looked_on n w there same is =
-      elim (cases_lt w.looked (version n)) [
-        | inl new ↦ subst (λ b. IsAlive (n + 1) (cond b (record w { looked = version n; missed = w.missed + (version n - w.looked - 1) }) w))
-            (sym (lt_is w.looked (version n) new)) (record {
-              there = subst (λ o. IsSome o) (sym there) refl;
-              settled = counted new;
-              not_looked = seen_now (version n) there;
-              came = λ v above below. absurd (omega (arith, above, below, same));
-              marks = marks_now (version n) (omega arith) (is.few_looked);
-              few_looked = omega (arith, same);
-              few_missed = omega (arith, is.few_missed, new);
-            })
-        | inr old ↦ let looked : w.looked ≡ version n = omega (arith, old, is.few_looked) in
-            subst (λ b. IsAlive (n + 1) (cond b (record w { looked = version n; missed = w.missed + (version n - w.looked - 1) }) w))
-            (sym (not_lt_is w.looked (version n) old)) (record {
-              there = subst (λ o. IsSome o) (sym there) refl;
-              settled = settled_on n w.looked w.missed is.few_looked (λ v below seen missed.
-                  let v_is : version n ≡ v = seen_is v seen in is.not_looked (subst (IsMissed mark version n) (sym v_is ∙ sym looked) missed)) is.settled;
-              not_looked = λ missed. seen_now (version n) there (subst (IsMissed mark version (n + 1)) looked missed);
-              came = λ v above below. absurd (omega (arith, above, below, same, looked));
-              marks = marks_now w.looked (omega (arith, looked)) (omega arith);
-              few_looked = omega (arith, same, looked);
-              few_missed = is.few_missed;
-            })
-      ] where
-        seen_is : (v : ℕ) → mark (n + 1) ≡ Some (Some v) → version n ≡ v
-        seen_is v seen = let e : ◌≡◌ {A = Option (Option ℕ)} (Some (Some (version n))) (Some (Some v)) = sym there ∙ seen in cc
-
-        seen_now : (v : ℕ) → mark (n + 1) ≡ Some (Some v) → IsMissed mark version (n + 1) v → ⊥
-        seen_now v seen missed = missed.1 (n + 1) (omega arith) seen
-
-        marks_now : (looked : ℕ) → version n ≤ looked → w.looked ≤ looked → (place v : ℕ) → place ≤ n + 1 → mark place ≡ Some (Some v) → v ≤ looked
-        marks_now looked fits more place v within seen =
-            elim (cases_lt place (n + 1)) [
-              | inl inside ↦ omega (arith, is.marks place v (omega (arith, inside)) seen, more)
-              | inr past ↦ let here : place ≡ n + 1 = omega (arith, within, past) in
-                  omega (arith, seen_is v (subst (λ k. mark k ≡ Some (Some v)) here seen), fits)
-            ]
-
-        counted : w.looked < version n → IsCount (IsMissed mark version (n + 1)) (version n) (w.missed + (version n - w.looked - 1))
-        counted new =
-            let below : IsCount (IsMissed mark version n) (version n - 1) (w.missed + (version n - 1 - w.looked)) =
-            count_all is.settled (version n - 1) (omega (arith, new))
-            (λ v above under. (is.came v above (omega (arith, under, new)), λ place within seen. omega (arith, is.marks place v within seen, above))) in
-            let on : IsCount (IsMissed mark version (n + 1)) (version n - 1) (w.missed + (version n - 1 - w.looked)) =
-            settled_on n (version n - 1) _ (omega arith) (λ v under seen missed. omega (arith, seen_is v seen, under, new)) below in
-            let whole : version n - 1 + 1 ≡ version n = omega (arith, new) in
-            let count : w.missed + (version n - 1 - w.looked) ≡ w.missed + (version n - w.looked - 1) = omega arith in
-            subst (λ k. IsCount (IsMissed mark version (n + 1)) (version n) k) count
-            (subst (λ m. IsCount (IsMissed mark version (n + 1)) m (w.missed + (version n - 1 - w.looked))) whole
-            (count_other on (λ missed. seen_now (version n - 1 + 1) (there ∙ ap (λ k. Some (Some k)) (sym whole)) missed)))
-
-  look_alive : (v : ℕ) (w : Watcher) → (after_look v w).alive ≡ w.alive
-  look_alive v w = by_test (nat_lt w.looked v) where
-    by_test : (b : Bool) → (cond b (record w { looked = v; missed = w.missed + (v - w.looked - 1) }) w).alive ≡ w.alive
-    by_test true = refl
-    by_test false = refl
-
-  look_changes : (v : ℕ) (w : Watcher) → (after_look v w).changes ≡ w.changes
-  look_changes v w = by_test (nat_lt w.looked v) where
-    by_test : (b : Bool) → (cond b (record w { looked = v; missed = w.missed + (v - w.looked - 1) }) w).changes ≡ w.changes
-    by_test true = refl
-    by_test false = refl
-
-  pub is_looked : (n : ℕ) (w : Watcher) (m : Option ℕ) → changes (n + 1) ≡ changes n → mark n ≡ Some m → mark (n + 1) ≡ Some (Some (version n))
-      → version (n + 1) ≡ version n → Watched n w → Watched (n + 1) (after_look (version n) w)
-  is_looked n w m idle here there same is =
-      let alive = alive_at n w m here is in
+  -- one that stays there
+  stays : (n : ℕ) (w u : Watcher) (m : Option ℕ) → mark n ≡ Some m → IsSome (mark (n + 1)) → u.alive ≡ w.alive → u.changes ≡ changes (n + 1)
+      → u.changes ≤ n + 1 → (IsOpen mark version Marks n w.marks → IsOpen mark version Marks (n + 1) u.marks)
+      → (IsOpen mark version Looks n w.looks → IsOpen mark version Looks (n + 1) u.looks) → Watched n w → Watched (n + 1) u
+  stays n w u m here there same changes_is few marks looks is =
+      let alive : w.alive ≡ true = alive_at n w m here is in
+      let still : u.alive ≡ true = same ∙ alive in
       record {
         was_there = there_on n is.was_there;
-        changes_is = look_changes (version n) w ∙ is.changes_is ∙ sym idle;
-        few_changes = omega (arith, look_changes (version n) w, is.few_changes);
-        state = subst (λ b. IsState (n + 1) b (after_look (version n) w)) (sym (look_alive (version n) w ∙ alive.0)) (looked_on n w there same alive.1);
+        changes_is = changes_is;
+        few_changes = few;
+        there = subst (λ b. IsThere (n + 1) b) (sym still) there;
+        marks = subst (λ b. IsSightOf mark version Marks b (n + 1) u.marks) (sym still)
+            (marks (subst (λ b. IsSightOf mark version Marks b n w.marks) alive is.marks));
+        looks = subst (λ b. IsSightOf mark version Looks b (n + 1) u.looks) (sym still)
+            (looks (subst (λ b. IsSightOf mark version Looks b n w.looks) alive is.looks));
       }
 
-  -- it looks, and is told of the change
-  pub is_changed : (n : ℕ) (w : Watcher) (m : Option ℕ) → changes (n + 1) ≡ changes n + 1 → mark n ≡ Some m → mark (n + 1) ≡ Some (Some (version n))
-      → version (n + 1) ≡ version n → Watched n w → Watched (n + 1) (after_change (version n) w)
-  is_changed n w m more here there same is =
-      let alive = alive_at n w m here is in
-      let looked : IsAlive (n + 1) (after_look (version n) w) = looked_on n w there same alive.1 in
-      record {
-        was_there = there_on n is.was_there;
-        changes_is = ap (λ k. k + 1) is.changes_is ∙ sym more;
-        few_changes = omega (arith, is.few_changes);
-        state = subst (λ b. IsState (n + 1) b (after_change (version n) w)) (sym (look_alive (version n) w ∙ alive.0)) (record {
-          there = looked.there;
-          settled = looked.settled;
-          not_looked = looked.not_looked;
-          came = looked.came;
-          marks = looked.marks;
-          few_looked = looked.few_looked;
-          few_missed = looked.few_missed;
-        });
-      }
+  module _ (n : ℕ) (w : Watcher) (m : Option ℕ) (here : mark n ≡ Some m) (same : version (n + 1) ≡ version n) (is : Watched n w) where
+    there_now : IsSome (mark n)
+    there_now = some_is n m here
 
-  -- what one that is there has missed
-  alive_count : (n : ℕ) (w : Watcher) → IsAlive n w → IsCount (IsMissed mark version n) (version n) (w.missed + (version n - w.looked))
-  alive_count n w is =
-      count_all is.settled (version n) is.few_looked
-      (λ v above under. (is.came v above under, λ place within seen. omega (arith, is.marks place v within seen, above)))
+    to_mark : mark (n + 1) ≡ Some (Some (version n)) → IsOpen mark version Marks n w.marks
+        → IsOpen mark version Marks (n + 1) ((after_mark (version n) w).marks)
+    to_mark there were = sees mark version Marks n w.marks there (marks_is n there) same were
 
-  pub missed_count : (n : ℕ) (w : Watcher) → Watched n w → IsCount (IsMissed mark version n) (version n) (missed_at (version n) w)
-  missed_count n w is = by_alive w.alive is.state where
-    by_alive : (b : Bool) → IsState n b w → IsCount (IsMissed mark version n) (version n) (cond b (w.missed + (version n - w.looked)) w.missed)
-    by_alive true state = alive_count n w state
-    by_alive false state = state.settled
+    to_look : looked n ≡ true → IsOpen mark version Looks n w.looks → IsOpen mark version Looks (n + 1) ((after_look (version n) w).looks)
+    to_look look were = sees mark version Looks n w.looks (n, refl, look, refl) (look_is n) same were
 
-  -- it is dropped
-  pub is_ended : (n : ℕ) (w : Watcher) (m : Option ℕ) → changes (n + 1) ≡ changes n → mark n ≡ Some m → mark (n + 1) ≡ None → version (n + 1) ≡ version n
-      → Watched n w → Watched (n + 1) (after_end (version n) w)
-  is_ended n w m idle here gone same is =
-      let alive = alive_at n w m here is in
-      let missed_is : missed_at (version n) w ≡ w.missed + (version n - w.looked) = ap (λ b. cond b (w.missed + (version n - w.looked)) w.missed) alive.0 in
-      let settled : IsCount (IsMissed mark version (n + 1)) (version n) (w.missed + (version n - w.looked)) =
-      settled_on n (version n) _ (omega arith) (λ v below seen missed. let e : ◌≡◌ {A = Option (Option ℕ)} None (Some (Some v)) = sym gone ∙ seen in absurd cc)
-      (alive_count n w alive.1) in
-      record {
-        was_there = there_on n is.was_there;
-        changes_is = is.changes_is ∙ sym idle;
-        few_changes = omega (arith, is.few_changes);
-        state = record {
-          gone = gone;
-          settled = subst (λ k. IsCount (IsMissed mark version (n + 1)) (version (n + 1)) k) (sym missed_is)
-              (subst (λ v. IsCount (IsMissed mark version (n + 1)) v (w.missed + (version n - w.looked))) (sym same) settled);
-          few_looked = omega (arith, same, alive.1.few_looked);
-          few_missed = omega (arith, same, missed_is, alive.1.few_missed, alive.1.few_looked);
-        };
-      }
+    keep_look : looked n ≡ false → IsOpen mark version Looks n w.looks → IsOpen mark version Looks (n + 1) w.looks
+    keep_look none were = open_on mark version Looks n w.looks (no_look n none) there_now (inl same) were
 
-  -- one that isn't there is dropped again, which changes nothing
-  pub is_gone : (n v : ℕ) (w : Watcher) → Rises n → changes (n + 1) ≡ changes n → mark n ≡ None → mark (n + 1) ≡ None → version (n + 1) ≡ version n
-      → Watched n w → Watched (n + 1) (after_end v w)
-  is_gone n v w rises idle gone still same is = by_alive w.alive refl is.state where
-    by_alive : (b : Bool) → w.alive ≡ b → IsState n b w → Watched (n + 1) (after_end v w)
-    by_alive true alive state = absurd (some_none (mark n) gone state.there) where
-      some_none : (o : Option (Option ℕ)) → o ≡ None → IsSome o → ⊥
-      some_none None none some = absurd cc
-      some_none (Some m) none some = absurd cc
-    by_alive false alive state =
-        let on = ended_on n w rises still (inl same) state in
-        let missed_is : missed_at v w ≡ w.missed = ap (λ b. cond b (w.missed + (v - w.looked)) w.missed) alive in
+    -- its mark is removed
+    pub is_unmarked : IsIdle n → mark (n + 1) ≡ Some None → Watched (n + 1) w
+    is_unmarked idle there =
+        stays n w w m here (some_is (n + 1) None there) refl (is.changes_is ∙ sym idle.changes_is) (omega (arith, is.few_changes))
+        (open_on mark version Marks n w.marks (unmarked n there) there_now (inl same)) (keep_look idle.no_look) is
+
+    -- it looks at the value
+    pub is_looked : changes (n + 1) ≡ changes n → looked n ≡ true → mark (n + 1) ≡ mark n → Watched (n + 1) (after_look (version n) w)
+    is_looked idle look still =
+        stays n w (after_look (version n) w) m here (some_is (n + 1) m (still ∙ here)) refl (is.changes_is ∙ sym idle) (omega (arith, is.few_changes))
+        (open_on mark version Marks n w.marks (same_mark n still) there_now (inl same)) (to_look look) is
+
+    -- it marks the value as seen
+    pub is_marked : IsIdle n → mark (n + 1) ≡ Some (Some (version n)) → Watched (n + 1) (after_mark (version n) w)
+    is_marked idle there =
+        stays n w (after_mark (version n) w) m here (some_is (n + 1) (Some (version n)) there) refl (is.changes_is ∙ sym idle.changes_is)
+        (omega (arith, is.few_changes)) (to_mark there) (keep_look idle.no_look) is
+
+    -- it does both
+    pub is_updated : changes (n + 1) ≡ changes n → looked n ≡ true → mark (n + 1) ≡ Some (Some (version n)) → Watched (n + 1) (after_update (version n) w)
+    is_updated idle look there =
+        stays n w (after_update (version n) w) m here (some_is (n + 1) (Some (version n)) there) refl (is.changes_is ∙ sym idle)
+        (omega (arith, is.few_changes)) (to_mark there) (to_look look) is
+
+    -- it is told of the change, which marks the value as seen
+    pub is_changed : changes (n + 1) ≡ changes n + 1 → looked n ≡ false → mark (n + 1) ≡ Some (Some (version n)) → Watched (n + 1) (after_change (version n) w)
+    is_changed more none there =
+        stays n w (after_change (version n) w) m here (some_is (n + 1) (Some (version n)) there) refl (ap (λ k. k + 1) is.changes_is ∙ sym more)
+        (omega (arith, is.few_changes)) (to_mark there) (keep_look none) is
+
+    -- it is dropped
+    pub is_ended : IsIdle n → mark (n + 1) ≡ None → Watched (n + 1) (after_end (version n) w)
+    is_ended idle gone =
+        let alive : w.alive ≡ true = alive_at n w m here is in
         record {
           was_there = there_on n is.was_there;
-          changes_is = is.changes_is ∙ sym idle;
+          changes_is = is.changes_is ∙ sym idle.changes_is;
           few_changes = omega (arith, is.few_changes);
-          state = record {
-            gone = still;
-            settled = subst (λ k. IsCount (IsMissed mark version (n + 1)) (version (n + 1)) k) (sym missed_is) on.settled;
-            few_looked = on.few_looked;
-            few_missed = omega (arith, missed_is, on.few_missed);
-          };
+          there = gone;
+          marks = subst (λ b. IsEnded mark version Marks (n + 1) (ended_sight b (version n) w.marks)) (sym alive)
+              (ends mark version Marks n w.marks (no_mark n gone) same (subst (λ b. IsSightOf mark version Marks b n w.marks) alive is.marks));
+          looks = subst (λ b. IsEnded mark version Looks (n + 1) (ended_sight b (version n) w.looks)) (sym alive)
+              (ends mark version Looks n w.looks (no_look n idle.no_look) same (subst (λ b. IsSightOf mark version Looks b n w.looks) alive is.looks));
         }
 
+  -- ---- its first place
+
+  -- a receiver to which nothing came and that has seen nothing newer is made
+  pub is_new : (n : ℕ) (m : Option ℕ) → mark n ≡ Some m → ((v : ℕ) → m ≡ Some v → v ≤ version n) → Rises version n
+      → ((place : ℕ) → place < n → mark place ≡ None) → changes n ≡ 0 → Watched n (new_watcher (version n))
+  is_new n m there small rises absent none = record {
+    was_there = (n, omega arith, some_is n m there);
+    changes_is = sym none;
+    few_changes = omega arith;
+    there = some_is n m there;
+    marks = begins mark version Marks n nothing (λ place v within seen.
+        elim (cases_lt place n) [
+          | inl inside ↦ let e : ◌≡◌ {A = Option (Option ℕ)} None (Some (Some v)) = sym (absent place inside) ∙ seen in absurd cc
+          | inr past ↦ let at : place ≡ n = omega (arith, within, past) in
+              let e : ◌≡◌ {A = Option (Option ℕ)} (Some m) (Some (Some v)) = sym there ∙ sym (ap (λ k. mark k) at) ∙ seen in
+              let m_is : m ≡ Some v = cc in small v m_is
+        ]);
+    looks = begins mark version Looks n nothing (λ place v within seen. omega (arith, rises seen.0 (omega (arith, seen.1, within)), seen.3));
+  } where
+    nothing : (v : ℕ) → Came mark version n v → ⊥
+    nothing v came = some_none (mark came.place) (absent came.place came.within) came.there
+
+  -- a receiver is made
+  pub is_made : (n : ℕ) (m : Option ℕ) → changes (n + 1) ≡ changes n → mark (n + 1) ≡ Some m → ((v : ℕ) → m ≡ Some v → v ≤ version (n + 1))
+      → Rises version (n + 1) → Unwatched n → Watched (n + 1) (new_watcher (version (n + 1)))
+  is_made n m idle there small rises is =
+      is_new (n + 1) m there small rises (λ place inside. is.absent place (omega (arith, inside))) (idle ∙ is.changes_is)
+
+  -- ---- what is counted
+
+  pub missed_count : (n : ℕ) (w : Watcher) → Watched n w → IsCount (IsMissed mark version n) (version n) (unseen_at w.alive (version n) w.marks)
+  missed_count n w is = unseen_count mark version Marks w.alive n w.marks is.marks
+
+  pub unlooked_count : (n : ℕ) (w : Watcher) → Watched n w → IsCount (IsUnlooked mark version n looked) (version n) (unseen_at w.alive (version n) w.looks)
+  unlooked_count n w is =
+      count_same {P = IsUnseen mark version Looks n} {Q = IsUnlooked mark version n looked}
+      (λ v below unseen. (unseen.0, λ place inside look same. unseen.1 (place + 1) (omega (arith, inside)) (place, refl, look, same)))
+      (λ v below unlooked. (unlooked.0, λ place within seen. unlooked.1 seen.0 (omega (arith, seen.1, within)) seen.2 seen.3))
+      (unseen_count mark version Looks w.alive n w.looks is.looks)
+
   -- there is room for more
-  pub few_at : (n : ℕ) (w : Watcher) → Watched n w → (w.looked ≤ version n) × (w.missed ≤ version n)
-  few_at n w is = by_alive w.alive is.state where
-    by_alive : (b : Bool) → IsState n b w → (w.looked ≤ version n) × (w.missed ≤ version n)
-    by_alive true state = (state.few_looked, omega (arith, state.few_missed, state.few_looked))
-    by_alive false state = (state.few_looked, state.few_missed)
+  pub few_marks : (n : ℕ) (w : Watcher) → Watched n w → (w.marks.newest ≤ version n) × (w.marks.unseen ≤ version n)
+  few_marks n w is = few_in mark version Marks w.alive n w.marks is.marks
+
+  pub few_looks : (n : ℕ) (w : Watcher) → Watched n w → (w.looks.newest ≤ version n) × (w.looks.unseen ≤ version n)
+  few_looks n w is = few_in mark version Looks w.alive n w.looks is.looks

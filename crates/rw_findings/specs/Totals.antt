@@ -1,12 +1,14 @@
 -- What each receiver of a run received, and what it missed.
-use Rattle.std.specs.Prelude.{◌≡◌, ℕ, zero, suc, ◌+◌, ◌-◌, ◌<◌, ◌≤◌, ◌⊎◌, Bool, false, nat_eq, ◌&&◌, List, length}
+use Rattle.std.specs.Prelude.{◌≡◌, ℕ, zero, suc, ◌+◌, ◌-◌, ◌<◌, ◌≤◌, ◌⊎◌, Bool, true, false, nat_eq, ◌&&◌, List, length}
 use Rattle.std.specs.Prelude.{count_by, Option, Some, None, IsSome, unwrap_or, slice_get, slice_index_or, option_and_then}
 use Rattle.std.specs.List.{All, Contains}
 use Rattle.rw_broadcast.specs.declared.calls.BReply.TheVariants as broadcast
 use Rattle.rw_broadcast.specs.declared.calls.BCall.{BCall}
 use Rattle.rw_broadcast.specs.declared.calls.BCall.TheVariants.{TryRecv, Recv}
-use Rattle.rw_watch.specs.declared.calls.WCall.TheVariants.{Changed}
+use Rattle.rw_watch.specs.declared.calls.WCall.{WCall}
+use Rattle.rw_watch.specs.declared.calls.WCall.TheVariants.{Borrow, Update, Changed}
 use Rattle.rw_watch.specs.declared.calls.WReply.TheVariants.{Done}
+use Rattle.rw_watch.specs.declared.calls.WReply.TheVariants as watch
 use Rattle.rw_watch.specs.Machine.{mark_at}
 use Rattle.rw_world.specs.declared.channels.ChanCall.{ChanCall}
 use Rattle.rw_world.specs.declared.channels.ChanCall.TheVariants as call
@@ -52,6 +54,21 @@ module _ {V : Type 0} where
   is_notified h c (reply.W Done) = awaits_change h c
   is_notified h c _ = false
 
+  -- the handle that a call of a watch looks at its value with: `borrow`, or `update`, which is tokio's `borrow_and_update`
+  abbrev pub looker_in : WCall V → Option ℕ
+  looker_in (Borrow h) = Some h
+  looker_in (Update h) = Some h
+  looker_in _ = None
+
+  -- receiver h of a watch looked at the value
+  abbrev pub looks : (h : ℕ) → ChanCall V → ChanReply V → Bool
+  looks h (call.W c) (reply.W (watch.Value v)) = has (λ g. nat_eq g h) (looker_in c)
+  looks h _ _ = false
+
+  -- the entry that is made at a place is of a channel and passes the test
+  abbrev pub passes_at : (channel : ℕ) → (ChanCall V → ChanReply V → Bool) → List (WorldEntry V) → (place : ℕ) → Bool
+  passes_at channel test entries place = has (λ e. nat_eq e.call.channel channel && test e.call.call e.reply) (slice_get entries place)
+
   -- how many entries of a channel pass the test
   abbrev pub count_on : (channel : ℕ) → (ChanCall V → ChanReply V → Bool) → List (WorldEntry V) → ℕ
   count_on channel test entries = count_by (λ e. nat_eq e.call.channel channel && test e.call.call e.reply) entries
@@ -92,9 +109,13 @@ module _ (mark : ℕ → Option (Option ℕ)) (version : ℕ → ℕ) (last : �
     pub before : version place < changed
     pub after : version (place + 1) ≡ changed
 
-  -- and that it never looked at: its mark never was this version
+  -- and that it missed: its mark never was this version
   abbrev pub IsMissed : ℕ → Type 0
   IsMissed changed = Came changed × ((place : ℕ) → place ≤ last → mark place ≡ Some (Some changed) → ⊥)
+
+  -- and that it never looked at, where this says at which places it made a look: it made none while this version was current
+  abbrev pub IsUnlooked : (looked : ℕ → Bool) → ℕ → Type 0
+  IsUnlooked looked changed = Came changed × ((place : ℕ) → place < last → looked place ≡ true → version place ≡ changed → ⊥)
 
 -- where this is shown at each place
 module _ {V : Type 0} (at : ℕ → List (ChanShown V)) where
@@ -120,11 +141,13 @@ module _ {V : Type 0} (at : ℕ → List (ChanShown V)) (entries : List (WorldEn
     pub worst : IsGreatest (lag_there at channel receiver) last counts.worst counts.worst_place
     pub unread : counts.unread ≡ unread_at (at last) channel receiver
 
-  -- which changes a receiver of a watch was told of, and which it missed
+  -- which changes a receiver of a watch was told of, which it missed, and which it never looked at
   pub record AreWatchCounts (channel receiver : ℕ) (counts : WatchCounts) : Type 0 where
     pub there : (place : ℕ) × (place ≤ last) × IsSome (mark_there at channel receiver place)
     pub changes : counts.changes ≡ count_on channel (is_notified receiver) entries
     pub missed : IsCount (IsMissed (mark_there at channel receiver) (version_there at channel) last) (version_there at channel last) counts.missed
+    pub unlooked : IsCount (IsUnlooked (mark_there at channel receiver) (version_there at channel) last (passes_at channel (looks receiver) entries))
+        (version_there at channel last) counts.unlooked
 
   abbrev pub AreCounts : (channel receiver : ℕ) → Counts → Type 0
   AreCounts channel receiver (Broadcast counts) = AreBroadcastCounts channel receiver counts

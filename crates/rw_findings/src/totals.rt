@@ -1,6 +1,7 @@
 //! The totals of a run: what each receiver received, and what it missed.
 
 mod broadcast;
+mod sight;
 mod tally;
 mod total;
 mod totalling;

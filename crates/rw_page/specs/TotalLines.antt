@@ -28,10 +28,11 @@ broadcast_line channel receiver counts =
     ++ with_number (codes " ") counts.lost ++ with_number (codes " ") counts.worst ++ with_number (codes " ") counts.worst_place
     ++ number_or_dash counts.unread ++ codes "\n"
 
--- the line of a watch's receiver: of how many changes it was told, and how many it missed
+-- the line of a watch's receiver: of how many changes it was told, how many it missed, and how many it never looked at
 unfoldable pub watch_line : (channel receiver : ℕ) → WatchCounts → List ℕ
 watch_line channel receiver counts =
-    receiver_words (codes "watch ") channel receiver ++ with_number (codes " ") counts.changes ++ with_number (codes " ") counts.missed ++ codes "\n"
+    receiver_words (codes "watch ") channel receiver ++ with_number (codes " ") counts.changes ++ with_number (codes " ") counts.missed
+    ++ with_number (codes " ") counts.unlooked ++ codes "\n"
 
 abbrev pub counts_line : (channel receiver : ℕ) → Counts → List ℕ
 counts_line channel receiver (Broadcast counts) = broadcast_line channel receiver counts

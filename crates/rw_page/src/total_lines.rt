@@ -56,6 +56,7 @@ fn push_watch(
     push_receiver(out, b"watch ", channel, receiver)?;
     push_with_number(out, b" ", counts.changes)?;
     push_with_number(out, b" ", counts.missed)?;
+    push_with_number(out, b" ", counts.unlooked)?;
     out.extend_from_slice(b"\n")
 }
 

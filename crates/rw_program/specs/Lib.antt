@@ -6,4 +6,6 @@ pub mod Files
 pub mod Contents
 pub mod Verbs
 pub mod Threads
+pub mod CommandLine
+pub mod Told
 pub mod Words

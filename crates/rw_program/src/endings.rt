@@ -66,7 +66,7 @@ impl Ended {
         }
     }
 
-    /// Returns the end if a word of the command line isn't UTF-8. Its line has the words of `clap` for that.
+    /// Returns the end if a word of the command line isn't UTF-8. Its line has the form of other lines that refuse words.
     pub fn of_unread_words() -> Ended
         ensures line { line_of result ≡ error_line_of_unread }
         ensures status { result.status ≡ 2 }

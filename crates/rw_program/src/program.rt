@@ -11,7 +11,8 @@ ghost use Rattle.rw_program.specs.Runs.{Runs};
 ghost use Rattle.rw_program.specs.Statuses.{Says, Tells, error_line_of_unread};
 ghost use Rattle.rw_program.specs.Threads.{RecordsThreads};
 ghost use Rattle.rw_program.specs.Verbs.{DoneBy};
-ghost use Rattle.rw_program.specs.Words.{EndsAs, IsEnd};
+ghost use Rattle.rw_program.specs.CommandLine.{given, wish_of};
+ghost use Rattle.rw_program.specs.Words.{EndsAs, EndsFor, IsEnd};
 
 use crate::endings::Ended;
 use crate::files::over_file;
@@ -103,7 +104,7 @@ fn answer<R: Files + Input + Print + AllocGlobal + Threads + Wait + Sync>(
     rt: &R,
     asked: Asked<'_>,
 ) -> Ended
-    ensures { EndsAs asked.entry (line_of result) result.status }
+    ensures { EndsAs (wish_of asked.entry) (line_of result) result.status }
 {
     let alloc = rt.alloc();
     // A session flushes once per command, and a long list is written in large pieces.
@@ -147,17 +148,28 @@ fn words_of<R: Env + AllocGlobal>(rt: &R) -> Result<Vec<String>, Ended>
     }
 }
 
+/// Runs the command that these words ask for, or refuses them. The first is the program's name.
+pub fn perform<R: Files + Input + Print + AllocGlobal + Threads + Wait + Sync>(
+    rt: &R,
+    words: &[String],
+) -> Ended
+    ensures { EndsFor (given words.now) (line_of result) result.status }
+{
+    match read_words(words) {
+        Ok(asked) => answer(rt, asked),
+        Err(fault) => refuse_words(rt.alloc(), &fault),
+    }
+}
+
 /// Reads the command line, and runs its command.
-fn perform<R: Env + Files + Input + Print + AllocGlobal + Threads + Wait + Sync>(rt: &R) -> Ended
+fn perform_all<R: Env + Files + Input + Print + AllocGlobal + Threads + Wait + Sync>(
+    rt: &R,
+) -> Ended
     ensures { IsEnd (line_of result) result.status }
 {
-    let words = match words_of(rt) {
-        Ok(words) => words,
-        Err(ended) => return ended,
-    };
-    match read_words(rt.alloc(), words.as_slice()) {
-        Ok(asked) => answer(rt, asked),
-        Err(error) => refuse_words(rt.alloc(), &error),
+    match words_of(rt) {
+        Ok(words) => perform(rt, words.as_slice()),
+        Err(ended) => ended,
     }
 }
 
@@ -169,6 +181,6 @@ pub fn run<R: Env + Files + Input + Print + AllocGlobal + Threads + Wait + Sync,
     ensures known { result ≤ 5 }
     ensures ends { (line : List ℕ) × Says (E.contents err.old) (E.contents err.new) line × IsEnd line result }
 {
-    let ended = perform(rt);
+    let ended = perform_all(rt);
     ended.finish(err)
 }

@@ -1,14 +1,15 @@
 //! The words of the command line.
 
-ghost use Rattle.std.specs.Prelude.{◌≡◌, ◌≢◌, ◌⊎◌, Err};
-ghost use Rattle.clap.specs.Values.{kind_of};
+ghost use Rattle.std.specs.Prelude.{◌≡◌, None, Some, drop, option_map, IfOk, OnErr};
+ghost use Rattle.rw_program.specs.Files.{TellsLine};
 ghost use Rattle.rw_program.specs.Lines.{line_of};
-ghost use Rattle.rw_program.specs.Statuses.{Tells};
+ghost use Rattle.rw_program.specs.Told.{told_of};
+ghost use Rattle.rw_program.specs.CommandLine.{command_named, file_behind, file_in, given, is_end, threads_in, wish_in, wish_by, wish_of, wish_over};
 
 use crate::endings::Ended;
+use crate::flags::{DASHES, THREADS, is_flag};
 use crate::statuses::REFUSED_WORDS;
-use clap::error::ErrorKind;
-use clap::{Arg, ArgAction, ArgMatches, Command};
+use crate::word_faults::{WordsFault, fault_in, fault_without_command};
 use rw_console::SessionFault;
 use std::alloc::Global;
 
@@ -21,7 +22,14 @@ pub enum Verb {
     Salvage,
 }
 
-/// A command of the command line.
+/// A command of the program.
+#[derive(Clone, Copy, Debug, PartialEq, Eq)]
+pub enum Command {
+    Session,
+    Over(Verb),
+}
+
+/// What the words of the command line ask for.
 #[derive(Clone, Copy, Debug, PartialEq, Eq)]
 pub enum Asked<'a> {
     Session,
@@ -30,116 +38,155 @@ pub enum Asked<'a> {
     Threads(&'a str),
 }
 
-/// The name of the flag that lets threads play a script.
-const THREADS: &str = "threads";
-
-/// Returns a subcommand with a path as its argument.
-fn with_file<'a>(alloc: Global, name: &'a str, about: &'a str) -> Result<Command<'a>, clap::Error> {
-    let file = Arg::new(alloc, "FILE")
-        .required(true)
-        .action(ArgAction::Set);
-    Ok(Command::new(alloc, name).about(about).arg(file)?)
+/// Returns the command that a word names.
+pub(crate) fn command_named(word: &str) -> Option<Command>
+    ensures { result ≡ command_named word.now }
+{
+    if word == "session" {
+        Some(Command::Session)
+    } else if word == "record" {
+        Some(Command::Over(Verb::Record))
+    } else if word == "check" {
+        Some(Command::Over(Verb::Check))
+    } else if word == "debug" {
+        Some(Command::Over(Verb::Debug))
+    } else if word == "salvage" {
+        Some(Command::Over(Verb::Salvage))
+    } else {
+        None
+    }
 }
 
-/// Returns the subcommand that runs a script. The flag may be on either side of the path.
-fn record_words<'a>(alloc: Global) -> Result<Command<'a>, clap::Error> {
-    let threads = Arg::new(alloc, THREADS)
-        .long(THREADS)
-        .help("Play each actor's lines in a thread of its own")
-        .action(ArgAction::SetTrue);
-    let record = with_file(
-        alloc,
-        "record",
-        "Run the script in FILE and write its journal",
-    )?;
-    Ok(record.arg(threads)?)
+/// Whether the words may end here: there is none, or `--` alone.
+fn is_end(words: &[String]) -> bool
+    ensures { result ≡ is_end (given words.now) }
+{
+    match words {
+        [] => true,
+        [word] => word.as_str() == DASHES,
+        _ => false,
+    }
 }
 
-/// Adds a subcommand with a path as its argument.
-fn with_verb<'a>(
-    alloc: Global,
-    program: Command<'a>,
-    name: &'a str,
-    about: &'a str,
-) -> Result<Command<'a>, clap::Error> {
-    let verb = with_file(alloc, name, about)?;
-    Ok(program.subcommand(verb)?)
-}
-
-/// Returns the words for scripts: the program's name, `session` and `record`.
-fn script_words<'a>(alloc: Global) -> Result<Command<'a>, clap::Error> {
-    let session = Command::new(alloc, "session").about(
-        "Read a script and then commands over its run, from standard input",
-    );
-    let program = Command::new(alloc, "ttd")
-        .bin_name("ttd")?
-        .about("Time-travel debugger of broadcast and watch channels")
-        .subcommand_required(true)
-        .subcommand(session)?;
-    let record = record_words(alloc)?;
-    Ok(program.subcommand(record)?)
-}
-
-/// Returns the words that the program accepts.
-fn command_line<'a>(alloc: Global) -> Result<Command<'a>, clap::Error> {
-    let program = script_words(alloc)?;
-    let program = with_verb(alloc, program, "check", "Judge the journal in FILE")?;
-    let program = with_verb(
-        alloc,
-        program,
-        "debug",
-        "Read commands over the journal in FILE, from standard input",
-    )?;
-    with_verb(
-        alloc,
-        program,
-        "salvage",
-        "Write what a journal in FILE that was cut off still holds",
-    )
-}
-
-/// Returns the command of a subcommand, given its name and its arguments.
-fn asked_by<'a>(name: &str, inner: &ArgMatches<'a>) -> Option<Asked<'a>> {
-    match (name, inner.get_str("FILE")) {
-        ("session", _) => Some(Asked::Session),
-        ("record", Some(path)) if inner.get_flag(THREADS) => Some(Asked::Threads(path)),
-        ("record", Some(path)) => Some(Asked::Over(Verb::Record, path)),
-        ("check", Some(path)) => Some(Asked::Over(Verb::Check, path)),
-        ("debug", Some(path)) => Some(Asked::Over(Verb::Debug, path)),
-        ("salvage", Some(path)) => Some(Asked::Over(Verb::Salvage, path)),
+/// Returns the only word behind `--`, whatever it is.
+fn file_behind(words: &[String]) -> Option<&str>
+    ensures { option_map (λ file. file.now) result ≡ file_behind (given words.now) }
+{
+    match words {
+        [file] => Some(file.as_str()),
         _ => None,
     }
 }
 
-/// Parses the words of the command line. The first is the program's name.
-pub fn read_words<'a>(alloc: Global, words: &'a [String]) -> Result<Asked<'a>, clap::Error> {
-    let matches = command_line(alloc)?.try_get_matches_from(words)?;
-    let asked = match matches.subcommand() {
-        Some((name, inner)) => asked_by(name, inner),
-        None => None,
-    };
-    drop(matches);
-    match asked {
-        Some(asked) => Ok(asked),
-        // A subcommand is required and each has its arm, so this isn't reached, though no contract ensures it.
-        None => {
-            let mut program = command_line(alloc)?;
-            Err(program.error(ErrorKind::MissingSubcommand, "a subcommand is missing")?)
+/// Returns the file that the words name.
+fn file_in(words: &[String]) -> Option<&str>
+    ensures { option_map (λ file. file.now) result ≡ file_in (given words.now) }
+{
+    match words {
+        [] => None,
+        [word, rest @ ..] => {
+            if word.as_str() == DASHES {
+                file_behind(rest)
+            } else if !is_flag(word) && is_end(rest) {
+                Some(word.as_str())
+            } else {
+                None
+            }
         }
     }
 }
 
-/// Returns the end if the words are refused: the text that says why, or that memory ran out.
-pub fn refuse_words(alloc: Global, error: &clap::Error) -> Ended
-    ensures memory { kind_of error.now ≡ ErrorKind.OutOfMemory → Tells (line_of result) result.status (Err SessionFault.NoMemory) }
-    ensures words { kind_of error.now ≢ ErrorKind.OutOfMemory → (result.status ≡ 2)
-        ⊎ Tells (line_of result) result.status (Err SessionFault.NoMemory) }
+/// Returns the file that the words name if the flag for threads is among them.
+fn threads_in(words: &[String]) -> Option<&str>
+    ensures { option_map (λ file. file.now) result ≡ threads_in (given words.now) }
 {
-    match error.kind() {
-        ErrorKind::OutOfMemory => Ended::of(Err(SessionFault::NoMemory)),
-        _ => match format!(in alloc; "{error}") {
-            Ok(text) => Ended::told_by(text, REFUSED_WORDS),
-            Err(_) => Ended::of(Err(SessionFault::NoMemory)),
+    match words {
+        [word, next, rest @ ..] => {
+            if word.as_str() == THREADS {
+                file_in(&words[1..])
+            } else if !is_flag(word) && next.as_str() == THREADS && is_end(rest) {
+                Some(word.as_str())
+            } else {
+                None
+            }
+        }
+        _ => None,
+    }
+}
+
+/// Returns what the words behind the name of a verb ask for.
+fn asked_over(verb: Verb, words: &[String]) -> Option<Asked<'_>>
+    ensures { option_map wish_of result ≡ wish_over verb (given words.now) }
+{
+    if verb == Verb::Record {
+        if let Some(file) = threads_in(words) {
+            return Some(Asked::Threads(file));
+        }
+    }
+    match file_in(words) {
+        Some(file) => Some(Asked::Over(verb, file)),
+        None => None,
+    }
+}
+
+/// Returns what a command and the words behind it ask for.
+fn asked_by(command: Command, words: &[String]) -> Option<Asked<'_>>
+    ensures { option_map wish_of result ≡ wish_by command (given words.now) }
+{
+    match command {
+        Command::Over(verb) => asked_over(verb, words),
+        Command::Session => {
+            if is_end(words) {
+                Some(Asked::Session)
+            } else {
+                None
+            }
+        }
+    }
+}
+
+/// Returns what a command and the words behind it ask for, or what is wrong with these.
+fn asked_or_fault(command: Command, words: &[String]) -> Result<Asked<'_>, WordsFault<'_>>
+    ensures asked { IfOk result (λ asked. wish_by command (given words.now) ≡ Some (wish_of asked)) }
+    ensures refused { OnErr result (wish_by command (given words.now) ≡ None) }
+{
+    match asked_by(command, words) {
+        Some(asked) => Ok(asked),
+        None => Err(fault_in(command, words)),
+    }
+}
+
+/// Returns what the words behind the program's name ask for.
+fn asked_in(words: &[String]) -> Result<Asked<'_>, WordsFault<'_>>
+    ensures asked { IfOk result (λ asked. wish_in (given words.now) ≡ Some (wish_of asked)) }
+    ensures refused { OnErr result (wish_in (given words.now) ≡ None) }
+{
+    match words {
+        [] => Err(WordsFault::NoCommand),
+        [word, rest @ ..] => match command_named(word) {
+            Some(command) => asked_or_fault(command, rest),
+            None => Err(fault_without_command(word, rest)),
         },
+    }
+}
+
+/// Returns what the words of the command line ask for. The first is the program's name.
+pub fn read_words(words: &[String]) -> Result<Asked<'_>, WordsFault<'_>>
+    ensures asked { IfOk result (λ asked. wish_in (drop 1 (given words.now)) ≡ Some (wish_of asked)) }
+    ensures refused { OnErr result (wish_in (drop 1 (given words.now)) ≡ None) }
+{
+    match words {
+        [_, rest @ ..] => asked_in(rest),
+        [] => Err(WordsFault::NoCommand),
+    }
+}
+
+/// Returns the end if the words are refused: the text that says why, or that memory ran out.
+pub fn refuse_words(alloc: Global, fault: &WordsFault<'_>) -> Ended
+    ensures { TellsLine (line_of result) result.status (told_of fault.now) 2 }
+{
+    match fault.text(alloc) {
+        Ok(text) => Ended::told_by(text, REFUSED_WORDS),
+        Err(_) => Ended::of(Err(SessionFault::NoMemory)),
     }
 }

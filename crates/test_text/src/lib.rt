@@ -15,6 +15,8 @@ mod plain;
 #[cfg(test)]
 mod programs;
 #[cfg(test)]
+mod recordings;
+#[cfg(test)]
 mod scripts;
 #[cfg(test)]
 mod sessions;

@@ -7,8 +7,8 @@ use crate::block_on;
 use crate::channel::{CallSite, CoreChannel, LockedChannel};
 use crate::handle::Kind;
 use crate::recorder::{Handle, RecordedHandle, TextOf};
-use crate::replay::Word;
 use crate::wait::{Method, Pending, WaitFor};
+use crate::word::Word;
 use std::fmt;
 use std::future::Future;
 use std::task::{Context, Poll};
@@ -315,7 +315,7 @@ impl<T: Clone> Receiver<T> {
         let reply = channel.call(CoreChannel::broadcast_try_recv);
         let number = reply.received_at_once()?;
         let value = self.received_value(&mut channel, number);
-        drop(channel);
+        channel.unlock();
         Ok(value.cloned())
     }
 

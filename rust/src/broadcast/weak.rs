@@ -4,7 +4,7 @@ use super::{BroadcastHandle, Sender};
 use crate::channel::CoreChannel;
 use crate::handle::Kind;
 use crate::recorder::{Handle, RecordedHandle, TextOf};
-use crate::replay::Word;
+use crate::word::Word;
 use std::fmt;
 
 /// A sender that does not keep the channel open.

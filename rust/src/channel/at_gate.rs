@@ -1,22 +1,29 @@
 //! The calls of a channel before the gate of a replay. Without a replay they pass at once.
 
 use super::{CallSite, LockedChannel, RecordedChannel};
+use crate::lock::lock;
 use crate::replay::Coming;
-use crate::replay::{Gate, Permit, Ticket, Word};
+use crate::replay::{Permit, Ticket, Turns};
+use crate::word::Word;
 use std::task::{Context, Poll};
 
 impl RecordedChannel {
     /// Returns the gate before which this call waits, if there is one, with the call as it comes there.
-    fn at_gate(&self, handle: u32, word: Word, called_at: CallSite) -> Option<(&Gate, Coming)> {
+    fn at_gate(&self, handle: u32, word: Word, called_at: CallSite) -> Option<(&Turns, Coming)> {
         let replayed = self.replayed.as_ref()?;
         replayed.at_gate(handle, word, self.recorder.actor(called_at), called_at)
+    }
+
+    /// Whether this handle, a receiver of a broadcast, has anything to receive.
+    fn has_unread(&self, handle: u32) -> bool {
+        lock(&self.state).core.unread(handle) > 0
     }
 
     /// As [`pass`](RecordedChannel::pass), in a replay.
     #[cold]
     fn pass_gate(&self, handle: u32, word: Word, called_at: CallSite) -> Permit<'_> {
         match self.at_gate(handle, word, called_at) {
-            Some((gate, coming)) => gate.pass(coming),
+            Some((turns, coming)) => turns.pass(coming, || self.has_unread(handle)),
             None => Permit::free(),
         }
     }
@@ -32,14 +39,17 @@ impl RecordedChannel {
         context: &Context<'_>,
     ) -> Poll<Permit<'_>> {
         match self.at_gate(handle, word, called_at) {
-            Some((gate, coming)) => gate.poll(coming, ticket, context),
+            Some((turns, coming)) => {
+                turns.poll(coming, || self.has_unread(handle), ticket, context)
+            }
             None => Poll::Ready(Permit::free()),
         }
     }
 
     /// Blocks until the turn of a call by the handle with this number, which is made here in the source. It is called before any lock is
     /// acquired, that of a watch's value too.
-    #[inline]
+    #[cfg_attr(debug_assertions, inline(never))]
+    #[cfg_attr(not(debug_assertions), inline)]
     pub(crate) fn pass(&self, handle: u32, word: Word, called_at: CallSite) -> Permit<'_> {
         match self.replayed {
             Some(_) => self.pass_gate(handle, word, called_at),
@@ -50,8 +60,8 @@ impl RecordedChannel {
     /// Blocks until the turn of the first call that a closure which changes a watch makes, or of the change if it makes none. The change itself
     /// then waits for its own turn.
     pub(crate) fn pass_to_modify(&self, handle: u32, called_at: CallSite) {
-        if let Some((gate, coming)) = self.at_gate(handle, Word::Modify, called_at) {
-            gate.pass_to_modify(coming);
+        if let Some((turns, coming)) = self.at_gate(handle, Word::Modify, called_at) {
+            turns.pass_to_modify(coming);
         }
     }
 

@@ -10,14 +10,13 @@
 #[cfg(test)]
 mod tests;
 
-use super::machine::{MOST_HANDLES, Machine, Opening, made};
-use crate::core::{self, Caller, OpenFault};
+use super::machine::{MOST_HANDLES, Machine, made};
+use crate::backend::{Caller, OpenFault, Recording, Spec};
 use crate::reply::Reply;
 use std::iter;
 
 /// A channel of the core. The number of a handle is its number in its machine, and above these 16 bits the number of the machine.
 pub(crate) struct CoreChannel {
-    opening: Opening,
     // How many handles each machine makes.
     most: u32,
     first: Machine,
@@ -30,6 +29,9 @@ pub(crate) struct CoreChannel {
 /// A call by the number of a handle, such as [`CoreChannel::broadcast_subscribe`].
 pub(crate) type Call = fn(&mut CoreChannel, Caller, u32) -> Reply;
 
+/// A call by the number of a sender, which sends the value with a number, such as [`CoreChannel::broadcast_send`].
+pub(crate) type Send = fn(&mut CoreChannel, Caller, u32, u64) -> Reply;
+
 /// Returns the number of a handle's machine, and its number there.
 fn parts_of(handle: u32) -> (usize, u32) {
     ((handle / MOST_HANDLES) as usize, handle % MOST_HANDLES)
@@ -38,19 +40,18 @@ fn parts_of(handle: u32) -> (usize, u32) {
 impl CoreChannel {
     /// Opens a broadcast with sender 0 and receiver 1.
     pub(crate) fn broadcast(capacity: u32) -> Result<CoreChannel, OpenFault> {
-        CoreChannel::open(Opening::Broadcast(capacity), MOST_HANDLES)
+        CoreChannel::open(Spec::Broadcast(capacity), MOST_HANDLES)
     }
 
     /// Opens a watch with sender 0 and receiver 1. Its value has the number 0.
     pub(crate) fn watch() -> Result<CoreChannel, OpenFault> {
-        CoreChannel::open(Opening::Watch, MOST_HANDLES)
+        CoreChannel::open(Spec::Watch(0), MOST_HANDLES)
     }
 
-    fn open(opening: Opening, most: u32) -> Result<CoreChannel, OpenFault> {
+    fn open(spec: Spec<u64>, most: u32) -> Result<CoreChannel, OpenFault> {
         Ok(CoreChannel {
-            opening,
             most,
-            first: Machine::first(opening.open()?, most),
+            first: Machine::first(Recording::open(spec)?, most),
             further: Vec::new(),
             newest: 0,
         })
@@ -67,7 +68,7 @@ impl CoreChannel {
     }
 
     /// Returns the machine that has the journal.
-    pub(crate) fn recorded(&mut self) -> &mut core::CoreChannel {
+    pub(crate) fn recorded(&mut self) -> &mut Recording {
         &mut self.first.core
     }
 
@@ -145,7 +146,7 @@ impl CoreChannel {
     fn call_all(
         &mut self,
         sender: u32,
-        call: impl Fn(&mut core::CoreChannel, u32) -> Reply,
+        call: impl Fn(&mut Recording, u32) -> Reply,
         fold: fn(Reply, Reply) -> Reply,
     ) -> Reply {
         if self.further.is_empty() {
@@ -162,7 +163,7 @@ impl CoreChannel {
     fn call_several(
         &mut self,
         sender: u32,
-        call: impl Fn(&mut core::CoreChannel, u32) -> Reply,
+        call: impl Fn(&mut Recording, u32) -> Reply,
         fold: fn(Reply, Reply) -> Reply,
     ) -> Reply {
         let (own, number) = parts_of(sender);
@@ -181,7 +182,7 @@ impl CoreChannel {
     fn create(
         &mut self,
         caller: u32,
-        by_caller: impl FnOnce(&mut core::CoreChannel, u32) -> Reply,
+        by_caller: impl FnOnce(&mut Recording, u32) -> Reply,
         by_other: impl FnOnce(&mut Machine) -> Reply,
     ) -> Reply {
         if !self.first.is_full() {
@@ -210,12 +211,13 @@ impl CoreChannel {
     fn machine_with_room(&mut self) -> usize {
         if self.further.is_empty() {
             self.first.core.end();
-            self.first.find_sender(self.opening);
+            self.first.find_sender();
         }
         let is_closed = self.senders() == 0;
         let before = self.newest;
         if before == 0 || !has_room(self.machine(before), is_closed) {
-            let machine = Machine::further(self.opening, self.most, is_closed);
+            let spec = self.first.core.spec();
+            let machine = Machine::further(spec, self.most, is_closed);
             self.newest = self.add(machine);
             self.drop_if_unused(before);
         }
@@ -243,7 +245,7 @@ impl CoreChannel {
     fn drop_handle(
         &mut self,
         handle: u32,
-        drop: impl FnOnce(&mut core::CoreChannel, u32) -> Reply,
+        drop: impl FnOnce(&mut Recording, u32) -> Reply,
     ) -> Reply {
         let (machine, number) = self.machine_of(handle);
         let reply = machine.drop_handle(number, drop);
@@ -256,9 +258,8 @@ impl CoreChannel {
     /// Drops what the drop of this handle has left without use: the senders that stand for others, or the handle's machine.
     #[cold]
     fn settle_drop(&mut self, handle: u32) {
-        let opening = self.opening;
         if self.senders() == 0 {
-            self.machines().for_each(|machine| machine.close(opening));
+            self.machines().for_each(Machine::close);
         }
         self.drop_if_unused(parts_of(handle).0);
     }
@@ -309,7 +310,8 @@ fn all_closed(one: Reply, other: Reply) -> Reply {
 macro_rules! calls_of_one_machine {
     ($($method:ident)*) => {
         impl CoreChannel {
-            $(#[inline]
+            $(#[cfg_attr(debug_assertions, inline(never))]
+            #[cfg_attr(not(debug_assertions), inline)]
             pub(crate) fn $method(&mut self, caller: Caller, handle: u32) -> Reply {
                 let (machine, number) = self.machine_of(handle);
                 machine.core.$method(caller, number)
@@ -327,7 +329,8 @@ calls_of_one_machine! {
 macro_rules! calls_of_all_machines {
     ($($method:ident($($arg:ident: $type:ty),*) by $fold:ident;)*) => {
         impl CoreChannel {
-            $(#[inline]
+            $(#[cfg_attr(debug_assertions, inline(never))]
+            #[cfg_attr(not(debug_assertions), inline)]
             pub(crate) fn $method(&mut self, caller: Caller, sender: u32, $($arg: $type),*) -> Reply {
                 self.call_all(sender, move |core, sender| core.$method(caller, sender, $($arg),*), $fold)
             })*
@@ -350,7 +353,8 @@ calls_of_all_machines! {
 macro_rules! calls_that_create_senders {
     ($($method:ident by $other:ident;)*) => {
         impl CoreChannel {
-            $(#[inline]
+            $(#[cfg_attr(debug_assertions, inline(never))]
+            #[cfg_attr(not(debug_assertions), inline)]
             pub(crate) fn $method(&mut self, caller: Caller, handle: u32) -> Reply {
                 self.create(
                     handle,
@@ -371,6 +375,7 @@ calls_that_create_senders! {
 }
 
 impl CoreChannel {
+    /// Changes a value, of which the receivers are notified if `told` is `true`.
     pub(crate) fn watch_modify(
         &mut self,
         caller: Caller,
@@ -385,7 +390,8 @@ impl CoreChannel {
         )
     }
 
-    #[inline]
+    #[cfg_attr(debug_assertions, inline(never))]
+    #[cfg_attr(not(debug_assertions), inline)]
     pub(crate) fn broadcast_subscribe(&mut self, caller: Caller, sender: u32) -> Reply {
         self.create(
             sender,
@@ -394,7 +400,8 @@ impl CoreChannel {
         )
     }
 
-    #[inline]
+    #[cfg_attr(debug_assertions, inline(never))]
+    #[cfg_attr(not(debug_assertions), inline)]
     pub(crate) fn broadcast_resubscribe(&mut self, caller: Caller, receiver: u32) -> Reply {
         self.create(
             receiver,
@@ -408,12 +415,14 @@ impl CoreChannel {
         )
     }
 
-    #[inline]
+    #[cfg_attr(debug_assertions, inline(never))]
+    #[cfg_attr(not(debug_assertions), inline)]
     pub(crate) fn broadcast_drop(&mut self, caller: Caller, handle: u32) -> Reply {
         self.drop_handle(handle, |core, handle| core.broadcast_drop(caller, handle))
     }
 
-    #[inline]
+    #[cfg_attr(debug_assertions, inline(never))]
+    #[cfg_attr(not(debug_assertions), inline)]
     pub(crate) fn watch_subscribe(&mut self, caller: Caller, sender: u32) -> Reply {
         self.create(
             sender,
@@ -423,7 +432,8 @@ impl CoreChannel {
     }
 
     /// Clones a receiver. One that is created in another machine is marked as the original is.
-    #[inline]
+    #[cfg_attr(debug_assertions, inline(never))]
+    #[cfg_attr(not(debug_assertions), inline)]
     pub(crate) fn watch_clone_receiver(&mut self, caller: Caller, receiver: u32) -> Reply {
         let is_seen = self.seen(receiver);
         self.create(
@@ -446,7 +456,8 @@ impl CoreChannel {
         )
     }
 
-    #[inline]
+    #[cfg_attr(debug_assertions, inline(never))]
+    #[cfg_attr(not(debug_assertions), inline)]
     pub(crate) fn watch_drop(&mut self, caller: Caller, handle: u32) -> Reply {
         self.drop_handle(handle, |core, handle| core.watch_drop(caller, handle))
     }

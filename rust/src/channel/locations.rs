@@ -1,6 +1,6 @@
 //! Where the calls of a channel were made.
 
-use crate::core::ask_for_large_pages;
+use crate::large_pages::ask_for_large_pages;
 use std::mem;
 use std::panic::Location;
 

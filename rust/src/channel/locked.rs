@@ -1,22 +1,25 @@
 //! Calls, which are made while the channel is locked.
 
-use super::{Call, CallSite, ChannelState, CoreChannel, RecordedChannel};
+use super::{Call, CallSite, ChannelState, CoreChannel, RecordedChannel, Send};
 use crate::actors;
-use crate::core::{Actor, Caller};
+use crate::backend::{Actor, Caller};
 use crate::guarded_by::GuardedBy;
 use crate::handle::Kind;
 use crate::lock::lock;
+use crate::queue::ItemNumber;
 use crate::recorder::Shared;
-use crate::replay::{Permit, Word};
+use crate::replay::Permit;
 use crate::reply::Reply;
-use crate::wait::{Method, Pending, Wait, WaitFor};
+use crate::wait::{Awaited, Look, Method, Wait, WaitFor};
 use crate::wakers::Wakers;
+use crate::word::Word;
 use std::sync::MutexGuard;
 
 /// A channel whose lock is held, for the calls of one actor by one handle.
 ///
 /// What each recorded call does is inlined into its caller. What only a replay does, a value with a text, a future that waits, or the end of
-/// a recording is in functions of its own.
+/// a recording is in functions of its own. Where debug assertions are on, nothing is inlined into another package: that of a test may be
+/// compiled without optimisation, and this one with it.
 pub(crate) struct LockedChannel<'a> {
     pub(crate) state: MutexGuard<'a, ChannelState>,
     channel: &'a RecordedChannel,
@@ -29,14 +32,16 @@ pub(crate) struct LockedChannel<'a> {
 
 impl RecordedChannel {
     /// Locks the channel for a call by the handle with this number, which is made here in the source, once its turn has come.
-    #[inline]
+    #[cfg_attr(debug_assertions, inline(never))]
+    #[cfg_attr(not(debug_assertions), inline)]
     pub(crate) fn lock(&self, handle: u32, word: Word, called_at: CallSite) -> LockedChannel<'_> {
         let permit = self.pass(handle, word, called_at);
         self.lock_with(permit, handle, called_at)
     }
 
     /// Locks the channel for a call that has its turn by this permit.
-    #[inline]
+    #[cfg_attr(debug_assertions, inline(never))]
+    #[cfg_attr(not(debug_assertions), inline)]
     pub(crate) fn lock_with<'a>(
         &'a self,
         permit: Permit<'a>,
@@ -52,6 +57,19 @@ impl RecordedChannel {
             handle,
             called_at,
         }
+    }
+
+    /// Stores where the next call is made, if this recorder is to record it, and returns the clock's number for it.
+    #[inline(always)]
+    fn tick(&self, recorder: &Shared, state: &mut ChannelState, called_at: CallSite) -> u64 {
+        if state.is_recorded {
+            match recorder.has_ended() {
+                true => self.end_recording(state),
+                // It is added before the call, so that nothing of the reply has to be stored meanwhile.
+                false => state.locations.of_calls.push(called_at),
+            }
+        }
+        recorder.tick()
     }
 
     /// Ends the recording of this channel, whose state this is. A replay no longer orders its calls.
@@ -106,14 +124,16 @@ fn tell_made(mut permit: Permit<'_>, is_recorded: bool, text: Option<&str>) {
 
 impl<'a> LockedChannel<'a> {
     /// Makes a call.
-    #[inline(always)]
+    #[cfg_attr(debug_assertions, inline(never))]
+    #[cfg_attr(not(debug_assertions), inline(always))]
     pub(crate) fn call(&mut self, call: Call) -> Reply {
         let handle = self.handle;
-        self.call_core(None, move |core, caller| call(core, caller, handle))
+        self.call_core(&None, move |core, caller| call(core, caller, handle))
     }
 
     /// Makes a call that creates a handle. If a journal can't name that handle, the recording of this channel ends before.
-    #[inline(always)]
+    #[cfg_attr(debug_assertions, inline(never))]
+    #[cfg_attr(not(debug_assertions), inline(always))]
     pub(crate) fn create(&mut self, call: Call) -> Reply {
         if self.state.is_recorded && self.state.core.has_named_all() {
             self.channel.end_for_handles(&mut self.state);
@@ -126,15 +146,13 @@ impl<'a> LockedChannel<'a> {
     }
 
     /// Makes a call that passes a new value to the core, by the value's number, and stores its text. Returns the number with the reply.
-    #[inline(always)]
-    pub(crate) fn send(
-        &mut self,
-        text: Option<String>,
-        call: impl Fn(&mut CoreChannel, Caller, u32, u64) -> Reply,
-    ) -> (u64, Reply) {
-        let (handle, number) = (self.handle, self.state.value_count);
-        self.state.value_count += 1;
-        let reply = self.call_core(text.as_deref(), move |core, caller| {
+    #[cfg_attr(debug_assertions, inline(never))]
+    #[cfg_attr(not(debug_assertions), inline(always))]
+    pub(crate) fn send(&mut self, text: Option<String>, call: Send) -> (u64, Reply) {
+        let state = &mut *self.state;
+        let (handle, number) = (self.handle, state.value_count);
+        state.value_count += 1;
+        let reply = self.call_core(&text, move |core, caller| {
             call(core, caller, handle, number)
         });
         if let Some(text) = text {
@@ -149,41 +167,29 @@ impl<'a> LockedChannel<'a> {
     #[inline(always)]
     fn call_core(
         &mut self,
-        text: Option<&str>,
+        text: &Option<String>,
         call: impl Fn(&mut CoreChannel, Caller) -> Reply,
     ) -> Reply {
+        let state = &mut *self.state;
         let clock = match &self.channel.recorder.0 {
-            Some(recorder) => self.tick(recorder),
+            Some(recorder) => self.channel.tick(recorder, state, self.called_at),
             None => 0,
         };
         let caller = Caller {
             actor: self.actor,
             clock,
         };
-        let reply = call(&mut self.state.core, caller);
+        let reply = call(&mut state.core, caller);
         if !reply.leaves_entry() {
             let permit = self.permit.take();
             return self
                 .channel
-                .end_unrecorded(&mut self.state, permit, caller, reply, call);
+                .end_unrecorded(state, permit, caller, reply, call);
         }
         if self.permit.is_held() {
-            tell_made(self.permit.take(), self.state.is_recorded, text);
+            tell_made(self.permit.take(), state.is_recorded, text.as_deref());
         }
         reply
-    }
-
-    /// Stores where the next call is made, if this recorder is to record it, and returns the clock's number for it.
-    #[inline(always)]
-    fn tick(&mut self, recorder: &Shared) -> u64 {
-        if self.state.is_recorded {
-            match recorder.has_ended() {
-                true => self.channel.end_recording(&mut self.state),
-                // It is added before the call, so that nothing of the reply has to be stored meanwhile.
-                false => self.state.locations.of_calls.push(self.called_at),
-            }
-        }
-        recorder.tick()
     }
 
     /// Makes a call that waits, and for which a journal has the word of one that doesn't.
@@ -199,6 +205,11 @@ impl<'a> LockedChannel<'a> {
         recorder.map_or(0, |recorder| recorder.last())
     }
 
+    /// Unlocks the channel.
+    #[cfg_attr(debug_assertions, inline(never))]
+    #[cfg_attr(not(debug_assertions), inline(always))]
+    pub(crate) fn unlock(self) {}
+
     /// Unlocks the channel without a call, and returns the permit of the call.
     pub(crate) fn into_permit(self) -> Permit<'a> {
         self.permit
@@ -210,28 +221,53 @@ impl<'a> LockedChannel<'a> {
         self.permit.would_wait();
     }
 
-    /// Lists a call of the handle among those that wait since this time of the clock, unless it is there or the channel has no recorder.
+    /// Lists a call of the handle, which is of this kind, among those that wait since this time of the clock. Returns its number there, and
+    /// `None` if the channel has no recorder.
     pub(crate) fn list_wait(
         &mut self,
-        wait_for: WaitFor,
+        kind: Kind,
+        awaited: Awaited,
         method: Method,
         since: u64,
-        pending: &mut Pending,
-    ) {
-        if self.channel.recorder.0.is_some() && pending.listed.is_none() {
-            pending.listed = Some(self.state.waits.add(Wait {
+    ) -> Option<ItemNumber> {
+        self.has_recorder().then(|| {
+            self.state.waits.add(Wait {
                 actor: self.actor,
                 handle: self.handle,
-                wait_for,
+                kind,
+                awaited,
                 method,
                 since,
-            }));
+            })
+        })
+    }
+
+    /// Whether the channel belongs to a recorder.
+    #[inline]
+    pub(crate) fn has_recorder(&self) -> bool {
+        self.channel.recorder.0.is_some()
+    }
+
+    /// Notes this call as the look with this number. The numbers of looks that were noted before are below it, or one less.
+    #[inline]
+    pub(crate) fn note_look(&mut self, number: usize) {
+        let (actor, called_at) = (self.actor, self.called_at);
+        let look = Look { actor, called_at };
+        match self.state.looks.get_mut(number) {
+            Some(noted) => *noted = look,
+            None => self.state.looks.push(look),
         }
+    }
+
+    /// Returns the look with this number, if it was noted.
+    pub(crate) fn look(&self, number: usize) -> Option<Look> {
+        self.state.looks.get(number).copied()
     }
 
     /// Makes the call that drops the handle. Returns the futures that wait for it: those of receivers if it was the last sender, and those
     /// of senders if it was the last receiver.
-    #[inline(always)]
+    #[cfg_attr(debug_assertions, inline(never))]
+    #[cfg_attr(not(debug_assertions), inline(always))]
     pub(crate) fn drop_handle(&mut self, kind: Kind, call: Call) -> Wakers {
         self.call(call);
         if actors::is_dropping_future() {
@@ -250,6 +286,13 @@ impl<'a> LockedChannel<'a> {
             }
             _ => Wakers::default(),
         }
+    }
+
+    /// Whether the handle, a receiver of a watch, has seen the value.
+    #[cfg_attr(debug_assertions, inline(never))]
+    #[cfg_attr(not(debug_assertions), inline(always))]
+    pub(crate) fn has_seen(&mut self) -> bool {
+        self.state.core.seen(self.handle)
     }
 
     /// Returns the core's channel, to read from it. That leaves no entry.
@@ -271,7 +314,8 @@ impl<'a> LockedChannel<'a> {
     }
 
     /// Unlocks the channel, and then wakes the futures that wait for this.
-    #[inline(always)]
+    #[cfg_attr(debug_assertions, inline(never))]
+    #[cfg_attr(not(debug_assertions), inline(always))]
     pub(crate) fn unlock_and_wake(mut self, wait_for: WaitFor) {
         if self.has_waiting(wait_for) {
             self.unlock_and_wake_each(wait_for);

@@ -1,6 +1,6 @@
 //! One machine of the core, which makes 65,536 handles of a channel.
 
-use crate::core::{Actor, Caller, CoreChannel, OpenFault};
+use crate::backend::{Actor, Caller, Recording, Spec};
 use crate::reply::Reply;
 use std::alloc::{Layout, handle_alloc_error};
 
@@ -13,43 +13,25 @@ const NOBODY: Caller = Caller {
     clock: 0,
 };
 
-/// What the machines of a channel are opened from. All of them are alike.
-#[derive(Clone, Copy)]
-pub(super) enum Opening {
-    /// A broadcast of this capacity.
-    Broadcast(u32),
-    /// A watch. Its first value has the number 0.
-    Watch,
+fn drop_handle(core: &mut Recording, handle: u32) {
+    match core.spec() {
+        Spec::Broadcast(_) => core.broadcast_drop(NOBODY, handle),
+        Spec::Watch(_) => core.watch_drop(NOBODY, handle),
+    };
 }
 
-impl Opening {
-    pub(super) fn open(self) -> Result<CoreChannel, OpenFault> {
-        match self {
-            Opening::Broadcast(capacity) => CoreChannel::broadcast(capacity),
-            Opening::Watch => CoreChannel::watch(0),
-        }
-    }
-
-    fn drop_handle(self, core: &mut CoreChannel, handle: u32) {
-        match self {
-            Opening::Broadcast(_) => core.broadcast_drop(NOBODY, handle),
-            Opening::Watch => core.watch_drop(NOBODY, handle),
-        };
-    }
-
-    /// Whether this is a live sender. It is asked what only a sender may ask.
-    fn is_sender(self, core: &mut CoreChannel, handle: u32) -> bool {
-        let reply = match self {
-            Opening::Broadcast(_) => core.broadcast_receiver_count(NOBODY, handle),
-            Opening::Watch => core.watch_receiver_count(NOBODY, handle),
-        };
-        matches!(reply, Reply::Count(_))
-    }
+/// Whether this is a live sender. It is asked what only a sender may ask.
+fn is_sender(core: &mut Recording, handle: u32) -> bool {
+    let reply = match core.spec() {
+        Spec::Broadcast(_) => core.broadcast_receiver_count(NOBODY, handle),
+        Spec::Watch(_) => core.watch_receiver_count(NOBODY, handle),
+    };
+    matches!(reply, Reply::Count(_))
 }
 
 /// A machine with the handles that stand for those of the channel's other machines.
 pub(super) struct Machine {
-    pub(super) core: CoreChannel,
+    pub(super) core: Recording,
     // How many handles it can still make.
     room: u32,
     // The sender by which the senders of other machines send. There is none while there are no others, and once the channel is closed.
@@ -64,7 +46,7 @@ pub(super) struct Machine {
 
 impl Machine {
     /// Wraps the first machine of a channel, which makes this many handles.
-    pub(super) fn first(core: CoreChannel, most: u32) -> Machine {
+    pub(super) fn first(core: Recording, most: u32) -> Machine {
         Machine {
             core,
             room: most - 2,
@@ -76,18 +58,18 @@ impl Machine {
     }
 
     /// Opens a further machine of a channel. All of its handles stand for others.
-    pub(super) fn further(opening: Opening, most: u32, is_closed: bool) -> Machine {
-        let mut core = opening.open().unwrap_or_else(|_| no_memory());
+    pub(super) fn further(spec: Spec<u64>, most: u32, is_closed: bool) -> Machine {
+        let mut core = Recording::open(spec).unwrap_or_else(|_| no_memory());
         core.end();
-        let weak = match opening {
-            Opening::Broadcast(_) => Some(made(core.broadcast_downgrade(NOBODY, 0)).new_handle()),
-            Opening::Watch => None,
+        let weak = match spec {
+            Spec::Broadcast(_) => Some(made(core.broadcast_downgrade(NOBODY, 0)).new_handle()),
+            Spec::Watch(_) => None,
         };
         let (sender, receiver) = match is_closed {
             false => (Some(0), None),
             true => (None, Some(1)),
         };
-        opening.drop_handle(&mut core, if is_closed { 0 } else { 1 });
+        drop_handle(&mut core, if is_closed { 0 } else { 1 });
         Machine {
             core,
             room: most - 2 - u32::from(weak.is_some()),
@@ -99,10 +81,10 @@ impl Machine {
     }
 
     /// Finds a live sender, by which the senders of other machines send from now on.
-    pub(super) fn find_sender(&mut self, opening: Opening) {
+    pub(super) fn find_sender(&mut self) {
         if self.core.senders() > 0 {
             let core = &mut self.core;
-            self.sender = (0..MOST_HANDLES).find(|handle| opening.is_sender(core, *handle));
+            self.sender = (0..MOST_HANDLES).find(|handle| is_sender(core, *handle));
         }
     }
 
@@ -144,13 +126,13 @@ impl Machine {
     }
 
     /// Makes a call of a sender that stands for others.
-    pub(super) fn by_sender(&mut self, call: impl FnOnce(&mut CoreChannel, u32) -> Reply) -> Reply {
+    pub(super) fn by_sender(&mut self, call: impl FnOnce(&mut Recording, u32) -> Reply) -> Reply {
         let sender = self.sender.expect("a machine of an open channel");
         call(&mut self.core, sender)
     }
 
     /// Makes a call of a weak sender that stands for others.
-    pub(super) fn by_weak(&mut self, call: impl FnOnce(&mut CoreChannel, u32) -> Reply) -> Reply {
+    pub(super) fn by_weak(&mut self, call: impl FnOnce(&mut Recording, u32) -> Reply) -> Reply {
         let weak = self.weak.expect("a further machine of a broadcast");
         call(&mut self.core, weak)
     }
@@ -158,8 +140,8 @@ impl Machine {
     /// Creates a receiver: by a sender, or by a receiver if the channel is closed.
     pub(super) fn receive(
         &mut self,
-        subscribe: impl FnOnce(&mut CoreChannel, u32) -> Reply,
-        copy: impl FnOnce(&mut CoreChannel, u32) -> Reply,
+        subscribe: impl FnOnce(&mut Recording, u32) -> Reply,
+        copy: impl FnOnce(&mut Recording, u32) -> Reply,
     ) -> Reply {
         match self.receiver {
             None => self.by_sender(subscribe),
@@ -172,7 +154,7 @@ impl Machine {
     pub(super) fn drop_handle(
         &mut self,
         handle: u32,
-        drop: impl FnOnce(&mut CoreChannel, u32) -> Reply,
+        drop: impl FnOnce(&mut Recording, u32) -> Reply,
     ) -> Reply {
         if self.sender == Some(handle) && !self.is_sender_stand_in {
             self.is_sender_stand_in = true;
@@ -182,10 +164,10 @@ impl Machine {
     }
 
     /// Drops the sender that stands for others, since the channel is closed.
-    pub(super) fn close(&mut self, opening: Opening) {
+    pub(super) fn close(&mut self) {
         let sender = self.sender.take().filter(|_| self.is_sender_stand_in);
         if let Some(sender) = sender {
-            opening.drop_handle(&mut self.core, sender);
+            drop_handle(&mut self.core, sender);
         }
         self.is_sender_stand_in = false;
     }
@@ -202,5 +184,5 @@ pub(super) fn made(reply: Reply) -> Reply {
 /// Ends the process, as `std` does where memory is refused.
 #[cold]
 fn no_memory() -> ! {
-    handle_alloc_error(Layout::new::<CoreChannel>())
+    handle_alloc_error(Layout::new::<Recording>())
 }

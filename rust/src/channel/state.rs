@@ -4,7 +4,7 @@ use super::CoreChannel;
 use super::locations::{CallSite, Locations};
 use crate::names::Maker;
 use crate::queue::Queue;
-use crate::wait::{Pending, Wait, WaitFor};
+use crate::wait::{Look, Pending, Wait, WaitFor};
 use crate::wakers::WakerQueue;
 use std::collections::BTreeMap;
 use std::task::Waker;
@@ -19,6 +19,8 @@ pub(crate) struct ChannelState {
     waiting_for_no_receiver: WakerQueue,
     // The calls that wait. A call stays here from its first poll to its end, also while it is woken and not yet polled again.
     pub(crate) waits: Queue<Wait>,
+    // Of a watch, the looks at its value by their numbers. One that has ended stays until the next look with its number.
+    pub(super) looks: Vec<Look>,
     pub(crate) name: Option<String>,
     // The names of senders and receivers by their numbers.
     pub(crate) handle_names: BTreeMap<u64, String>,
@@ -43,6 +45,7 @@ impl ChannelState {
             waiting_for_value: WakerQueue::default(),
             waiting_for_no_receiver: WakerQueue::default(),
             waits: Queue::default(),
+            looks: Vec::new(),
             name: None,
             handle_names: BTreeMap::new(),
             texts: BTreeMap::new(),

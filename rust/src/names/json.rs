@@ -1,5 +1,7 @@
-//! A small reader of JSON, for files of names. The crate has no dependencies.
+//! A small reader and writer of JSON. The crate has no dependencies.
 
+use super::push_string;
+use std::fmt::Display;
 use std::iter::Peekable;
 use std::str::Chars;
 
@@ -8,7 +10,7 @@ const DEEPEST: usize = 32;
 
 /// A JSON value.
 #[derive(Clone, Debug, PartialEq)]
-pub(super) enum Json {
+pub(crate) enum Json {
     Null,
     Bool(bool),
     /// A number, as it is written.
@@ -17,6 +19,48 @@ pub(super) enum Json {
     List(Vec<Json>),
     /// The members in the order in which they are written.
     Object(Vec<(String, Json)>),
+}
+
+impl Json {
+    pub(crate) fn text(text: &str) -> Json {
+        Json::Text(text.to_string())
+    }
+
+    pub(crate) fn number(number: impl Display) -> Json {
+        Json::Number(number.to_string())
+    }
+
+    pub(crate) fn object(members: Vec<(&str, Json)>) -> Json {
+        let members = members.into_iter();
+        Json::Object(
+            members
+                .map(|(key, value)| (key.to_string(), value))
+                .collect(),
+        )
+    }
+
+    /// Appends the value, on one line.
+    pub(crate) fn push(&self, out: &mut String) {
+        match self {
+            Json::Null => out.push_str("null"),
+            Json::Bool(flag) => out.push_str(if *flag { "true" } else { "false" }),
+            Json::Number(number) => out.push_str(number),
+            Json::Text(text) => push_string(out, text),
+            Json::List(items) => super::push_list(out, items, |out, item| item.push(out)),
+            Json::Object(members) => push_members(out, members),
+        }
+    }
+}
+
+fn push_members(out: &mut String, members: &[(String, Json)]) {
+    out.push('{');
+    for (index, (key, value)) in members.iter().enumerate() {
+        out.push_str(if index > 0 { ", " } else { "" });
+        push_string(out, key);
+        out.push_str(": ");
+        value.push(out);
+    }
+    out.push('}');
 }
 
 /// Reads a document.

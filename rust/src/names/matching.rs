@@ -30,6 +30,12 @@ pub(crate) struct Matching {
 }
 
 impl Matching {
+    /// Whether an entry of a channel is of a call that waits, of two whose words the journal has for others too.
+    pub(crate) fn is_waited(&self, channel: u32, index: u32) -> bool {
+        let waited = self.waited.get(&channel.into());
+        waited.is_some_and(|entries| entries.binary_search(&index.into()).is_ok())
+    }
+
     /// Appends the members of the document that aren't empty.
     pub(super) fn push(&self, out: &mut String) {
         if !self.made_by.is_empty() {

@@ -1,7 +1,7 @@
-//! Reads a file of names, of any version. What a reader doesn't know is left out.
+//! Reads a file of names, of this version or an earlier one. What a reader doesn't know is left out.
 
 use super::json::{self, Json};
-use super::{Names, SourceLocation, WaitingCall};
+use super::{HeldBy, Names, SourceLocation, VERSION, WaitingCall, checksum};
 use std::collections::BTreeMap;
 
 impl Names {
@@ -9,12 +9,19 @@ impl Names {
     ///
     /// # Errors
     ///
-    /// Returns what is wrong with the text.
+    /// Returns what is wrong with the text, or that its version is a later one.
     pub(crate) fn read(text: &str) -> Result<Names, String> {
         let mut names = Names::default();
         for (key, value) in object(json::read(text)?)? {
+            if names
+                .ending
+                .read(&key, &value)
+                .map_err(|fault| of_key(&key, fault))?
+            {
+                continue;
+            }
             let read = match key.as_str() {
-                "core" => text_of(value).map(|core| names.core = Some(core)),
+                "version" => version(value),
                 "actors" => texts(value).map(|actors| names.actors = actors),
                 "channels" => texts(value).map(|channels| names.channels = channels),
                 "values" => by_number(value, texts).map(|values| names.values = values),
@@ -26,20 +33,52 @@ impl Names {
                 "waiting" => list(value, waiting).map(|waiting| names.waiting = waiting),
                 other => names.matching.read(other, value),
             };
-            read.map_err(|fault| format!("its `{key}`: {fault}"))?;
+            read.map_err(|fault| of_key(&key, fault))?;
         }
         Ok(names)
     }
 }
 
-fn object(value: Json) -> Result<Vec<(String, Json)>, String> {
+impl Names {
+    /// Passes on the text of a file of names that is beside this journal.
+    ///
+    /// # Errors
+    ///
+    /// Returns what is wrong if the text says that it is of another journal.
+    pub(crate) fn beside(text: String, journal: &[u8]) -> Result<String, &'static str> {
+        let of = Names::read(&text)
+            .ok()
+            .and_then(|names| names.ending.journal);
+        match of.is_some_and(|sum| sum != checksum(journal)) {
+            true => Err("it has the names of another journal"),
+            false => Ok(text),
+        }
+    }
+}
+
+fn of_key(key: &str, fault: String) -> String {
+    format!("its `{key}`: {fault}")
+}
+
+/// Refuses a version that may mean something else by the same keys.
+fn version(value: Json) -> Result<(), String> {
+    let version: u64 = number(value)?;
+    match version > VERSION {
+        true => Err(format!(
+            "{version} is later than {VERSION}, the last one that this program reads"
+        )),
+        false => Ok(()),
+    }
+}
+
+pub(super) fn object(value: Json) -> Result<Vec<(String, Json)>, String> {
     match value {
         Json::Object(members) => Ok(members),
         _ => Err("no object".to_string()),
     }
 }
 
-fn text_of(value: Json) -> Result<String, String> {
+pub(super) fn text_of(value: Json) -> Result<String, String> {
     match value {
         Json::Text(text) => Ok(text),
         _ => Err("no text".to_string()),
@@ -99,7 +138,7 @@ fn optional_indexes(value: Json) -> Result<Vec<Option<usize>>, String> {
     list(value, optional_index)
 }
 
-fn optional_index(value: Json) -> Result<Option<usize>, String> {
+pub(super) fn optional_index(value: Json) -> Result<Option<usize>, String> {
     match value {
         Json::Null => Ok(None),
         value => number(value).map(Some),
@@ -127,6 +166,19 @@ fn waiting(value: Json) -> Result<WaitingCall, String> {
         call: text_of(next("call"))?,
         since: number(next("since"))?,
         location: optional_index(next("location"))?,
+        held_by: match next("held_by") {
+            Json::Null => None,
+            holder => Some(held_by(holder)?),
+        },
+    })
+}
+
+fn held_by(value: Json) -> Result<HeldBy, String> {
+    let mut members: BTreeMap<_, _> = object(value)?.into_iter().collect();
+    let mut next = |key: &str| optional_index(members.remove(key).unwrap_or(Json::Null));
+    Ok(HeldBy {
+        actor: next("actor")?.map(|actor| actor as u64),
+        location: next("location")?,
     })
 }
 
@@ -139,7 +191,6 @@ mod tests {
         let names = Names::read(
             r#"{
                 "version": 2,
-                "core": "plain",
                 "actors": {"0": "ticker", "12": "a \"b\""},
                 "channels": {"0": "prices"},
                 "values": {"0": {"0": "101 EUR", "1": "102 EUR"}},
@@ -148,7 +199,7 @@ mod tests {
                 "made": {"0": {"0": 0, "1": 1}},
                 "calls": {"0": [1, null]},
                 "tasks": {"3": 1},
-                "waiting": [{"actor": 3, "channel": 0, "handle": 1, "call": "recv", "since": 12, "location": null}],
+                "waiting": [{"actor": 3, "channel": 0, "handle": 1, "call": "recv", "since": 12, "location": null, "held_by": {"actor": 0, "location": 1}}],
                 "later": [{}]
             }"#,
         )
@@ -159,7 +210,6 @@ mod tests {
             column,
         };
         let wanted = Names {
-            core: Some("plain".to_string()),
             actors: BTreeMap::from([(0, "ticker".to_string()), (12, "a \"b\"".to_string())]),
             channels: BTreeMap::from([(0, "prices".to_string())]),
             values: BTreeMap::from([(
@@ -181,6 +231,10 @@ mod tests {
                 call: "recv".to_string(),
                 since: 12,
                 location: None,
+                held_by: Some(HeldBy {
+                    actor: Some(0),
+                    location: Some(1),
+                }),
             }],
             ..Names::default()
         };
@@ -188,8 +242,11 @@ mod tests {
     }
 
     #[test]
-    fn a_file_of_the_first_version_is_read() {
-        let names = Names::read(r#"{"actors": {}, "channels": {"1": "state"}, "values": {}}"#);
+    fn a_file_of_an_older_version_is_read() {
+        // `core` said that another core than the proved one had answered.
+        let names = Names::read(
+            r#"{"core": "plain", "actors": {}, "channels": {"1": "state"}, "values": {}}"#,
+        );
         let wanted = Names {
             channels: BTreeMap::from([(1, "state".to_string())]),
             ..Names::default()
@@ -202,7 +259,6 @@ mod tests {
         for (text, fault) in [
             ("[]", "no object"),
             ("{", "line 1: `\"` is missing"),
-            (r#"{"core": 1}"#, "its `core`: no text"),
             (
                 r#"{"actors": {"x": "a"}}"#,
                 "its `actors`: `x` is no number",

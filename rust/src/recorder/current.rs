@@ -1,7 +1,8 @@
 //! The recorder that a new channel belongs to: the one that is entered on its thread, else the one that is installed, else none.
 
 use super::Recorder;
-use crate::lock::lock;
+use super::test_run::PATIENCE;
+use crate::lock::{lock, try_lock_for};
 use std::cell::RefCell;
 use std::marker::PhantomData;
 use std::sync::{Arc, Mutex};
@@ -46,6 +47,24 @@ impl Stack {
         let last = lock(&self.entries).last().map(|(_, last)| last.clone());
         last.or_else(|| self.followed.as_ref()?.last())
     }
+
+    /// Whether the recorder with this number is one of these.
+    fn has(&self, id: u64) -> bool {
+        let entries = try_lock_for(&self.entries, PATIENCE);
+        let is_here = entries.is_some_and(|all| all.iter().any(|(_, it)| it.0.id == id));
+        is_here
+            || self
+                .followed
+                .as_ref()
+                .is_some_and(|followed| followed.has(id))
+    }
+}
+
+/// Whether the recorder with this number is entered on this thread, or installed. It is called where a thread panics.
+pub(super) fn is_entered(id: u64) -> bool {
+    let entered = ENTERED.try_with(|entered| entered.try_borrow().ok().map(|it| it.clone()));
+    let is_here = entered.ok().flatten().is_some_and(|stack| stack.has(id));
+    is_here || INSTALLED.has(id)
 }
 
 /// Returns the recorders that are entered on this thread. At the end of a thread, they may be gone: then nothing is entered.
@@ -76,8 +95,12 @@ impl Recorder {
     /// assert_eq!(recorder.len(), 2);
     /// ```
     pub fn current() -> Option<Recorder> {
-        let current = of_this_thread().last().or_else(|| INSTALLED.last());
-        current.filter(|recorder| !recorder.0.is_off)
+        Recorder::current_or_off().filter(|recorder| !recorder.0.is_off)
+    }
+
+    /// Returns the current recorder, also if it is off.
+    pub(crate) fn current_or_off() -> Option<Recorder> {
+        of_this_thread().last().or_else(|| INSTALLED.last())
     }
 
     /// Enters the recorder on this thread: channels that the thread creates belong to it until the returned guard is dropped.

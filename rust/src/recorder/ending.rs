@@ -1,15 +1,19 @@
 //! What is written and printed at the end of a failing test: the journal, the names, the page with both inside, and the report.
 
-use super::Recorder;
-use super::replaying::REPLAY;
-use crate::lock::lock;
+use super::files::{self, file_name};
+use super::replaying::REPLAYED;
+use super::run::{Run, Saved};
+use super::test_run::{PATIENCE, TestRun};
+use super::{Shared, replay_line};
+use crate::explore;
+use crate::lock::{lock, try_lock_for};
 use crate::names::Names;
 use crate::report::{self, Report, page};
-use std::ffi::OsStr;
+use crate::run::said;
+use std::fs;
 use std::io;
-use std::path::{self, Path, PathBuf};
+use std::path::{Path, PathBuf};
 use std::sync::Mutex;
-use std::{env, fs};
 
 /// Locked while the files of a test are written. A watchdog may write those of a test that fails at the same time.
 pub(super) static WRITING: Mutex<()> = Mutex::new(());
@@ -17,90 +21,103 @@ pub(super) static WRITING: Mutex<()> = Mutex::new(());
 /// The page, which comes with the sources of this crate. It isn't part of the program, which would get a third of a megabyte larger.
 const PAGE: &str = concat!(env!("CARGO_MANIFEST_DIR"), "/built/yovanelum.html");
 
-impl Recorder {
-    /// Writes the files of a test of this name, and prints the report. What can't be written is said in one line.
-    pub(super) fn report_on(&self, name: &str, has_failed: bool) {
+impl TestRun {
+    /// Writes the files of this test, and prints the report. What can't be written is said in one line.
+    pub(super) fn report(&self, recorder: &Shared, has_failed: bool) {
         let _writing = lock(&WRITING);
-        let path = journal_path(&self.0.name_of_files(name));
-        let (journal, mut names) = match self.0.run().journal_and_names() {
-            Ok(run) => run,
-            Err(error) => return eprintln!("yovanelum: {} isn't written: {error}", path.display()),
-        };
-        let report = match Report::new(&journal, &names) {
-            Ok(report) => report,
-            Err(fault) => return eprintln!("yovanelum: {}: {fault}", path.display()),
+        // In one call, since other tests print too.
+        eprint!("{}", self.lines_on(&recorder.run(), recorder, has_failed));
+    }
+
+    /// Writes the files of this test at once, since the process ends, and returns the report. What this thread has locked is left out.
+    pub(super) fn write_before_process_ends(&self) -> Option<String> {
+        let recorder = self.recorder.upgrade()?;
+        let _writing = try_lock_for(&WRITING, PATIENCE);
+        Some(match recorder.readable_run(PATIENCE) {
+            Some(run) => self.lines_on(&run, &recorder, true),
+            None => format!(
+                "yovanelum: {} isn't written, since this thread has locked its recorder\n",
+                self.name
+            ),
+        })
+    }
+
+    /// Says how the replay of this test went, if it is one.
+    pub(super) fn end_replay_before_process_ends(&self) {
+        if let Some(recorder) = self.recorder.upgrade() {
+            recorder.end_replay(self, true);
+        }
+    }
+
+    /// Writes the files of this test, and returns the report on it.
+    fn lines_on(&self, run: &Run<'_>, recorder: &Shared, has_failed: bool) -> String {
+        let path = self.journal_path(recorder);
+        let Saved {
+            run,
+            journal,
+            mut names,
+        } = match run.saved(Some(self)) {
+            Ok(saved) => saved,
+            Err(error) => return not_written(&path, &error),
         };
         names.matching.has_failed = has_failed;
-        let (look, more) = match write(&path, &journal, &names, report.place()) {
-            Ok(look) => (Some(look), how_to_replay(&path, name)),
-            Err(error) => {
-                let path = path.display();
-                (None, format!("yovanelum: {path} isn't written: {error}\n"))
+        let report = match Report::on(&run, &names) {
+            Ok(report) => report,
+            Err(fault) => {
+                return format!("yovanelum: {}: {}\n", path.display(), said(fault));
             }
         };
-        // In one call, since other tests print too.
+        names.account = Some(report.account().to_json());
+        let (look, more) = match write(&path, &journal, &names, report.place()) {
+            Ok(look) => (Some(look), replay_line::of(&path, self)),
+            Err(error) => (None, not_written(&path, &error)),
+        };
         let has_colours = report::has_colours(&io::stderr());
-        eprint!("{}{more}", report.text(look, has_colours));
+        format!("{}{more}", report.text(look, has_colours))
+    }
+
+    /// Returns the file for the journal of this test, or of its replay, which doesn't replace the one that it reads.
+    pub(super) fn journal_path(&self, recorder: &Shared) -> PathBuf {
+        let folder = files::folder();
+        let name = file_name(&self.name);
+        let of_gate = recorder.gate.as_ref().map(|gate| gate.path());
+        let Some(read) = of_gate.or(explore::followed()) else {
+            return folder.join(format!("{name}.journal"));
+        };
+        let path = folder.join(format!("{name}{REPLAYED}.journal"));
+        match read.with_extension("journal").file_name() == path.file_name() {
+            true => folder.join(format!("{name}{REPLAYED}{REPLAYED}.journal")),
+            false => path,
+        }
     }
 }
 
-/// Returns the line that says how to make the calls of this journal again in their order.
-fn how_to_replay(journal: &Path, test: &str) -> String {
-    format!("replay: {REPLAY}={} cargo test {test}\n", journal.display())
+fn not_written(path: &Path, error: &io::Error) -> String {
+    format!("yovanelum: {} isn't written: {error}\n", path.display())
 }
 
-/// Writes the journal, and beside it the names and the page with both inside. Returns where to look.
+/// Writes the journal, and beside it the names and the page with both inside. Returns where to look. If one can't be written, all are as before.
 pub(super) fn write(path: &Path, journal: &str, names: &Names, place: u64) -> io::Result<String> {
     let names = names.to_json();
-    path.parent().map_or(Ok(()), fs::create_dir_all)?;
-    fs::write(path, journal)?;
-    fs::write(path.with_extension("names"), &names)?;
-    Ok(write_page(path, journal, &names, place))
+    let page = page_of(path, journal, &names);
+    files::replace(
+        path,
+        &[
+            ("journal", Some(journal.as_bytes())),
+            ("names", Some(names.as_bytes())),
+            ("html", page.as_deref().ok()),
+        ],
+    )?;
+    Ok(match page {
+        Ok(_) => page::address(&path.with_extension("html"), place),
+        Err(fault) => format!("{}, at place {place} (no page: {fault})", path.display()),
+    })
 }
 
-/// Writes the page with the run inside beside the journal. Returns where to look.
-fn write_page(journal_path: &Path, journal: &str, names: &str, place: u64) -> String {
-    let path = journal_path.with_extension("html");
-    let name = journal_path.file_name().unwrap_or_default();
-    let page = fs::read(PAGE).map_err(|error| format!("{PAGE}: {error}"));
-    let page = page.and_then(|page| {
-        let names = Some(names.as_bytes());
-        page::with_run(&page, &name.to_string_lossy(), journal.as_bytes(), names)
-            .ok_or_else(|| format!("{PAGE} has no place for a run"))
-    });
-    let written = page.and_then(|page| {
-        fs::write(&path, page).map_err(|error| format!("{}: {error}", path.display()))
-    });
-    match written {
-        Ok(()) => page::address(&path, place),
-        Err(fault) => format!(
-            "{}, at place {place} (no page: {fault})",
-            journal_path.display()
-        ),
-    }
-}
-
-/// Returns the file for the journal of a test. The path is absolute, since its reader may be in another folder, such as that of a workspace.
-pub(super) fn journal_path(name: &str) -> PathBuf {
-    let target = target_folder();
-    let folder = path::absolute(&target).unwrap_or(target).join("yovanelum");
-    folder.join(format!("{}.journal", file_name(name)))
-}
-
-/// Returns the name of a test as one of a file. A name with a path separator is one file too.
-fn file_name(name: &str) -> String {
-    let is_other = |c| path::is_separator(c) || c == '/' || (cfg!(windows) && c == ':');
-    name.replace(is_other, "_")
-}
-
-/// Returns the folder `target` of the build that this program is from, or else that of the working folder.
-fn target_folder() -> PathBuf {
-    if let Some(folder) = env::var_os("CARGO_TARGET_DIR") {
-        return folder.into();
-    }
-    let program = env::current_exe().unwrap_or_default();
-    let found = program
-        .ancestors()
-        .find(|folder| folder.file_name() == Some(OsStr::new("target")));
-    found.map_or_else(|| PathBuf::from("target"), Path::to_path_buf)
+/// Returns the page with the run inside.
+fn page_of(path: &Path, journal: &str, names: &str) -> Result<Vec<u8>, String> {
+    let name = path.file_name().unwrap_or_default().to_string_lossy();
+    let page = fs::read(PAGE).map_err(|error| format!("{PAGE}: {error}"))?;
+    page::with_run(&page, &name, journal.as_bytes(), Some(names.as_bytes()))
+        .ok_or_else(|| format!("{PAGE} has no place for a run"))
 }

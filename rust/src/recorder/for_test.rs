@@ -1,22 +1,30 @@
 //! The recorder of a test, which says what happened if the test fails.
 
+use super::test_run::TestRun;
 use super::watchdog::Watchdog;
-use super::{Entered, Recorder};
+use super::{Entered, Recorder, panic_hook};
+use crate::explore;
 use std::ops::Deref;
-use std::panic::AssertUnwindSafe;
-use std::sync::atomic::{AtomicBool, Ordering};
+use std::panic::{AssertUnwindSafe, Location};
+use std::sync::Arc;
 use std::{env, panic, thread};
 
 impl Recorder {
     /// Creates a recorder for a test, and enters it on this thread until the result is dropped.
     ///
     /// If the thread panics while the result is alive, or the environment variable `YOVANELUM_KEEP` is set, the drop of the result prints a
-    /// report on standard error, of 15 lines at most: which receiver lost values, which send overwrote the first of them, whether it was
-    /// told, and which calls still wait. It writes the journal to `yovanelum/NAME.journal` in the build's folder `target`, the names to
-    /// `NAME.names` beside it, and the page that draws the run to `NAME.html`. The last line of the report is the page's address. If a file
-    /// cannot be written, one line says why. A `/` in the name becomes a `_`.
+    /// report on standard error, of 22 lines at most: which receiver lost values, which send overwrote the first of them, whether it was
+    /// told, and which calls still wait. It writes the journal to `yovanelum/PACKAGE/BUILD/NAME.journal` in the build's folder `target`, the
+    /// names to `NAME.names` beside it, and the page that draws the run to `NAME.html`. `BUILD` is the build target, such as `lib` or `test-bus`.
+    /// The last lines of the report are the page's address and the command that replays the run. If a file cannot be written, all three are as
+    /// before, and one line says why. What can't be in the name of a file is written as `%` and hexadecimal digits.
     ///
-    /// Nothing is written or printed if the test passes, or if the result was created while its thread was panicking already.
+    /// A hook for panics, which the first recorder of a process sets and which calls the one from before, notes the text and the place of each
+    /// panic of the test. If the process ends with a panic, as after a second one in a drop or with `panic = "abort"`, the hook writes the files
+    /// and the report.
+    ///
+    /// Nothing is written or printed if the test passes, or if the result was created while its thread was panicking already. Nor is it if the
+    /// process ends otherwise, as by [`process::exit`](std::process::exit).
     ///
     /// Make it the first variable of the test. It is then dropped last, and the drops of senders and receivers are in the journal.
     ///
@@ -74,12 +82,21 @@ impl Recorder {
     /// ```
     #[must_use = "dropped at once, it sees no panic"]
     pub fn save_on_panic(&self, name: &str) -> SaveOnPanic {
+        panic_hook::install();
+        self.say_if_not_replayed(name);
+        explore::begin(name);
+        let test = TestRun::start(&self.0, name);
+        let (recorder, of_run) = (Arc::downgrade(&self.0), Arc::downgrade(&test));
+        explore::watch(recorder, move || {
+            if let Some(test) = of_run.upgrade() {
+                test.report_hung();
+            }
+        });
         SaveOnPanic {
             recorder: self.clone(),
-            name: name.to_string(),
+            test,
             watchdog: None,
             began_in_panic: thread::panicking(),
-            has_failed: AtomicBool::new(false),
         }
     }
 }
@@ -132,6 +149,7 @@ impl ForTest {
     /// }
     /// each_price_arrives().unwrap();
     /// ```
+    #[track_caller]
     pub fn save_on_err<T, E>(&self, result: Result<T, E>) -> Result<T, E> {
         self.saved.save_on_err(result)
     }
@@ -173,12 +191,10 @@ impl Deref for ForTest {
 #[derive(Debug)]
 pub struct SaveOnPanic {
     pub(super) recorder: Recorder,
-    pub(super) name: String,
+    pub(super) test: Arc<TestRun>,
     pub(super) watchdog: Option<Watchdog>,
     // Then a panic isn't one of this test.
     began_in_panic: bool,
-    // Whether the test returns an `Err`.
-    has_failed: AtomicBool,
 }
 
 impl SaveOnPanic {
@@ -196,9 +212,10 @@ impl SaveOnPanic {
     /// prices.send(101).unwrap();
     /// assert_eq!(saved.save_on_err(chart.try_recv()), Ok(101));
     /// ```
+    #[track_caller]
     pub fn save_on_err<T, E>(&self, result: Result<T, E>) -> Result<T, E> {
         if result.is_err() {
-            self.has_failed.store(true, Ordering::Relaxed);
+            self.test.note_error(Location::caller());
         }
         result
     }
@@ -206,7 +223,7 @@ impl SaveOnPanic {
     /// Whether the test failed, as far as it has ended.
     fn has_failed(&self) -> bool {
         let has_panicked = thread::panicking() && !self.began_in_panic;
-        has_panicked || self.has_failed.load(Ordering::Relaxed)
+        has_panicked || self.test.has_returned_error()
     }
 
     /// Whether the test failed, or its journal is to be saved all the same.
@@ -214,9 +231,7 @@ impl SaveOnPanic {
         match (thread::panicking(), self.began_in_panic) {
             (true, true) => false,
             (true, false) => true,
-            (false, _) => {
-                self.has_failed.load(Ordering::Relaxed) || env::var_os("YOVANELUM_KEEP").is_some()
-            }
+            (false, _) => self.test.has_returned_error() || env::var_os("YOVANELUM_KEEP").is_some(),
         }
     }
 }
@@ -225,10 +240,12 @@ impl Drop for SaveOnPanic {
     fn drop(&mut self) {
         // The test has ended, so a report on those who wait would come late.
         self.watchdog = None;
-        self.recorder.end_replay_of_test(self.has_failed());
+        let has_failed = self.has_failed();
+        self.recorder.0.end_replay(&self.test, has_failed);
+        explore::end(&self.recorder, has_failed);
         if self.is_wanted() {
             // A panic in a drop while a panic unwinds would end the process, and with it all other tests.
-            let report = || self.recorder.report_on(&self.name, self.has_failed());
+            let report = || self.test.report(&self.recorder.0, has_failed);
             let _ = panic::catch_unwind(AssertUnwindSafe(report));
         }
     }

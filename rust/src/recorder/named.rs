@@ -103,6 +103,8 @@ impl Recorder {
     /// value that it was created with. The texts show what the values were, also after they have been dropped. The first value of a watch
     /// channel has its text too, if no other was sent before this call. If a channel has a function already, the new one is not used.
     ///
+    /// A text of more than 4096 bytes is cut, unless [`cut_texts_at`](Recorder::cut_texts_at) says otherwise.
+    ///
     /// The recorder holds the function until the channel is dropped, or the recorder with its clones and guards. So a sender that the
     /// function holds keeps the channel open until then, as each sender that is alive does. A [`WeakSender`](crate::broadcast::WeakSender)
     /// does not.
@@ -137,6 +139,29 @@ impl Recorder {
     ) -> &Recorder {
         self.expect_own(handle.recorded().channel);
         handle.set_text_of(self.1.hold(text));
+        self
+    }
+
+    /// Cuts the texts of values that have more than this many bytes, from now on. Returns the recorder, for the next call.
+    ///
+    /// Unless this is called, a text has 4096 bytes at most. Of a longer one, the names have its beginning, and how long it is. The texts of all
+    /// values are in the names and in the page, which would not be opened if it was too large.
+    ///
+    /// # Examples
+    ///
+    /// ```
+    /// use yovanelum::{Recorder, broadcast};
+    ///
+    /// let recorder = Recorder::new();
+    /// let _entered = recorder.enter();
+    /// let (files, _reader) = broadcast::channel(2);
+    /// recorder.cut_texts_at(8).show(&files, |file: &String| file.clone());
+    /// files.send("a line of a file".to_string()).unwrap();
+    /// files.send("a line".to_string()).unwrap();
+    /// assert!(recorder.names().contains(r#"{"0": "a line o… (16 bytes)", "1": "a line"}"#));
+    /// ```
+    pub fn cut_texts_at(&self, bytes: usize) -> &Recorder {
+        self.1.cut_at(bytes);
         self
     }
 

@@ -1,17 +1,23 @@
 //! Recorders that replay a journal.
 
+use super::files::file_name;
+use super::test_run::TestRun;
 use super::{Recorder, Shared};
+use crate::channel::CallSite;
+use crate::explore;
+use crate::names::{Names, TestId};
+use crate::program::Program;
 use crate::replay::{self, Replayed, TestEnd};
-use std::borrow::Cow;
 use std::path::{Path, PathBuf};
-use std::sync::Arc;
-use std::{env, io};
+use std::sync::atomic::{AtomicBool, Ordering};
+use std::sync::{Arc, OnceLock};
+use std::{env, fs, io};
 
 /// The variable that names the journal which a test replays.
 pub(super) const REPLAY: &str = "YOVANELUM_REPLAY";
 
 /// What the name of a file has more if a replay has written it. So no replay overwrites the journal that it reads.
-const REPLAYED: &str = ".replayed";
+pub(super) const REPLAYED: &str = ".replayed";
 
 impl Recorder {
     /// Creates a recorder under which the calls of a journal are made again in its order.
@@ -94,48 +100,108 @@ impl Recorder {
     ///
     /// Panics if the journal can't be read.
     pub(super) fn of_test(name: &str) -> Recorder {
-        let Some(path) = env::var_os(REPLAY) else {
+        let Some(named) = Named::by_variable() else {
             return Recorder::new();
         };
-        let path = found(PathBuf::from(path));
-        if !is_journal_of(&path, name) {
+        let path = &named.path;
+        if !named.is_of(name) {
             replay::say(&format!(
                 "{name} isn't replayed, since {REPLAY} names another journal: {}",
                 path.display()
             ));
             return Recorder::new();
         }
-        let recorder = Recorder::replay(path);
+        let followed = explore::follow(path);
+        let recorder = followed.and_then(|is_followed| match is_followed {
+            true => Ok(Recorder::new()),
+            false => Recorder::replay(path),
+        });
         recorder.unwrap_or_else(|error| panic!("yovanelum: {REPLAY} names no journal: {error}"))
     }
 
+    /// Says that the test with this name isn't replayed, if the variable names its journal and this recorder replays none.
+    pub(super) fn say_if_not_replayed(&self, name: &str) {
+        if self.0.gate.is_none() && Named::by_variable().is_some_and(|named| named.is_of(name)) {
+            replay::say(&format!(
+                "{name} isn't replayed, though {REPLAY} names its journal: `Recorder::for_test` and `Recorder::replay` make recorders that do"
+            ));
+        }
+    }
+}
+
+impl Shared {
     /// Ends the replay of a test, if it is one, and says how it went.
-    pub(super) fn end_replay_of_test(&self, has_failed: bool) {
-        if let Some(gate) = &self.0.gate {
+    pub(super) fn end_replay(&self, test: &TestRun, has_failed: bool) {
+        if let Some(gate) = &self.gate {
+            let panics = test.panics();
             gate.conclude(match has_failed {
-                true => TestEnd::Failed,
+                true => TestEnd::Failed(&panics),
                 false => TestEnd::Passed,
             });
         }
     }
 }
 
-impl Shared {
-    /// Returns the name of the files of a test: its own, or one that a replay writes.
-    pub(super) fn name_of_files<'a>(&self, name: &'a str) -> Cow<'a, str> {
-        let read = self.gate.as_ref().and_then(|gate| gate.path().file_stem());
-        match read {
-            Some(read) => format!("{}{REPLAYED}", read.to_string_lossy()).into(),
-            None => name.into(),
-        }
+/// Says that a channel that is created here in the source isn't replayed, if the variable names a journal. The crate may be part of a program in
+/// which no recorder follows it.
+pub(crate) fn say_that_none_replays(made_at: CallSite) {
+    static IS_SAID: AtomicBool = AtomicBool::new(false);
+    if IS_SAID.load(Ordering::Relaxed) || Named::by_variable().is_none() {
+        return;
+    }
+    if !IS_SAID.swap(true, Ordering::Relaxed) {
+        let at = made_at.map_or_else(String::new, |at| format!(" at {}:{}", at.file(), at.line()));
+        replay::say(&format!(
+            "{REPLAY} is set, and no recorder follows it for the channel that is made{at}: its calls are in no order"
+        ));
     }
 }
 
-/// Whether a journal with this path is one of the test with this name, or of a replay of it.
+/// The journal that the variable names, and the test that it is of if the names beside it say so.
+struct Named {
+    path: PathBuf,
+    test: Option<TestId>,
+}
+
+impl Named {
+    /// Returns the journal, if the variable is set. It is looked for once.
+    fn by_variable() -> Option<&'static Named> {
+        static NAMED: OnceLock<Option<Named>> = OnceLock::new();
+        let find = || {
+            let path = found(PathBuf::from(env::var_os(REPLAY)?));
+            let names = fs::read_to_string(path.with_extension("names")).ok();
+            let test = names.and_then(|names| Names::read(&names).ok()?.ending.test);
+            Some(Named { path, test })
+        };
+        NAMED.get_or_init(find).as_ref()
+    }
+
+    /// Whether it is one of the test with this name in this program.
+    fn is_of(&self, name: &str) -> bool {
+        let Some(test) = &self.test else {
+            return is_journal_of(&self.path, name);
+        };
+        let program = Program::this();
+        // Where a program doesn't know what it is, its tests are known by their names.
+        let is_same = |known: &str, of_program: Option<&str>| {
+            known.is_empty() || of_program.is_none_or(|of_program| of_program == known)
+        };
+        let target = Some(program.target.name.as_str()).filter(|_| program.package.is_some());
+        test.name == name
+            && is_same(&test.package, program.package.as_deref())
+            && is_same(&test.target, target)
+    }
+}
+
+/// Whether a journal with this path, which has no names that say so, is one of the test with this name, or of a replay of it.
 fn is_journal_of(path: &Path, name: &str) -> bool {
     let stem = path.file_stem().unwrap_or_default().to_string_lossy();
-    let rest = stem.strip_prefix(&name.replace('/', "_"));
-    rest.is_some_and(|rest| rest.replace(REPLAYED, "").is_empty())
+    // Before there were folders, a `/` was written as `_`.
+    let names = [file_name(name), name.replace('/', "_")];
+    let mut rests = names
+        .iter()
+        .filter_map(|name| stem.strip_prefix(name.as_str()));
+    rests.any(|rest| rest.replace(REPLAYED, "").is_empty())
 }
 
 /// Returns the path of a file. A relative one may be meant from the folder of the workspace, while a test runs in that of its package.
@@ -153,10 +219,30 @@ mod tests {
     #[test]
     fn a_journal_is_of_the_test_whose_name_it_has() {
         let is_of = |file: &str| is_journal_of(&Path::new("target/yovanelum").join(file), "a/test");
+        assert!(is_of("a%2Ftest.journal"));
         assert!(is_of("a_test.journal"));
         assert!(is_of("a_test.replayed.journal"));
         assert!(is_of("a_test.replayed.replayed.journal"));
         assert!(!is_of("a_test_too.journal"));
         assert!(!is_of("another.journal"));
+    }
+
+    #[test]
+    #[cfg_attr(target_family = "wasm", ignore = "WebAssembly names no program")]
+    fn a_journal_is_of_the_test_that_its_names_say() {
+        let named = |package: &str, target: &str, name: &str| Named {
+            path: PathBuf::from("x/downloaded.journal"),
+            test: Some(TestId {
+                package: package.to_string(),
+                target: target.to_string(),
+                name: name.to_string(),
+                thread: String::new(),
+            }),
+        };
+        assert!(named("yovanelum", "yovanelum", "it ends").is_of("it ends"));
+        assert!(named("", "", "it ends").is_of("it ends"));
+        assert!(!named("yovanelum", "yovanelum", "it ends").is_of("it begins"));
+        assert!(!named("shop", "yovanelum", "it ends").is_of("it ends"));
+        assert!(!named("yovanelum", "bus", "it ends").is_of("it ends"));
     }
 }

@@ -1,16 +1,21 @@
 //! The run of a recorder at one moment: its journal, the names beside it, and the calls that wait.
 
 use super::Shared;
+use super::test_run::TestRun;
 use super::waiting::Waiting;
+use crate::backend::{Actor, Cut, CutFault};
 use crate::channel::{CallSites, ChannelState};
-use crate::core::{self, Cut, CutFault};
-use crate::lock::lock;
-use crate::names::{Names, SourceLocation, WaitingCall};
+use crate::lock::{lock, try_lock_for};
+use crate::names::{HeldBy, Names, SourceLocation, WaitingCall};
+use crate::run;
+use crate::source::rw_law::NoMemory;
+use crate::wait::Awaited;
 use std::collections::HashMap;
 use std::panic::Location;
 use std::path::Path;
 use std::sync::{Arc, Mutex};
-use std::{fs, io};
+use std::time::Duration;
+use std::{fs, io, ptr};
 
 /// Why a recorder without channels has no journal.
 const NO_CHANNEL: &str = "no channel belongs to this recorder. It records those that are created on a thread that has entered it \
@@ -24,6 +29,8 @@ const IS_OFF: &str = "this recorder is off, so it records nothing. `Recorder::ne
 pub(crate) struct Run<'a> {
     shared: &'a Shared,
     channels: Vec<Arc<Mutex<ChannelState>>>,
+    // How many channels are left out, since they are locked.
+    locked: u64,
 }
 
 impl Shared {
@@ -32,7 +39,22 @@ impl Shared {
         Run {
             shared: self,
             channels: lock(&self.channels).clone(),
+            locked: 0,
         }
+    }
+
+    /// Returns the run without the channels that this thread may have locked: those that aren't free for this time. Returns `None` if it can't be
+    /// read at all.
+    pub(super) fn readable_run(&self, patience: Duration) -> Option<Run<'_>> {
+        let mut channels = try_lock_for(&self.channels, patience)?.clone();
+        drop(try_lock_for(&self.actors, patience)?);
+        let all = channels.len();
+        channels.retain(|channel| try_lock_for(channel, patience).is_some());
+        Some(Run {
+            shared: self,
+            locked: (all - channels.len()) as u64,
+            channels,
+        })
     }
 }
 
@@ -46,34 +68,37 @@ impl Run<'_> {
         entries.sum()
     }
 
-    /// Returns the text of what the channels have recorded up to now.
-    pub(crate) fn journal(&self) -> io::Result<String> {
+    /// Returns what the channels have recorded up to now.
+    fn recorded(&self) -> io::Result<run::Run> {
         // Each call gets its number under its channel's lock. So once `cut` has locked a channel, its calls before the cut are recorded.
-        let text = self.cut(self.shared.last()).map_err(|fault| {
+        self.cut(self.shared.last()).map_err(|fault| {
             io::Error::other(match fault {
                 CutFault::NoChannels if self.shared.is_off => IS_OFF.to_string(),
                 CutFault::NoChannels => NO_CHANNEL.to_string(),
-                fault => fault.to_string(),
+                CutFault::NoMemory => "no memory for the journal".to_string(),
+                // No recorder has more than 64 channels, and the stamps of each rise.
+                CutFault::TooManyChannels | CutFault::OutOfOrder => fault.to_string(),
             })
-        })?;
-        String::from_utf8(text).map_err(io::Error::other)
+        })
     }
 
-    /// Returns the text of what the channels have recorded up to this stamp.
-    fn cut(&self, last: u64) -> Result<Vec<u8>, CutFault> {
-        let mut cut = Cut::new()?;
+    /// Returns the text of what the channels have recorded up to now.
+    pub(crate) fn journal(&self) -> io::Result<String> {
+        text_of(&self.recorded()?)
+    }
+
+    /// Returns what the channels have recorded up to this stamp.
+    fn cut(&self, last: u64) -> Result<run::Run, CutFault> {
+        let mut cut = Cut::new();
         for channel in &self.channels {
             cut.add(lock(channel).core.recorded(), last)?;
         }
-        cut.text()
+        cut.run()
     }
 
     /// Returns what is known of the run beside its journal.
     pub(crate) fn names(&self) -> Names {
-        let mut names = Names {
-            core: core::NOTE.map(str::to_string),
-            ..Names::default()
-        };
+        let mut names = Names::default();
         let mut indexes = Indexes::default();
         for (number, channel) in (0..).zip(&self.channels) {
             add_channel(&mut names, &mut indexes, number, &lock(channel));
@@ -86,6 +111,8 @@ impl Run<'_> {
             .collect();
         names.matching.unnamed = actors.unnamed().clone();
         names.locations = indexes.locations;
+        names.ending.unrecorded = self.shared.unrecorded();
+        names.ending.unrecorded.locked = self.locked;
         names.waiting.sort_by_key(|wait| wait.since);
         names
     }
@@ -95,49 +122,83 @@ impl Run<'_> {
         let mut waiting = vec![];
         for (number, channel) in (0..).zip(&self.channels) {
             let state = lock(channel);
+            // Under the channel's lock: an actor has its name before it waits.
+            let actors = match state.waits.is_empty() {
+                true => continue,
+                false => lock(&self.shared.actors).names(),
+            };
+            let name = |actor: Actor| actors[actor.number() as usize].clone();
             let waits = state.waits.items();
-            waiting.extend(waits.map(|wait| (wait.actor, Waiting::new(wait, number, &state))));
+            waiting.extend(waits.map(|wait| Waiting::new(wait, number, &state, name)));
         }
-        // After the channels: an actor has its name before it waits.
-        let actors = lock(&self.shared.actors).names();
-        let named = waiting.into_iter().map(|(actor, mut waiting)| {
-            waiting.actor = actors[actor.number() as usize].clone();
-            waiting
-        });
-        let mut waiting: Vec<_> = named.collect();
         waiting.sort_by_key(Waiting::since);
         waiting
     }
 
-    /// Returns the journal text, and the names that belong to it.
-    pub(crate) fn journal_and_names(&self) -> io::Result<(String, Names)> {
-        let journal = self.journal()?;
+    /// Returns the recorded run, its journal text, and the names that belong to it. They are also about the test, if it is one of a test.
+    pub(super) fn saved(&self, test: Option<&TestRun>) -> io::Result<Saved> {
+        let run = self.recorded()?;
+        let journal = text_of(&run)?;
         let mut names = self.names();
-        names.fit_to(&journal);
-        Ok((journal, names))
+        if let Some(test) = test {
+            test.add_to(&mut names);
+        }
+        names.fit_to(&run, &journal);
+        names.add_sources();
+        Ok(Saved {
+            run,
+            journal,
+            names,
+        })
     }
 
     /// Writes the journal to this file, and the names to the one beside it.
     pub(crate) fn save(&self, path: &Path) -> io::Result<()> {
-        let (journal, names) = self.journal_and_names()?;
+        let Saved { journal, names, .. } = self.saved(None)?;
         fs::write(path, journal)?;
         fs::write(path.with_extension("names"), names.to_json())
     }
 }
+
+/// A recorded run, as its files have it.
+pub(crate) struct Saved {
+    pub(crate) run: run::Run,
+    pub(crate) journal: String,
+    pub(crate) names: Names,
+}
+
+fn text_of(run: &run::Run) -> io::Result<String> {
+    let text = run.text();
+    let text = text.map_err(|NoMemory| io::Error::other("no memory for the journal"))?;
+    String::from_utf8(text).map_err(io::Error::other)
+}
+
+/// How many locations are looked up without a hash. A loop makes its calls at a few places.
+const RECENT: usize = 16;
 
 /// The locations of a run without repeats, and the index of each.
 #[derive(Default)]
 struct Indexes {
     locations: Vec<SourceLocation>,
     by_location: HashMap<&'static Location<'static>, usize>,
+    // Some that were looked up last, by a part of their address.
+    recent: [Option<(&'static Location<'static>, usize)>; RECENT],
 }
 
 impl Indexes {
     fn of(&mut self, location: &'static Location<'static>) -> usize {
-        *self.by_location.entry(location).or_insert_with(|| {
+        let address = ptr::from_ref(location).addr() / align_of::<Location<'_>>();
+        if let Some((recent, index)) = self.recent[address % RECENT] {
+            if ptr::eq(recent, location) {
+                return index;
+            }
+        }
+        let index = *self.by_location.entry(location).or_insert_with(|| {
             self.locations.push(location.into());
             self.locations.len() - 1
-        })
+        });
+        self.recent[address % RECENT] = Some((location, index));
+        index
     }
 
     fn of_all(&mut self, sites: &CallSites) -> Vec<Option<usize>> {
@@ -186,6 +247,40 @@ fn add_channel(names: &mut Names, indexes: &mut Indexes, number: u64, channel: &
         call: wait.method.name.to_string(),
         since: wait.since,
         location: wait.method.called_at.map(|location| indexes.of(location)),
+        held_by: match wait.awaited {
+            Awaited::Value | Awaited::NoReceiver => None,
+            Awaited::Lock(look) => Some(HeldBy {
+                actor: look.map(|look| look.actor.number().into()),
+                location: look
+                    .and_then(|look| look.called_at)
+                    .map(|location| indexes.of(location)),
+            }),
+        },
     });
     names.waiting.extend(waits);
+}
+
+#[cfg(test)]
+mod tests {
+    use super::*;
+    use crate::{Handle, Recorder, broadcast};
+
+    #[test]
+    fn a_channel_that_this_thread_has_locked_is_left_out() {
+        let recorder = Recorder::new();
+        let _entered = recorder.enter();
+        let (orders, _audit) = broadcast::channel::<u32>(2);
+        let (prices, _chart) = broadcast::channel(4);
+        recorder.name(&orders, "orders").name(&prices, "prices");
+        prices.send(101).unwrap();
+        let locked = lock(&orders.recorded().channel.state);
+        let run = recorder.0.readable_run(Duration::ZERO).unwrap();
+        let Saved { journal, names, .. } = run.saved(None).unwrap();
+        assert!(journal.starts_with("ttd-journal 2\nbroadcast 4\nsteps\n"));
+        assert_eq!(names.channels, [(0, "prices".to_string())].into());
+        assert_eq!(names.ending.unrecorded.locked, 1);
+        drop(locked);
+        let _all = lock(&recorder.0.actors);
+        assert!(recorder.0.readable_run(Duration::ZERO).is_none());
+    }
 }

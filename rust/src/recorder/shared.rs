@@ -3,16 +3,17 @@
 use super::texts::Texts;
 use crate::actors::{self, Actors};
 use crate::atomic::AtomicU64;
+use crate::backend::Actor;
 use crate::channel::{CallSite, ChannelState};
-use crate::core::Actor;
-use crate::lock::lock;
-use crate::names::Maker;
+use crate::lock::{lock, try_lock_for};
+use crate::names::{Maker, Unrecorded};
 use crate::replay::{self, Gate};
 use std::collections::HashMap;
 use std::io;
 use std::path::Path;
-use std::sync::atomic::{AtomicBool, Ordering};
+use std::sync::atomic::{AtomicBool, AtomicUsize, Ordering};
 use std::sync::{Arc, Mutex, Weak};
+use std::time::Duration;
 
 /// How many channels a run has at most.
 const MOST_CHANNELS: usize = 64;
@@ -38,7 +39,7 @@ pub(crate) struct Shared {
     // The last stamp that is recorded.
     end: AtomicU64,
     pub(super) is_quiet: AtomicBool,
-    told_of: Told,
+    left_out: LeftOut,
     pub(super) channels: Mutex<Vec<Arc<Mutex<ChannelState>>>>,
     pub(super) actors: Mutex<Actors>,
     // Of a replay.
@@ -49,18 +50,18 @@ pub(crate) struct Shared {
     texts: Mutex<Weak<Texts>>,
 }
 
-/// Which lines were written to standard error. Each is written once.
+/// How many channels were left out, by the reason.
 #[derive(Default)]
-struct Told {
-    channel_that_left: AtomicBool,
-    too_many_channels: AtomicBool,
-    too_many_handles: AtomicBool,
+struct LeftOut {
+    channels_that_left: AtomicUsize,
+    too_many_channels: AtomicUsize,
+    too_many_handles: AtomicUsize,
 }
 
-/// Writes a line to standard error, unless it was written before.
+/// Counts a channel, and writes a line to standard error if it is the first one.
 #[cold]
-fn tell_once(is_told: &AtomicBool, line: &str) {
-    if !is_told.swap(true, Ordering::Relaxed) {
+fn count_and_tell(count: &AtomicUsize, line: &str) {
+    if count.fetch_add(1, Ordering::Relaxed) == 0 {
         eprintln!("yovanelum: {line}");
     }
 }
@@ -75,7 +76,7 @@ impl Shared {
             has_several: AtomicBool::new(false),
             end: AtomicU64::new(NEVER),
             is_quiet: AtomicBool::new(false),
-            told_of: Told::default(),
+            left_out: LeftOut::default(),
             channels: Mutex::default(),
             actors: Mutex::default(),
             gate: None,
@@ -93,6 +94,11 @@ impl Shared {
         Ok(shared)
     }
 
+    /// Whether channels that are created under this recorder aren't recorded.
+    pub(crate) fn is_off(&self) -> bool {
+        self.is_off
+    }
+
     /// Returns who makes a channel now. It is called once for each channel of this recorder.
     pub(crate) fn maker(&self) -> Maker {
         let name = actors::name_of_caller();
@@ -104,6 +110,15 @@ impl Shared {
         let nth = *count;
         *count += 1;
         Maker { name, nth }
+    }
+
+    /// Returns the names of channels that have one, by number.
+    pub(crate) fn channel_names(&self) -> Vec<(u32, String)> {
+        let channels = lock(&self.channels);
+        let named = (0..).zip(&*channels);
+        named
+            .filter_map(|(number, channel)| Some((number, lock(channel).name.clone()?)))
+            .collect()
     }
 
     /// Returns the functions that the recorder's handles hold.
@@ -147,7 +162,10 @@ impl Shared {
     /// Returns the actor of a call that is made here in the source.
     #[inline]
     pub(crate) fn actor(&self, called_at: CallSite) -> Actor {
-        actors::current(self.id, move |task| self.find_actor(task, called_at))
+        match actors::cached(self.id) {
+            Some(actor) => actor,
+            None => actors::current(self.id, |task| self.find_actor(task, called_at)),
+        }
     }
 
     #[cold]
@@ -159,6 +177,24 @@ impl Shared {
             );
         }
         actor
+    }
+
+    /// Returns the number of the current actor, if it has one and that can be read in this time.
+    pub(super) fn known_actor(&self, patience: Duration) -> Option<u64> {
+        let actors = try_lock_for(&self.actors, patience)?;
+        actors.known().map(|actor| actor.number().into())
+    }
+
+    /// Returns what was called and isn't in the journal.
+    pub(super) fn unrecorded(&self) -> Unrecorded {
+        let count = |count: &AtomicUsize| count.load(Ordering::Relaxed) as u64;
+        Unrecorded {
+            channels: count(&self.left_out.too_many_channels),
+            left: count(&self.left_out.channels_that_left),
+            calls: self.has_ended(),
+            handles: count(&self.left_out.too_many_handles),
+            locked: 0,
+        }
     }
 
     /// Whether questions leave no entry.
@@ -179,8 +215,8 @@ impl Shared {
     /// Reports that a channel makes more handles than a journal names.
     #[cold]
     pub(crate) fn tell_of_too_many_handles(&self) {
-        tell_once(
-            &self.told_of.too_many_handles,
+        count_and_tell(
+            &self.left_out.too_many_handles,
             "a channel has made as many handles as a journal names (65536); its recording ended there, and its calls go on unrecorded",
         );
     }
@@ -198,8 +234,8 @@ impl Shared {
             left = channels.iter().position(|other| lock(other).is_dead());
             if left.is_none() {
                 drop(channels);
-                tell_once(
-                    &self.told_of.too_many_channels,
+                count_and_tell(
+                    &self.left_out.too_many_channels,
                     "64 channels of a run are alive; this channel is recorded by none, as is each one that is created while they are",
                 );
                 return false;
@@ -209,8 +245,8 @@ impl Shared {
         channels.push(channel.clone());
         drop(channels);
         if left.is_some() {
-            tell_once(
-                &self.told_of.channel_that_left,
+            count_and_tell(
+                &self.left_out.channels_that_left,
                 "a run has 64 channels; from here on, the oldest one whose senders and receivers are dropped leaves it for each new one",
             );
         }
@@ -231,7 +267,9 @@ impl RecordedBy {
     /// Returns the actor of a call that is made here in the source. What isn't recorded has the first one.
     #[inline]
     pub(crate) fn actor(&self, called_at: CallSite) -> Actor {
-        let actor = self.0.as_ref().map(|recorder| recorder.actor(called_at));
-        actor.unwrap_or(Actor::FIRST)
+        match &self.0 {
+            Some(recorder) => recorder.actor(called_at),
+            None => Actor::FIRST,
+        }
     }
 }

@@ -3,15 +3,22 @@
 //! A recorder holds them, and its channels know them weakly. A function may hold a sender or a receiver. If the channel held it, the channel
 //! would hold itself, and stay open forever.
 
+use crate::cut::start_of;
 use crate::lock::lock;
 use crate::replay::{Gate, TestEnd};
 use std::any::Any;
 use std::collections::HashMap;
+use std::sync::atomic::{AtomicUsize, Ordering};
 use std::sync::{Arc, Mutex, Weak};
+
+/// How many bytes a text has at most, unless the recorder is told otherwise.
+const MOST_BYTES: usize = 4096;
 
 /// The functions that a recorder holds, until its last handle is dropped. Then its replay ends too, if it has one.
 pub(crate) struct Texts {
     functions: Mutex<Functions>,
+    // How many bytes a text has at most. Each function has it too, so that it needs no handle of the recorder.
+    most_bytes: Arc<AtomicUsize>,
     replay: Option<Arc<Gate>>,
 }
 
@@ -26,6 +33,7 @@ pub struct TextOf<T> {
     function: Weak<dyn Fn(&T) -> String + Send + Sync>,
     held_by: Weak<Texts>,
     number: u64,
+    most_bytes: Arc<AtomicUsize>,
 }
 
 impl Drop for Texts {
@@ -40,8 +48,14 @@ impl Texts {
     pub(super) fn new(replay: Option<Arc<Gate>>) -> Texts {
         Texts {
             functions: Mutex::default(),
+            most_bytes: Arc::new(AtomicUsize::new(MOST_BYTES)),
             replay,
         }
+    }
+
+    /// Cuts texts that have more bytes than this, from now on.
+    pub(super) fn cut_at(&self, bytes: usize) {
+        self.most_bytes.store(bytes, Ordering::Relaxed);
     }
 
     /// Holds a function.
@@ -58,6 +72,7 @@ impl Texts {
             function: Arc::downgrade(&function) as _,
             held_by: Arc::downgrade(self),
             number,
+            most_bytes: self.most_bytes.clone(),
         }
     }
 }
@@ -65,8 +80,19 @@ impl Texts {
 impl<T> TextOf<T> {
     /// Returns the text of a value, if the recorder still holds the function.
     pub(crate) fn text(&self, value: &T) -> Option<String> {
-        self.function.upgrade().map(|function| function(value))
+        let text = self.function.upgrade().map(|function| function(value))?;
+        let most = self.most_bytes.load(Ordering::Relaxed);
+        Some(match text.len() > most {
+            true => cut(&text, most),
+            false => text,
+        })
     }
+}
+
+/// Returns the start of a text, and how long the whole is.
+#[cold]
+fn cut(text: &str, most: usize) -> String {
+    format!("{}… ({} bytes)", start_of(text, most), text.len())
 }
 
 impl<T> Drop for TextOf<T> {
@@ -77,5 +103,16 @@ impl<T> Drop for TextOf<T> {
         let function = lock(&texts.functions).by_number.remove(&self.number);
         // This runs user code, so nothing is locked here.
         drop(function);
+    }
+}
+
+#[cfg(test)]
+mod tests {
+    use super::*;
+
+    #[test]
+    fn a_text_that_is_cut_says_how_long_it_was() {
+        assert_eq!(cut("price: 101", 5), "price… (10 bytes)");
+        assert_eq!(cut("é🦀", 0), "… (6 bytes)");
     }
 }

@@ -1,8 +1,10 @@
 //! The calls that wait, as a recorder lists them.
 
 use super::Recorder;
+use crate::backend::Actor;
 use crate::channel::ChannelState;
-use crate::wait::{Wait, WaitFor};
+use crate::handle::Kind;
+use crate::wait::{Awaited, Wait};
 use std::fmt;
 use std::panic::Location;
 
@@ -10,8 +12,9 @@ impl Recorder {
     /// Returns the calls on this recorder's channels that wait now, in the order in which they began to.
     ///
     /// These are the calls of `recv`, `blocking_recv`, `changed`, `wait_for` and `closed` that were polled and have not ended. A future that
-    /// was dropped no longer waits, and one that was woken does until it is polled again. A sender of a watch that blocks while a
-    /// [`Ref`](crate::watch::Ref) is alive is not among them. This can be called at any time, also while other threads use the channels.
+    /// was dropped no longer waits, and one that was woken does until it is polled again. A call on a watch that blocks its thread is among
+    /// them, such as a `send` while a [`Ref`](crate::watch::Ref) is alive. This can be called at any time, also while other threads use the
+    /// channels.
     ///
     /// # Examples
     ///
@@ -73,18 +76,32 @@ pub struct Waiting {
     call: &'static str,
     since: u64,
     location: Option<&'static Location<'static>>,
+    // Whether it blocks for the lock of a watch's value.
+    waits_for_lock: bool,
+    // The look that holds that lock, if it is known: who took it, and where.
+    held_by: Option<(String, Option<&'static Location<'static>>)>,
 }
 
 impl Waiting {
-    /// Wraps a call of the channel with this number. Its actor has no name yet.
-    pub(super) fn new(wait: &Wait, number: u64, channel: &ChannelState) -> Waiting {
-        let kind = match wait.wait_for {
-            WaitFor::Value => "receiver",
-            WaitFor::NoReceiver => "sender",
+    /// Wraps a call of the channel with this number. `name` names actors.
+    pub(super) fn new(
+        wait: &Wait,
+        number: u64,
+        channel: &ChannelState,
+        name: impl Fn(Actor) -> String,
+    ) -> Waiting {
+        let kind = match wait.kind {
+            Kind::Receiver => "receiver",
+            Kind::Sender => "sender",
+            Kind::WeakSender => "weak sender",
+        };
+        let (waits_for_lock, look) = match wait.awaited {
+            Awaited::Value | Awaited::NoReceiver => (false, None),
+            Awaited::Lock(look) => (true, look),
         };
         let handle = channel.handle_names.get(&wait.handle.into()).cloned();
         Waiting {
-            actor: String::new(),
+            actor: name(wait.actor),
             channel: channel
                 .name
                 .clone()
@@ -93,6 +110,8 @@ impl Waiting {
             call: wait.method.name,
             since: wait.since,
             location: wait.method.called_at,
+            waits_for_lock,
+            held_by: look.map(|look| (name(look.actor), look.called_at)),
         }
     }
 
@@ -121,6 +140,32 @@ impl Waiting {
         self.since
     }
 
+    /// Returns who took the look for which the call waits, and where, if it waits for the lock of a watch's value and they are known.
+    ///
+    /// # Examples
+    ///
+    /// ```
+    /// use std::thread;
+    /// use yovanelum::{Recorder, watch};
+    ///
+    /// let recorder = Recorder::new();
+    /// let _entered = recorder.enter();
+    /// let (state, rx) = watch::channel("loading");
+    /// let look = rx.borrow();
+    /// let sender = thread::spawn(move || state.send("ready").unwrap());
+    /// while recorder.waiting().is_empty() {
+    ///     thread::yield_now();
+    /// }
+    /// let (_actor, location) = recorder.waiting()[0].held_by().unwrap();
+    /// assert_eq!(location.unwrap().file(), file!());
+    /// drop(look);
+    /// sender.join().unwrap();
+    /// ```
+    pub fn held_by(&self) -> Option<(&str, Option<&'static Location<'static>>)> {
+        let (actor, location) = self.held_by.as_ref()?;
+        Some((actor, *location))
+    }
+
     /// Returns where the method was called.
     ///
     /// It is `None` if that is not known. For a stream, it is where the stream was made.
@@ -130,11 +175,20 @@ impl Waiting {
 }
 
 impl fmt::Display for Waiting {
-    /// Formats it as in ``worker in `state.wait_for`, src/worker.rs:30``.
+    /// Formats it as in ``worker in `state.wait_for`, src/worker.rs:30``, or
+    /// ``main in `state.send`, src/main.rs:9, for a look taken at src/main.rs:8 by main``.
     fn fmt(&self, f: &mut fmt::Formatter<'_>) -> fmt::Result {
         write!(f, "{} in `{}.{}`", self.actor, self.channel, self.call)?;
-        match self.location {
-            Some(location) => write!(f, ", {}:{}", location.file(), location.line()),
+        if let Some(location) = self.location {
+            write!(f, ", {}:{}", location.file(), location.line())?;
+        }
+        match &self.held_by {
+            Some((actor, Some(location))) => {
+                let (file, line) = (location.file(), location.line());
+                write!(f, ", for a look taken at {file}:{line} by {actor}")
+            }
+            Some((actor, None)) => write!(f, ", for a look taken by {actor}"),
+            None if self.waits_for_lock => write!(f, ", for the lock of the value"),
             None => Ok(()),
         }
     }

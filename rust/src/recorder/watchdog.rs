@@ -1,12 +1,14 @@
 //! A thread that says which calls wait if a test has not ended in time.
 
-use super::ending::{self, WRITING, journal_path};
-use super::{ForTest, Recorder, SaveOnPanic, Shared};
+use super::ending::{self, WRITING};
+use super::run::Saved;
+use super::test_run::TestRun;
+use super::{ForTest, SaveOnPanic, Shared, replay_line};
 use crate::lock::lock;
 use crate::report::Report;
 use std::io::{self, Write};
+use std::sync::Arc;
 use std::sync::mpsc::{self, Receiver, RecvTimeoutError, Sender, TryRecvError};
-use std::sync::{Arc, Weak};
 use std::thread;
 use std::time::Duration;
 
@@ -22,12 +24,11 @@ pub(super) struct Watchdog {
 
 impl Watchdog {
     /// Starts the thread. If there can be none, a line on standard error says so.
-    fn start(recorder: &Recorder, name: &str, after: Duration) -> Watchdog {
+    fn start(test: &Arc<TestRun>, after: Duration) -> Watchdog {
         let (is_running, ended) = mpsc::channel();
+        let name = test.name.clone();
         let watched = Watched {
-            // A recorder that is held would hold the functions of `show`, and they may hold channels open.
-            recorder: Arc::downgrade(&recorder.0),
-            name: name.to_string(),
+            test: test.clone(),
             after,
             ended,
         };
@@ -43,8 +44,7 @@ impl Watchdog {
 
 /// What the thread of a watchdog watches.
 struct Watched {
-    recorder: Weak<Shared>,
-    name: String,
+    test: Arc<TestRun>,
     after: Duration,
     ended: Receiver<()>,
 }
@@ -55,28 +55,42 @@ impl Watched {
             let _writing = lock(&WRITING);
             // A test that has ended since has written what there was to write.
             let has_ended = self.ended.try_recv() == Err(TryRecvError::Disconnected);
-            if let Some(recorder) = self.recorder.upgrade().filter(|_| !has_ended) {
-                self.report(&recorder);
+            if let Some(recorder) = self.test.recorder.upgrade().filter(|_| !has_ended) {
+                let why = format!("has not ended after {:?}", self.after);
+                self.test.report_waiting(&recorder, &why, false);
             }
         }
     }
+}
 
-    /// Writes the files, and then to standard error. `eprintln` would keep the lines of a test until its end, which may never come.
-    fn report(&self, recorder: &Shared) {
-        let path = journal_path(&recorder.name_of_files(&self.name));
+impl TestRun {
+    /// Writes the files of this test, which hangs in a run that is explored, and says who waits.
+    pub(super) fn report_hung(&self) {
+        let _writing = lock(&WRITING);
+        if let Some(recorder) = self.recorder.upgrade() {
+            self.report_waiting(&recorder, "hangs: everybody waits forever", true);
+        }
+    }
+
+    /// Writes the files of this test, and then to standard error. `eprintln` would keep the lines of a test until its end, which may never come.
+    fn report_waiting(&self, recorder: &Shared, why: &str, is_replayed: bool) {
+        let path = self.journal_path(recorder);
         let run = recorder.run();
-        let saved = run.journal_and_names().and_then(|(journal, names)| {
-            let place = Report::new(&journal, &names).map_or(0, |report| report.place());
+        let saved = run.saved(Some(self)).and_then(|saved| {
+            let Saved {
+                run,
+                journal,
+                mut names,
+            } = saved;
+            let report = Report::on(&run, &names);
+            let place = report.as_ref().map_or(0, Report::place);
+            names.account = report.ok().map(|report| report.account().to_json());
             ending::write(&path, &journal, &names, place)
         });
-        let (name, after, path) = (&self.name, self.after, path.display());
+        let (name, shown) = (&self.name, path.display());
         let mut lines = match &saved {
-            Ok(_) => format!(
-                "yovanelum: {name} has not ended after {after:?}; its calls so far are in {path}\n"
-            ),
-            Err(error) => format!(
-                "yovanelum: {name} has not ended after {after:?}; {path} isn't written: {error}\n"
-            ),
+            Ok(_) => format!("yovanelum: {name} {why}; its calls so far are in {shown}\n"),
+            Err(error) => format!("yovanelum: {name} {why}; {shown} isn't written: {error}\n"),
         };
         let waiting = run.waiting();
         for call in waiting.iter().take(LISTED) {
@@ -91,6 +105,9 @@ impl Watched {
         }
         if let Ok(look) = saved {
             lines.push_str(&format!("look: {look}\n"));
+            if is_replayed {
+                lines.push_str(&replay_line::of(&path, self));
+            }
         }
         // If standard error is closed, nobody reads it.
         let _ = io::stderr().write_all(lines.as_bytes());
@@ -122,9 +139,9 @@ impl ForTest {
     /// If a worker waited in it for another state, these lines would appear after ten seconds:
     ///
     /// ```text
-    /// yovanelum: the_state_is_ready has not ended after 10s; its calls so far are in /shop/target/yovanelum/the_state_is_ready.journal
+    /// yovanelum: the_state_is_ready has not ended after 10s; its calls so far are in /shop/target/yovanelum/shop/lib/the_state_is_ready.journal
     /// yovanelum: still waiting: worker in `state.wait_for`, src/worker.rs:30
-    /// look: file:///shop/target/yovanelum/the_state_is_ready.html#place=1
+    /// look: file:///shop/target/yovanelum/shop/lib/the_state_is_ready.html#place=1
     /// ```
     #[must_use = "dropped at once, it records nothing"]
     pub fn watchdog(mut self, after: Duration) -> ForTest {
@@ -151,7 +168,7 @@ impl SaveOnPanic {
     /// ```
     #[must_use = "dropped at once, it sees no panic"]
     pub fn watchdog(mut self, after: Duration) -> SaveOnPanic {
-        self.watchdog = Some(Watchdog::start(&self.recorder, &self.name, after));
+        self.watchdog = Some(Watchdog::start(&self.test, after));
         self
     }
 }
@@ -159,18 +176,20 @@ impl SaveOnPanic {
 #[cfg(test)]
 mod tests {
     use super::*;
+    use crate::Recorder;
 
     #[test]
+    #[cfg_attr(target_family = "wasm", ignore = "WebAssembly has no threads")]
     fn the_thread_ends_with_the_test_and_writes_nothing() {
         let recorder = Recorder::new();
         let (is_running, ended) = mpsc::channel();
+        let name = crate::temporary::name("ended");
         let watched = Watched {
-            recorder: Arc::downgrade(&recorder.0),
-            name: format!("ended-{}", std::process::id()),
+            test: TestRun::start(&recorder.0, &name),
             after: Duration::from_secs(3600),
             ended,
         };
-        let path = journal_path(&watched.name);
+        let path = watched.test.journal_path(&recorder.0);
         let (over, is_over) = mpsc::channel();
         thread::spawn(move || {
             watched.wait();

@@ -5,7 +5,7 @@ use super::permit::Permit;
 use super::plan::Plan;
 use super::state::{Standing, State, Ticket, Waiter, Wakes};
 use super::{Coming, Identity};
-use crate::core::Actor;
+use crate::backend::Actor;
 use crate::lock::lock;
 use crate::names::Maker;
 use crate::reentrant::thread_number;
@@ -218,8 +218,8 @@ impl Gate {
         let Some(step) = self.plan.steps.get(state.position) else {
             return (SHORT, false);
         };
-        let is_own = self.plan.is_named(coming.actor) && step.actor == coming.actor.number();
-        let is_here = state.actors[step.actor as usize].thread == thread;
+        let is_own = self.plan.is_named(coming.actor) && step.call.actor == coming.actor.number();
+        let is_here = state.actors[step.call.actor as usize].thread == thread;
         let limit = match is_own || is_here || thread::panicking() {
             true => SHORT.min(self.patience),
             false => self.patience,
@@ -311,8 +311,8 @@ impl Gate {
         }
         match self.plan.steps.get(of.front as usize) {
             // The turn is that of its drop, which no poll makes.
-            Some(next) if next.is_cancelled && turn.actor == actor => true,
-            _ if state.is_within(turn.actor, actor) => false,
+            Some(next) if next.is_cancelled && turn.call.actor == actor => true,
+            _ if state.is_within(turn.call.actor, actor) => false,
             Some(next) => !next.call.word.may_wait(),
             None => self.plan.outlives[actor as usize],
         }
@@ -424,11 +424,11 @@ impl Gate {
     }
 
     /// Ends the replay, and says on standard error how it went. It says so once, and outside of a test not to who has asked.
-    pub(crate) fn conclude(&self, end: TestEnd) {
+    pub(crate) fn conclude(&self, end: TestEnd<'_>) {
         self.wait_for_the_rest();
         let mut state = lock(&self.state);
         self.end(&mut state);
-        let is_asked = state.is_asked && end == TestEnd::Unknown;
+        let is_asked = state.is_asked && matches!(end, TestEnd::Unknown);
         let is_told = mem::replace(&mut state.is_told, true) || is_asked;
         let replayed = outcome::replayed(&self.plan, &state);
         drop(state);

@@ -3,11 +3,12 @@
 use super::gate::Gate;
 use super::helper;
 use super::plan::Plan;
-use super::recorded::calls;
 use crate::actors;
+use crate::explore;
 use crate::lock::lock;
 use crate::names::Names;
 use crate::recorder::Recorder;
+use crate::run::{self, Run};
 use std::path::Path;
 use std::sync::atomic::{AtomicBool, Ordering};
 use std::sync::{Arc, Mutex, Weak};
@@ -34,24 +35,22 @@ static OPEN: Mutex<Vec<Weak<Gate>>> = Mutex::new(Vec::new());
 pub(crate) fn open(path: &Path, recorder: u64) -> io::Result<Arc<Gate>> {
     let patience = patience(env::var(PATIENCE).ok())?;
     let text = fs::read(path).map_err(|error| of_file(path, &error))?;
-    let calls = calls(&text).map_err(|fault| of_file(path, &fault))?;
+    let run = Run::read(&text).map_err(|fault| of_file(path, &run::said(fault)))?;
     let beside = path.with_extension("names");
     let names = match fs::read_to_string(&beside) {
-        Ok(text) => Names::read(&text).map_err(|fault| of_file(&beside, &fault))?,
+        Ok(names) => Names::beside(names, &text)
+            .map_err(str::to_string)
+            .and_then(|names| Names::read(&names))
+            .map_err(|fault| of_file(&beside, &fault))?,
         Err(error) if error.kind() == io::ErrorKind::NotFound => Names::default(),
         Err(error) => return Err(of_file(&beside, &error)),
     };
-    let gate = Arc::new(Gate::new(
-        path,
-        recorder,
-        Plan::new(&calls, names),
-        patience,
-    ));
+    let gate = Arc::new(Gate::new(path, recorder, Plan::new(&run, names), patience));
     helper::start(&gate)?;
     let mut open = lock(&OPEN);
     open.retain(|gate| gate.upgrade().is_some_and(|gate| !gate.is_over()));
     open.push(Arc::downgrade(&gate));
-    IS_ANY.store(true, Ordering::Release);
+    hold_polls();
     Ok(gate)
 }
 
@@ -73,13 +72,38 @@ fn patience(text: Option<String>) -> io::Result<Duration> {
 
 /// Whether the poll of the future with this name is held back by an open gate: that of the recorder whose calls it makes, or of the current one
 /// if that isn't known yet.
+/// `task` is what a run that is explored knows of the future.
 #[inline]
-pub(crate) fn holds(name: &str, recorder: Option<u64>, context: &Context<'_>) -> bool {
-    IS_ANY.load(Ordering::Acquire) && is_held(name, recorder, context)
+pub(crate) fn holds(
+    name: &str,
+    task: &mut Option<Arc<str>>,
+    recorder: Option<u64>,
+    context: &Context<'_>,
+) -> bool {
+    is_any() && is_held(name, task, recorder, context)
+}
+
+/// Whether a gate was opened in this process.
+#[inline]
+fn is_any() -> bool {
+    IS_ANY.load(Ordering::Acquire)
+}
+
+/// Lets named futures ask at each poll whether it is held back.
+pub(crate) fn hold_polls() {
+    IS_ANY.store(true, Ordering::Release);
 }
 
 #[cold]
-fn is_held(name: &str, recorder: Option<u64>, context: &Context<'_>) -> bool {
+fn is_held(
+    name: &str,
+    task: &mut Option<Arc<str>>,
+    recorder: Option<u64>,
+    context: &Context<'_>,
+) -> bool {
+    if let Some(explorer) = explore::current() {
+        return explorer.holds(task, name, context);
+    }
     let recorder = recorder.or_else(|| Recorder::current().map(|current| current.0.id));
     let within = actors::name_of_future();
     let gate = gate_of(recorder);

@@ -3,7 +3,9 @@
 use super::Coming;
 use super::plan::{Plan, Step};
 use super::state::State;
-use crate::core::Actor;
+use crate::backend::Actor;
+use crate::names::{Names, Panic, SourceLocation};
+use crate::recorder::NotedPanic;
 use std::fmt::{self, Write as _};
 use std::io::{self, Write as _};
 use std::time::Duration;
@@ -49,7 +51,11 @@ pub struct Replayed {
     other_text: Option<String>,
     // The test whose journal it is.
     has_failed_before: bool,
+    failures_before: Vec<Failure>,
 }
+
+/// The text of a panic, and where it began.
+type Failure = (String, Option<SourceLocation>);
 
 impl Replayed {
     /// Returns `true` if all calls of the journal were made in its order, and the callers of each could be told apart.
@@ -111,10 +117,11 @@ impl Replayed {
 }
 
 /// How a test has ended whose calls were replayed.
-#[derive(Clone, Copy, PartialEq, Eq)]
-pub(crate) enum TestEnd {
+#[derive(Clone, Copy)]
+pub(crate) enum TestEnd<'a> {
     Passed,
-    Failed,
+    /// It failed, with these panics.
+    Failed(&'a [NotedPanic]),
     /// That isn't known here.
     Unknown,
 }
@@ -127,8 +134,26 @@ impl Replayed {
                 "{self}; the order was replayed and the test passed: the failure isn't one of order alone"
             ),
             TestEnd::Passed => format!("{self}; the test passed"),
-            TestEnd::Failed => format!("{self}; the test failed"),
+            TestEnd::Failed(panics) => format!("{self}; {}", self.compared(panics)),
             TestEnd::Unknown => self.to_string(),
+        }
+    }
+
+    /// Says whether these panics are those of the test whose journal it is.
+    fn compared(&self, panics: &[NotedPanic]) -> String {
+        let failures = panics.iter();
+        let failures: Vec<_> = failures
+            .map(|it| (it.text.clone(), it.location.clone()))
+            .collect();
+        let (Some(last), Some(last_before)) = (failures.last(), self.failures_before.last()) else {
+            // An `Err` has no text here.
+            return "the test failed".to_string();
+        };
+        let is_new = |failure: &&Failure| !self.failures_before.contains(failure);
+        let other = failures.iter().find(is_new);
+        match other.or(Some(last).filter(|last| *last != last_before)) {
+            None => "the same failure".to_string(),
+            Some(other) => format!("another failure: {}", failure_in_words(other)),
         }
     }
 }
@@ -175,7 +200,40 @@ pub(super) fn replayed(plan: &Plan, state: &State) -> Replayed {
         shared: state.shared.clone(),
         other_text: state.other_text.clone(),
         has_failed_before: plan.names.matching.has_failed,
+        failures_before: failures(&plan.names),
     }
+}
+
+/// Returns the panics that the names have.
+fn failures(names: &Names) -> Vec<Failure> {
+    let panics = names.ending.panics.iter();
+    let failure = |panic: &Panic| {
+        let location = panic
+            .location
+            .and_then(|at| names.locations.get(at).cloned());
+        (panic.text.clone(), location)
+    };
+    panics.map(failure).collect()
+}
+
+/// How many characters of a panic's text are shown.
+const SHOWN: usize = 200;
+
+fn failure_in_words((text, location): &Failure) -> String {
+    // An assertion has its values on lines of their own.
+    let lines = text.split('\n').map(str::trim);
+    let line = lines
+        .filter(|line| !line.is_empty())
+        .collect::<Vec<_>>()
+        .join(", ");
+    let mut words: String = line.chars().take(SHOWN).collect();
+    if line.chars().nth(SHOWN).is_some() {
+        words.push('…');
+    }
+    if let Some(at) = location {
+        let _ = write!(words, ", at {}:{}", at.file, at.line);
+    }
+    words
 }
 
 /// Returns where a replay has parted, and why.
@@ -223,7 +281,7 @@ fn step_in_words(plan: &Plan, step: &Step) -> String {
     let call = &step.call;
     let mut words = format!("`{} {}` on ", call.word.text(), call.handle);
     push_channel(&mut words, plan, call.channel);
-    push_actor(&mut words, plan, Actor::of(step.actor as usize));
+    push_actor(&mut words, plan, Actor::of(step.call.actor as usize));
     let calls = plan.names.calls.get(&call.channel.into());
     let location = calls.and_then(|calls| *calls.get(step.index as usize)?);
     if let Some(at) = location.and_then(|index| plan.names.locations.get(index)) {

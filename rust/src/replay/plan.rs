@@ -5,10 +5,10 @@
 //! named share the lanes of a handle, and so do all callers for its drop: who drops the last `Arc` isn't in the journal.
 
 use super::Coming;
-use super::recorded::RecordedCall;
-use super::word::Word;
-use crate::core::Actor;
+use crate::backend::Actor;
 use crate::names::{Maker, Names};
+use crate::run::{Entry, Run};
+use crate::word::Word;
 use std::collections::{BTreeMap, HashMap, HashSet};
 
 /// No step.
@@ -30,8 +30,7 @@ enum Class {
 
 /// A call of the journal.
 pub(super) struct Step {
-    pub(super) call: RecordedCall,
-    pub(super) actor: u32,
+    pub(super) call: Entry,
     pub(super) lane: u32,
     /// The next step of its lane.
     pub(super) next_in_lane: u32,
@@ -61,8 +60,8 @@ pub(super) struct Plan {
 }
 
 impl Plan {
-    /// Puts the calls of all actors into the order of the journal.
-    pub(super) fn new(calls: &[Vec<RecordedCall>], names: Names) -> Plan {
+    /// Returns the plan of a run with these names.
+    pub(super) fn new(run: &Run, names: Names) -> Plan {
         let classes = std::array::from_fn(|actor| class_of(actor, &names));
         let named = (0..).zip(&classes).filter_map(|(actor, class)| {
             let name = names.actors.get(&u64::from(actor))?;
@@ -80,30 +79,31 @@ impl Plan {
             classes,
             numbers,
         };
-        plan.add_steps(in_order(calls));
+        plan.add_steps(run);
         plan.find_outliving();
         plan
     }
 
-    fn add_steps(&mut self, calls: Vec<(u32, RecordedCall)>) {
+    fn add_steps(&mut self, run: &Run) {
         let mut last_of_lane: Vec<u32> = Vec::new();
         let mut last_of_actor = [NONE; Actor::MOST];
         let mut count_of_channel: HashMap<u32, u32> = HashMap::new();
-        self.steps.reserve_exact(calls.len());
-        for (step, (actor, call)) in (0..).zip(calls) {
+        self.steps.reserve_exact(run.len() as usize);
+        for (step, (_, call)) in (0..).zip(run.entries()) {
+            let actor = call.actor;
             let count = count_of_channel.entry(call.channel).or_default();
             let index = *count;
             *count += 1;
             let is_cancelled = has(&self.names.matching.cancelled, &call, index);
             let call = self.marked(call, index);
-            let lane = self.lane_for(&call, actor);
+            let lane = self.lane_for(&call);
             last_of_lane.resize(self.first_of_lane.len(), NONE);
             let before = std::mem::replace(&mut last_of_lane[lane as usize], step);
             match self.steps.get_mut(before as usize) {
                 Some(before) => {
                     before.next_in_lane = step;
                     self.is_shared[lane as usize] |=
-                        before.actor != actor && call.word != Word::Drop;
+                        before.call.actor != actor && call.word != Word::Drop;
                 }
                 None => self.first_of_lane[lane as usize] = step,
             }
@@ -114,7 +114,6 @@ impl Plan {
             }
             self.steps.push(Step {
                 call,
-                actor,
                 lane,
                 next_in_lane: NONE,
                 next_of_actor: NONE,
@@ -125,9 +124,9 @@ impl Plan {
     }
 
     /// Returns the call, as one that waits if the names mark it so. It is the one with this index on its channel.
-    fn marked(&self, call: RecordedCall, index: u32) -> RecordedCall {
+    fn marked(&self, call: Entry, index: u32) -> Entry {
         let is_marked = has(&self.names.matching.waited, &call, index);
-        RecordedCall {
+        Entry {
             word: if is_marked {
                 call.word.marked()
             } else {
@@ -138,11 +137,11 @@ impl Plan {
     }
 
     /// Returns the lane of a call, a new one if it is the first.
-    fn lane_for(&mut self, call: &RecordedCall, actor: u32) -> u32 {
+    fn lane_for(&mut self, call: &Entry) -> u32 {
         let key = (
             call.channel,
             call.handle,
-            self.class_for(call.word, actor as usize),
+            self.class_for(call.word, call.actor as usize),
         );
         let next = self.first_of_lane.len() as u32;
         let lane = *self.lanes.entry(key).or_insert(next);
@@ -162,7 +161,7 @@ impl Plan {
             .collect();
         for step in &self.steps {
             let handle = (step.call.channel, step.call.handle);
-            self.outlives[step.actor as usize] |= !dropped.contains(&handle);
+            self.outlives[step.call.actor as usize] |= !dropped.contains(&handle);
         }
     }
 
@@ -210,19 +209,9 @@ impl Plan {
 }
 
 /// Whether a call, the one with this index on its channel, is among some entries of the channels.
-fn has(entries: &BTreeMap<u64, Vec<u64>>, call: &RecordedCall, index: u32) -> bool {
+fn has(entries: &BTreeMap<u64, Vec<u64>>, call: &Entry, index: u32) -> bool {
     let of_channel = entries.get(&u64::from(call.channel));
     of_channel.is_some_and(|entries| entries.binary_search(&u64::from(index)).is_ok())
-}
-
-/// Returns the calls of all actors in the order of the journal, each with its actor.
-fn in_order(calls: &[Vec<RecordedCall>]) -> Vec<(u32, RecordedCall)> {
-    let of_actors = (0..)
-        .zip(calls)
-        .flat_map(|(actor, calls)| calls.iter().map(move |call| (actor, *call)));
-    let mut all: Vec<_> = of_actors.collect();
-    all.sort_unstable_by_key(|(_, call)| call.place);
-    all
 }
 
 /// Returns the class of an actor. The last number that there is may be that of several actors.

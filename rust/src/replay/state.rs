@@ -2,9 +2,9 @@
 
 use super::outcome;
 use super::plan::{NONE, Plan};
-use super::word::Word;
 use super::{Coming, Identity};
-use crate::core::Actor;
+use crate::backend::Actor;
+use crate::word::Word;
 use std::collections::{BTreeMap, HashMap};
 use std::iter;
 use std::task::Waker;
@@ -189,7 +189,7 @@ impl State {
     pub(super) fn actor_of(&self, plan: &Plan, lane: Option<u32>) -> usize {
         let front = lane.map_or(NONE, |lane| self.lanes[lane as usize].front);
         let step = plan.steps.get(front as usize);
-        step.map_or(Actor::MOST - 1, |step| step.actor as usize)
+        step.map_or(Actor::MOST - 1, |step| step.call.actor as usize)
     }
 
     fn is_next_of_actor(&self, actor: usize) -> bool {
@@ -258,11 +258,11 @@ impl State {
     pub(super) fn advance(&mut self, plan: &Plan) -> Wakes {
         let step = &plan.steps[self.position];
         self.lanes[step.lane as usize].front = step.next_in_lane;
-        self.actors[step.actor as usize].front = step.next_of_actor;
+        self.actors[step.call.actor as usize].front = step.next_of_actor;
         self.position += 1;
         self.is_given = false;
         self.turned_at = Instant::now();
-        self.release(step.actor);
+        self.release(step.call.actor);
         self.wakes(plan)
     }
 
@@ -270,7 +270,7 @@ impl State {
     pub(super) fn wakes(&mut self, plan: &Plan) -> Wakes {
         let mut wakes = Wakes::default();
         if let Some(step) = plan.steps.get(self.position) {
-            let (lane, actor) = (step.lane, step.actor);
+            let (lane, actor) = (step.lane, step.call.actor);
             wakes.lane = (self.lanes[lane as usize].blocked > 0).then_some(lane);
             wakes.actor = (self.actors[actor as usize].blocked > 0).then_some(actor);
             self.release(actor);

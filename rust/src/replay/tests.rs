@@ -6,12 +6,12 @@ mod tasks;
 
 use super::gate::Gate;
 use super::plan::Plan;
-use super::recorded::{RecordedCall, calls};
-use super::{Coming, TestEnd, Ticket, Word, helper};
-use crate::core::Actor;
-use crate::findings::TextFault;
+use super::{Coming, TestEnd, Ticket, helper};
+use crate::backend::Actor;
 use crate::lock::lock;
 use crate::names::{Maker, Names};
+use crate::run::Run;
+use crate::word::Word;
 use std::path::Path;
 use std::sync::atomic::{AtomicUsize, Ordering};
 use std::sync::{Arc, Barrier, Mutex, mpsc};
@@ -50,7 +50,7 @@ const NAMES: &str = r#"{
 
 fn gate_of(journal: &str, names: &str, patience: Duration) -> Arc<Gate> {
     let plan = Plan::new(
-        &calls(journal.as_bytes()).unwrap(),
+        &Run::read(journal.as_bytes()).unwrap(),
         Names::read(names).unwrap(),
     );
     let gate = Arc::new(Gate::new(Path::new("a/test.journal"), 1, plan, patience));
@@ -143,40 +143,7 @@ fn poll(gate: &Gate, coming: Coming, ticket: &mut Option<Ticket>, waker: &Waker)
 }
 
 #[test]
-fn calls_are_read_actor_by_actor() {
-    let recorded = |place, channel, word, handle, value| RecordedCall {
-        place,
-        channel,
-        handle,
-        word,
-        value,
-    };
-    let wanted = vec![
-        vec![
-            recorded(1, 0, Word::Send, 0, Some(0)),
-            recorded(3, 1, Word::Modify, 0, Some(1)),
-            recorded(6, 0, Word::Drop, 0, None),
-        ],
-        vec![
-            recorded(2, 0, Word::Recv, 1, None),
-            recorded(5, 0, Word::TryRecv, 1, None),
-        ],
-        vec![recorded(4, 0, Word::Send, 0, Some(1))],
-    ];
-    assert_eq!(calls(JOURNAL.as_bytes()), Ok(wanted));
-    let cut = JOURNAL.strip_suffix("end\n").unwrap();
-    assert_eq!(calls(cut.as_bytes()), Err(TextFault::Truncated));
-    let faulty = JOURNAL.replace("try-recv", "peek");
-    assert_eq!(calls(faulty.as_bytes()), Err(TextFault::Malformed(9)));
-    assert_eq!(calls(b"{}\n"), Err(TextFault::Malformed(1)));
-    // Neither a run with a wrong reply, nor one in a wrong order.
-    let wrong = JOURNAL.replace("= value 1", "= value 2");
-    assert_eq!(calls(wrong.as_bytes()), Err(TextFault::WrongReply(9)));
-    let wrong = JOURNAL.replace("5 1 0 try-recv", "3 1 0 try-recv");
-    assert_eq!(calls(wrong.as_bytes()), Err(TextFault::WrongOrder(9)));
-}
-
-#[test]
+#[cfg_attr(target_family = "wasm", ignore = "WebAssembly has no threads")]
 fn calls_in_the_order_of_the_journal_pass_at_once() {
     let gate = gate();
     make_first(&gate, 6);
@@ -189,6 +156,7 @@ fn calls_in_the_order_of_the_journal_pass_at_once() {
 }
 
 #[test]
+#[cfg_attr(target_family = "wasm", ignore = "WebAssembly has no threads")]
 fn a_thread_blocks_until_its_turn() {
     let gate = gate();
     let made = Mutex::new(vec![]);
@@ -211,6 +179,7 @@ fn a_thread_blocks_until_its_turn() {
 }
 
 #[test]
+#[cfg_attr(target_family = "wasm", ignore = "WebAssembly has no threads")]
 fn a_permit_that_is_not_used_is_given_back() {
     let gate = gate();
     drop(gate.pass(call(CLERK, 0, Word::Send, 0)));
@@ -220,6 +189,7 @@ fn a_permit_that_is_not_used_is_given_back() {
 }
 
 #[test]
+#[cfg_attr(target_family = "wasm", ignore = "WebAssembly has no threads")]
 fn two_callers_of_one_lane_do_not_both_get_the_turn() {
     let gate = gate();
     make_first(&gate, 3);
@@ -237,6 +207,7 @@ fn two_callers_of_one_lane_do_not_both_get_the_turn() {
 }
 
 #[test]
+#[cfg_attr(target_family = "wasm", ignore = "WebAssembly has no threads")]
 fn a_closure_that_changes_a_watch_begins_before_its_own_calls() {
     let journal = "ttd-journal 2\nbroadcast 4\nwatch 0\nsteps\n\
         1 1 0 try-recv 1 = empty\n2 0 0 send 0 0 = sent 1\n3 0 1 modify 0 1 yes = told yes\nend\n";
@@ -258,6 +229,7 @@ fn a_closure_that_changes_a_watch_begins_before_its_own_calls() {
 }
 
 #[test]
+#[cfg_attr(target_family = "wasm", ignore = "WebAssembly has no threads")]
 fn a_handle_is_dropped_by_whoever_has_it_last() {
     let gate = gate();
     make_first(&gate, 5);
@@ -266,6 +238,7 @@ fn a_handle_is_dropped_by_whoever_has_it_last() {
 }
 
 #[test]
+#[cfg_attr(target_family = "wasm", ignore = "WebAssembly has no threads")]
 fn callers_who_share_a_handle_without_a_name_are_not_told_apart() {
     let journal = "ttd-journal 2\nbroadcast 4\nsteps\n\
         1 2 0 send 0 0 = sent 1\n2 3 0 send 0 1 = sent 1\nend\n";
@@ -290,6 +263,7 @@ fn callers_who_share_a_handle_without_a_name_are_not_told_apart() {
 }
 
 #[test]
+#[cfg_attr(target_family = "wasm", ignore = "WebAssembly has no threads")]
 fn a_value_with_another_text_is_told() {
     let gate = gate();
     gate.pass(call(CLERK, 0, Word::Send, 0))
@@ -309,6 +283,7 @@ fn a_value_with_another_text_is_told() {
 }
 
 #[test]
+#[cfg_attr(target_family = "wasm", ignore = "WebAssembly has no threads")]
 fn a_call_that_waits_has_a_mark() {
     let journal = "ttd-journal 2\nbroadcast 4\nwatch 0\nsteps\n\
         1 0 0 receiver-count 0 = count 1\n2 1 0 drop 1 = dropped\n\
@@ -323,6 +298,7 @@ fn a_call_that_waits_has_a_mark() {
 }
 
 #[test]
+#[cfg_attr(target_family = "wasm", ignore = "WebAssembly has no threads")]
 fn channels_are_known_by_their_makers() {
     let gate = gate();
     let made = |name: Option<&str>, nth| {
@@ -337,13 +313,14 @@ fn channels_are_known_by_their_makers() {
 }
 
 #[test]
+#[cfg_attr(target_family = "wasm", ignore = "WebAssembly has no threads")]
 fn the_line_at_the_end_says_how_the_test_ended() {
     let gate = gate();
     make_first(&gate, 2);
     let at_end = |end| gate.outcome().at_end(end);
     let before = "ended before #3 of 6: `modify 0` on channel 1 by `clerk` at src/shop.rs:15";
     assert_eq!(
-        at_end(TestEnd::Failed),
+        at_end(TestEnd::Failed(&[])),
         format!("{before}; the test failed")
     );
     assert_eq!(
@@ -355,7 +332,10 @@ fn the_line_at_the_end_says_how_the_test_ended() {
     make(&gate, call(AUDIT, 0, Word::TryRecv, 1));
     make(&gate, call(CLERK, 0, Word::Drop, 0));
     let all = "all 6 calls in the recorded order";
-    assert_eq!(at_end(TestEnd::Failed), format!("{all}; the test failed"));
+    assert_eq!(
+        at_end(TestEnd::Failed(&[])),
+        format!("{all}; the test failed")
+    );
     assert_eq!(at_end(TestEnd::Unknown), all);
     assert_eq!(
         at_end(TestEnd::Passed),

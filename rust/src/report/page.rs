@@ -10,10 +10,12 @@ const SLOT_START: &[u8] = b"\n<script type=\"text/plain\" id=\"run\">\n";
 
 const SLOT_END: &[u8] = b"</script>\n";
 
+const JOURNAL_START: &[u8] = b"<script type=\"text/plain\" id=\"journal\">\n";
+
 const DIGITS: &[u8; 64] = b"ABCDEFGHIJKLMNOPQRSTUVWXYZabcdefghijklmnopqrstuvwxyz0123456789+/";
 
-/// Returns the page with a run inside: the name of the journal's file, its text, and that of its names, if there are any. Returns `None`
-/// if the page has no element for a run.
+/// Returns the page with a run inside: the name of the journal's file, its text, which was accepted, and that of its names, if there are any.
+/// Returns `None` if the page has no element for a run.
 pub(crate) fn with_run(
     page: &[u8],
     file_name: &str,
@@ -21,13 +23,13 @@ pub(crate) fn with_run(
     names: Option<&[u8]>,
 ) -> Option<Vec<u8>> {
     let at = page.windows(SLOT.len()).position(|part| part == SLOT)?;
-    let parts = [Some(file_name.as_bytes()), Some(journal), names];
+    let parts = [Some(file_name.as_bytes()), names];
     let length: usize = parts
         .iter()
         .flatten()
         .map(|part| part.len() / 3 * 4 + 5)
         .sum();
-    let mut out = Vec::with_capacity(page.len() + SLOT_START.len() + length);
+    let mut out = Vec::with_capacity(page.len() + length + journal.len() + 200);
     out.extend_from_slice(&page[..at]);
     out.extend_from_slice(SLOT_START);
     for part in parts.into_iter().flatten() {
@@ -35,35 +37,54 @@ pub(crate) fn with_run(
         out.push(b'\n');
     }
     out.extend_from_slice(SLOT_END);
+    // An accepted journal has lower-case words and numbers alone, so it is put in as it is. It may be a hundred times as long as the rest.
+    assert!(!journal.contains(&b'<'), "no journal was accepted");
+    out.extend_from_slice(JOURNAL_START);
+    out.extend_from_slice(journal);
+    out.extend_from_slice(SLOT_END);
     out.extend_from_slice(&page[at + SLOT.len()..]);
     Some(out)
 }
 
 /// Appends bytes in base64, so that nothing in them is markup.
 fn push_base64(out: &mut Vec<u8>, bytes: &[u8]) {
-    for group in bytes.chunks(3) {
-        let byte = |index: usize| u32::from(group.get(index).copied().unwrap_or(0));
-        let bits = byte(0) << 16 | byte(1) << 8 | byte(2);
-        for digit in 0..4 {
-            let six = bits >> (18 - 6 * digit) & 63;
-            out.push(match digit <= group.len() {
-                true => DIGITS[six as usize],
-                false => b'=',
-            });
-        }
+    let groups = bytes.chunks_exact(3);
+    let rest = groups.remainder();
+    for group in groups {
+        out.extend_from_slice(&digits_of([group[0], group[1], group[2]]));
     }
+    if let [first, second @ ..] = rest {
+        let digits = digits_of([*first, second.first().copied().unwrap_or(0), 0]);
+        out.extend_from_slice(&digits[..=rest.len()]);
+        out.resize(out.len() + 3 - rest.len(), b'=');
+    }
+}
+
+fn digits_of([a, b, c]: [u8; 3]) -> [u8; 4] {
+    let digit = |six: u8| DIGITS[usize::from(six & 63)];
+    [
+        digit(a >> 2),
+        digit(a << 4 | b >> 4),
+        digit(b << 2 | c >> 6),
+        digit(c),
+    ]
 }
 
 /// Returns the address of a file on this machine, with the place to look at.
 pub(crate) fn address(path: &Path, place: u64) -> String {
-    let path = path
-        .to_string_lossy()
-        .replace(std::path::MAIN_SEPARATOR, "/");
+    let path = path.to_string_lossy();
     let mut address = String::from("file://");
-    if !path.starts_with('/') {
+    if !path.starts_with(['/', std::path::MAIN_SEPARATOR]) {
         address.push('/');
     }
-    for byte in path.bytes() {
+    push_path(&mut address, &path);
+    let _ = write!(address, "#place={place}");
+    address
+}
+
+/// Appends a path with what has a meaning of its own in an address escaped.
+pub(super) fn push_path(address: &mut String, path: &str) {
+    for byte in path.replace(std::path::MAIN_SEPARATOR, "/").bytes() {
         match byte {
             b'/' | b':' | b'.' | b'_' | b'-' | b'~' => address.push(byte.into()),
             byte if byte.is_ascii_alphanumeric() => address.push(byte.into()),
@@ -72,8 +93,6 @@ pub(crate) fn address(path: &Path, place: u64) -> String {
             }
         }
     }
-    let _ = write!(address, "#place={place}");
-    address
 }
 
 #[cfg(test)]
@@ -83,12 +102,13 @@ mod tests {
     #[test]
     fn a_run_is_in_its_line_of_the_page_in_base64() {
         let page = b"<html>\n<script type=\"text/plain\" id=\"run\"></script>\n</html>\n";
-        let wanted = "<html>\n<script type=\"text/plain\" id=\"run\">\nYS5qb3VybmFs\nZm9vYg==\nZm9vYmE=\n</script>\n</html>\n";
-        let out = with_run(page, "a.journal", b"foob", Some(b"fooba")).unwrap();
+        let wanted = "<html>\n<script type=\"text/plain\" id=\"run\">\nYS5qb3VybmFs\nZm9vYmE=\n</script>\n\
+            <script type=\"text/plain\" id=\"journal\">\nfoob\n</script>\n</html>\n";
+        let out = with_run(page, "a.journal", b"foob\n", Some(b"fooba")).unwrap();
         assert_eq!(String::from_utf8(out).unwrap(), wanted);
         let out = with_run(page, "a.journal", b"", None).unwrap();
-        let wanted =
-            "<html>\n<script type=\"text/plain\" id=\"run\">\nYS5qb3VybmFs\n\n</script>\n</html>\n";
+        let wanted = "<html>\n<script type=\"text/plain\" id=\"run\">\nYS5qb3VybmFs\n</script>\n\
+            <script type=\"text/plain\" id=\"journal\">\n</script>\n</html>\n";
         assert_eq!(String::from_utf8(out).unwrap(), wanted);
         assert_eq!(with_run(b"<html></html>\n", "a", b"", None), None);
     }

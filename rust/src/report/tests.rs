@@ -10,7 +10,7 @@ fn said(channels: &[&str], entries: &[&str], names: &str) -> String {
 
 fn said_of(journal: &str, names: &str) -> String {
     let names = Names::read(names).unwrap();
-    let report = Report::new(journal, &names).unwrap();
+    let report = Report::new(journal.as_bytes(), &names).unwrap();
     let look = format!("place {}", report.place());
     report.text(Some(look), false)
 }
@@ -46,10 +46,14 @@ const ALL_NAMES: &str = r#"{"version": 2, "actors": {"0": "ticker", "1": "audito
 
 #[test]
 fn a_loss_that_was_told() {
-    let wanted = r#"yovanelum: `auditor` lost 3 of 5 values of `prices` (capacity 2)
+    let wanted = r#"error: `auditor` lost 3 of 5 values of `prices` (capacity 2)
+  --> tests/bus.rs:22:25
+note: step 3, the send that overwrote the first of them
+  --> tests/bus.rs:15:9
   step 3   prices.send("103 EUR")   ticker   tests/bus.rs:15   overwrote "101 EUR", which auditor had not read
   step 7   told: lagged 3           auditor  tests/bus.rs:22   its last receive: none before
   lost: "101 EUR", "102 EUR", "103 EUR"
+and 1 channel closed
 look: place 3
 "#;
     assert_eq!(said(&["broadcast 2"], &LATE, ALL_NAMES), wanted);
@@ -58,10 +62,11 @@ look: place 3
 #[test]
 fn without_names_there_are_numbers() {
     let wanted = "\
-yovanelum: receiver 1 lost 3 of 5 values of channel 0 (capacity 2)
+error: receiver 1 lost 3 of 5 values of channel 0 (capacity 2)
   step 3   channel 0: send(value 2)   actor 0  overwrote value 0, which receiver 1 had not read
   step 7   told: lagged 3             actor 1  its last receive: none before
   lost: value 0, value 1, value 2
+and 1 channel closed
 look: place 3
 ";
     assert_eq!(said(&["broadcast 2"], &LATE, "{}"), wanted);
@@ -72,10 +77,11 @@ fn names_of_the_first_version_have_no_locations() {
     let names =
         r#"{"actors": {"0": "ticker", "1": "auditor"}, "channels": {"0": "prices"}, "values": {}}"#;
     let wanted = "\
-yovanelum: `auditor` lost 3 of 5 values of `prices` (capacity 2)
+error: `auditor` lost 3 of 5 values of `prices` (capacity 2)
   step 3   prices.send(value 2)   ticker   overwrote value 0, which auditor had not read
   step 7   told: lagged 3         auditor  its last receive: none before
   lost: value 0, value 1, value 2
+and 1 channel closed
 look: place 3
 ";
     assert_eq!(said(&["broadcast 2"], &LATE, names), wanted);
@@ -105,11 +111,13 @@ fn a_loss_that_nobody_was_told_of() {
         "locations": [["src/lib.rs", 4, 1], ["src/lib.rs", 5, 1], ["src/lib.rs", 9, 1]],
         "made": {"0": {"0": 0, "1": 0, "2": 1}}, "calls": {"0": [1, 2, 2, 2, 2, 2, 2, 2, 2, 2, null, 2, 2]}}"#;
     let wanted = "\
-yovanelum: receiver 1 (made at src/lib.rs:4) lost 3 of 8 values of `jobs` (capacity 3, which retains 4)
+error: receiver 1 (made at src/lib.rs:4) lost 3 of 8 values of `jobs` (capacity 3, which retains 4)
+  --> src/lib.rs:9:1
   step 9    jobs.send(value 5)   main  src/lib.rs:9   overwrote value 1, which receiver 1 had not read
   the end   not told                                  its last receive: step 3, value 0
   lost: value 1, value 2, value 3
-yovanelum: `log` lost 2 of 7 values of `jobs` (capacity 3, which retains 4)
+warning: `log` lost 2 of 7 values of `jobs` (capacity 3, which retains 4)
+  --> src/lib.rs:9:1
   step 9    jobs.send(value 5)    main  src/lib.rs:9   overwrote value 1, which log had not read
   step 11   dropped: never told   main                 its last receive: step 4, value 0
   lost: value 1, value 2
@@ -118,35 +126,57 @@ look: place 9
     assert_eq!(said(&["broadcast 3"], &UNTOLD, names), wanted);
 }
 
+/// A reader receives `Lagged(2)` and later `Lagged(1)`. Nobody receives the last value.
+const SEVERAL: [&str; 10] = [
+    "0 0 send 0 0 = sent 1",
+    "0 0 send 0 1 = sent 1",
+    "0 0 send 0 2 = sent 1",
+    "1 0 recv 1 = lagged 2",
+    "1 0 recv 1 = value 2",
+    "0 0 send 0 3 = sent 1",
+    "0 0 send 0 4 = sent 1",
+    "1 0 recv 1 = lagged 1",
+    "1 0 recv 1 = value 4",
+    "0 0 send 0 5 = sent 1",
+];
+
 #[test]
-fn of_several_losses_of_one_receiver_the_worst_is_told() {
-    let entries = [
-        "0 0 send 0 0 = sent 1",
-        "0 0 send 0 1 = sent 1",
-        "1 0 recv 1 = lagged 1",
-        "1 0 recv 1 = value 1",
-        "0 0 send 0 2 = sent 1",
-        "0 0 send 0 3 = sent 1",
-        "0 0 send 0 4 = sent 1",
-        "1 0 recv 1 = lagged 2",
-        "1 0 recv 1 = value 4",
-    ];
+fn of_several_losses_of_one_receiver_the_one_that_was_told_last_is_told() {
     let wanted = "\
-yovanelum: `reader` lost 3 of 5 values of channel 0 (capacity 1) in 2 losses; the worst, of 2:
-  step 6   channel 0: send(value 3)   actor 0  overwrote value 2, which reader had not read
-  step 8   told: lagged 2             reader   its last receive: step 4, value 1
-  lost: value 2, value 3
-look: place 6
+error: `reader` lost 3 of 6 values of channel 0 (capacity 1) in 2 losses; the one told last, of 1:
+  step 7   channel 0: send(value 4)   actor 0  overwrote value 3, which reader had not read
+  step 8   told: lagged 1             reader   its last receive: step 5, value 2
+  lost: value 3
+look: place 7
 ";
     let names = r#"{"actors": {"1": "reader"}}"#;
-    assert_eq!(said(&["broadcast 1"], &entries, names), wanted);
+    assert_eq!(said(&["broadcast 1"], &SEVERAL, names), wanted);
     // A task without a name is known by where it made its first call.
     let names = r#"{"actors": {"1": "task 17"}, "locations": [["a.rs", 3, 1]], "tasks": {"1": 0}}"#;
     let wanted = wanted
         .replace("`reader`", "`task 17` (a.rs:3)")
         .replace("reader   its", "task 17  its")
         .replace("reader", "task 17");
-    assert_eq!(said(&["broadcast 1"], &entries, names), wanted);
+    assert_eq!(said(&["broadcast 1"], &SEVERAL, names), wanted);
+}
+
+#[test]
+fn a_loss_of_a_receiver_that_lags_at_the_end() {
+    let entries = [
+        "0 0 send 0 0 = sent 1",
+        "0 0 try-recv 1 = value 0",
+        "0 0 send 0 1 = sent 1",
+        "0 0 send 0 2 = sent 1",
+        "0 0 send 0 3 = sent 1",
+    ];
+    let wanted = "\
+error: receiver 1 lost 2 of 4 values of channel 0 (capacity 1)
+  step 4    channel 0: send(value 2)   actor 0  overwrote value 1, which receiver 1 had not read
+  the end   not told                            its last receive: step 2, value 0
+  lost: value 1, value 2
+look: place 4
+";
+    assert_eq!(said(&["broadcast 1"], &entries, "{}"), wanted);
 }
 
 /// Returns who lost a value, if the entries are sends of a first actor, and reads of a second one.
@@ -160,10 +190,10 @@ fn first_words(entries: &[&str]) -> String {
 fn a_receiver_is_called_by_its_actor_where_that_only_reads_by_it() {
     let sends = ["0 0 send 0 0 = sent 1", "0 0 send 0 1 = sent 1"];
     let by_reader = [sends[0], sends[1], "1 0 recv 1 = lagged 1"];
-    assert_eq!(first_words(&by_reader), "yovanelum: `reader`");
+    assert_eq!(first_words(&by_reader), "error: `reader`");
     // The actor sends on the channel too.
     let by_sender = [sends[0], sends[1], "0 0 recv 1 = lagged 1"];
-    assert_eq!(first_words(&by_sender), "yovanelum: receiver 1");
+    assert_eq!(first_words(&by_sender), "error: receiver 1");
     // The actor reads by another receiver too.
     let by_both = [
         "0 0 subscribe 0 = new 2",
@@ -172,7 +202,7 @@ fn a_receiver_is_called_by_its_actor_where_that_only_reads_by_it() {
         "0 0 send 0 1 = sent 2",
         "1 0 recv 1 = lagged 1",
     ];
-    assert_eq!(first_words(&by_both), "yovanelum: receiver 1");
+    assert_eq!(first_words(&by_both), "error: receiver 1");
 }
 
 /// Returns the journal of 100 receivers of a broadcast of one. After each send, the next receiver is told how many values it lost.
@@ -196,17 +226,18 @@ fn hundred() -> String {
 fn of_a_hundred_receivers_three_are_told_and_the_others_counted() {
     // The entries are 99 subscribes, and three for each value. Receivers 2 to 97 lost 1 to 96 values.
     let wanted = "\
-yovanelum: receiver 100 lost 99 of 100 values of channel 0 (capacity 1)
+error: receiver 100 lost 99 of 100 values of channel 0 (capacity 1)
   step 103   channel 0: send(value 1)   actor 0  overwrote value 0, which receiver 100 had not read
   step 398   told: lagged 99            actor 0  its last receive: none before
   lost: value 0, value 1, value 2, .. value 98
-yovanelum: receiver 99 lost 98 of 99 values of channel 0 (capacity 1)
+warning: receiver 99 lost 98 of 99 values of channel 0 (capacity 1)
   step 103   channel 0: send(value 1)   actor 0  overwrote value 0, which receiver 99 had not read
   step 395   told: lagged 98            actor 0  its last receive: none before
   lost: value 0, value 1, value 2, .. value 97
-yovanelum: receiver 98 lost 97 of 98 values of channel 0 (capacity 1)
+warning: receiver 98 lost 97 of 98 values of channel 0 (capacity 1)
   step 103   channel 0: send(value 1)   actor 0  overwrote value 0, which receiver 98 had not read
   step 392   told: lagged 97            actor 0  its last receive: none before
+  lost: value 0, value 1, value 2, .. value 96
 and 96 more receivers lost 4656 values
 still waiting: actor 7 in `channel 0: closed` since the start; actor 8 in `channel 0: recv` since step 2, a.rs:3; actor 9 in `channel 0: recv` since step 399; and 1 more
 look: place 103
@@ -218,7 +249,7 @@ look: place 103
         {"actor": 10, "channel": 0, "handle": 9, "call": "recv", "since": 999, "location": null}]}"#;
     let said = said_of(&hundred(), names);
     assert_eq!(said, wanted);
-    assert_eq!(said.lines().count(), 14);
+    assert_eq!(said.lines().count(), 15);
 }
 
 #[test]
@@ -239,21 +270,25 @@ fn a_close_that_was_told_and_one_that_a_receiver_missed() {
     let names = r#"{"version": 2, "actors": {"0": "main", "1": "audit", "2": "screen"}, "channels": {"0": "orders", "1": "stop"},
         "locations": [["a.rs", 7, 1], ["a.rs", 9, 1]], "calls": {"0": [0, 0, 0, 1, null, 1, 1, 1], "1": [null]}}"#;
     let wanted = "\
-yovanelum: no value was lost; `orders` closed, and 2 of 3 receivers were told
+error: receiver 1 never looked at 1 of 1 change of `stop`
+  step 9   stop.send(value 1)   main  the last change
+warning: `orders` closed, and 2 of 3 receivers were told
+  --> a.rs:9:1
   step 5   dropped the last sender   main
   step 7   told: closed              screen  a.rs:9   after 1 more value
   not told: receiver 3
-yovanelum: `stop` closed, and its receiver was not told
+warning: `stop` closed, and its receiver was not told
   step 10   dropped the last sender   main
   not told: receiver 1 (after 1 more change)
-look: place 5
+yovanelum: no value was lost in 11 calls on 2 channels
+look: place 9
 ";
     let channels = ["broadcast 4", "watch 0"];
     assert_eq!(said(&channels, &entries, names), wanted);
 }
 
 #[test]
-fn changes_of_a_watch_that_a_receiver_never_saw() {
+fn changes_of_a_watch_that_a_receiver_never_looked_at() {
     let entries = [
         "0 0 send 0 1 = stored",
         "1 0 changed 1 = done",
@@ -266,9 +301,13 @@ fn changes_of_a_watch_that_a_receiver_never_saw() {
         "values": {"0": {"1": "open", "4": "closing"}},
         "locations": [["a.rs", 7, 1], ["a.rs", 9, 1]], "calls": {"0": [0, 1, 1, 0, 0, 0]},
         "waiting": [{"actor": 1, "channel": 0, "handle": 1, "call": "wait_for", "since": 3, "location": 1}]}"#;
-    let wanted = r#"yovanelum: no value was lost; `worker` never saw 2 changes of `state`, and was told of 1
+    let wanted = r#"error: `worker` never looked at 2 of 3 changes of `state`
+  --> a.rs:7:1
+note: step 3, its last look
+  --> a.rs:9:1
   step 3   state.borrow_and_update()      worker  a.rs:9   its last look: "open"
   step 6   state.send_modify("closing")   main    a.rs:7   the last change
+yovanelum: no value was lost in 6 calls on 1 channel
 still waiting: worker in `state.wait_for` since step 3, a.rs:9
 look: place 6
 "#;

@@ -1,5 +1,6 @@
 //! A reference to the value of a watch channel.
 
+use super::looks::LiveLook;
 use std::fmt;
 use std::ops::Deref;
 use std::sync::RwLockReadGuard;
@@ -32,6 +33,8 @@ use std::sync::RwLockReadGuard;
 /// assert_eq!(rx.borrow().len(), 2);
 /// ```
 pub struct Ref<'a, T> {
+    // It ends before the lock is released, so a look that is listed still holds the lock.
+    pub(super) _look: Option<LiveLook<'a>>,
     pub(super) inner: RwLockReadGuard<'a, T>,
     pub(super) has_changed: bool,
 }

@@ -5,8 +5,9 @@ use super::{Ref, WatchHandle, attempt_changed};
 use crate::channel::{CallSite, CoreChannel, call_site};
 use crate::handle::Kind;
 use crate::recorder::{Handle, RecordedHandle, TextOf};
-use crate::replay::{Permit, Word};
+use crate::replay::Permit;
 use crate::wait::{Method, Pending, WaitFor};
+use crate::word::Word;
 use std::fmt;
 use std::future::Future;
 use std::task::{Context, Poll};
@@ -82,7 +83,11 @@ impl<T> Receiver<T> {
     /// [`borrow_and_update`](Receiver::borrow_and_update), which is called here in the source.
     pub(crate) fn borrow_and_update_at(&mut self, called_at: CallSite) -> Ref<'_, T> {
         let permit = self.handle.pass(Word::Update, called_at);
-        self.handle.borrow_by(permit, called_at, |channel| {
+        let method = Method {
+            name: "borrow_and_update",
+            called_at,
+        };
+        self.handle.borrow_by(permit, method, |channel| {
             channel.call(CoreChannel::watch_update);
         })
     }
@@ -275,7 +280,7 @@ impl<T> Receiver<T> {
                 {
                     let (word, called_at) = (Word::WaitFor, method.called_at);
                     let permit = self.handle.turn(word, called_at).await;
-                    let value = self.handle.borrow_by(permit, called_at, |channel| {
+                    let value = self.handle.borrow_by(permit, method, |channel| {
                         channel.call_that_waits(CoreChannel::watch_update);
                     });
                     if self.handle.channel.values.run_reading(|| f(&value)) {

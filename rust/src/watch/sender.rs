@@ -5,9 +5,10 @@ use super::{Receiver, Ref, WatchHandle, channel};
 use crate::channel::{CallSite, CoreChannel, LockedChannel, call_site};
 use crate::handle::Kind;
 use crate::recorder::{Handle, RecordedHandle, TextOf};
-use crate::replay::{Permit, Word};
+use crate::replay::Permit;
 use crate::reply::Reply;
 use crate::wait::{Method, WaitFor};
+use crate::word::Word;
 use std::future::Future;
 use std::sync::RwLockWriteGuard;
 use std::{fmt, mem, panic};
@@ -133,7 +134,11 @@ impl<T> Sender<T> {
             return Err(SendError(value));
         }
         let permit = channel.into_permit();
-        let stored = self.handle.channel.values.write();
+        let method = Method {
+            name: "send",
+            called_at,
+        };
+        let stored = self.handle.write_value(method);
         let channel = self.handle.lock_with(permit, called_at);
         send_to(stored, channel, value, text)
     }
@@ -166,7 +171,7 @@ impl<T> Sender<T> {
     where
         F: FnOnce(&mut T),
     {
-        self.send_if_modified(|value| {
+        self.modify_by(Method::called("send_modify"), |value| {
             modify(value);
             true
         });
@@ -216,12 +221,20 @@ impl<T> Sender<T> {
     where
         F: FnOnce(&mut T) -> bool,
     {
-        let called_at = call_site();
+        self.modify_by(Method::called("send_if_modified"), modify)
+    }
+
+    /// Changes the value by a closure, which the caller has passed to this method, and notifies all receivers if it returns `true`.
+    fn modify_by<F>(&self, method: Method, modify: F) -> bool
+    where
+        F: FnOnce(&mut T) -> bool,
+    {
+        let called_at = method.called_at;
         self.handle
             .recorded()
             .pass_to_modify(self.handle.number, called_at);
         let lock = &self.handle.channel.values;
-        let mut value = lock.write();
+        let mut value = self.handle.write_value(method);
         let result = lock.run_changing(|| modify(&mut value));
         let notify = matches!(result, Ok(true));
         // The value has changed, so the core and the receivers are notified even if the function for its text panics.
@@ -230,13 +243,21 @@ impl<T> Sender<T> {
             Err(panicked) => (None, Some(panicked)),
         };
         let mut channel = self.handle.lock_at(Word::Modify, called_at);
-        channel.send(text, |core, caller, sender, number| {
-            core.watch_modify(caller, notify, sender, number)
-        });
+        channel.send(
+            text,
+            match notify {
+                true => {
+                    |core, caller, sender, number| core.watch_modify(caller, true, sender, number)
+                }
+                false => {
+                    |core, caller, sender, number| core.watch_modify(caller, false, sender, number)
+                }
+            },
+        );
         drop(value);
         match notify {
             true => channel.unlock_and_wake(WaitFor::Value),
-            false => drop(channel),
+            false => channel.unlock(),
         }
         match (result, text_panic) {
             (Err(panicked), _) | (Ok(_), Some(panicked)) => panic::resume_unwind(panicked),
@@ -262,9 +283,10 @@ impl<T> Sender<T> {
     #[track_caller]
     pub fn send_replace(&self, value: T) -> T {
         let text = self.handle.channel.text(&value);
-        let (word, called_at) = (Word::SendReplace, call_site());
-        let permit = self.handle.pass(word, called_at);
-        let mut stored = self.handle.channel.values.write();
+        let method = Method::called("send_replace");
+        let called_at = method.called_at;
+        let permit = self.handle.pass(Word::SendReplace, called_at);
+        let mut stored = self.handle.write_value(method);
         let mut channel = self.handle.lock_with(permit, called_at);
         channel.send(text, CoreChannel::watch_send_replace);
         let before = mem::replace(&mut *stored, value);

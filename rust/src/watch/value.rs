@@ -1,5 +1,6 @@
 //! The value of a watch, and the lock that guards it.
 
+use super::looks::LiveLooks;
 use crate::lock::lock;
 use crate::reentrant::thread_number;
 use std::fmt;
@@ -18,6 +19,8 @@ pub(super) struct ValueLock<T> {
     // waited for the lock, it would wait forever.
     changed_by: AtomicUsize,
     read_by: Mutex<Vec<usize>>,
+    /// The looks that hold the lock, as far as they are known.
+    pub(super) looks: LiveLooks,
 }
 
 impl<T> ValueLock<T> {
@@ -26,16 +29,25 @@ impl<T> ValueLock<T> {
             value: RwLock::new(value),
             changed_by: AtomicUsize::new(0),
             read_by: Mutex::default(),
+            looks: LiveLooks::default(),
         }
     }
 
+    /// Waits until nobody changes the value, and locks it.
+    #[cold]
     pub(super) fn read(&self) -> RwLockReadGuard<'_, T> {
-        if_free(self.value.try_read()).unwrap_or_else(|| self.lock_by(RwLock::read))
+        self.lock_by(RwLock::read)
     }
 
+    /// Waits until nobody looks at the value or changes it, and locks it.
+    #[cold]
     pub(super) fn write(&self) -> RwLockWriteGuard<'_, T> {
-        self.try_write()
-            .unwrap_or_else(|| self.lock_by(RwLock::write))
+        self.lock_by(RwLock::write)
+    }
+
+    /// Locks the value if nobody changes it.
+    pub(super) fn try_read(&self) -> Option<RwLockReadGuard<'_, T>> {
+        if_free(self.value.try_read())
     }
 
     /// Locks the value if nobody has locked it.

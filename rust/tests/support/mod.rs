@@ -3,6 +3,8 @@
 
 pub mod named;
 pub mod parts;
+pub mod temporary;
+pub mod workspace;
 
 use std::future::Future;
 use std::io::Write;
@@ -64,24 +66,17 @@ pub fn stamps(journal: &str) -> Vec<u64> {
 
 /// The path at which the journal of a failed test of this process is.
 pub fn kept_journal(name: &str) -> PathBuf {
-    let target = std::env::var_os("CARGO_TARGET_DIR").map(PathBuf::from);
-    let target = target.unwrap_or_else(|| {
-        let program = std::env::current_exe().unwrap();
-        let folders = program.ancestors();
-        folders
-            .into_iter()
-            .find(|folder| folder.ends_with("target"))
-            .unwrap()
-            .to_path_buf()
-    });
-    target.join("yovanelum").join(format!("{name}.journal"))
+    let program = std::env::current_exe().unwrap();
+    let mut folders = program.ancestors();
+    let target = folders.find(|folder| folder.join("CACHEDIR.TAG").exists());
+    let folder = format!("yovanelum/yovanelum/test-{}", env!("CARGO_CRATE_NAME"));
+    target.unwrap().join(folder).join(format!("{name}.journal"))
 }
 
 /// Asserts that the proved debugger, `ttd check`, accepts the journal, and returns the number of its entries. The variable `YOVANELUM_TTD`
 /// names the program. Without it the entries are only counted.
 pub fn accepted(recorder: &Recorder, name: &str) -> u64 {
-    let path =
-        std::env::temp_dir().join(format!("yovanelum-{name}-{}.journal", std::process::id()));
+    let path = temporary::path(&format!("{name}.journal"));
     recorder.save(&path).unwrap();
     let text = std::fs::read_to_string(&path).unwrap();
     let entries = text.lines().filter(|line| line.contains(" = ")).count() as u64;
@@ -103,8 +98,7 @@ pub fn accepted(recorder: &Recorder, name: &str) -> u64 {
 
 /// Returns the names that a recorder saves beside its journal.
 pub fn saved_names(recorder: &Recorder, name: &str) -> String {
-    let path =
-        std::env::temp_dir().join(format!("yovanelum-{name}-{}.journal", std::process::id()));
+    let path = temporary::path(&format!("{name}.journal"));
     recorder.save(&path).unwrap();
     let names = std::fs::read_to_string(path.with_extension("names")).unwrap();
     std::fs::remove_file(path.with_extension("names")).unwrap();

@@ -10,6 +10,16 @@ pub fn member<'a>(names: &'a str, key: &str) -> &'a str {
     found.map_or("", |json| json.strip_suffix(',').unwrap_or(json))
 }
 
+/// Returns the checksum that names have of a file, as their text: FNV-1a of 64 bits.
+pub fn checksum(bytes: &[u8]) -> String {
+    let mut sum: u64 = 14_695_981_039_346_656_037;
+    for byte in bytes {
+        sum ^= u64::from(*byte);
+        sum = sum.wrapping_mul(1_099_511_628_211);
+    }
+    format!("{sum:016x}")
+}
+
 /// Returns the parts of a JSON list, or of an object, without the brackets.
 fn parts<'a>(json: &'a str, between: &'static str) -> impl Iterator<Item = &'a str> {
     let inner = json.get(1..json.len().max(2) - 1).unwrap_or("");

@@ -2,7 +2,7 @@
 
 use std::path::{Path, PathBuf};
 use std::process::Command;
-use std::{env, fs, process};
+use std::{env, fs};
 
 /// The variable that is set in the process that runs a test's part.
 const PART: &str = "YOVANELUM_TEST_PART";
@@ -16,9 +16,12 @@ pub struct Folder(pub PathBuf);
 
 impl Folder {
     pub fn new(name: &str) -> Folder {
-        let folder = env::temp_dir().join(format!("yovanelum-{name}-{}", process::id()));
+        let folder = super::temporary::path(name);
         fs::create_dir_all(&folder).unwrap();
-        Folder(fs::canonicalize(folder).unwrap())
+        let whole = fs::canonicalize(folder).unwrap();
+        // Windows puts `\\?\` before such a path, which nobody else writes.
+        let plain = whole.to_str().and_then(|path| path.strip_prefix(r"\\?\"));
+        Folder(plain.map_or(whole.clone(), PathBuf::from))
     }
 }
 
@@ -28,13 +31,70 @@ impl Drop for Folder {
     }
 }
 
-/// The command that runs the part of this test in the folder, with a relative path as cargo's target folder.
+/// The name of this test program.
+const PROGRAM: &str = env!("CARGO_CRATE_NAME");
+
+/// Returns this program as one that cargo has built in the folder `built` of this one.
+fn built(folder: &Path) -> PathBuf {
+    let this = env::current_exe().unwrap();
+    let deps = folder.join("built/debug/deps");
+    let program = deps.join(this.file_name().unwrap());
+    if !program.exists() {
+        fs::create_dir_all(&deps).unwrap();
+        fs::write(folder.join("built/CACHEDIR.TAG"), "").unwrap();
+        fs::hard_link(&this, &program)
+            .or_else(|_| fs::copy(&this, &program).map(drop))
+            .unwrap();
+    }
+    program
+}
+
+/// Returns the folder with the files of tests of this program, where it was built in the folder `built` of this one.
+pub fn files(folder: &Path) -> PathBuf {
+    let package = folder.join("built").join("yovanelum").join("yovanelum");
+    package.join(format!("test-{PROGRAM}"))
+}
+
+/// Returns a file's address, as a browser takes it. Windows has a letter for the drive and backslashes in the path.
+pub fn address(path: &Path) -> String {
+    let path = path.display().to_string();
+    match cfg!(windows) {
+        true => format!("file:///{}", path.replace('\\', "/")),
+        false => format!("file://{path}"),
+    }
+}
+
+/// Returns the line by which a test of this program is replayed from this journal.
+pub fn replay_line(journal: &Path, test: &str) -> String {
+    let journal = journal.display();
+    // A shell takes a backslash as it is between quotes alone.
+    let quote = if cfg!(windows) { "'" } else { "" };
+    format!(
+        "replay: YOVANELUM_REPLAY={quote}{journal}{quote} cargo test -p yovanelum --test {PROGRAM} -- {test} --exact"
+    )
+}
+
+/// Returns a line without the options and the variables that cargo was given for this build.
+pub fn without_options(line: &str) -> String {
+    let parts = line.split_once(" cargo test ").and_then(|(before, rest)| {
+        let (journal, _) = before
+            .strip_prefix("replay: ")?
+            .split_once(' ')
+            .unwrap_or((&before[8..], ""));
+        let (_, rest) = format!(" {rest}")
+            .split_once(" -p ")
+            .map(|(a, b)| (a.to_string(), b.to_string()))?;
+        Some(format!("replay: {journal} cargo test -p {rest}"))
+    });
+    parts.unwrap_or_else(|| line.to_string())
+}
+
+/// The command that runs the part of this test in the folder.
 pub fn started(test: &str, folder: &Path) -> Command {
-    let mut part = Command::new(env::current_exe().unwrap());
+    let mut part = Command::new(built(folder));
     part.args(["--exact", test])
         .current_dir(folder)
         .env(PART, "1")
-        .env("CARGO_TARGET_DIR", "built")
         .env_remove("YOVANELUM_KEEP");
     part
 }
@@ -52,8 +112,16 @@ pub fn play(test: &str, folder: &Path, keep: Option<&str>) -> (bool, String) {
 fn is_ours(line: &str) -> bool {
     let starts = [
         "yovanelum: ",
+        "error: ",
+        "warning: ",
+        "note: step ",
+        "note: the panic, ",
+        "note: the error, ",
+        "  --> ",
         "  step ",
         "  the end ",
+        "  the panic ",
+        "  the error ",
         "  lost: ",
         "  not told: ",
         "and ",
@@ -67,7 +135,7 @@ fn is_ours(line: &str) -> bool {
 /// Returns the lines of this crate from what a program wrote to standard error.
 pub fn our_lines(said: &str) -> Vec<String> {
     let ours = said.lines().filter(|line| is_ours(line));
-    ours.map(String::from).collect()
+    ours.map(without_options).collect()
 }
 
 /// Returns the lines of a failed assertion and of this crate from what a program wrote to standard error.
@@ -76,7 +144,9 @@ pub fn lines_of_failure(said: &str) -> String {
         let starts = ["assertion ", "  left: ", " right: "];
         starts.iter().any(|start| line.starts_with(start)) || is_ours(line)
     });
-    lines.map(|line| format!("{line}\n")).collect()
+    lines
+        .map(|line| format!("{}\n", without_options(line)))
+        .collect()
 }
 
 /// Returns the part of a text between two others.
@@ -91,14 +161,24 @@ pub fn line_after(source: &str, text: &str) -> u32 {
     numbered.find(|(_, line)| line.contains(text)).unwrap().0
 }
 
-/// Returns a text in which lines of one file are those of another, into which its lines from `from` on were copied to `to`.
+/// Returns a text in which places in one file are those in another, into which its lines from `from` on were copied to `to`, four columns to
+/// the right.
 pub fn relocated(text: &str, (file, from): (&str, u32), (copy, to): (&str, u32)) -> String {
     let mut parts = text.split(file);
     let mut out = parts.next().unwrap().to_string();
     for part in parts {
-        let digits = part[1..].find(|c: char| !c.is_ascii_digit()).unwrap() + 1;
-        let line: u32 = part[1..digits].parse().unwrap();
-        out += &format!("{copy}:{}{}", line - from + to, &part[digits..]);
+        let (line, rest) = number(&part[1..]);
+        out += &format!("{copy}:{}", line - from + to);
+        match rest.strip_prefix(':').map(number) {
+            Some((column, rest)) => out += &format!(":{}{rest}", column + 4),
+            None => out += rest,
+        }
     }
     out
+}
+
+/// Returns the number that a text begins with, and the rest of the text.
+fn number(text: &str) -> (u32, &str) {
+    let end = text.find(|c: char| !c.is_ascii_digit()).unwrap();
+    (text[..end].parse().unwrap(), &text[end..])
 }

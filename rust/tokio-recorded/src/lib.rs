@@ -1,14 +1,27 @@
 //! tokio, with [`sync::broadcast`] and [`sync::watch`] recorded by yovanelum.
 //!
-//! Everything else is tokio's own, but the [`runtime::Builder`], whose threads follow the test, and whose tasks have a number each in its
-//! journal: types, functions and macros are re-exported, and so is what a later version adds.
+//! Everything else is tokio's own, but the [`runtime::Runtime`] and its builder: their threads follow the test, and their tasks have a number each
+//! in its journal. Tasks of [`spawn`] are seen where a test is explored. Types, functions and macros are re-exported, and so is what a later version
+//! adds.
 
 pub use real_tokio::*;
 
 #[cfg(all(feature = "rt", feature = "sync"))]
 pub mod runtime;
 #[cfg(all(feature = "rt", feature = "sync"))]
+mod spawning;
+#[cfg(all(feature = "rt", feature = "sync"))]
 mod tasks;
+
+#[cfg(all(feature = "rt", feature = "sync"))]
+pub use spawning::spawn;
+
+/// tokio's `task`, with functions that spawn tasks which are seen where a test is explored.
+#[cfg(all(feature = "rt", feature = "sync"))]
+pub mod task {
+    pub use crate::spawning::{spawn, spawn_local};
+    pub use real_tokio::task::*;
+}
 
 /// tokio's `sync`, with the two channels of yovanelum.
 #[cfg(feature = "sync")]

@@ -1,27 +1,30 @@
-//! tokio's `runtime`, with a builder whose threads follow the one that builds.
+//! tokio's `runtime`, with a builder and a runtime whose threads follow the one that builds.
 //!
-//! So `#[tokio::test(flavor = "multi_thread")]` needs no other line: a recorder that the test creates is entered on the threads of its
-//! runtime too, where its tasks run. Tasks without a name are told apart by their ids, where this tokio has `task::try_id`. An older one,
-//! as 1.24, has it under `--cfg tokio_unstable` alone.
+//! So `#[tokio::test(flavor = "multi_thread")]` needs no other line, nor does `Runtime::new()`: a recorder that the test creates is entered on
+//! the threads of its runtime too, where its tasks run. Tasks without a name are told apart by their ids, where this tokio has `task::try_id`. An
+//! older one, as 1.24, has it under `--cfg tokio_unstable` alone.
 
 pub use real_tokio::runtime::*;
 
 use crate::tasks;
 use real_tokio::runtime as theirs;
+use std::io;
 use std::ops::{Deref, DerefMut};
+use std::time::Duration;
 use yovanelum::follow_this_thread;
 
 /// tokio's builder. The threads of its runtime have the recorder that is entered on the thread which has created the builder.
 ///
-/// It has the methods that a chain begins with, and dereferences to tokio's own for all others. After one of those in a chain,
-/// `on_thread_start` replaces the function by which the threads follow.
+/// It has tokio's stable methods, and dereferences to tokio's own for all others. After one of those in a chain, `on_thread_start` replaces the
+/// function by which the threads follow, and `build` returns tokio's own runtime.
 #[derive(Debug)]
 pub struct Builder(theirs::Builder);
 
 /// Methods that set something, and return the builder for the next call.
 macro_rules! settings {
-    ($($method:ident($($arg:ident: $type:ty)?);)*) => {
+    ($($(#[$cfg:meta])* $method:ident($($arg:ident: $type:ty)?);)*) => {
         $(/// As tokio's own.
+        $(#[$cfg])*
         pub fn $method(&mut self $(, $arg: $type)?) -> &mut Builder {
             self.0.$method($($arg)?);
             self
@@ -64,12 +67,25 @@ impl Builder {
         thread_name(val: impl Into<String>);
         thread_name_fn(f: impl Fn() -> String + Send + Sync + 'static);
         thread_stack_size(val: usize);
-        thread_keep_alive(duration: std::time::Duration);
+        thread_keep_alive(duration: Duration);
         on_thread_stop(f: impl Fn() + Send + Sync + 'static);
         on_thread_park(f: impl Fn() + Send + Sync + 'static);
         on_thread_unpark(f: impl Fn() + Send + Sync + 'static);
         global_queue_interval(val: u32);
         event_interval(val: u32);
+        #[cfg(any(feature = "net", all(unix, any(feature = "process", feature = "signal"))))]
+        enable_io();
+        #[cfg(any(feature = "net", all(unix, any(feature = "process", feature = "signal"))))]
+        max_io_events_per_tick(capacity: usize);
+        #[cfg(feature = "time")]
+        enable_time();
+        #[cfg(feature = "test-util")]
+        start_paused(start_paused: bool);
+    }
+
+    /// As tokio's own.
+    pub fn build(&mut self) -> io::Result<Runtime> {
+        self.0.build().map(Runtime)
     }
 }
 
@@ -83,6 +99,42 @@ impl Deref for Builder {
 
 impl DerefMut for Builder {
     fn deref_mut(&mut self) -> &mut theirs::Builder {
+        &mut self.0
+    }
+}
+
+/// tokio's runtime. Its threads have the recorder that is entered on the thread which has built it. It dereferences to tokio's own.
+#[derive(Debug)]
+pub struct Runtime(theirs::Runtime);
+
+impl Runtime {
+    /// As tokio's own.
+    #[cfg(feature = "rt-multi-thread")]
+    pub fn new() -> io::Result<Runtime> {
+        Builder::new_multi_thread().enable_all().build()
+    }
+
+    /// As tokio's own.
+    pub fn shutdown_timeout(self, duration: Duration) {
+        self.0.shutdown_timeout(duration);
+    }
+
+    /// As tokio's own.
+    pub fn shutdown_background(self) {
+        self.0.shutdown_background();
+    }
+}
+
+impl Deref for Runtime {
+    type Target = theirs::Runtime;
+
+    fn deref(&self) -> &theirs::Runtime {
+        &self.0
+    }
+}
+
+impl DerefMut for Runtime {
+    fn deref_mut(&mut self) -> &mut theirs::Runtime {
         &mut self.0
     }
 }

@@ -1,11 +1,12 @@
 //! The number of the task that a thread runs, by which yovanelum tells apart the tasks that have no name.
 
 use std::hash::{Hash, Hasher};
-use yovanelum::set_task_id;
+use yovanelum::{set_patch, set_task_id};
 
-/// Tells yovanelum how to know the current task.
+/// Tells yovanelum how to know the current task, and that this package is part of the build.
 pub(crate) fn tell_apart() {
     set_task_id(current);
+    set_patch(env!("CARGO_MANIFEST_DIR"));
 }
 
 /// Returns the number of the task that this thread runs. Versions of tokio that have no `try_id` never say that there is one.

@@ -24,6 +24,8 @@ pub struct WatchCounts {
     pub changes: u64,
     /// How many changes came while it was there, and were never marked as seen by it.
     pub missed: u64,
+    /// How many changes came while it was there, and were overwritten or left without one look at them. `borrow` and `update` look.
+    pub unlooked: u64,
 }
 
 /// The counts of a receiver, by the kind of its channel.

@@ -1,23 +1,23 @@
 //! What is counted of a watch while its entries are passed.
 
 ghost use Rattle.std.specs.Prelude.{◌≡◌, ◌<◌, ◌≤◌, ◌+◌, ◌-◌, ◌^◌, IfOk, OnOk, Option, length, option_map};
-ghost use Rattle.rw_findings.specs.WatchTallies.{after_change, after_end, after_look, counts_from, HasRoom, HasRoomFor, made_watcher};
-ghost use Rattle.rw_findings.specs.WatchTallies.{missed_at, new_watcher, opened_watch, watcher_in, with_call, with_watcher};
+ghost use Rattle.rw_findings.specs.WatchTallies.{after_change, after_end, after_look, after_mark, after_update, counts_from, HasRoom};
+ghost use Rattle.rw_findings.specs.WatchTallies.{HasRoomFor, made_watcher, new_watcher, opened_watch, watcher_in, with_call, with_watcher};
 
+use super::sight::Sight;
 use super::total::WatchCounts;
 use rw_law::NoMemory;
 use rw_watch::{WCall, WReply};
 use std::alloc::Global;
 use std::marker::Model;
 
-/// What is counted of a receiver. What came after it last looked isn't among what it missed yet.
+/// What is counted of a receiver.
 #[derive(Clone, Copy)]
 pub(super) struct Watcher {
     alive: bool,
-    // The newest version that it has seen, and at first the version at which it was made.
-    looked: u64,
     changes: u64,
-    missed: u64,
+    marks: Sight,
+    looks: Sight,
 }
 
 /// The receivers of a watch.
@@ -42,9 +42,9 @@ fn new_watcher(version: u64) -> Watcher
 {
     Watcher {
         alive: true,
-        looked: version,
         changes: 0,
-        missed: 0,
+        marks: Sight::new(version),
+        looks: Sight::new(version),
     }
 }
 
@@ -79,33 +79,40 @@ impl WatchTally {
         ensures { result ≡ after_look self.now.version watcher }
     {
         let mut after = watcher;
-        if watcher.looked < self.version {
-            after.looked = self.version;
-            after.missed += self.version - watcher.looked - 1;
-        }
+        after.looks = watcher.looks.after(self.version);
         after
     }
 
-    /// Returns a receiver after `changed` told it of a change.
+    /// Returns a receiver after it has marked the value as seen.
+    fn after_mark(&self, watcher: Watcher) -> Watcher
+        requires { HasRoomFor self.now watcher }
+        ensures { result ≡ after_mark self.now.version watcher }
+    {
+        let mut after = watcher;
+        after.marks = watcher.marks.after(self.version);
+        after
+    }
+
+    /// Returns a receiver after it has done both.
+    fn after_update(&self, watcher: Watcher) -> Watcher
+        requires { HasRoomFor self.now watcher }
+        ensures { result ≡ after_update self.now.version watcher }
+    {
+        let mut after = watcher;
+        after.marks = watcher.marks.after(self.version);
+        after.looks = watcher.looks.after(self.version);
+        after
+    }
+
+    /// Returns a receiver after `changed` told it of a change, which marks the value as seen.
     fn after_change(&self, watcher: Watcher) -> Watcher
         requires { HasRoomFor self.now watcher }
         ensures { result ≡ after_change self.now.version watcher }
     {
-        let mut after = self.after_look(watcher);
+        let mut after = watcher;
         after.changes += 1;
+        after.marks = watcher.marks.after(self.version);
         after
-    }
-
-    /// Returns how many changes a receiver has missed, with all that came after it last looked.
-    fn missed(&self, watcher: Watcher) -> u64
-        requires { HasRoomFor self.now watcher }
-        ensures { result ≡ missed_at self.now.version watcher }
-    {
-        if watcher.alive {
-            watcher.missed + (self.version - watcher.looked)
-        } else {
-            watcher.missed
-        }
     }
 
     /// Returns a receiver after it was dropped.
@@ -114,8 +121,9 @@ impl WatchTally {
         ensures { result ≡ after_end self.now.version watcher }
     {
         let mut after = watcher;
-        after.missed = self.missed(watcher);
         after.alive = false;
+        after.marks = watcher.marks.ended(watcher.alive, self.version);
+        after.looks = watcher.looks.ended(watcher.alive, self.version);
         after
     }
 
@@ -138,7 +146,7 @@ impl WatchTally {
         }
     }
 
-    /// Marks the value as looked at by a receiver.
+    /// Counts a look at the value by a receiver.
     fn look(&mut self, handle: u32)
         requires { HasRoom self.old }
         ensures { self.new ≡ with_watcher self.old handle (option_map (after_look self.old.version) (watcher_in self.old handle)) }
@@ -150,7 +158,31 @@ impl WatchTally {
         self.put(handle, after);
     }
 
-    /// Does the same for a receiver that `changed` told of a change.
+    /// Does the same for one that marks the value as seen.
+    fn mark(&mut self, handle: u32)
+        requires { HasRoom self.old }
+        ensures { self.new ≡ with_watcher self.old handle (option_map (after_mark self.old.version) (watcher_in self.old handle)) }
+    {
+        let after = match self.watcher(handle) {
+            Some(watcher) => Some(self.after_mark(watcher)),
+            None => None,
+        };
+        self.put(handle, after);
+    }
+
+    /// Does the same for one that does both.
+    fn update(&mut self, handle: u32)
+        requires { HasRoom self.old }
+        ensures { self.new ≡ with_watcher self.old handle (option_map (after_update self.old.version) (watcher_in self.old handle)) }
+    {
+        let after = match self.watcher(handle) {
+            Some(watcher) => Some(self.after_update(watcher)),
+            None => None,
+        };
+        self.put(handle, after);
+    }
+
+    /// Does the same for one that `changed` told of a change.
     fn change(&mut self, handle: u32)
         requires { HasRoom self.old }
         ensures { self.new ≡ with_watcher self.old handle (option_map (after_change self.old.version) (watcher_in self.old handle)) }
@@ -190,16 +222,17 @@ impl WatchTally {
                 let watcher = self.made_watcher(call);
                 self.watchers.push(watcher)?;
             }
-            (WCall::Update(handle), WReply::Value(_)) => self.look(handle),
+            (WCall::Borrow(handle), WReply::Value(_)) => self.look(handle),
+            (WCall::Update(handle), WReply::Value(_)) => self.update(handle),
             (WCall::Changed(handle), WReply::Done) => self.change(handle),
-            (WCall::MarkUnchanged(handle), WReply::Done) => self.look(handle),
+            (WCall::MarkUnchanged(handle), WReply::Done) => self.mark(handle),
             (WCall::DropHandle(handle), WReply::Dropped) => self.end(handle),
             _ => {}
         }
         Ok(())
     }
 
-    /// Returns what a receiver was told of and what it missed, if the handle ever was a receiver.
+    /// Returns what a receiver was told of, what it missed and what it never looked at, if the handle ever was a receiver.
     pub(super) fn counts(&self, handle: u32) -> Option<WatchCounts>
         requires { HasRoom self.now }
         ensures { result ≡ option_map (counts_from self.now) (watcher_in self.now handle) }
@@ -207,7 +240,8 @@ impl WatchTally {
         let watcher = self.watcher(handle)?;
         Some(WatchCounts {
             changes: watcher.changes,
-            missed: self.missed(watcher),
+            missed: watcher.marks.unseen_at(watcher.alive, self.version),
+            unlooked: watcher.looks.unseen_at(watcher.alive, self.version),
         })
     }
 }

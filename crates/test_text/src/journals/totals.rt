@@ -12,7 +12,7 @@ use std::test::Fail;
 /// What a script is about, its lines, and the totals of its run.
 type Row = (&'static str, &'static [u8], &'static [Totals]);
 
-static ROWS: [Row; 8] = [
+static ROWS: [Row; 12] = [
     (
         "told_once",
         OVERRUN,
@@ -116,11 +116,12 @@ static ROWS: [Row; 8] = [
             counts: Counts::Watch(WatchCounts {
                 changes: 1,
                 missed: 3,
+                unlooked: 4,
             }),
         }],
     ),
     (
-        "looked_at_twice",
+        "told_twice",
         b"watch 4\n0 0 send 0 5\n0 0 changed 1\n0 0 mark-changed 1\n0 0 changed 1\n0 0 send 0 6\n0 0 clone-receiver 1\n0 0 drop 1\n0 0 send 0 7\n0 0 send 0 8\n",
         &[
             Totals {
@@ -129,6 +130,7 @@ static ROWS: [Row; 8] = [
                 counts: Counts::Watch(WatchCounts {
                     changes: 2,
                     missed: 1,
+                    unlooked: 2,
                 }),
             },
             Totals {
@@ -137,6 +139,79 @@ static ROWS: [Row; 8] = [
                 counts: Counts::Watch(WatchCounts {
                     changes: 0,
                     missed: 2,
+                    unlooked: 2,
+                }),
+            },
+        ],
+    ),
+    (
+        "looks_by_borrow",
+        b"watch 4\n0 0 send 0 5\n0 0 borrow 1\n0 0 send 0 6\n0 0 borrow 1\n0 0 borrow 1\n0 0 send 0 7\n0 0 borrow 1\n",
+        &[Totals {
+            channel: 0,
+            receiver: 1,
+            counts: Counts::Watch(WatchCounts {
+                changes: 0,
+                missed: 3,
+                unlooked: 0,
+            }),
+        }],
+    ),
+    (
+        "told_without_a_look",
+        b"watch 4\n0 0 send 0 5\n0 0 changed 1\n0 0 send 0 6\n0 0 changed 1\n",
+        &[Totals {
+            channel: 0,
+            receiver: 1,
+            counts: Counts::Watch(WatchCounts {
+                changes: 2,
+                missed: 0,
+                unlooked: 2,
+            }),
+        }],
+    ),
+    (
+        "looks_and_marks",
+        b"watch 4\n0 0 send 0 5\n0 0 update 1\n0 0 send 0 6\n0 0 borrow 1\n0 0 send 0 7\n0 0 changed 1\n0 0 send 0 8\n0 0 mark-unchanged 1\n0 0 update 1\n0 0 send 0 9\n0 0 borrow 0\n0 0 send 0 10\n0 0 borrow 1\n",
+        &[Totals {
+            channel: 0,
+            receiver: 1,
+            counts: Counts::Watch(WatchCounts {
+                changes: 1,
+                missed: 3,
+                unlooked: 2,
+            }),
+        }],
+    ),
+    (
+        "looks_of_late_receivers",
+        b"watch 4\n0 0 send 0 5\n0 0 subscribe 0\n0 0 borrow 2\n0 0 send 0 6\n0 0 clone-receiver 2\n0 0 send 0 7\n0 0 borrow 3\n0 0 drop 2\n0 0 borrow 2\n0 0 send 0 8\n0 0 drop 3\n",
+        &[
+            Totals {
+                channel: 0,
+                receiver: 1,
+                counts: Counts::Watch(WatchCounts {
+                    changes: 0,
+                    missed: 4,
+                    unlooked: 4,
+                }),
+            },
+            Totals {
+                channel: 0,
+                receiver: 2,
+                counts: Counts::Watch(WatchCounts {
+                    changes: 0,
+                    missed: 2,
+                    unlooked: 2,
+                }),
+            },
+            Totals {
+                channel: 0,
+                receiver: 3,
+                counts: Counts::Watch(WatchCounts {
+                    changes: 0,
+                    missed: 2,
+                    unlooked: 1,
                 }),
             },
         ],
@@ -163,6 +238,7 @@ static ROWS: [Row; 8] = [
                 counts: Counts::Watch(WatchCounts {
                     changes: 1,
                     missed: 0,
+                    unlooked: 1,
                 }),
             },
         ],

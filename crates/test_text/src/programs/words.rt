@@ -57,10 +57,10 @@ static ASKED: [(&[&str], Asked<'static>); 9] = [
 ];
 
 /// Asserts that the words ask for this.
-fn ask_for(rt: &impl Abort, alloc: Global, words: &[String], asked: &Asked<'static>) {
-    match read_words(alloc, words) {
+fn ask_for(rt: &impl Abort, words: &[String], asked: &Asked<'static>) {
+    match read_words(words) {
         Ok(read) => same(rt, "words", &read, asked),
-        Err(error) => assert!(rt; false, "{error}"),
+        Err(fault) => assert!(rt; false, "{fault:?}"),
     }
 }
 
@@ -68,7 +68,7 @@ fn ask_for(rt: &impl Abort, alloc: Global, words: &[String], asked: &Asked<'stat
 fn words_are_taken(rt: HostRuntime) -> Result<(), Fail> {
     for (texts, asked) in &ASKED {
         let words = words_of(rt.alloc(), texts)?;
-        ask_for(&rt, rt.alloc(), &words, asked);
+        ask_for(&rt, &words, asked);
         drop(words);
     }
     Ok(())
@@ -133,11 +133,11 @@ fn led_to<T: Threads + Wait + Sync, F: Read + Drop, R: Read, W: Write>(
     input: &mut R,
     out: &mut W,
 ) -> Ended {
-    match read_words(alloc, words) {
+    match read_words(words) {
         Ok(Asked::Session) => run_session(alloc, input, out),
         Ok(Asked::Over(verb, _)) => over_opened(alloc, verb, Ok(file), input, out),
         Ok(Asked::Threads(_)) => threads_over_opened(rt, alloc, Ok(file), out),
-        Err(error) => refuse_words(alloc, &error),
+        Err(fault) => refuse_words(alloc, &fault),
     }
 }
 
@@ -174,9 +174,9 @@ fn each_word_leads_to_its_function(rt: HostRuntime) -> Result<(), Fail> {
 #[test]
 fn words_that_are_not_taken(rt: HostRuntime) -> Result<(), Fail> {
     let words = words_of(rt.alloc(), &["ttd", "walk"])?;
-    let ended = match read_words(rt.alloc(), &words) {
+    let ended = match read_words(&words) {
         Ok(_) => Ended::silent(0),
-        Err(error) => refuse_words(rt.alloc(), &error),
+        Err(fault) => refuse_words(rt.alloc(), &fault),
     };
     drop(words);
     let told =

@@ -1,7 +1,7 @@
 //! A channel whose machines make few handles each, beside one machine that makes them all: the same replies to random calls.
 
-use super::{CoreChannel, MOST_HANDLES, Opening, parts_of};
-use crate::core::{self, Actor, Caller};
+use super::{CoreChannel, MOST_HANDLES, parts_of};
+use crate::backend::{Actor, Caller, Recording, Spec};
 use crate::handle::Kind;
 use crate::reply::Reply;
 
@@ -33,7 +33,7 @@ struct Handle {
 /// A channel of several machines, and one of a single machine.
 struct Pair {
     many: CoreChannel,
-    one: core::CoreChannel,
+    one: Recording,
     handles: Vec<Handle>,
     values: u64,
     random: Random,
@@ -64,15 +64,15 @@ macro_rules! create_on_both {
 }
 
 impl Pair {
-    fn open(opening: Opening, most: u32, seed: u64) -> Pair {
+    fn open(spec: Spec<u64>, most: u32, seed: u64) -> Pair {
         let handle = |kind, number| Handle {
             kind,
             in_many: number,
             in_one: number,
         };
         Pair {
-            many: CoreChannel::open(opening, most).unwrap(),
-            one: opening.open().unwrap(),
+            many: CoreChannel::open(spec, most).unwrap(),
+            one: Recording::open(spec).unwrap(),
             handles: vec![handle(Kind::Sender, 0), handle(Kind::Receiver, 1)],
             values: 0,
             random: Random(seed.wrapping_mul(0x9E37_79B9_7F4A_7C15) | 1),
@@ -90,7 +90,7 @@ impl Pair {
     }
 
     fn is_watch(&self) -> bool {
-        matches!(self.many.opening, Opening::Watch)
+        matches!(self.one.spec(), Spec::Watch(_))
     }
 
     /// A random live handle of a kind, and where it is in the list.
@@ -278,12 +278,12 @@ impl Pair {
 const SEEDS: u64 = if cfg!(miri) { 10 } else { 200 };
 
 /// Makes 400 random calls on both, for each seed. Returns how many further machines were opened at most.
-fn play(opening_of: impl Fn(&mut Random) -> Opening, step: fn(&mut Pair, usize)) -> usize {
+fn play(spec_of: impl Fn(&mut Random) -> Spec<u64>, step: fn(&mut Pair, usize)) -> usize {
     let mut most_opened = 0;
     for seed in 0..SEEDS {
         let mut random = Random(seed * 2 + 1);
-        let opening = opening_of(&mut random);
-        let mut pair = Pair::open(opening, 4 + random.below(5) as u32, seed);
+        let spec = spec_of(&mut random);
+        let mut pair = Pair::open(spec, 4 + random.below(5) as u32, seed);
         let most_alive = 3 + random.below(20);
         for _ in 0..400 {
             step(&mut pair, most_alive);
@@ -301,18 +301,18 @@ fn play(opening_of: impl Fn(&mut Random) -> Opening, step: fn(&mut Pair, usize))
 
 #[test]
 fn several_machines_of_a_broadcast_reply_as_one() {
-    let opening = |random: &mut Random| Opening::Broadcast(1 + random.below(5) as u32);
-    assert!(play(opening, Pair::step_broadcast) > 3);
+    let spec = |random: &mut Random| Spec::Broadcast(1 + random.below(5) as u32);
+    assert!(play(spec, Pair::step_broadcast) > 3);
 }
 
 #[test]
 fn several_machines_of_a_watch_reply_as_one() {
-    assert!(play(|_| Opening::Watch, Pair::step_watch) > 3);
+    assert!(play(|_| Spec::Watch(0), Pair::step_watch) > 3);
 }
 
 #[test]
 fn a_machine_whose_handles_are_dropped_is_dropped_and_its_number_is_used_again() {
-    let mut channel = CoreChannel::open(Opening::Broadcast(2), 8).unwrap();
+    let mut channel = CoreChannel::open(Spec::Broadcast(2), 8).unwrap();
     channel.end();
     let mut alive = Vec::new();
     for round in 0..1_000 {

@@ -4,11 +4,12 @@ use super::{
     AUDIT, CLERK, JOURNAL, NAMES, PATIENT, call, gate, gate_of, make, make_first, poll, told,
 };
 use crate::lock::lock;
-use crate::replay::Word;
+use crate::word::Word;
 use std::sync::atomic::Ordering;
 use std::task::Context;
 
 #[test]
+#[cfg_attr(target_family = "wasm", ignore = "WebAssembly has no threads")]
 fn a_future_is_pending_until_its_turn_and_woken_by_the_helper() {
     let gate = gate();
     let (_, waker, woken) = told();
@@ -24,6 +25,7 @@ fn a_future_is_pending_until_its_turn_and_woken_by_the_helper() {
 }
 
 #[test]
+#[cfg_attr(target_family = "wasm", ignore = "WebAssembly has no threads")]
 fn a_future_that_is_dropped_leaves_the_gate() {
     let gate = gate();
     let (dropped, waker, _woken) = told();
@@ -40,6 +42,7 @@ fn a_future_that_is_dropped_leaves_the_gate() {
 }
 
 #[test]
+#[cfg_attr(target_family = "wasm", ignore = "WebAssembly has no threads")]
 fn the_end_wakes_futures_that_the_journal_does_not_have() {
     let gate = gate();
     let (_, waker, woken) = told();
@@ -53,6 +56,7 @@ fn the_end_wakes_futures_that_the_journal_does_not_have() {
 }
 
 #[test]
+#[cfg_attr(target_family = "wasm", ignore = "WebAssembly has no threads")]
 fn a_poll_is_held_back_until_the_turn_of_its_actor() {
     let gate = gate();
     let (_, waker, woken) = told();
@@ -72,6 +76,7 @@ fn a_poll_is_held_back_until_the_turn_of_its_actor() {
 }
 
 #[test]
+#[cfg_attr(target_family = "wasm", ignore = "WebAssembly has no threads")]
 fn a_future_that_was_dropped_is_not_polled_at_the_turn_of_its_drop() {
     let names = NAMES.replace("\"failed\"", "\"cancelled\": {\"0\": [4]}, \"failed\"");
     let gate = gate_of(JOURNAL, &names, PATIENT);
@@ -84,6 +89,7 @@ fn a_future_that_was_dropped_is_not_polled_at_the_turn_of_its_drop() {
 }
 
 #[test]
+#[cfg_attr(target_family = "wasm", ignore = "WebAssembly has no threads")]
 fn a_poll_by_which_that_of_the_turn_is_made_is_not_held_back() {
     let gate = gate();
     let (_, waker, _woken) = told();

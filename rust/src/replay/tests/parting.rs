@@ -3,10 +3,12 @@
 use super::{
     AUDIT, CLERK, JOURNAL, NAMES, NOBODY, call, gate, gate_of, make, make_first, poll, told,
 };
-use crate::replay::{Coming, Word};
+use crate::replay::Coming;
+use crate::word::Word;
 use std::time::Duration;
 
 #[test]
+#[cfg_attr(target_family = "wasm", ignore = "WebAssembly has no threads")]
 fn another_call_parts_at_once() {
     let gate = gate();
     // The next call of this receiver is a receive that waits. It isn't the audit's turn, so it would be patient.
@@ -19,6 +21,7 @@ fn another_call_parts_at_once() {
 }
 
 #[test]
+#[cfg_attr(target_family = "wasm", ignore = "WebAssembly has no threads")]
 fn another_call_of_the_actor_whose_turn_it_is_parts_soon() {
     let gate = gate();
     // The journal has no such handle.
@@ -38,6 +41,7 @@ fn another_call_of_the_actor_whose_turn_it_is_parts_soon() {
 }
 
 #[test]
+#[cfg_attr(target_family = "wasm", ignore = "WebAssembly has no threads")]
 fn a_call_that_would_wait_at_its_turn_parts() {
     let gate = gate();
     make_first(&gate, 1);
@@ -48,6 +52,7 @@ fn a_call_that_would_wait_at_its_turn_parts() {
 }
 
 #[test]
+#[cfg_attr(target_family = "wasm", ignore = "WebAssembly has no threads")]
 fn a_thread_goes_on_where_nothing_comes_for_too_long() {
     let gate = gate_of(JOURNAL, NAMES, Duration::from_millis(5));
     make(&gate, call(NOBODY, 0, Word::Send, 0));
@@ -57,6 +62,7 @@ fn a_thread_goes_on_where_nothing_comes_for_too_long() {
 }
 
 #[test]
+#[cfg_attr(target_family = "wasm", ignore = "WebAssembly has no threads")]
 fn a_future_goes_on_where_nothing_comes_for_too_long() {
     let gate = gate_of(JOURNAL, NAMES, Duration::from_millis(5));
     let (_, waker, woken) = told();

@@ -2,7 +2,8 @@
 
 use super::{AUDIT, CLERK, NAMES, PATIENT, call, gate_of, make, poll, told};
 use crate::block_on;
-use crate::replay::{Gate, Word};
+use crate::replay::Gate;
+use crate::word::Word;
 use std::future::poll_fn;
 use std::sync::Arc;
 use std::task::{Poll, Waker};
@@ -35,6 +36,7 @@ fn received_by(tasks: [&Waker; 3]) -> String {
 const ALL: &str = "all 4 calls in the recorded order";
 
 #[test]
+#[cfg_attr(target_family = "wasm", ignore = "WebAssembly has no threads")]
 fn tasks_that_use_a_handle_in_turn_are_not_told_apart() {
     let [(_, first, _a), (_, second, _b)] = [told(), told()];
     assert_eq!(
@@ -47,6 +49,7 @@ fn tasks_that_use_a_handle_in_turn_are_not_told_apart() {
 }
 
 #[test]
+#[cfg_attr(target_family = "wasm", ignore = "WebAssembly has no threads")]
 fn a_handle_may_be_given_from_task_to_task() {
     let [(_, first, _a), (_, second, _b), (_, third, _c)] = [told(), told(), told()];
     for tasks in [
@@ -59,6 +62,7 @@ fn a_handle_may_be_given_from_task_to_task() {
 }
 
 #[test]
+#[cfg_attr(target_family = "wasm", ignore = "WebAssembly has no threads")]
 fn a_task_that_blocks_its_thread_meanwhile_is_still_one() {
     let (gate, (_, task, _woken)) = (gate(), told());
     receive(&gate, &task);
@@ -71,6 +75,7 @@ fn a_task_that_blocks_its_thread_meanwhile_is_still_one() {
 }
 
 #[test]
+#[cfg_attr(target_family = "wasm", ignore = "WebAssembly has no threads")]
 fn the_wakers_of_tasks_are_given_back_at_the_end() {
     let (gate, (counted, task, _woken)) = (gate(), told());
     for _ in 0..3 {

@@ -93,3 +93,48 @@ fn a_function_for_the_start_of_threads_is_called_too() {
     assert!(*started.lock().unwrap() >= 1);
     assert_eq!(channels(&recorder), 1);
 }
+
+/// A runtime by the type that programs name, of a chain of many settings.
+fn by_a_builder() -> tokio::runtime::Runtime {
+    tokio::runtime::Builder::new_multi_thread()
+        .worker_threads(2)
+        .enable_io()
+        .max_io_events_per_tick(64)
+        .enable_time()
+        .build()
+        .unwrap()
+}
+
+#[test]
+fn a_runtime_without_a_builder_follows_its_test() {
+    let recorder = Recorder::for_test("a_runtime_without_a_builder_follows_its_test");
+    let runtimes = [tokio::runtime::Runtime::new().unwrap(), by_a_builder()];
+    for runtime in &runtimes {
+        runtime.block_on(async { tokio::spawn(async { open(0) }).await.unwrap() });
+        runtime.block_on(runtime.spawn(async { open(1) })).unwrap();
+    }
+    let [first, second] = runtimes;
+    first.shutdown_timeout(std::time::Duration::from_secs(30));
+    second.shutdown_background();
+    assert_eq!(channels(&recorder), 4);
+}
+
+#[test]
+fn a_committed_test_names_what_is_recorded() {
+    let recorder = Recorder::for_test("a_committed_test_names_what_is_recorded");
+    let (orders, _audit) = broadcast::channel(2);
+    let (desk, _clerk) = tokio::sync::mpsc::channel::<u32>(2);
+    yovanelum::name!(recorder, &orders, "orders");
+    yovanelum::name!(recorder, &desk, "desk");
+    yovanelum::show!(recorder, &orders, |id: &u32| format!("order {id}"));
+    yovanelum::show!(recorder, &desk, |id: &u32| format!("paper {id}"));
+    orders.send(71).unwrap();
+    desk.try_send(71).unwrap();
+    let names = recorder.names();
+    assert!(names.contains(r#""channels": {"0": "orders"}"#), "{names}");
+    assert!(names.contains(r#"{"0": {"0": "order 71"}}"#), "{names}");
+    assert!(
+        !names.contains("desk") && !names.contains("paper"),
+        "{names}"
+    );
+}

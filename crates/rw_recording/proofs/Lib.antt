@@ -1,0 +1,3 @@
+pub mod CutCalls
+pub mod Recordings
+pub mod Sends

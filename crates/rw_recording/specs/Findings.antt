@@ -1,0 +1,35 @@
+-- What was found in a run: its losses, totals and closings.
+use Rattle.std.specs.Prelude.{◌≡◌, ⊤, ℕ, List, length, Result, Ok, Err}
+use Rattle.rw_law.specs.Numbers.{numbers}
+use Rattle.rw_journal.specs.Run.{Run}
+use Rattle.rw_text.specs.Reading.{reading_of}
+use Rattle.rw_text.specs.declared.faults.TextFault.{TextFault}
+use Rattle.rw_text.specs.declared.faults.TextFault.TheVariants.{NoMemory}
+use Rattle.rw_findings.specs.Closings.{AreClosings}
+use Rattle.rw_findings.specs.Losses.{AreLosses}
+use Rattle.rw_findings.specs.Totals.{AreTotals}
+use Rattle.rw_findings.specs.declared.closings.closing.Closing.{Closing}
+use Rattle.rw_findings.specs.declared.closings.closing.LateReader.{LateReader}
+use Rattle.rw_findings.specs.declared.losses.loss.Loss.{Loss}
+use Rattle.rw_findings.specs.declared.totals.total.Totals.{Totals}
+
+-- how many entries the run has, and what was found
+pub record Findings : Type 0 where
+  pub entries : ℕ
+  pub losses : List Loss
+  pub totals : List Totals
+  pub closings : List Closing
+  pub late : List LateReader
+
+-- these are those of the run
+pub record AreFindings (run : Run ℕ) (f : Findings) : Type 0 where
+  pub entries : f.entries ≡ length run.entries
+  pub losses : AreLosses run f.losses
+  pub totals : AreTotals run f.totals
+  pub closings : AreClosings run f.closings f.late
+
+-- what is found in a text: the findings of the run that is read, or the fault for which nothing is read
+abbrev pub IsFoundIn : List ℕ → Result Findings TextFault → Type 0
+IsFoundIn bytes (Ok f) = (run : Run ℕ) × (reading_of numbers bytes ≡ Ok run) × AreFindings run f
+IsFoundIn bytes (Err NoMemory) = ⊤
+IsFoundIn bytes (Err fault) = reading_of numbers bytes ≡ Err fault

@@ -1,0 +1,469 @@
+"""The pages that failing tests leave: a package over the crate is tested by cargo, and each page is opened at the address that its test prints.
+What the report, `why`, `why --json` and the page say of a test is one account, and what its source says."""
+import functools
+import json
+import os
+import re
+import shutil
+import signal
+import subprocess
+import threading
+from dataclasses import dataclass, field
+
+import native
+import opening
+
+SOURCES = os.path.join(native.TOP, "page", "tests", "failing")
+PACKAGE = os.path.join(native.PICTURES, "failing")
+MANIFEST = """[package]
+name = "shop"
+version = "0.0.0"
+edition = "2024"
+
+[dependencies]
+yovanelum = {{ path = {path} }}
+
+[dev-dependencies]
+tokio = {{ version = "=1.24.2", default-features = false, features = ["rt-multi-thread"] }}
+
+[workspace]
+"""
+CARGO = ["cargo", "test", "--offline", "--test", "failing"]
+PATIENCE = 600
+HANGS = "the_state_is_ready"
+# Its journal has as many calls as a journal takes, too many to walk through.
+FULL = "the_last_tick_arrives"
+LOOK = re.compile(r"^look: file://(\S+)#place=(\d+)$", re.M)
+
+
+@dataclass
+class Wanted:
+    """What the page of a test has to show, as its source says. A call is its text, what else its sentence has, and the comment at its line.
+    The account is a list of facts, each a list of lines with single spaces. A comment in braces stands for its place in the sources."""
+    actors: set
+    channels: list
+    receivers: dict
+    texts: set
+    calls: list
+    account: list
+    lost: dict = field(default_factory=dict)
+    unknown: list = field(default_factory=list)
+    rest: str | None = None
+    nothing: str | None = None
+    waiting: list = field(default_factory=list)
+
+
+def note(number):
+    """The text of an order by `{:#?}`, with the ends of its lines written out as the page does."""
+    notes = "🦀 \\\\ 'note' " * 200
+    return f'Order {{⟨U+000A⟩    id: {number},⟨U+000A⟩    note: "{notes}",⟨U+000A⟩}} 👩‍🚀🦀'
+
+
+def euros(numbers):
+    return {f"{number} EUR" for number in numbers}
+
+
+# The first 40 characters of a note, in quotation marks.
+SHORT_NOTES = {number: r'''"Order {\n id: N,\n note: \"🦀 \\\\ 'note"…'''.replace("N", str(number)) for number in (1, 2)}
+FORTY = "forty_screens_are_up_to_date"
+
+
+def screen_untold(number):
+    """The fact of a screen that was not told."""
+    return [f"`screen {number}` lost 2 of 5 values of `prices` (capacity 2)",
+            f' step 157 prices.send("4 EUR") {FORTY} {{forty screens get a price}} overwrote "2 EUR", which screen {number} had not read',
+            f' the panic not told {FORTY} {{the fourth screen is told}} its last receive: step {43 + number}, "1 EUR"', ' lost: "2 EUR", "3 EUR"']
+
+
+# By the name of a test. What is lost is by receiver: how many values, and how many of them it was told of.
+WANTED = {
+    "no_price_is_missing": Wanted(
+        {"no_price_is_missing", "ticker"}, ["prices"], {"0 1": "auditor · receiver 1"}, euros(range(101, 106)),
+        [("ticker on prices: send 0 2 → sent 1", "101 EUR, not read by auditor · receiver 1", "a price is sent"),
+         ("no_price_is_missing on prices: try-recv 1 → lagged 3", "lost 101 EUR, 102 EUR and 1 more", "the auditor is told")],
+        [["`auditor` lost 3 of 5 values of `prices` (capacity 2)",
+          ' step 3 prices.send("103 EUR") ticker {a price is sent} overwrote "101 EUR", which auditor had not read',
+          " step 7 told: lagged 3 no_price_is_missing {the auditor is told} its last receive: none before", ' lost: "101 EUR", "102 EUR", "103 EUR"'],
+         ["`prices` closed, and its receiver was not told", " step 6 dropped the last sender ticker", " not told: `auditor`"]],
+        {"0 1": (3, 3)}),
+    "the_log_is_read": Wanted(
+        {"the_log_is_read"}, ["jobs"], {"0 1": "log · receiver 1", "0 2": "idle · receiver 2"}, {f"job {number}" for number in range(1, 5)},
+        [("the_log_is_read on jobs: send 0 2 → sent 2", "job 2, not read by", "a job is sent"),
+         ("the_log_is_read on jobs: drop 1", "was never told that it lost 2: job 2, job 3", None)],
+        [["`log` lost 2 of 4 values of `jobs` (capacity 1)",
+          ' step 5 jobs.send("job 3") the_log_is_read {a job is sent} overwrote "job 2", which log had not read',
+          ' step 7 dropped: never told the_log_is_read its last receive: step 3, "job 1"', ' lost: "job 2", "job 3"'],
+         ["`idle` lost 3 of 4 values of `jobs` (capacity 1)",
+          ' step 4 jobs.send("job 2") the_log_is_read {a job is sent} overwrote "job 1", which idle had not read',
+          " the panic held, never read the_log_is_read {the jobs are counted}", ' lost: "job 1", "job 2", "job 3"']],
+        {"0 1": (2, 0), "0 2": (3, 0)}),
+    "the_orders_are_whole": Wanted(
+        {"the_orders_are_whole"}, ["metrics", "orders"], {"0 1": "held · receiver 1", "1 1": "desk · receiver 1"},
+        {"order 71", "order 72", "order 73"},
+        [("the_orders_are_whole on orders: send 0 2 → sent 1", "order 71, not read by desk · receiver 1", "an order is sent"),
+         ("the_orders_are_whole on orders: try-recv 1 → lagged 1", "lost order 71", "the desk is told")],
+        [["`desk` lost 1 of 3 values of `orders` (capacity 2)",
+          ' step 18 orders.send("order 73") the_orders_are_whole {an order is sent} overwrote "order 71", which desk had not read',
+          " step 19 told: lagged 1 the_orders_are_whole {the desk is told} its last receive: none before", ' lost: "order 71"'],
+         ["`held` lost 11 of 15 values of `metrics` (capacity 4)",
+          " step 5 metrics.send(value 4) the_orders_are_whole {a metric is sent} overwrote value 0, which held had not read",
+          " the panic held, never read the_orders_are_whole {the desk is told}", " lost: value 0, value 1, value 2, .. value 10"]],
+        {"0 1": (11, 0), "1 1": (1, 1)}),
+    "each_state_is_seen": Wanted(
+        {"each_state_is_seen", "screen"}, ["state"], {"0 1": "reader · receiver 1"}, {"loading!", "ready!", "busy!", "full!"},
+        [("each_state_is_seen on state: send 0 2", "busy!", "a state is sent"),
+         ("screen on state: borrow 1 → value 3", "full!", "the state is looked at")],
+        [["`reader` never looked at 2 of 3 changes of `state`", ' step 3 state.send("full!") each_state_is_seen {a state is sent} the last change',
+          ' step 4 state.borrow() screen {the state is looked at} its last look: "full!"']],
+        nothing="no value was lost in 6 calls on 1 channel"),
+    "the_sum_is_right": Wanted(
+        {"the_sum_is_right"}, ["bus"], {"0 1": "reader · receiver 1"}, {"number 2"},
+        [("the_sum_is_right on bus: send 0 0 → sent 1", "number 2", "a number is sent"),
+         ("the_sum_is_right on bus: try-recv 1 → value 0", "number 2", "a number is received"),
+         ("the_sum_is_right on bus: drop 0", "", None)],
+        [], nothing="no value was lost in 4 calls on 1 channel"),
+    HANGS: Wanted(
+        {HANGS, "worker"}, ["state"], {"0 1": "reader · receiver 1"}, {"loading!", "busy!"},
+        [(f"{HANGS} on state: send 0 1", "busy!", "the state is busy"), ("worker on state: wait_for 1 → value 1", "busy!", "the worker waits")],
+        [], nothing="no value was lost in 2 calls on 1 channel", waiting=["worker in `state.wait_for` since step 2, {the worker waits}"]),
+    "the_second_task_gets_the_first_order": Wanted(
+        {"the_second_task_gets_the_first_order", "runtime", "task 7", "reader", "till", "audit"}, ["orders"],
+        {"0 1": "first · receiver 1", "0 2": "second · receiver 2"}, {"order 71", "order 72", "order 73"},
+        [("task 7 on orders: send 0 2 → sent 2", "order 71, not read by", "a task sends"),
+         ("till on orders: recv 1 → lagged 1", "lost order 71", "an order is received"),
+         ("audit on orders: recv 2 → lagged 1", "lost order 71", "an order is received")],
+        [["`second` lost 1 of 3 values of `orders` (capacity 2)",
+          ' step 4 orders.send("order 73") task 7 {a task sends} overwrote "order 71", which second had not read',
+          " step 8 told: lagged 1 audit {an order is received} its last receive: none before", ' lost: "order 71"'],
+         ["`first` lost 1 of 3 values of `orders` (capacity 2)",
+          ' step 4 orders.send("order 73") task 7 {a task sends} overwrote "order 71", which first had not read',
+          " step 6 told: lagged 1 till {an order is received} its last receive: none before", ' lost: "order 71"'],
+         ["`orders` closed, and 0 of 2 receivers were told", " step 5 dropped the last sender runtime", " not told: `first`, `second`"]],
+        {"0 1": (1, 1), "0 2": (1, 1)}),
+    "both_clerks_get_the_first_order": Wanted(
+        {"both_clerks_get_the_first_order", "shop", "till", "audit"}, ["orders"], {"0 1": "till · receiver 1", "0 2": "audit · receiver 2"},
+        {"order 71", "order 72", "order 73"},
+        [("shop on orders: send 0 2 → sent 2", "order 71, not read by", "the shop sends"),
+         ("till on orders: recv 1 → lagged 1", "lost order 71", "the till is told"),
+         ("audit on orders: recv 2 → lagged 1", "lost order 71", "the audit is told")],
+        [["`audit` lost 1 of 3 values of `orders` (capacity 2)",
+          ' step 4 orders.send("order 73") shop {the shop sends} overwrote "order 71", which audit had not read',
+          " step 8 told: lagged 1 audit {the audit is told} its last receive: none before", ' lost: "order 71"'],
+         ["`till` lost 1 of 3 values of `orders` (capacity 2)",
+          ' step 4 orders.send("order 73") shop {the shop sends} overwrote "order 71", which till had not read',
+          " step 6 told: lagged 1 till {the till is told} its last receive: none before", ' lost: "order 71"'],
+         ["`orders` closed, and 0 of 2 receivers were told", " step 5 dropped the last sender shop", " not told: `till`, `audit`"]],
+        {"0 1": (1, 1), "0 2": (1, 1)}),
+    "the_notes_are_whole": Wanted(
+        {"the_notes_are_whole"}, ["👩‍🚀 orders 🦀"], {"0 1": '<b>desk</b> &amp; "co" · receiver 1'}, {note(1), note(2), note(3)},
+        [("the_notes_are_whole on 👩‍🚀 orders 🦀: send 0 1 → sent 1", note(1), "a note is sent"),
+         ("the_notes_are_whole on 👩‍🚀 orders 🦀: try-recv 1 → lagged 2", "lost Order {⟨U+000A⟩    id: 1", "the note is missing")],
+        [[r'`<b>desk</b> &amp; "co"` lost 2 of 3 values of `👩\u{200d}🚀 orders 🦀` (capacity 1)',
+          r" step 2 👩\u{200d}🚀 orders 🦀.send(" + SHORT_NOTES[2] + ") the_notes_are_whole {a note is sent} overwrote " + SHORT_NOTES[1]
+          + ', which <b>desk</b> &amp; "co" had not read',
+          " step 4 told: lagged 2 the_notes_are_whole {the note is missing} its last receive: none before",
+          f" lost: {SHORT_NOTES[1]}, {SHORT_NOTES[2]}"]],
+        {"0 1": (2, 2)}),
+    # Entry 1 drops the first receiver, the next 40 make the screens. Then come a send and 40 receives, and after that a send and 36 receives each.
+    FORTY: Wanted(
+        {FORTY}, ["prices"], {"0 1": "receiver 1", **{f"0 {2 + number}": f"screen {number} · receiver {2 + number}" for number in range(40)}},
+        euros(range(1, 6)),
+        [(f"{FORTY} on prices: send 0 3 → sent 40", "2 EUR, not read by", "forty screens get a price"),
+         (f"{FORTY} on prices: try-recv 5 → lagged 2", "lost 2 EUR, 3 EUR", "the fourth screen is told"),
+         (f"{FORTY} on prices: drop 2", "after the test failed: it had lost 2, 2 EUR, 3 EUR", None)],
+        [["`screen 3` lost 2 of 5 values of `prices` (capacity 2)",
+          f' step 157 prices.send("4 EUR") {FORTY} {{forty screens get a price}} overwrote "2 EUR", which screen 3 had not read',
+          f' step 231 told: lagged 2 {FORTY} {{the fourth screen is told}} its last receive: step 46, "1 EUR"', ' lost: "2 EUR", "3 EUR"'],
+         *map(screen_untold, range(3))],
+        {f"0 {2 + number}": (2, 2 if number == 3 else 0) for number in range(4)}, rest="and 1 more receiver lost 2 values"),
+    FULL: Wanted(
+        {FULL}, ["ticks"], {"0 1": "reader · receiver 1"}, set(), [], [],
+        unknown=["recording ended at call 1048576, before the test did"], nothing="nothing was found in 1048576 calls on 1 channel"),
+    "the_last_bus_is_read": Wanted(
+        {"the_last_bus_is_read"}, [f"channel {number}" for number in range(64)], {f"{number} 1": "receiver 1" for number in range(64)}, set(), [], [],
+        unknown=["1 channel was not recorded, since 64 were alive"], nothing="nothing was found in 128 calls on 64 channels"),
+}
+
+
+def make_package():
+    """Writes the package into the tests' output folder. What was built of it before stays."""
+    for name in ("src/lib.rs", "src/bin/why.rs", "tests/failing.rs"):
+        path = os.path.join(PACKAGE, name)
+        os.makedirs(os.path.dirname(path), exist_ok=True)
+        shutil.copyfile(os.path.join(SOURCES, name), path)
+    with open(os.path.join(PACKAGE, "Cargo.toml"), "w", encoding="utf-8") as file:
+        file.write(MANIFEST.format(path=json.dumps(os.path.join(native.TOP, "rust"))))
+    # Debian's sources of tokio, as in rust/tokio.
+    shutil.copytree(os.path.join(native.TOP, "rust", "tokio", ".cargo"), os.path.join(PACKAGE, ".cargo"), dirs_exist_ok=True)
+    shutil.rmtree(os.path.join(PACKAGE, "target", "yovanelum"), ignore_errors=True)
+
+
+def environment():
+    """That of a user: without the variables of this crate, and with cargo's own folder for what it builds."""
+    kept = {key: value for key, value in os.environ.items() if key != "CARGO_TARGET_DIR" and not key.startswith("YOVANELUM_")}
+    return {**kept, "RUST_BACKTRACE": "0"}
+
+
+def said_by_failing():
+    """What cargo says of all tests but the one that hangs."""
+    done = subprocess.run([*CARGO, "--", "--skip", HANGS], cwd=PACKAGE, env=environment(), stdout=subprocess.PIPE, stderr=subprocess.STDOUT,
+                          text=True, timeout=PATIENCE)
+    failed = set(re.findall(r"^test (\S+) \.\.\. FAILED$", done.stdout, re.M))
+    assert failed == set(WANTED) - {HANGS}, done.stdout
+    return done.stdout
+
+
+def said_by_hanging():
+    """What the watchdog says of the test that hangs, up to its address. Then the test is ended, with all that was started for it."""
+    running = subprocess.Popen([*CARGO, HANGS], cwd=PACKAGE, env=environment(), stdout=subprocess.DEVNULL, stderr=subprocess.PIPE, text=True,
+                               start_new_session=True)
+    end = functools.partial(os.killpg, running.pid, signal.SIGKILL)
+    timer = threading.Timer(PATIENCE, end)
+    timer.start()
+    lines = []
+    for line in running.stderr:
+        lines.append(line)
+        if line.startswith("look: "):
+            break
+    timer.cancel()
+    end()
+    running.wait()
+    running.stderr.close()
+    return "".join(lines)
+
+
+@functools.cache
+def said():
+    """What the tests print. They are run once."""
+    make_package()
+    return said_by_failing(), said_by_hanging()
+
+
+@functools.cache
+def addresses():
+    """The page of each failing test, and the place in its address."""
+    found = LOOK.findall("".join(said()))
+    pages = {name: [(path, int(place)) for path, place in found if name in os.path.basename(path)] for name in WANTED}
+    assert all(len(of) == 1 for of in pages.values()) and len(found) == len(pages), said()
+    return {name: page for name, [page] in pages.items()}
+
+
+def report_of(name):
+    """The lines of a test's report, up to the page's address. The watchdog of a test that hangs prints none."""
+    _, block = said()[0].split(f"---- {name} stdout ----\n")
+    lines = block.split("\nlook: ")[0].split("\n")
+    first = next(i for i, line in enumerate(lines) if re.match("error: |yovanelum: no|yovanelum: nothing", line))
+    return lines[first:]
+
+
+def beside(page, end):
+    return os.path.splitext(page)[0] + end
+
+
+def why(page, *words):
+    """What `yovanelum why` says of the journal beside a page."""
+    program = os.path.join(PACKAGE, "target", "debug", "why")
+    return subprocess.run([program, "why", beside(page, ".journal"), *words], env=environment(), stdout=subprocess.PIPE, check=True).stdout.decode()
+
+
+def line_of(comment):
+    """The place in the package's sources whose line ends with this comment."""
+    found = []
+    for name in ("src/lib.rs", "tests/failing.rs"):
+        with open(os.path.join(SOURCES, name), encoding="utf-8") as file:
+            found += [f"{name}:{number}" for number, line in enumerate(file, 1) if line.endswith(f" // {comment}\n")]
+    assert len(found) == 1, (comment, found)
+    return found[0]
+
+
+def spaced(line):
+    return re.sub(" +", " ", line)
+
+
+def placed(line):
+    """A line with the places in the sources in place of the comments in braces."""
+    return re.sub(r"\{([a-z ]+)\}", lambda comment: line_of(comment[1]), line)
+
+
+def lines_of(account):
+    """The lines in which an account is printed, without those of rustc's form that have places alone."""
+    told = account["facts"][:account["rest"]["after"]]
+    lines = [f"yovanelum: not all is known: {'; '.join(account['unknown'])}"] if account["unknown"] else []
+    for level, fact in zip(["error", "warning", "warning"], told):
+        lines += [f"{level}: {fact['text'][0]}", *fact["text"][1:]]
+    lines += [account["rest"]["text"]] if account["rest"]["text"] else []
+    lines += [f"yovanelum: {account['nothing']}"] if account["nothing"] else []
+    return lines + ([f"still waiting: {'; '.join(it['text'] for it in account['waiting'])}"] if account["waiting"] else [])
+
+
+def check_printed(lines, account):
+    """These lines are those of the account, and begin each fact as rustc does: with the places in the sources that the fact has."""
+    assert [line for line in lines if not re.match("note: |  --> ", line)] == lines_of(account), lines
+    sights = [re.fullmatch(r"  --> (.*):(\d+):(\d+)", line) for line in lines if line.startswith("  --> ")]
+    sights = [[sight[1], int(sight[2]), int(sight[3])] for sight in sights]
+    known = [place["location"] for fact in account["facts"] for place in fact["places"] if place["location"]]
+    assert all(sight in known for sight in sights) and bool(sights) == bool(known), (sights, known)
+
+
+def check_account(name, page):
+    """Report, `why`, `why --json` and names have one account, which is what the source says."""
+    wanted = WANTED[name]
+    account = json.loads(why(page, "--json"))
+    with open(beside(page, ".names"), encoding="utf-8") as file:
+        assert json.load(file)["account"] == account
+    check_printed(why(page).split("\nlook: ")[0].split("\n"), account)
+    if name != HANGS:
+        check_printed(report_of(name), account)
+    found = [[spaced(line) for line in fact["text"]] for fact in account["facts"]]
+    assert found == [[placed(line) for line in fact] for fact in wanted.account], found
+    rest = (account["unknown"], account["rest"]["text"], account["nothing"], [it["text"] for it in account["waiting"]])
+    assert rest == (wanted.unknown, wanted.rest, wanted.nothing, [placed(line) for line in wanted.waiting]), rest
+    return account
+
+
+# What the page shows of the account, and whether it is open.
+ANSWER = """(() => {
+    const lines = part => [...part.querySelectorAll('.line')].map(line => line.textContent);
+    return {
+        isOpen: document.getElementById('answer').open && !document.getElementById('answer').hidden,
+        facts: [...document.querySelectorAll('#answer .fact')].map(lines), waits: [...document.querySelectorAll('#answer .waits')].flatMap(lines),
+        others: [...document.querySelectorAll('#answer-box > p')].map(it => it.textContent),
+        rest: document.querySelector('#answer .rest summary')?.textContent ?? null, folded: document.querySelectorAll('#answer .rest .fact').length,
+    };
+})()"""
+
+
+def check_answer(tab, account):
+    """The page shows the account, and each step of it leads to its place."""
+    answer = tab.run(ANSWER)
+    unknown = [f"not all is known: {'; '.join(account['unknown'])}"] if account["unknown"] else []
+    assert answer == {
+        "isOpen": True, "facts": [fact["text"] for fact in account["facts"]], "waits": [f"  {it['text']}" for it in account["waiting"]],
+        "others": unknown + ([account["nothing"]] if account["nothing"] else []), "rest": account["rest"]["text"],
+        "folded": len(account["facts"]) - account["rest"]["after"],
+    }, answer
+    tab.run("document.querySelectorAll('#answer details').forEach(it => { it.open = true; })")
+    places = [place for fact in account["facts"] for place in fact["places"]]
+    for index, place in enumerate(places):
+        tab.run(f"document.querySelectorAll('#answer .fact [data-place]')[{index}].click()")
+        opening.settle(tab, place["place"])
+        source = place["location"] and place["role"] != "failure" and f" at {place['location'][0]}:{place['location'][1]}"
+        assert not source or source in tab.run("document.getElementById('sentence').textContent"), (place, tab.text("sentence"))
+
+
+# The rows of the table by channel and receiver: the name, and the numbers. Only rows in sight are made, so it is scrolled through.
+ROWS = """(async () => {
+    const box = document.getElementById('table-box'), found = {};
+    for (let top = 0; ; top += box.clientHeight) {
+        box.scrollTop = top;
+        await new Promise(done => requestAnimationFrame(() => requestAnimationFrame(done)));
+        for (const row of document.querySelectorAll('#table-rows tr[data-receiver]')) found[row.dataset.receiver] = [row.children[1].textContent,
+            ...[...row.querySelectorAll('td[class]')].map(cell => cell.textContent === '–' ? null : Number(cell.textContent.replaceAll(',', '')))];
+        if (top + box.clientHeight >= box.scrollHeight) return found;
+    }
+})()"""
+
+CHANNELS = """[...document.querySelectorAll('#state .channel')].sort((a, b) => a.dataset.channel - b.dataset.channel)
+    .map(channel => channel.querySelector('h3 bdi').textContent)"""
+ACTORS = "[...document.querySelectorAll('#legend li bdi')].map(name => name.textContent)"
+# The texts of sentence and call in whole, without the codes of actors.
+HERE = """[...['sentence', 'whole-call'].map(name => {
+    const part = document.getElementById(name).cloneNode(true);
+    part.querySelectorAll('.badge').forEach(badge => { badge.nextSibling.remove(); badge.remove(); });
+    return part.textContent;
+}), [...document.querySelectorAll('#state .box')].map(box => box.title)]"""
+
+
+def walked(tab):
+    """The sentence and the call in whole at each place, and the texts of all values in the state."""
+    tab.key("i")
+    tab.key("Home")
+    calls, texts = [], set()
+    for place in range(tab.run("Number(document.getElementById('slider').max)") + 1):
+        opening.settle(tab, place)
+        *call, shown = tab.run(HERE)
+        calls.append(call)
+        texts |= set(shown)
+        tab.key("ArrowRight")
+    return calls, texts
+
+
+def check_calls(wanted, calls):
+    """Each wanted call is in a sentence, with the place in the sources. That place is in the call in whole, too."""
+    for words, more, comment in wanted.calls:
+        there = [(sentence, whole) for sentence, whole in calls if words in sentence and more in sentence]
+        assert there, (words, more, [sentence for sentence, _ in calls])
+        place = comment and line_of(comment)
+        for sentence, whole in there:
+            assert (f" at {place}" in sentence and f"called at {place}" in whole) if place else " at " not in sentence, (place, sentence, whole)
+
+
+def check_losses(tab, wanted, losses):
+    """The table has what the command says and what the source says, and L goes to where the losses of the command begin and end."""
+    tab.key("t")
+    rows = tab.run(ROWS)
+    tab.key("t")
+    assert {key: name for key, (name, *_) in rows.items()}.keys() == wanted.receivers.keys(), rows
+    assert all(rows[key][0].endswith(name) for key, name in wanted.receivers.items()), rows
+    by_receiver = {}
+    for loss in losses:
+        by_receiver.setdefault(f"{loss['channel']} {loss['receiver']}", []).append(loss)
+    told = {key: sum(it["lost"] for it in of if it["end"] == "told") for key, of in by_receiver.items()}
+    lost = {key: sum(it["lost"] for it in of) for key, of in by_receiver.items()}
+    assert {key: (lost[key], told[key]) for key in lost} == wanted.lost, losses
+    shown = {key: row[2:5] + row[6:] for key, row in rows.items() if row[3]}
+    assert shown == {key: [told[key], lost[key], max(it["lost"] for it in of), lost[key] - told[key]] for key, of in by_receiver.items()}, rows
+    tab.key("Home")
+    opening.settle(tab, 0)
+    for place in sorted({it["from"] for it in losses} | {it["to"] for it in losses if it["end"] != "open"}):
+        tab.key("l")
+        opening.settle(tab, place)
+    tab.key("l")
+    tab.wait("document.getElementById('found').textContent === 'no loss begins or ends after it'")
+
+
+def check_page(tab, name):
+    """The page that is open shows names, texts, places in the sources and losses of this test."""
+    wanted = WANTED[name]
+    assert tab.text("notice") == "", tab.text("notice")
+    assert "isn't" not in tab.run("document.body.innerText"), tab.run("document.body.innerText")
+    actors = tab.run(ACTORS)
+    assert {actor.split(",")[0] for actor in actors} == wanted.actors, actors
+    assert tab.run(CHANNELS) == wanted.channels, tab.run(CHANNELS)
+    if name == FULL:
+        return
+    calls, texts = walked(tab)
+    check_calls(wanted, calls)
+    assert wanted.texts <= texts, texts
+
+
+def page_of_test(name):
+    def test(tab, folder, journals):
+        page, place = addresses()[name]
+        account = check_account(name, page)
+        opening.load(tab, page, place, 120 if name == FULL else 20)
+        check_answer(tab, account)
+        check_page(tab, name)
+        check_losses(tab, WANTED[name], account["losses"])
+        if name == HANGS:
+            waits = f"1 call waits: worker waits in wait_for of reader · receiver 1 on state since place 2, at {line_of('the worker waits')}"
+            assert tab.text("facts").endswith(waits), tab.text("facts")
+    test.__name__ = f"page_of_{name}"
+    return test
+
+
+def keys_of_a_later_writer(tab, folder, journals):
+    """Keys that the page doesn't know or use, such as those of a later writer, change nothing."""
+    name = "no_price_is_missing"
+    page, place = addresses()[name]
+    with open(beside(page, ".names"), encoding="utf-8") as file:
+        names = json.load(file)
+    later = {"panics": {"file": "a.rs", "line": [1, None]}, "made_by": 7, "__proto__": {"actors": 1}, "constructor": "x"}
+    names["account"] = {"version": 2, "facts": 7}
+    opening.put(folder, "later.names", json.dumps({**names, **later}).encode())
+    with open(beside(page, ".journal"), "rb") as file:
+        opening.load(tab, opening.page_of(folder, "later.journal", file.read()), place)
+    check_page(tab, name)
+
+
+TESTS = [*map(page_of_test, WANTED), keys_of_a_later_writer]

@@ -1,0 +1,418 @@
+//! Bugs of order are found, and brought back by what the report names. Right programs pass. Each program is a test that is left out unless it is asked
+//! for; those that aren't run this program again to explore them.
+
+#[path = "explored/json.rs"]
+mod json;
+mod programs;
+#[path = "explored/table.rs"]
+mod table;
+
+use json::{number, text};
+use std::path::{Path, PathBuf};
+use std::process::{Command, Output};
+use std::sync::atomic::{AtomicU32, Ordering};
+use std::{env, fs, process};
+
+/// Declares a test for each program, which is explored by others.
+macro_rules! programs {
+    ($($group:ident: $($name:ident)*;)*) => {
+        mod run {
+            /// A recorder by itself, and the guard that makes it one of a test.
+            #[test]
+            #[ignore = "it is explored by another test"]
+            fn guarded() {
+                let recorder = yovanelum::Recorder::new();
+                let _saved = recorder.save_on_panic("guarded");
+                let _entered = recorder.enter();
+                crate::programs::threads::double_claim();
+            }
+
+            $($(
+                #[test]
+                #[ignore = "it is explored by another test"]
+                fn $name() {
+                    let _recorder = yovanelum::Recorder::for_test(stringify!($name));
+                    crate::programs::$group::$name();
+                }
+            )*)*
+        }
+
+        /// The program of each name.
+        pub const PROGRAMS: &[(&str, fn())] = &[$($((stringify!($name), programs::$group::$name as fn()),)*)*];
+    };
+}
+
+programs! {
+    threads: late_audit lost_update check_then_send slow_handler lag_of_33 last_job_at_stop torn_limits double_claim resubscribe_gap
+        four_in_order eight_turns waits_forever;
+    workers: copy_then_subscribe read_before_lock weak_plugin start_by_count leaves_after_answers;
+    tasks: overtaken_router old_price heart_and_monitor config_by_timer told_too_early read_before_await subscribes_after_answer
+        job_behind_stop first_of_a_set closed_pool;
+    servers: chat acknowledged_too_early chat_on_one_thread;
+    right: paused_clock long_timeout socket spin held_lock nested_closures barrier biased_select join_set blocking_pool;
+}
+
+/// A program, which is run again in a process of its own.
+pub struct Program {
+    name: &'static str,
+    folder: PathBuf,
+}
+
+impl Program {
+    pub fn new(name: &'static str) -> Program {
+        static NEXT: AtomicU32 = AtomicU32::new(0);
+        let number = NEXT.fetch_add(1, Ordering::Relaxed);
+        let folder = format!("yovanelum-explored-{}-{number}", process::id());
+        let folder = env::temp_dir().join(folder);
+        fs::create_dir_all(&folder).unwrap();
+        Program { name, folder }
+    }
+
+    fn command(&self) -> Command {
+        let mut command = Command::new(env::current_exe().unwrap());
+        let name = format!("run::{}", self.name);
+        command
+            .args(["--ignored", "--exact", &name, "--nocapture"])
+            .env("RUST_BACKTRACE", "0")
+            .env_remove("YOVANELUM_KEEP");
+        command
+    }
+
+    /// Explores the program. Returns whether it passes, what it says, and what it writes as JSON.
+    pub fn explored(&self, runs: u64, from: &str) -> (bool, String, String) {
+        let out = self.folder.join("out.json");
+        let ran = self
+            .command()
+            .env("YOVANELUM_EXPLORE", runs.to_string())
+            .env("YOVANELUM_EXPLORE_FROM", from)
+            .env("YOVANELUM_EXPLORE_JOBS", "1")
+            .env("YOVANELUM_EXPLORE_OUT", &out)
+            .output()
+            .unwrap();
+        let json = fs::read_to_string(out).unwrap_or_default();
+        (ran.status.success(), said(&ran), json)
+    }
+
+    /// Runs the program by an order, as a session does. Returns the steps of its schedule.
+    pub fn schedule(&self, order: &str) -> String {
+        let path = self.folder.join("one.schedule");
+        let mut command = self.command();
+        let command = command.env("YOVANELUM_EXPLORE_ORDER", order);
+        let command = command.env("YOVANELUM_EXPLORE_PROCESSOR", "1");
+        let ran = command.env("YOVANELUM_EXPLORE_SCHEDULE", &path).output();
+        let schedule = fs::read_to_string(path).unwrap_or_else(|_| said(&ran.unwrap()));
+        let (_, steps) = schedule.split_once("\nsteps ").unwrap();
+        steps.to_string()
+    }
+
+    /// Replays a journal, or what is beside it. Returns whether it passes, and what it says. One that hangs is ended.
+    pub fn replayed(&self, journal: &str) -> (bool, String) {
+        let mut command = Command::new("timeout");
+        let program = self.command();
+        let ran = command
+            .arg("3")
+            .arg(program.get_program())
+            .args(program.get_args())
+            .env("YOVANELUM_REPLAY", journal)
+            .env("RUST_BACKTRACE", "0")
+            .output()
+            .unwrap();
+        (ran.status.success(), said(&ran))
+    }
+}
+
+impl Drop for Program {
+    fn drop(&mut self) {
+        let _ = fs::remove_dir_all(&self.folder);
+    }
+}
+
+fn said(ran: &Output) -> String {
+    String::from_utf8_lossy(&ran.stderr).into_owned()
+}
+
+/// Asserts that the bug of this program is found, that its report has these lines, and that the journal brings it back, or the schedule beside it.
+fn assert_found(name: &'static str, lines: &[&str]) {
+    assert_brought_back(name, lines, 10);
+}
+
+/// The same, where it is brought back so often of ten at least.
+fn assert_brought_back(name: &'static str, lines: &[&str], times: u64) {
+    let program = Program::new(name);
+    let (passes, said, json) = program.explored(500, "0");
+    assert!(!passes, "{said}");
+    for line in lines {
+        assert!(said.contains(line), "no `{line}` in {said}");
+    }
+    let runs = number(&json, "runs");
+    assert!(runs <= 500, "{json}");
+    let best = number(&json, "byJournal").max(number(&json, "bySchedule"));
+    assert!(best >= times, "{json}");
+    let journal = text(&json, "journal");
+    assert!(Path::new(&journal).exists(), "{json}");
+    let failed = (0..3).filter(|_| !program.replayed(&journal).0).count();
+    assert!(failed == 3 || failed == 2 && times < 10, "{failed} of 3");
+    let again = format!(
+        "again:  YOVANELUM_EXPLORE=1 YOVANELUM_EXPLORE_FROM={} ",
+        text(&json, "order")
+    );
+    assert!(said.contains(&again), "no `{again}` in {said}");
+}
+
+/// Asserts that no order of this program fails.
+fn assert_right(name: &'static str, lines: &[&str]) {
+    let program = Program::new(name);
+    let (passes, said, json) = program.explored(60, "0");
+    assert!(passes, "{said}");
+    assert!(
+        said.contains(&format!("explored {name}: all 60 runs passed")),
+        "{said}"
+    );
+    for line in lines {
+        assert!(said.contains(line), "no `{line}` in {said}");
+    }
+    assert_eq!(number(&json, "runs"), 60, "{json}");
+    assert!(json.contains("\"failure\": null"), "{json}");
+}
+
+#[test]
+fn an_update_that_is_marked_as_seen_unseen_is_found() {
+    assert_found(
+        "lost_update",
+        &[
+            "`reader` was held before channel 0.mark_unchanged (tests/programs/threads.rs:",
+            ", after channel 0.borrow (:",
+            "while `admin` made channel 0.send (:",
+            "\n right: 4\n",
+        ],
+    );
+}
+
+#[test]
+fn a_job_that_is_sent_when_the_worker_has_left_is_found() {
+    assert_found("check_then_send", &["a worker is there: SendError("]);
+}
+
+#[test]
+fn limits_of_two_versions_are_found() {
+    assert_found("torn_limits", &["`meter` was held before ", " to 10\n"]);
+}
+
+#[test]
+fn a_lease_that_two_claim_is_found() {
+    let lines = [
+        " was held before channel 0.send (",
+        ", after channel 0.borrow (:",
+        "  left: 2\n",
+    ];
+    assert_found("double_claim", &lines);
+}
+
+#[test]
+fn a_client_that_waits_forever_is_found() {
+    assert_found(
+        "waits_forever",
+        &[
+            "yovanelum: waits_forever hangs: everybody waits forever; its calls so far are in ",
+            "yovanelum: still waiting: client in `channel 0.changed`, tests/programs/threads.rs:",
+        ],
+    );
+}
+
+#[test]
+fn a_copy_that_is_older_than_the_subscription_is_found() {
+    let lines = ["while `keeper` made channel 0.borrow (", "\n right: 12\n"];
+    assert_found("copy_then_subscribe", &lines);
+}
+
+/// Its order is one of polls, which no journal has.
+#[test]
+fn an_order_of_polls_is_found_and_brought_back_by_the_schedule() {
+    assert_found(
+        "old_price",
+        &[
+            "the journal brings it back 0 of 10, the schedule 10 of 10",
+            "an old price stays",
+        ],
+    );
+}
+
+#[test]
+fn an_order_in_which_time_passes_is_found() {
+    assert_found(
+        "heart_and_monitor",
+        &[
+            "  time passed at step ",
+            " while `monitor` stood ready\n",
+            "Lagged(",
+        ],
+    );
+}
+
+#[test]
+fn a_task_that_is_told_too_early_is_found() {
+    assert_found(
+        "told_too_early",
+        &["told_too_early hangs: everybody waits forever"],
+    );
+}
+
+#[test]
+fn a_message_that_a_server_loses_on_two_workers_is_found() {
+    let lines = [
+        "`connection 1` was held before channel 0.subscribe (",
+        "chat hangs: everybody waits forever",
+    ];
+    // Which worker polls what isn't chosen.
+    assert_brought_back("chat", &lines, 7);
+}
+
+#[test]
+fn a_paused_clock_stands_still_while_tasks_are_held() {
+    assert_right(
+        "paused_clock",
+        &[" orders with at most one switch passed; "],
+    );
+}
+
+#[test]
+fn a_long_timeout_never_ends() {
+    assert_right("long_timeout", &[]);
+}
+
+#[test]
+fn what_comes_by_a_socket_is_waited_for() {
+    assert_right("socket", &[" orders with at most one switch passed; "]);
+}
+
+#[test]
+fn a_thread_that_spins_is_let_be() {
+    assert_right("spin", &[" steps were chosen while a thread ran\n"]);
+}
+
+#[test]
+fn a_lock_that_is_held_over_calls_is_waited_for() {
+    assert_right("held_lock", &["\n  0 of "]);
+}
+
+#[test]
+fn closures_within_closures_pass() {
+    assert_right(
+        "nested_closures",
+        &[" orders with at most one switch passed; "],
+    );
+}
+
+#[test]
+fn threads_at_a_barrier_pass() {
+    assert_right("barrier", &["\n  0 of "]);
+}
+
+#[test]
+fn a_select_with_an_order_passes() {
+    assert_right("biased_select", &[]);
+}
+
+#[test]
+fn a_set_of_tasks_passes() {
+    assert_right("join_set", &[]);
+}
+
+#[test]
+fn the_blocking_pool_passes() {
+    assert_right("blocking_pool", &[]);
+}
+
+#[test]
+fn a_server_on_one_thread_passes() {
+    assert_right("chat_on_one_thread", &[]);
+}
+
+#[test]
+fn one_order_is_made_again_by_its_name() {
+    let program = Program::new("read_before_lock");
+    let (_, _, json) = program.explored(500, "0");
+    let order = text(&json, "order");
+    for _ in 0..5 {
+        let (passes, said, json) = program.explored(1, &order);
+        assert!(!passes && said.contains("\n right: 2\n"), "{said}");
+        assert_eq!(
+            (number(&json, "runs"), text(&json, "order")),
+            (1, order.clone()),
+            "{json}"
+        );
+    }
+}
+
+#[test]
+fn tests_of_one_program_are_explored_one_after_the_other() {
+    let ran = Command::new(env::current_exe().unwrap())
+        .args(["--ignored", "run::socket", "run::held_lock", "run::barrier"])
+        .env("YOVANELUM_EXPLORE", "20")
+        .env("YOVANELUM_EXPLORE_JOBS", "2")
+        .output()
+        .unwrap();
+    let said = said(&ran);
+    assert!(ran.status.success(), "{said}");
+    for name in ["socket", "held_lock", "barrier"] {
+        let line = format!("explored {name}: all 20 runs passed");
+        assert!(said.contains(&line), "no `{line}` in {said}");
+    }
+}
+
+#[test]
+fn a_guard_explores_the_test_whose_channels_are_made_behind_it() {
+    let program = Program::new("guarded");
+    let (passes, said, json) = program.explored(100, "0");
+    assert!(!passes, "{said}");
+    assert!(said.contains("explored guarded: "), "{said}");
+    assert_eq!(
+        number(&json, "byJournal").max(number(&json, "bySchedule")),
+        10,
+        "{json}"
+    );
+}
+
+#[test]
+fn time_never_passes_where_it_may_not() {
+    let program = Program::new("heart_and_monitor");
+    let ran = program
+        .command()
+        .env("YOVANELUM_EXPLORE", "12")
+        .env("YOVANELUM_EXPLORE_TIME", "never")
+        .env("YOVANELUM_EXPLORE_JOBS", "1")
+        .output()
+        .unwrap();
+    assert!(ran.status.success(), "{}", said(&ran));
+}
+
+#[test]
+fn a_variable_that_is_none_is_refused() {
+    for (variable, value, fault) in [
+        (
+            "YOVANELUM_EXPLORE",
+            "many",
+            "YOVANELUM_EXPLORE is `many`, and no number",
+        ),
+        (
+            "YOVANELUM_EXPLORE_FROM",
+            "x9",
+            "YOVANELUM_EXPLORE_FROM is `x9`, and neither a number nor an order",
+        ),
+        (
+            "YOVANELUM_EXPLORE_TIME",
+            "always",
+            "YOVANELUM_EXPLORE_TIME is `always`, and not `never`",
+        ),
+    ] {
+        let program = Program::new("socket");
+        let mut command = program.command();
+        command.env("YOVANELUM_EXPLORE", "3");
+        let ran = command.env(variable, value).output().unwrap();
+        assert!(
+            !ran.status.success() && said(&ran).contains(fault),
+            "{}",
+            said(&ran)
+        );
+    }
+}

@@ -1,0 +1,192 @@
+//! The account of a run: what was found in it, in one order and in one choice of words.
+//!
+//! The report of a failing test, `yovanelum why` and the page show it, and may not differ. Facts are ordered by what ended the test: what
+//! those that failed were told last comes first. Its words say what was found, and add no judgement: a test may lose values on purpose, and
+//! fail for another reason. `docs/use/FORMATS.md` in the repository has each form.
+
+mod closings;
+mod columns;
+mod fact;
+mod failure;
+mod finding;
+mod history;
+mod json;
+mod losses;
+mod naming;
+mod rest;
+#[cfg(test)]
+mod tests;
+mod unknown;
+pub(crate) mod visible;
+mod waits;
+mod watches;
+
+pub(crate) use fact::{Fact, Role, Step};
+pub(crate) use rest::Rest;
+pub(crate) use waits::Wait;
+
+use crate::names::Names;
+use crate::run::{Findings, Loss, Run, TextFault};
+use failure::{Failure, FailureAt};
+use finding::Finding;
+use history::History;
+use naming::Naming;
+
+/// How many facts a report tells in full. The others are counted.
+pub(crate) const MOST_TOLD: usize = 3;
+
+/// How many facts have words. Those beyond are counted alone.
+const MOST_FACTS: usize = 100;
+
+/// What is known of a run, and how its text calls it.
+struct Context<'a> {
+    run: &'a Run,
+    names: &'a Names,
+    history: &'a History,
+    naming: &'a Naming<'a>,
+    failure: &'a Failure,
+    findings: &'a Findings,
+}
+
+impl Context<'_> {
+    /// Returns the step that led to a place, with what was called and what there is to say of it.
+    fn step(&self, place: u64, role: Role, what: String, said: String) -> Step {
+        let entry = self.run.entry(place);
+        let location = self.naming.call_source(entry.channel, place);
+        Step {
+            place,
+            role,
+            actor: Some(entry.actor.into()),
+            location: location.cloned(),
+            cells: [
+                format!("step {place}"),
+                what,
+                self.naming.actor(entry.actor.into()),
+                location.map_or(String::new(), visible::line_of),
+                said,
+            ],
+        }
+    }
+
+    /// Returns what ended the test as a step.
+    fn failure_step(&self, failure: FailureAt, what: String, said: String) -> Step {
+        let location = self.naming.source(failure.location.unwrap_or(usize::MAX));
+        let actor = failure.actor.map(|actor| self.naming.actor(actor));
+        Step {
+            place: failure.place,
+            role: Role::Failure,
+            actor: failure.actor,
+            location: location.cloned(),
+            cells: [
+                failure.name.to_string(),
+                what,
+                actor.unwrap_or_default(),
+                location.map_or(String::new(), visible::line_of),
+                said,
+            ],
+        }
+    }
+
+    /// Returns the end of the run as a step.
+    fn end_step(&self, what: String, said: String) -> Step {
+        let nothing = String::new;
+        Step {
+            place: self.run.len(),
+            role: Role::End,
+            actor: None,
+            location: None,
+            cells: ["the end".to_string(), what, nothing(), nothing(), said],
+        }
+    }
+}
+
+/// What was found in a run.
+#[derive(Debug)]
+pub(crate) struct Account {
+    /// How many calls and channels the run has.
+    calls: u64,
+    channels: u64,
+    /// Why not all of the run is known.
+    pub(crate) unknown: Vec<String>,
+    /// The facts in their order, as many as have words.
+    pub(crate) facts: Vec<Fact>,
+    /// The facts that aren't told in full, counted by kind.
+    pub(crate) rest: Rest,
+    /// What is said where no value was lost.
+    pub(crate) nothing: Option<String>,
+    pub(crate) waiting: Vec<Wait>,
+    losses: Vec<Loss>,
+    // The place of what ended the test.
+    failure: Option<u64>,
+    /// The first place that is worth looking at.
+    pub(crate) look: u64,
+    /// The folder that the paths of sources are relative to.
+    pub(crate) root: Option<String>,
+}
+
+impl Account {
+    /// Makes the account of the run of this journal text.
+    ///
+    /// # Errors
+    ///
+    /// Returns the first fault of the text, if it is not a journal.
+    pub(crate) fn read(text: &[u8], names: &Names) -> Result<Account, TextFault> {
+        Account::on(&Run::read(text)?, names)
+    }
+
+    /// Makes the account of a run.
+    ///
+    /// # Errors
+    ///
+    /// Returns `NoMemory` if there is none for what is found.
+    pub(crate) fn on(run: &Run, names: &Names) -> Result<Account, TextFault> {
+        Ok(Account::of(run, names, &run.findings()?))
+    }
+
+    /// Makes the account of a run of which this was found.
+    fn of(run: &Run, names: &Names, findings: &Findings) -> Account {
+        let history = History::of(run, findings.losses(), names);
+        let context = Context {
+            run,
+            names,
+            history: &history,
+            naming: &Naming::new(names, &history),
+            failure: &Failure::of(run, names, &history),
+            findings,
+        };
+        let found = Finding::all(&context);
+        let unknown = unknown::lines(&context);
+        let worded = found.iter().take(MOST_FACTS);
+        let facts: Vec<_> = worded.map(|finding| finding.fact(&context)).collect();
+        let failure = context.failure.end().map(|end| end.place);
+        Account {
+            calls: run.len(),
+            channels: run.specs().len() as u64,
+            nothing: nothing(&context, &unknown, &facts),
+            unknown,
+            failure,
+            look: match facts.first() {
+                Some(fact) => fact.look,
+                None => failure.unwrap_or(run.len()),
+            },
+            facts,
+            rest: Rest::of(&found),
+            waiting: waits::all(&context),
+            losses: findings.losses().to_vec(),
+            root: names.ending.root.clone(),
+        }
+    }
+}
+
+/// Returns what is said where no value was lost. Where not all is known, that isn't said.
+fn nothing(context: &Context<'_>, unknown: &[String], facts: &[Fact]) -> Option<String> {
+    let calls = visible::counted(context.run.len(), "call");
+    let channels = visible::counted(context.run.specs().len() as u64, "channel");
+    match (unknown, facts) {
+        ([], _) if context.findings.losses().is_empty() => {
+            Some(format!("no value was lost in {calls} on {channels}"))
+        }
+        ([_, ..], []) => Some(format!("nothing was found in {calls} on {channels}")),
+        _ => None,
+    }
+}

@@ -1,0 +1,54 @@
+//! The columns of the steps of a fact.
+
+/// How many spaces are after each column but the last.
+const SPACES: [usize; 4] = [3, 3, 2, 3];
+
+/// A step of the run: which one, what was called, by whom, where, and what there is to say of it. What isn't known is empty.
+pub(super) type Cells = [String; 5];
+
+fn length(text: &str) -> usize {
+    text.chars().count()
+}
+
+/// Returns the lines of these steps. A column that is empty in each of them has no width.
+pub(super) fn aligned<'a>(steps: impl Iterator<Item = &'a Cells> + Clone) -> Vec<String> {
+    let mut widths = [0; 5];
+    for cells in steps.clone() {
+        widths = std::array::from_fn(|column| widths[column].max(length(&cells[column])));
+    }
+    steps.map(|cells| line(cells, &widths)).collect()
+}
+
+/// Returns the columns of a step side by side.
+fn line(cells: &Cells, widths: &[usize; 5]) -> String {
+    let mut out = String::from("  ");
+    for ((cell, width), spaces) in cells.iter().zip(widths).zip(SPACES.into_iter().chain([0])) {
+        if *width > 0 {
+            out.push_str(cell);
+            out.push_str(&" ".repeat(width - length(cell) + spaces));
+        }
+    }
+    out.truncate(out.trim_end().len());
+    out
+}
+
+#[cfg(test)]
+mod tests {
+    use super::*;
+
+    #[test]
+    fn the_columns_are_aligned() {
+        let steps = [
+            ["step 3", "é.send(1)", "ticker", "a.rs:15", "b"],
+            ["step 17", "told", "auditor", "", ""],
+        ];
+        let steps = steps.map(|cells| cells.map(String::from));
+        let wanted = [
+            "  step 3    é.send(1)   ticker   a.rs:15   b",
+            "  step 17   told        auditor",
+        ];
+        assert_eq!(aligned(steps.iter()), wanted);
+        let step = ["step 1", "told", "x", "", "d"].map(String::from);
+        assert_eq!(aligned([step].iter()), ["  step 1   told   x  d"]);
+    }
+}

@@ -1,0 +1,105 @@
+//! The facts that a report doesn't tell in full, counted by kind.
+
+use super::finding::Finding;
+use super::visible::counted;
+use super::watches::What;
+
+/// How many receivers or channels there are of a kind, and how many values or changes they have together.
+#[derive(Clone, Copy, Debug, Default)]
+pub(super) struct Count {
+    /// How many were told in full.
+    told: u64,
+    pub(super) of: u64,
+    pub(super) sum: u64,
+}
+
+impl Count {
+    fn add(&mut self, is_told: bool, sum: u64) {
+        match is_told {
+            true => self.told += 1,
+            false => {
+                self.of += 1;
+                self.sum += sum;
+            }
+        }
+    }
+
+    /// Returns how many more there are, or just how many if none was told in full.
+    fn subject(&self, thing: &str) -> String {
+        match self.told {
+            0 => counted(self.of, thing),
+            _ => counted(self.of, &format!("more {thing}")),
+        }
+    }
+
+    /// The same, of receivers of watches.
+    fn readers(&self) -> String {
+        let more = if self.told > 0 { "more " } else { "" };
+        match self.of {
+            1 => format!("1 {more}watch's reader"),
+            count => format!("{count} {more}watches' readers"),
+        }
+    }
+}
+
+/// The facts beyond those that are told in full.
+#[derive(Debug, Default)]
+pub(crate) struct Rest {
+    /// How many facts are told in full.
+    pub(crate) after: usize,
+    pub(super) losses: Count,
+    pub(super) unlooked: Count,
+    pub(super) unmarked: Count,
+    pub(super) closings: Count,
+}
+
+impl Rest {
+    pub(super) fn of(found: &[Finding]) -> Rest {
+        let mut rest = Rest {
+            after: Finding::told_in_full(found),
+            ..Rest::default()
+        };
+        for (index, finding) in found.iter().enumerate() {
+            let is_told = index < rest.after;
+            let (count, sum) = match finding {
+                Finding::Loss(lost) => (&mut rest.losses, lost.count),
+                Finding::Closing(_) => (&mut rest.closings, 0),
+                Finding::Overlooked(it) if it.what == What::Looked => {
+                    (&mut rest.unlooked, it.count)
+                }
+                Finding::Overlooked(it) => (&mut rest.unmarked, it.count),
+            };
+            count.add(is_told, sum);
+        }
+        rest
+    }
+
+    /// Returns a line that counts them, if there are any.
+    pub(crate) fn text(&self) -> Option<String> {
+        let Rest {
+            losses,
+            unlooked,
+            unmarked,
+            closings,
+            ..
+        } = self;
+        let mut parts = vec![];
+        if losses.of > 0 {
+            let receivers = losses.subject("receiver");
+            parts.push(format!("{receivers} lost {}", counted(losses.sum, "value")));
+        }
+        if unlooked.of > 0 {
+            let changes = counted(unlooked.sum, "change");
+            parts.push(format!("{} never looked at {changes}", unlooked.readers()));
+        }
+        if unmarked.of > 0 {
+            let changes = counted(unmarked.sum, "change");
+            let readers = unmarked.readers();
+            parts.push(format!("{readers} never marked {changes} as seen"));
+        }
+        if closings.of > 0 {
+            parts.push(format!("{} closed", closings.subject("channel")));
+        }
+        (!parts.is_empty()).then(|| format!("and {}", parts.join(", ")))
+    }
+}

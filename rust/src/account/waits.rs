@@ -1,0 +1,76 @@
+//! The calls that still wait.
+
+use super::{Context, visible};
+use crate::names::{HeldBy, SourceLocation, WaitingCall};
+
+/// A call that waits.
+#[derive(Debug)]
+pub(crate) struct Wait {
+    pub(super) actor: u64,
+    pub(super) channel: u64,
+    pub(super) handle: u64,
+    pub(super) call: String,
+    /// The place at which it began to wait.
+    pub(super) since: u64,
+    pub(super) location: Option<SourceLocation>,
+    /// Who waits, in which call, since when and where.
+    pub(crate) text: String,
+}
+
+/// Returns the calls that wait on channels of the run.
+pub(super) fn all(context: &Context<'_>) -> Vec<Wait> {
+    let channels = context.run.specs().len() as u64;
+    let calls = context.names.waiting.iter();
+    let calls = calls.filter(|call| call.channel < channels);
+    calls.map(|call| wait(context, call)).collect()
+}
+
+fn wait(context: &Context<'_>, call: &WaitingCall) -> Wait {
+    let since = context.run.place_of_stamp(call.since);
+    let location = call.location.and_then(|index| context.naming.source(index));
+    Wait {
+        actor: call.actor,
+        channel: call.channel,
+        handle: call.handle,
+        call: call.call.clone(),
+        since,
+        location: location.cloned(),
+        text: text(context, call, since, location),
+    }
+}
+
+fn text(
+    context: &Context<'_>,
+    call: &WaitingCall,
+    since: u64,
+    location: Option<&SourceLocation>,
+) -> String {
+    let naming = context.naming;
+    let since = match since {
+        0 => "the start".to_string(),
+        place => format!("step {place}"),
+    };
+    let at = location.map_or(String::new(), |location| {
+        format!(", {}", visible::line_of(location))
+    });
+    format!(
+        "{} in `{}` since {since}{at}{}",
+        naming.actor(call.actor),
+        naming.method(call.channel as u32, &visible::name(&call.call)),
+        call.held_by
+            .map_or(String::new(), |by| held_by(context, by)),
+    )
+}
+
+/// Returns whose look holds the lock that a call waits for.
+fn held_by(context: &Context<'_>, by: HeldBy) -> String {
+    let naming = context.naming;
+    let location = by.location.and_then(|index| naming.source(index));
+    let at = location.map_or(String::new(), |location| {
+        format!(" at {}", visible::line_of(location))
+    });
+    match by.actor {
+        Some(actor) => format!(", for a look taken{at} by {}", naming.actor(actor)),
+        None => ", for the lock of the value".to_string(),
+    }
+}

@@ -1,0 +1,152 @@
+//! The changes of watches that a receiver never looked at, or never marked as seen.
+//!
+//! A look and a mark are two facts. `borrow` looks and marks nothing, `changed` marks and looks at nothing, and `borrow_and_update` does both.
+
+use super::fact::{Fact, Role, Step};
+use super::{Context, visible};
+use crate::names::Json;
+use crate::run::{Counts, Entry, Totals};
+use crate::word::Word;
+use std::cmp::Reverse;
+
+/// What a receiver never did with some of the changes that came to it.
+#[derive(Clone, Copy, Debug, PartialEq, Eq)]
+pub(super) enum What {
+    Looked,
+    Marked,
+}
+
+/// A receiver that never looked at some of the changes, or never marked them.
+pub(super) struct Overlooked {
+    pub(super) what: What,
+    pub(super) count: u64,
+    channel: u32,
+    receiver: u32,
+}
+
+/// Returns the receivers that never looked at some changes, and then those that never marked some.
+pub(super) fn found(context: &Context<'_>) -> Vec<Overlooked> {
+    let totals = context.findings.totals();
+    let mut looked: Vec<_> = totals.iter().filter_map(unlooked).collect();
+    // The sorts are stable: others are in the order of channel and number.
+    looked.sort_by_key(|it| (!was_used(context, it), Reverse(it.count)));
+    let marked = totals.iter().filter_map(|totals| unmarked(context, totals));
+    let mut marked: Vec<_> = marked.collect();
+    marked.sort_by_key(|it| Reverse(it.count));
+    looked.into_iter().chain(marked).collect()
+}
+
+/// Whether the receiver was ever used.
+fn was_used(context: &Context<'_>, it: &Overlooked) -> bool {
+    let receiver = context.history.channel(it.channel).handle(it.receiver);
+    receiver.is_some_and(|receiver| receiver.last_user.is_some())
+}
+
+/// Returns the receiver if it never looked at some changes.
+fn unlooked(totals: &Totals) -> Option<Overlooked> {
+    match totals.counts {
+        Counts::Watch(counts) if counts.unlooked > 0 => Some(Overlooked {
+            what: What::Looked,
+            count: counts.unlooked,
+            channel: totals.channel,
+            receiver: totals.receiver,
+        }),
+        _ => None,
+    }
+}
+
+/// Returns the receiver if it asked for new versions, and looked at some that it never marked: `changed` tells of them once more.
+fn unmarked(context: &Context<'_>, totals: &Totals) -> Option<Overlooked> {
+    let Counts::Watch(counts) = totals.counts else {
+        return None;
+    };
+    let Totals {
+        channel, receiver, ..
+    } = *totals;
+    let handle = context.history.channel(channel).handle(receiver)?;
+    let has_others = counts.missed > counts.unlooked;
+    (handle.awaits && has_others).then_some(Overlooked {
+        what: What::Marked,
+        count: counts.missed,
+        channel,
+        receiver,
+    })
+}
+
+/// Puts what a receiver never looked at, or never marked, into words.
+pub(super) fn fact(context: &Context<'_>, overlooked: &Overlooked) -> Fact {
+    let Overlooked {
+        what,
+        count,
+        channel,
+        receiver,
+    } = *overlooked;
+    let called = context.naming.receiver(channel, receiver);
+    let came = context.history.channel(channel).sent_to(receiver);
+    let of = visible::counted(came, "change");
+    let changes = format!("{count} of {of} of {}", context.naming.channel(channel));
+    let (order, kind, said) = match what {
+        What::Looked => (5, "unlooked", format!("never looked at {changes}")),
+        What::Marked => (6, "unmarked", format!("never marked {changes} as seen")),
+    };
+    let steps = steps(context, channel, receiver);
+    let mut sights: Vec<_> = (0..steps.len()).collect();
+    sights.sort_by_key(|index| steps[*index].role != Role::Change);
+    Fact {
+        order,
+        kind,
+        members: vec![
+            ("channel", Json::number(channel)),
+            ("receiver", Json::number(receiver)),
+            ("name", Json::text(&called.short)),
+            ("changes", Json::number(count)),
+            ("of", Json::number(came)),
+        ],
+        head: format!("{} {said}", called.full),
+        look: sights.first().map_or(0, |first| steps[*first].place),
+        sights,
+        steps,
+        last: None,
+    }
+}
+
+/// Returns the last change that came to a receiver, and its last look if it ever looked, in their order.
+fn steps(context: &Context<'_>, channel: u32, receiver: u32) -> Vec<Step> {
+    let history = context.history.channel(channel);
+    let change = history.last_sent_to(receiver);
+    let change = change.map(|send| (send.place, Role::Change));
+    let look = history.handle(receiver);
+    let look = look.map(|receiver| (receiver.last_value, Role::Look));
+    let known = change.into_iter().chain(look);
+    let mut known: Vec<_> = known.filter(|(place, _)| *place > 0).collect();
+    known.sort_by_key(|(place, _)| *place);
+    let steps = known.into_iter();
+    steps
+        .map(|(place, role)| step(context, place, role))
+        .collect()
+}
+
+/// Returns a call with its value, and what it was to the receiver.
+fn step(context: &Context<'_>, place: u64, role: Role) -> Step {
+    let naming = context.naming;
+    let entry = context.run.entry(place);
+    let value = entry.value.map(|value| naming.value(entry.channel, value));
+    let method = method_of(context, place, &entry);
+    let what = format!("{method}({})", value.unwrap_or_default());
+    let said = match role {
+        Role::Look => format!("its last look: {}", naming.returned(&entry)),
+        _ => role.sentence().to_string(),
+    };
+    context.step(place, role, naming.method(entry.channel, &what), said)
+}
+
+/// Returns the method that a call's word stands for.
+fn method_of(context: &Context<'_>, place: u64, entry: &Entry) -> &'static str {
+    match context.naming.word(place, entry) {
+        Word::SendReplace => "send_replace",
+        Word::Modify => "send_modify",
+        Word::Update => "borrow_and_update",
+        Word::WaitFor => "wait_for",
+        other => other.text(),
+    }
+}

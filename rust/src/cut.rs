@@ -1,0 +1,22 @@
+//! Texts that are cut.
+
+/// Returns the start of a text that has this many bytes at most, and ends with a whole character.
+pub(crate) fn start_of(text: &str, most: usize) -> &str {
+    let mut end = text.len().min(most);
+    while !text.is_char_boundary(end) {
+        end -= 1;
+    }
+    &text[..end]
+}
+
+#[cfg(test)]
+mod tests {
+    use super::*;
+
+    #[test]
+    fn a_text_is_cut_between_characters() {
+        let wanted = ["", "", "é", "é", "é", "é", "é🦀", "é🦀"];
+        let starts = (0..8).map(|most| start_of("é🦀", most));
+        assert!(starts.eq(wanted));
+    }
+}

@@ -1,0 +1,286 @@
+//! Who is let go next, by the strategy of an order.
+
+use super::order::{Kind, Order};
+use super::random::{Random, hashed};
+use super::schedule::{Schedule, Step, What};
+use std::collections::HashMap;
+use std::io;
+use std::sync::Arc;
+
+/// One who stands, and may be let go.
+pub(super) struct Candidate {
+    pub(super) who: Arc<str>,
+    pub(super) what: What,
+    /// The number of its stand, which no other one has.
+    pub(super) number: u64,
+}
+
+/// Chooses among those who stand.
+pub(super) enum Chooser {
+    Steps {
+        steps: Vec<(u32, u32)>,
+        at: u32,
+    },
+    Random(Random),
+    Pct(Pct),
+    Pos {
+        random: Random,
+        priorities: HashMap<u64, u64>,
+    },
+    Follow(Follow),
+}
+
+impl Chooser {
+    /// The chooser of an order.
+    ///
+    /// # Errors
+    ///
+    /// Returns an error if it follows a file that can't be read.
+    pub(super) fn new(order: &Order) -> io::Result<Chooser> {
+        Ok(match &order.kind {
+            Kind::Steps(steps) => Chooser::Steps {
+                steps: steps.clone(),
+                at: 0,
+            },
+            Kind::Random(seed) => Chooser::Random(Random::new(*seed)),
+            Kind::Pct { depth, seed, steps } => Chooser::Pct(Pct::new(*depth, *seed, *steps)),
+            Kind::Pos(seed) => Chooser::Pos {
+                random: Random::new(*seed),
+                priorities: HashMap::new(),
+            },
+            Kind::File(path) => Chooser::Follow(Follow::new(Schedule::of_file(path)?.steps)),
+        })
+    }
+
+    /// Returns the index of the one who is let go. The first candidate is the one who goes on without a switch.
+    pub(super) fn choose(&mut self, candidates: &[Candidate]) -> usize {
+        match self {
+            Chooser::Steps { steps, at } => {
+                let number = *at;
+                *at += 1;
+                let step = steps.iter().find(|(step, _)| *step == number);
+                let other = step.map_or(0, |(_, other)| *other as usize);
+                other.min(candidates.len() - 1)
+            }
+            Chooser::Random(random) => random.below(candidates.len()),
+            Chooser::Pct(pct) => pct.choose(candidates),
+            Chooser::Pos { random, priorities } => by_sampling(random, priorities, candidates),
+            Chooser::Follow(follow) => follow.choose(candidates),
+        }
+    }
+
+    /// Returns the first step that isn't that of the schedule which is followed.
+    pub(super) fn parted(&self) -> Option<u32> {
+        match self {
+            Chooser::Follow(follow) => follow.parted,
+            _ => None,
+        }
+    }
+}
+
+/// Chooses the one whose call has the highest priority. Those of its channel, whose order with it matters, get new ones.
+fn by_sampling(
+    random: &mut Random,
+    priorities: &mut HashMap<u64, u64>,
+    candidates: &[Candidate],
+) -> usize {
+    let mut of = |candidate: &Candidate| {
+        let fresh = random.next();
+        *priorities.entry(candidate.number).or_insert(fresh)
+    };
+    let all: Vec<u64> = candidates.iter().map(&mut of).collect();
+    let best = (0..all.len()).max_by_key(|index| all[*index]).unwrap_or(0);
+    let channel = |what: &What| match what {
+        What::Call { channel, .. } => Some(*channel),
+        What::Poll | What::Time { .. } => None,
+    };
+    let of_best = channel(&candidates[best].what);
+    for candidate in candidates {
+        let of = channel(&candidate.what);
+        if of.is_none() || of_best.is_none() || of == of_best {
+            priorities.remove(&candidate.number);
+        }
+    }
+    best
+}
+
+/// Chooses by priorities that change at few steps.
+pub(super) struct Pct {
+    depth: u32,
+    seed: u64,
+    /// At which choices the one who would go gets this low priority.
+    changes: Vec<(u32, u64)>,
+    lowered: HashMap<Arc<str>, u64>,
+    choices: u32,
+}
+
+impl Pct {
+    fn new(depth: u32, seed: u64, steps: u32) -> Pct {
+        let mut random = Random::new(seed);
+        let mut at = || 1 + random.below(steps.max(1) as usize) as u32;
+        Pct {
+            depth,
+            seed,
+            changes: (1..u64::from(depth)).map(|low| (at(), low)).collect(),
+            lowered: HashMap::new(),
+            choices: 0,
+        }
+    }
+
+    fn choose(&mut self, candidates: &[Candidate]) -> usize {
+        if candidates.len() == 1 {
+            return 0;
+        }
+        self.choices += 1;
+        let change = self.changes.iter().find(|(at, _)| *at == self.choices);
+        if let Some((_, low)) = change.copied() {
+            let first = self.best(candidates);
+            self.lowered.insert(candidates[first].who.clone(), low);
+        }
+        self.best(candidates)
+    }
+
+    fn best(&self, candidates: &[Candidate]) -> usize {
+        let priority = |candidate: &Candidate| match self.lowered.get(&candidate.who) {
+            Some(low) => *low,
+            None => u64::from(self.depth) + (hashed(self.seed, &candidate.who) >> 8),
+        };
+        let best = (0..candidates.len()).max_by_key(|index| priority(&candidates[*index]));
+        best.unwrap_or(0)
+    }
+}
+
+/// Lets those go that a schedule has, as far as they come.
+pub(super) struct Follow {
+    steps: Vec<Step>,
+    is_made: Vec<bool>,
+    /// All before it are made.
+    front: usize,
+    count: u32,
+    parted: Option<u32>,
+}
+
+/// How far ahead of the first step that is yet to be made others are looked for.
+const AHEAD: usize = 256;
+
+impl Follow {
+    pub(super) fn new(steps: Vec<Step>) -> Follow {
+        Follow {
+            is_made: vec![false; steps.len()],
+            steps,
+            front: 0,
+            count: 0,
+            parted: None,
+        }
+    }
+
+    fn choose(&mut self, candidates: &[Candidate]) -> usize {
+        let found = self.first_of(candidates);
+        let is_exact = found.is_some_and(|(step, candidate)| {
+            step == self.front && self.steps[step].what == candidates[candidate].what
+        });
+        if !is_exact && self.parted.is_none() {
+            self.parted = Some(self.count);
+        }
+        self.count += 1;
+        let Some((step, candidate)) = found else {
+            return 0;
+        };
+        self.is_made[step] = true;
+        while self.is_made.get(self.front) == Some(&true) {
+            self.front += 1;
+        }
+        candidate
+    }
+
+    /// Returns the first step of one who stands, and who that is.
+    fn first_of(&self, candidates: &[Candidate]) -> Option<(usize, usize)> {
+        let end = self.steps.len().min(self.front + AHEAD);
+        let mut steps = (self.front..end).filter(|step| !self.is_made[*step]);
+        steps.find_map(|step| {
+            let who = &self.steps[step].who;
+            let found = candidates
+                .iter()
+                .position(|candidate| candidate.who == *who)?;
+            Some((step, found))
+        })
+    }
+}
+
+#[cfg(test)]
+mod tests {
+    use super::super::schedule::Turn;
+    use super::*;
+
+    fn standing(who: &[&str]) -> Vec<Candidate> {
+        let candidate = |(number, who): (u64, &&str)| Candidate {
+            who: (*who).into(),
+            what: What::Poll,
+            number,
+        };
+        (0..).zip(who).map(candidate).collect()
+    }
+
+    fn chooser(order: &str) -> Chooser {
+        Chooser::new(&Order::read(order).unwrap()).unwrap()
+    }
+
+    fn choices(chooser: &mut Chooser, count: usize) -> Vec<usize> {
+        let all = standing(&["a", "b", "c"]);
+        (0..count).map(|_| chooser.choose(&all)).collect()
+    }
+
+    #[test]
+    fn an_order_of_steps_differs_there_alone() {
+        assert_eq!(choices(&mut chooser("s"), 4), [0, 0, 0, 0]);
+        assert_eq!(choices(&mut chooser("s1.2-3.9"), 5), [0, 2, 0, 2, 0]);
+    }
+
+    #[test]
+    fn a_seed_gives_the_same_choices_and_another_one_others() {
+        for order in ["r", "o", "p3."] {
+            let of = |seed: &str| choices(&mut chooser(&format!("{order}{seed}")), 40);
+            let end = if order == "p3." { ".30" } else { "" };
+            assert_eq!(of(&format!("7{end}")), of(&format!("7{end}")));
+            let others =
+                (0..9).filter(|seed| of(&format!("{seed}{end}")) != of(&format!("7{end}")));
+            assert!(others.count() > 4, "{order}");
+        }
+    }
+
+    #[test]
+    fn priorities_change_once_at_most_where_the_depth_is_2() {
+        let changes = |seed: u32| {
+            let all = choices(&mut chooser(&format!("p2.{seed}.10")), 40);
+            let changes = all.windows(2).filter(|pair| pair[0] != pair[1]);
+            changes.count()
+        };
+        let all: Vec<usize> = (0..40).map(changes).collect();
+        assert!(all.iter().all(|count| *count <= 1), "{all:?}");
+        // At the first choice a change isn't seen, and that is one of ten.
+        assert!(all.iter().sum::<usize>() > 25, "{all:?}");
+    }
+
+    #[test]
+    fn a_schedule_is_followed_as_far_as_its_callers_come() {
+        let steps = |who: &[&str]| {
+            let step = |who: &&str| Step {
+                chosen: 0,
+                count: 2,
+                turn: Turn::Free,
+                what: What::Poll,
+                at: None,
+                who: (*who).into(),
+            };
+            who.iter().map(step).collect()
+        };
+        let mut follow = Follow::new(steps(&["b", "a", "b"]));
+        assert_eq!(follow.choose(&standing(&["a", "b"])), 1);
+        assert_eq!(follow.parted, None);
+        // `a` doesn't stand yet, so its step is made later.
+        assert_eq!(follow.choose(&standing(&["b", "c"])), 0);
+        assert_eq!(follow.parted, Some(1));
+        assert_eq!(follow.choose(&standing(&["b", "c", "a"])), 2);
+        assert_eq!(follow.choose(&standing(&["b", "c"])), 0);
+    }
+}

@@ -1,0 +1,218 @@
+//! A run that is explored, in a process of its own, or one that follows a schedule.
+
+use super::order::{Kind, Order};
+use super::random::hashed;
+use super::schedule::{End, Schedule};
+use super::{Explorer, helper, pin, settings};
+use crate::lock::lock;
+use crate::recorder::{Recorder, Shared};
+use crate::replay;
+use std::path::{Path, PathBuf};
+use std::sync::{Mutex, OnceLock, Weak};
+use std::{env, fs, io, process};
+
+/// By what order a run is made.
+pub(super) const ORDER: &str = "YOVANELUM_EXPLORE_ORDER";
+
+/// The process that runs it. Those that the test starts have the variables too, and are no runs.
+pub(super) const SESSION: &str = "YOVANELUM_EXPLORE_SESSION";
+
+/// Where it writes its schedule.
+pub(super) const SCHEDULE: &str = "YOVANELUM_EXPLORE_SCHEDULE";
+
+/// The folder in which it writes the files of its test, as cargo's target folder.
+pub(super) const TARGET: &str = "YOVANELUM_EXPLORE_TARGET";
+
+/// The number of the processor that it runs on.
+pub(super) const PROCESSOR: &str = "YOVANELUM_EXPLORE_PROCESSOR";
+
+/// The run of this process, if there is one.
+static RUN: OnceLock<Run> = OnceLock::new();
+
+struct Run {
+    explorer: Explorer,
+    /// Where the schedule is written.
+    schedule: Option<PathBuf>,
+    /// The schedule that a replay follows, with its number of steps.
+    followed: Option<(PathBuf, usize)>,
+    test: Mutex<Option<Test>>,
+}
+
+/// The test of a run.
+struct Test {
+    recorder: Weak<Shared>,
+    /// Writes its files where it hangs, and says who waits.
+    report_hung: Box<dyn Fn() + Send>,
+}
+
+/// Returns the explorer of this process, if it is one whose run is explored.
+pub(crate) fn current() -> Option<&'static Explorer> {
+    RUN.get().map(|run| &run.explorer)
+}
+
+/// Begins a run, if this process is one of those that are explored. Returns `true` if it is.
+pub(super) fn begin() -> bool {
+    if RUN.get().is_some() {
+        return true;
+    }
+    let Some(text) = env::var(ORDER).ok().filter(|_| is_of_session()) else {
+        return false;
+    };
+    let order = Order::read(&text).unwrap_or_else(|| panic!("yovanelum: {ORDER} is `{text}`"));
+    let processor = env::var(PROCESSOR).ok().and_then(|text| text.parse().ok());
+    let begun = start(&order, processor, |explorer| Run {
+        explorer,
+        schedule: env::var_os(SCHEDULE).map(PathBuf::from),
+        followed: None,
+        test: Mutex::default(),
+    });
+    begun.unwrap_or_else(|error| panic!("yovanelum: {ORDER} is `{text}`: {error}"));
+    true
+}
+
+/// Whether the process that has started this one is the session whose run it is.
+fn is_of_session() -> bool {
+    #[cfg(unix)]
+    let is_parent = |id: u32| std::os::unix::process::parent_id() == id;
+    #[cfg(not(unix))]
+    let is_parent = |_: u32| true;
+    let session = env::var(SESSION).ok().and_then(|id| id.parse().ok());
+    session.is_none_or(is_parent)
+}
+
+fn start(
+    order: &Order,
+    processor: Option<usize>,
+    run: impl FnOnce(Explorer) -> Run,
+) -> io::Result<()> {
+    pin::pin_to(processor.unwrap_or_default());
+    let explorer = Explorer::new(order, settings::is_time_offered())?;
+    let run = RUN.get_or_init(|| run(explorer));
+    replay::hold_polls();
+    helper::start(&run.explorer)
+}
+
+/// Follows the schedule beside this journal, if there is one of the same run. Returns `true` if there is.
+///
+/// # Errors
+///
+/// Returns an error if the file can't be read, or is no schedule.
+pub(crate) fn follow(journal: &Path) -> io::Result<bool> {
+    let path = journal.with_extension("schedule");
+    let schedule = match Schedule::of_file(&path) {
+        Ok(schedule) => schedule,
+        Err(error) if error.kind() == io::ErrorKind::NotFound => return Ok(false),
+        Err(error) => return Err(io::Error::other(format!("{}: {error}", path.display()))),
+    };
+    let text = fs::read_to_string(journal)?;
+    if schedule.journal != Some(hash_of(&text)) || RUN.get().is_some() {
+        return Ok(false);
+    }
+    let order = Order {
+        kind: Kind::File(path.clone()),
+        has_timers: Order::read(&schedule.order).is_some_and(|order| order.has_timers),
+    };
+    let followed = Some((path, schedule.steps.len()));
+    start(&order, None, |explorer| Run {
+        explorer,
+        schedule: None,
+        followed,
+        test: Mutex::default(),
+    })?;
+    Ok(true)
+}
+
+/// Returns the hash of a journal by which its schedule knows it.
+pub(super) fn hash_of(journal: &str) -> u64 {
+    hashed(0, journal)
+}
+
+/// Returns the path of the schedule that this process follows in place of a journal.
+pub(crate) fn followed() -> Option<&'static Path> {
+    let (path, _) = RUN.get()?.followed.as_ref()?;
+    Some(path)
+}
+
+/// Returns the folder in which this process writes the files of its test, in place of cargo's target folder, if it is one that is explored.
+pub(crate) fn target_folder() -> Option<PathBuf> {
+    env::var_os(TARGET)
+        .filter(|_| is_of_session())
+        .map(PathBuf::from)
+}
+
+/// Notes the recorder of the test, and what writes its files if it hangs.
+pub(crate) fn watch(recorder: Weak<Shared>, report_hung: impl Fn() + Send + 'static) {
+    if let Some(run) = RUN.get() {
+        *lock(&run.test) = Some(Test {
+            recorder,
+            report_hung: Box::new(report_hung),
+        });
+    }
+}
+
+/// Ends the run with its test, and writes its schedule, or says how it was followed.
+pub(crate) fn end(recorder: &Recorder, has_failed: bool) {
+    let Some(run) = RUN.get() else { return };
+    let end = match has_failed {
+        true => End::Failed,
+        false => End::Passed,
+    };
+    let mut schedule = run.explorer.end(end);
+    schedule.channels = recorder.0.channel_names();
+    run.write(&schedule);
+    if let Some((path, steps)) = &run.followed {
+        let name = path.file_name().unwrap_or_default().to_string_lossy();
+        replay::say(&format!("replay of {name}: {}", said(&schedule, *steps)));
+    }
+}
+
+/// Says how a schedule of so many steps was followed.
+fn said(followed: &Schedule, steps: usize) -> String {
+    let end = match followed.end {
+        End::Passed => "the test passed",
+        End::Failed => "the test failed",
+        End::Hung => "the test hangs",
+    };
+    match followed.parted.map(|at| at as usize) {
+        Some(at) if at < steps => format!("parted at step {} of {steps}; {end}", at + 1),
+        _ if followed.steps.len() < steps => {
+            format!(
+                "ended after {} of {steps} steps; {end}",
+                followed.steps.len()
+            )
+        }
+        _ => format!("all {steps} steps in the recorded order; {end}"),
+    }
+}
+
+impl Run {
+    fn write(&self, schedule: &Schedule) {
+        let written = self
+            .schedule
+            .as_ref()
+            .map(|path| (path, fs::write(path, schedule.text())));
+        if let Some((path, Err(error))) = written {
+            replay::say(&format!("{} isn't written: {error}", path.display()));
+        }
+    }
+}
+
+/// Ends the process, whose threads all wait forever: writes its files, and says who waits.
+pub(super) fn end_hung(schedule: &mut Schedule) -> ! {
+    schedule.end = End::Hung;
+    if let Some(run) = RUN.get() {
+        if let Some(test) = &*lock(&run.test) {
+            if let Some(recorder) = test.recorder.upgrade() {
+                schedule.channels = recorder.channel_names();
+            }
+            (test.report_hung)();
+        }
+        run.write(schedule);
+        if let Some((path, steps)) = &run.followed {
+            let name = path.file_name().unwrap_or_default().to_string_lossy();
+            replay::say(&format!("replay of {name}: {}", said(schedule, *steps)));
+        }
+    }
+    // As a test's program does that has failed.
+    process::exit(101);
+}

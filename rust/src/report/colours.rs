@@ -1,0 +1,61 @@
+//! The colours of the report.
+
+const BOLD: &str = "\x1b[1m";
+const RED: &str = "\x1b[31m";
+const YELLOW: &str = "\x1b[33m";
+const CYAN: &str = "\x1b[36m";
+const PLAIN: &str = "\x1b[0m";
+
+/// Puts texts into colours, if it has any.
+#[derive(Clone, Copy)]
+pub(super) struct Colours {
+    pub(super) has_colours: bool,
+}
+
+impl Colours {
+    fn within(self, colour: &str, text: &str) -> String {
+        match self.has_colours {
+            true => format!("{colour}{text}{PLAIN}"),
+            false => text.to_string(),
+        }
+    }
+
+    /// The level of a fact with its colon, as rustc colours it.
+    pub(super) fn level(self, level: &str) -> String {
+        let colour = if level == "error" { RED } else { YELLOW };
+        self.within(&format!("{BOLD}{colour}"), &format!("{level}:"))
+    }
+
+    pub(super) fn head(self, head: &str) -> String {
+        self.within(BOLD, head)
+    }
+
+    pub(super) fn lost(self, label: &str) -> String {
+        self.within(RED, label)
+    }
+
+    pub(super) fn waiting(self, label: &str) -> String {
+        self.within(YELLOW, label)
+    }
+
+    pub(super) fn look(self, label: &str) -> String {
+        self.within(CYAN, label)
+    }
+}
+
+#[cfg(test)]
+mod tests {
+    use super::*;
+
+    #[test]
+    fn colours_are_around_levels_headlines_and_labels() {
+        let colours = Colours { has_colours: true };
+        assert_eq!(colours.level("error"), "\x1b[1m\x1b[31merror:\x1b[0m");
+        assert_eq!(colours.level("warning"), "\x1b[1m\x1b[33mwarning:\x1b[0m");
+        assert_eq!(colours.head("a"), "\x1b[1ma\x1b[0m");
+        assert_eq!(colours.lost("lost:"), "\x1b[31mlost:\x1b[0m");
+        let plain = Colours { has_colours: false };
+        assert_eq!(plain.level("error"), "error:");
+        assert_eq!(plain.look("look:"), "look:");
+    }
+}

@@ -1,0 +1,146 @@
+//! Runs, as the core makes them of recorded calls and reads them from journal texts, and what it finds in them.
+//!
+//! A place is a number of entries: at place 3 the first three calls have been made.
+
+#[cfg(test)]
+mod tests;
+
+pub(crate) use crate::source::rw_recording::{
+    Closing, Counts, Findings, LateReader, Loss, LossEnd, Spec, TextFault, Totals,
+};
+
+use crate::reply::Reply;
+use crate::shim::alloc::Global;
+use crate::source::rw_law::{self, NoMemory};
+use crate::source::rw_recording::{self, ChanCall, World};
+use crate::source::rw_text;
+use crate::word::Word;
+
+/// A run: the channels of a recorder and their calls, or those of a journal text that was read.
+pub(crate) struct Run(rw_recording::Run<u64>);
+
+/// A recorded call.
+#[derive(Clone, Copy, Debug, PartialEq, Eq)]
+pub(crate) struct Entry {
+    pub(crate) stamp: u64,
+    pub(crate) actor: u32,
+    pub(crate) channel: u32,
+    pub(crate) handle: u32,
+    pub(crate) word: Word,
+    /// The number of the value that the call passes, if it passes one.
+    pub(crate) value: Option<u64>,
+    pub(crate) reply: Reply,
+}
+
+impl Entry {
+    fn of(entry: &rw_law::Entry<World<u64>>) -> Entry {
+        let call = &entry.call.call;
+        Entry {
+            stamp: entry.stamp,
+            actor: entry.actor,
+            channel: entry.call.channel,
+            handle: call.handle(),
+            word: Word::of(call),
+            value: value_of(call),
+            reply: Reply::of(&Ok(entry.reply)),
+        }
+    }
+}
+
+fn value_of(call: &ChanCall<u64>) -> Option<u64> {
+    use rw_recording::{BCall, WCall};
+    match call {
+        ChanCall::B(BCall::Send(_, value)) => Some(*value),
+        ChanCall::W(WCall::Send(_, value) | WCall::SendReplace(_, value)) => Some(*value),
+        ChanCall::W(WCall::Modify { value, .. }) => Some(*value),
+        _ => None,
+    }
+}
+
+impl Run {
+    /// Wraps a run of the core.
+    pub(crate) fn of(run: rw_recording::Run<u64>) -> Run {
+        Run(run)
+    }
+
+    /// Returns the journal text of the run.
+    ///
+    /// # Errors
+    ///
+    /// Returns `NoMemory` if there is none for the text.
+    pub(crate) fn text(&self) -> Result<Vec<u8>, NoMemory> {
+        let mut text = crate::shim::Vec::new(Global);
+        rw_text::write(&self.0, &mut text).map_err(|_| NoMemory)?;
+        // The bytes stay where they are.
+        Ok(text.into_iter().collect())
+    }
+
+    /// Reads the run of a journal text.
+    ///
+    /// # Errors
+    ///
+    /// Returns the first fault of the text, as `ttd check` does.
+    pub(crate) fn read(text: &[u8]) -> Result<Run, TextFault> {
+        rw_text::read(Global, text).map(Run)
+    }
+
+    /// Returns what is found in the run.
+    ///
+    /// # Errors
+    ///
+    /// Returns `NoMemory` if there is none.
+    pub(crate) fn findings(&self) -> Result<Findings, TextFault> {
+        Findings::of(Global, &self.0).map_err(|_| TextFault::NoMemory)
+    }
+
+    /// What the channels were opened as.
+    pub(crate) fn specs(&self) -> &[Spec<u64>] {
+        self.0.specs()
+    }
+
+    /// How many entries the run has.
+    pub(crate) fn len(&self) -> u64 {
+        self.0.len()
+    }
+
+    /// Returns the entry that led to a place from 1 on.
+    pub(crate) fn entry(&self, place: u64) -> Entry {
+        Entry::of(&self.0.entries()[place as usize - 1])
+    }
+
+    /// Returns each entry with the place that it led to.
+    pub(crate) fn entries(&self) -> impl Iterator<Item = (u64, Entry)> {
+        (1..).zip(self.0.entries().iter().map(Entry::of))
+    }
+
+    /// How many entries each channel has.
+    pub(crate) fn entries_by_channel(&self) -> Vec<usize> {
+        let mut counts = vec![0; self.specs().len()];
+        for entry in self.0.entries() {
+            counts[entry.call.channel as usize] += 1;
+        }
+        counts
+    }
+
+    /// Returns the last stamp up to this one that an entry has, or 0.
+    pub(crate) fn last_stamp(&self, stamp: u64) -> u64 {
+        match self.place_of_stamp(stamp) {
+            0 => 0,
+            place => self.0.entries()[place as usize - 1].stamp,
+        }
+    }
+
+    /// Returns the place at which all entries with stamps up to this one had been made.
+    pub(crate) fn place_of_stamp(&self, stamp: u64) -> u64 {
+        let entries = self.0.entries();
+        entries.partition_point(|entry| entry.stamp <= stamp) as u64
+    }
+}
+
+/// Returns the words of `ttd check` for a fault.
+pub(crate) fn said(fault: TextFault) -> String {
+    match fault {
+        TextFault::NoMemory => "no memory".to_string(),
+        fault => format!("journal fault {fault}"),
+    }
+}

@@ -1,0 +1,17 @@
+//! What holds of every broadcast channel.
+// From crates/rw_broadcast/src/laws.rt, with its contracts as comments. //+
+//~ ghost use Rattle.rw_broadcast.specs.Laws.{IsShownBySome, RepliesByRecord, RetainsNextPower, ShowsAllowed, ShowsItsRecord, ShowsItsSteps};
+
+/// The laws of the table of calls, for every type of values. The function does nothing: its clauses are the laws.
+pub fn channel_laws<V: Copy>()
+    // A step on what is shown is the documented step of the record that shows it.
+//~     ensures steps { ShowsItsSteps V }
+    // After any calls from its opening, a channel shows what its record shows, and replies as its record does.
+//~     ensures record { ShowsItsRecord V }
+//~     ensures replies { RepliesByRecord V }
+    // After any calls, what a channel shows is allowed. All that is allowed is shown by some record.
+//~     ensures allowed { ShowsAllowed V }
+//~     ensures shown { IsShownBySome V }
+    // The retained capacity is the least power of two that is at least the requested one.
+//~     ensures power { RetainsNextPower }
+{}

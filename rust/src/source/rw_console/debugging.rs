@@ -1,0 +1,36 @@
+//! Commands over a run that exists already.
+// From crates/rw_console/src/debugging.rt, with its contracts as comments. //+
+
+//~ ghost use Rattle.std.specs.Prelude.{IfErr, OnOk};
+//~ ghost use Rattle.rw_navigator.specs.Places.{last_place};
+//~ ghost use Rattle.rw_console.specs.Report.{commands_report};
+//~ ghost use Rattle.rw_console.specs.Streams.{Always, Answers, Stops};
+
+use crate::source::rw_console::console::commands;
+use crate::source::rw_console::sessions::{MOST_BYTES, SessionFault};
+use crate::source::rw_console::walk::Walk;
+use crate::source::rw_journal::Run;
+use crate::shim::alloc::Global;
+use crate::shim::io::{Read, Write};
+
+/// Reads commands and writes their output, starting at the last place of a run. It ends at a `quit` or at the reader's end. No
+/// byte after a `quit` is read.
+pub fn debug<R: Read, W: Write>(
+    alloc: Global,
+    run: &Run<u64>,
+    reader: &mut R,
+    writer: &mut W,
+) -> Result<(), SessionFault>
+//~     ensures ok { OnOk result (Answers (R.remaining reader.old) (R.remaining reader.new) (W.contents writer.old) (W.contents writer.new)
+//~         (commands_report run.now (last_place run.now)) MOST_BYTES) }
+//~     ensures err { IfErr result (Stops (R.remaining reader.old) (R.remaining reader.new) (W.contents writer.old) (W.contents writer.new)
+//~         (commands_report run.now (last_place run.now)) Always MOST_BYTES) }
+{
+    let mut allowed = MOST_BYTES;
+    let Ok(mut walk) = Walk::open(alloc, run) else {
+        return Err(SessionFault::NoMemory);
+    };
+    let answered = commands(alloc, &mut walk, reader, writer, &mut allowed);
+    drop(walk);
+    answered
+}

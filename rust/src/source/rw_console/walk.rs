@@ -1,0 +1,262 @@
+//! A walk over the places of a run.
+// From crates/rw_console/src/walk.rt, with its contracts as comments. //+
+use crate::shim::Vec; //+
+
+//~ ghost use Rattle.std.specs.Prelude.{◌≡◌, ◌++◌, ◌≢◌, ◌≤◌, ℕ, false, IfOk, IfSome, IsSome, IsTrue, OnOk, unwrap_or};
+//~ ghost use Rattle.rw_console.specs.Hits.{hit_above, hit_below};
+//~ ghost use Rattle.rw_console.specs.Report.{output_of, place_of};
+//~ ghost use Rattle.rw_console.specs.SessionReport.{recording_of};
+//~ ghost use Rattle.rw_navigator.specs.Conditions.{asks_step, holds_of_step};
+//~ ghost use Rattle.rw_navigator.specs.Places.{entry_to, last_place};
+//~ ghost use Rattle.rw_world.specs.Specified.{WorldEntry};
+//~ ghost use Rattle.rw_script.specs.Running.{run_of};
+
+use crate::source::rw_console::command::Command;
+use crate::source::rw_console::entries::push_entry;
+use crate::source::rw_console::index::{CondIndex, MOST_INDEXES, asks_the_same};
+use crate::source::rw_console::text::{push_hit, push_place, push_refusal};
+use crate::source::rw_blocks::{push_json, push_world};
+use crate::source::rw_journal::Run;
+use crate::source::rw_law::{Entry, NoMemory, Reversible};
+use crate::source::rw_navigator::{Cond, Debugger, HitIndex, Move, Probe};
+use crate::source::rw_script::{Played, Script, play};
+use crate::source::rw_world::World;
+use crate::shim::alloc::{AllocError, Global};
+//~ use std::marker::Model;
+
+/// A debugger that runs commands and writes their output.
+//~ #[derive(Drop)]
+pub struct Walk {
+    alloc: Global,
+    debugger: Debugger<u64>,
+    // Of the conditions on entries that were searched for, as far as there was memory for them. No two are of one condition.
+    indexes: Vec<CondIndex>,
+}
+
+//~ impl Model for Walk {
+//~     ghost use Rattle.std.specs.Prelude.{◌≡◌, All};
+//~     ghost use Rattle.rw_console.specs.Walk.{Walk as Seen};
+//~
+//~     ghost Value = { Seen };
+//~
+//~     ghost view = { λ a. record { run = a.debugger.run; place = a.debugger.place } };
+//~
+//~     ghost invariant = { λ a. All (λ i. i.index.entries ≡ a.debugger.run.entries) a.indexes.items };
+//~ }
+
+impl Walk {
+    /// Opens a walk at the last place of a run, with a copy of it.
+    pub fn open(alloc: Global, run: &Run<u64>) -> Result<Walk, NoMemory>
+//~         ensures run { IfOk result (λ walk. walk.run ≡ run.now) }
+//~         ensures place { IfOk result (λ walk. walk.place ≡ last_place run.now) }
+    {
+        let mut debugger = Debugger::open(alloc, run)?;
+        let _ = debugger.step(Move::End);
+        Ok(Walk {
+            alloc,
+            debugger,
+            indexes: Vec::new(alloc),
+        })
+    }
+
+    /// Runs a script, and opens a walk at the last place of its run, with the machine and the entries of its book. Also returns
+    /// the line that would wait, if there is one.
+    pub fn of_script(alloc: Global, script: &Script) -> Result<(Walk, Option<u64>), NoMemory>
+//~         ensures run { IfOk result (λ p. p.0.run ≡ recording_of script.now) }
+//~         ensures place { IfOk result (λ p. p.0.place ≡ last_place p.0.run) }
+//~         ensures waits { IfOk result (λ p. p.1 ≡ (run_of script.now).waits) }
+    {
+        let Ok(played) = play(alloc, script) else {
+            return Err(NoMemory);
+        };
+        let Played { specs, book, waits } = played;
+        let debugger = Debugger::of_book(specs, book);
+        let walk = Walk {
+            alloc,
+            debugger,
+            indexes: Vec::new(alloc),
+        };
+        Ok((walk, waits))
+    }
+
+    /// Returns how many entries the run has.
+    pub fn len(&self) -> u64
+//~         ensures { result ≡ last_place self.now.run }
+    {
+        self.debugger.len()
+    }
+
+    /// Returns the entry that leads to a place.
+    fn entry_to(&self, place: u64) -> Option<Entry<World<u64>>>
+//~         ensures entry { result ≡ entry_to self.now.run place }
+//~         ensures recorded { IfSome result (λ e. ⟦<World<u64> as Reversible>⟧.is_waiting e.reply ≡ false) }
+//~         ensures sent { IfSome result (λ e. ⟦<World<u64> as Reversible>⟧.is_straying e.reply ≡ false) }
+    {
+        if place == 0 {
+            return None;
+        }
+        self.debugger.entry(place - 1)
+    }
+
+    /// Makes a move, and appends its output.
+    fn make_move(&mut self, to: Move, out: &mut Vec<u8>) -> Result<(), AllocError>
+//~         ensures output { OnOk result (out.new.items ≡ out.old.items ++ output_of self.old.run self.old.place (Command.Move to)) }
+//~         ensures place { OnOk result (self.new.place ≡ place_of self.old.run self.old.place (Command.Move to)) }
+//~         ensures run { self.new.run ≡ self.old.run }
+    {
+        let answer = self.debugger.step(to);
+        push_refusal(out, answer)?;
+        push_place(out, self.debugger.len(), self.debugger.place())
+    }
+
+    /// Appends the state of the place.
+    fn push_state(&self, out: &mut Vec<u8>) -> Result<(), AllocError>
+//~         ensures { OnOk result (out.new.items ≡ out.old.items ++ output_of self.now.run self.now.place Command.State) }
+    {
+        push_place(out, self.debugger.len(), self.debugger.place())?;
+        push_world(out, self.debugger.state())
+    }
+
+    /// Appends the state of the place as JSON.
+    fn push_json(&self, out: &mut Vec<u8>) -> Result<(), AllocError>
+//~         ensures { OnOk result (out.new.items ≡ out.old.items ++ output_of self.now.run self.now.place Command.StateJson) }
+    {
+        let world = self.debugger.state();
+        push_json(
+            self.alloc,
+            out,
+            world,
+            self.debugger.len(),
+            self.debugger.place(),
+        )
+    }
+
+    /// Returns the index of a condition, if it is there.
+    fn index_of(&self, cond: Cond) -> Option<&HitIndex<World<u64>, Cond>>
+//~         ensures run { IfSome result (λ index. index.now.entries ≡ self.now.run.entries) }
+//~         ensures step { IsSome result → IsTrue (asks_step cond) }
+//~         ensures same { IfSome result (λ index. (e : WorldEntry ℕ) → holds_of_step index.now.probe e ≡ holds_of_step cond e) }
+    {
+        for i in 0..self.indexes.len() {
+            if asks_the_same(cond, self.indexes[i].cond) {
+                return Some(&self.indexes[i].index);
+            }
+        }
+        None
+    }
+
+    /// Indexes a condition on entries, unless it is indexed already or memory runs out.
+    fn keep_index(&mut self, cond: Cond)
+//~         ensures { self.new ≡ self.old }
+    {
+        if self.index_of(cond).is_some() || !<Cond as Probe<World<u64>>>::on_step(&cond) {
+            return;
+        }
+        if self.indexes.len() >= MOST_INDEXES {
+            self.indexes.clear();
+        }
+        if self.indexes.reserve(1).is_err() {
+            return;
+        }
+        if let Some(built) = CondIndex::build(self.alloc, &self.debugger, cond) {
+            self.indexes.push_reserved(built);
+        }
+    }
+
+    /// Goes to a hit by one move. Without a hit, the place stays the same.
+    fn go_to(&mut self, found: Option<u64>)
+//~         requires { IfSome found (λ hit. hit ≤ last_place self.old.run) }
+//~         ensures place { self.new.place ≡ unwrap_or found self.old.place }
+//~         ensures run { self.new.run ≡ self.old.run }
+    {
+        if let Some(hit) = found {
+            let _ = self.debugger.step(Move::Goto(hit));
+        }
+    }
+
+    /// Goes to the nearest hit below the place, and returns it.
+    fn back_to(&mut self, cond: Cond) -> Option<u64>
+//~         ensures found { result ≡ hit_below self.old.run cond self.old.place }
+//~         ensures place { self.new.place ≡ unwrap_or result self.old.place }
+//~         ensures run { self.new.run ≡ self.old.run }
+    {
+        self.keep_index(cond);
+        let Some(index) = self.index_of(cond) else {
+            return self.debugger.back_to(&cond);
+        };
+        let found = index.before(self.debugger.place());
+        self.go_to(found);
+        found
+    }
+
+    /// Goes to the nearest hit above the place, and returns it.
+    fn forward_to(&mut self, cond: Cond) -> Option<u64>
+//~         ensures found { result ≡ hit_above self.old.run cond self.old.place }
+//~         ensures place { self.new.place ≡ unwrap_or result self.old.place }
+//~         ensures run { self.new.run ≡ self.old.run }
+    {
+        self.keep_index(cond);
+        let Some(index) = self.index_of(cond) else {
+            return self.debugger.forward_to(&cond);
+        };
+        let found = index.after(self.debugger.place());
+        self.go_to(found);
+        found
+    }
+
+    /// Goes to the nearest hit below the place, and appends the output.
+    fn search_back(&mut self, cond: Cond, out: &mut Vec<u8>) -> Result<(), AllocError>
+//~         ensures output { OnOk result (out.new.items ≡ out.old.items ++ output_of self.old.run self.old.place (Command.SearchBack cond)) }
+//~         ensures place { OnOk result (self.new.place ≡ place_of self.old.run self.old.place (Command.SearchBack cond)) }
+//~         ensures run { self.new.run ≡ self.old.run }
+    {
+        let from = self.debugger.place();
+        let found = self.back_to(cond);
+        push_hit(out, self.debugger.len(), from, found)
+    }
+
+    /// Goes to the nearest hit above the place, and appends the output.
+    fn search_forward(&mut self, cond: Cond, out: &mut Vec<u8>) -> Result<(), AllocError>
+//~         ensures output { OnOk result (out.new.items ≡ out.old.items ++ output_of self.old.run self.old.place (Command.SearchForward cond)) }
+//~         ensures place { OnOk result (self.new.place ≡ place_of self.old.run self.old.place (Command.SearchForward cond)) }
+//~         ensures run { self.new.run ≡ self.old.run }
+    {
+        let from = self.debugger.place();
+        let found = self.forward_to(cond);
+        push_hit(out, self.debugger.len(), from, found)
+    }
+
+    /// Appends the entry that leads to a place.
+    pub fn push_step(&self, place: u64, out: &mut Vec<u8>) -> Result<(), AllocError>
+//~         ensures { OnOk result (out.new.items ≡ out.old.items ++ output_of self.now.run place Command.Step) }
+    {
+        match self.entry_to(place) {
+            Some(entry) => push_entry(out, place, &entry),
+            None => out.extend_from_slice(b"no step\n"),
+        }
+    }
+
+    /// Runs a command, and appends its output. `list` isn't run here: it has many entries, so they are written one by one with
+    /// `push_step`.
+    pub fn answer(&mut self, command: Command, out: &mut Vec<u8>) -> Result<(), AllocError>
+//~         requires short { command ≢ Command.List }
+//~         ensures output { OnOk result (out.new.items ≡ out.old.items ++ output_of self.old.run self.old.place command) }
+//~         ensures place { OnOk result (self.new.place ≡ place_of self.old.run self.old.place command) }
+//~         ensures run { self.new.run ≡ self.old.run }
+    {
+        match command {
+            Command::Skip | Command::Quit => Ok(()),
+            Command::Bad => out.extend_from_slice(b"bad command\n"),
+            Command::State => self.push_state(out),
+            Command::StateJson => self.push_json(out),
+            Command::SearchBack(cond) => self.search_back(cond, out),
+            Command::SearchForward(cond) => self.search_forward(cond, out),
+            Command::Step => {
+                let place = self.debugger.place();
+                self.push_step(place, out)
+            }
+            Command::Move(to) => self.make_move(to, out),
+            Command::List => unreachable!(),
+        }
+    }
+}

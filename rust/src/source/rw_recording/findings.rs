@@ -1,0 +1,95 @@
+//! What is found in a run: its losses, totals and closings.
+// From crates/rw_recording/src/findings.rt, with its contracts as comments. //+
+use crate::shim::Vec; //+
+
+//~ ghost use Rattle.std.specs.Prelude.{◌≡◌, IfOk};
+//~ ghost use Rattle.rw_recording.specs.Findings.{AreFindings, IsFoundIn};
+
+use crate::source::rw_findings::{Closing, Closings, LateReader, Loss, Totals, closings_of, losses_of, totals_of};
+use crate::source::rw_journal::Run;
+use crate::source::rw_law::NoMemory;
+use crate::source::rw_text::{TextFault, read};
+use crate::shim::alloc::Global;
+//~ use std::marker::Model;
+
+/// The losses, totals and closings of a run, and how many entries it has.
+//~ #[derive(Drop)]
+pub struct Findings {
+    entries: u64,
+    losses: Vec<Loss>,
+    totals: Vec<Totals>,
+    closings: Vec<Closing>,
+    late: Vec<LateReader>,
+}
+
+//~ impl Model for Findings {
+//~     ghost use Rattle.rw_recording.specs.Findings.{Findings as Seen};
+//~
+//~     ghost Value = { Seen };
+//~
+//~     ghost view = { λ f. record { entries = f.entries; losses = f.losses.items; totals = f.totals.items; closings = f.closings.items; late = f.late.items } };
+//~ }
+
+impl Findings {
+    /// Finds the losses, totals and closings of a run.
+    pub fn of(alloc: Global, run: &Run<u64>) -> Result<Findings, NoMemory>
+//~         ensures { IfOk result (AreFindings run.now) }
+    {
+        let losses = losses_of(alloc, run)?;
+        let totals = totals_of(alloc, run)?;
+        let Closings { channels, readers } = closings_of(alloc, run)?;
+        Ok(Findings {
+            entries: run.len(),
+            losses,
+            totals,
+            closings: channels,
+            late: readers,
+        })
+    }
+
+    /// Reads the run whose text the bytes are, in any version, and finds its losses, totals and closings.
+    pub fn read(alloc: Global, text: &[u8]) -> Result<Findings, TextFault>
+//~         ensures { IsFoundIn text.now result }
+    {
+        let run: Run<u64> = read(alloc, text)?;
+        match Findings::of(alloc, &run) {
+            Ok(found) => Ok(found),
+            Err(_) => Err(TextFault::NoMemory),
+        }
+    }
+
+    /// Returns how many entries the run has.
+    pub fn entries(&self) -> u64
+//~         ensures { result ≡ self.now.entries }
+    {
+        self.entries
+    }
+
+    /// Returns the losses in the order of the places at which they began, then of channels, then of receivers.
+    pub fn losses(&self) -> &[Loss]
+//~         ensures { result.now ≡ self.now.losses }
+    {
+        self.losses.as_slice()
+    }
+
+    /// Returns the totals of all receivers in the order of channels, then of receivers.
+    pub fn totals(&self) -> &[Totals]
+//~         ensures { result.now ≡ self.now.totals }
+    {
+        self.totals.as_slice()
+    }
+
+    /// Returns the channels that were closed, in their order.
+    pub fn closings(&self) -> &[Closing]
+//~         ensures { result.now ≡ self.now.closings }
+    {
+        self.closings.as_slice()
+    }
+
+    /// Returns what receivers did after their channel was closed, in the order of channels, then of receivers.
+    pub fn late(&self) -> &[LateReader]
+//~         ensures { result.now ≡ self.now.late }
+    {
+        self.late.as_slice()
+    }
+}

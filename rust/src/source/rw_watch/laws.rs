@@ -1,0 +1,15 @@
+//! What holds of every watch channel.
+// From crates/rw_watch/src/laws.rt, with its contracts as comments. //+
+//~ ghost use Rattle.rw_watch.specs.Laws.{IsShownBySome, RepliesByRecord, ShowsAllowed, ShowsItsRecord, ShowsItsSteps};
+
+/// The laws of the table of calls, for every type of values. The function does nothing: its clauses are the laws.
+pub fn channel_laws<V: Copy>()
+    // A step on what is shown is the documented step of the record that shows it.
+//~     ensures steps { ShowsItsSteps V }
+    // After any calls from its opening, a channel shows what its record shows, and replies as its record does.
+//~     ensures record { ShowsItsRecord V }
+//~     ensures replies { RepliesByRecord V }
+    // After any calls, what a channel shows is allowed. All that can be shown is shown by some record.
+//~     ensures allowed { ShowsAllowed V }
+//~     ensures shown { IsShownBySome V }
+{}

@@ -1,0 +1,130 @@
+//! Channels, calls and journals whose memory is refused: each says so, and goes on when there is memory again. What the crate allocates
+//! beside its core is small here, and isn't refused: as elsewhere in Rust that would end the process.
+
+#[path = "support/refusing.rs"]
+mod refusing;
+
+use refusing::{Refusal, Refusing, refusing};
+use std::any::Any;
+use std::panic::{AssertUnwindSafe, catch_unwind};
+use yovanelum::{Recorder, broadcast, watch};
+
+#[global_allocator]
+static ALLOCATOR: Refusing = Refusing;
+
+/// Refuses the first request of at least this many bytes.
+fn first_above(least: usize) -> Refusal {
+    Refusal {
+        least,
+        ..Refusal::only(0)
+    }
+}
+
+/// Makes a call and refuses its memory. Returns what it panicked with, if a request was refused.
+fn panic_of<T>(refusal: Refusal, call: impl FnOnce() -> T) -> Option<String> {
+    let (result, refused) = refusing(refusal, || catch_unwind(AssertUnwindSafe(call)));
+    assert_eq!(result.is_err(), refused > 0);
+    result.err().map(text_of)
+}
+
+fn text_of(panic: Box<dyn Any + Send>) -> String {
+    panic.downcast_ref::<&str>().expect("a text").to_string()
+}
+
+#[test]
+#[cfg_attr(target_family = "wasm", ignore = "WebAssembly ends at the first panic")]
+fn a_channel_that_finds_no_memory_panics_and_is_not_in_the_journal() {
+    let recorder = Recorder::new();
+    let _entered = recorder.enter();
+    let (_first, _rx) = broadcast::channel::<u64>(4);
+    // The ring of 1024 values is the one block above 8 KiB.
+    let refusal = first_above(8 << 10);
+    let said = panic_of(refusal, || broadcast::channel::<u64>(1024));
+    assert_eq!(said.as_deref(), Some("yovanelum: no memory for a channel"));
+    let (_second, _rx) = broadcast::channel::<u64>(8);
+    let journal = recorder.journal().unwrap();
+    let wanted = [
+        "ttd-journal 2",
+        "broadcast 4",
+        "broadcast 8",
+        "steps",
+        "end",
+    ];
+    assert!(journal.lines().eq(wanted), "{journal}");
+}
+
+/// Sends values to a broadcast and to a watch, and reads them. A call that finds no memory is made again. Returns the journal, and how many
+/// calls found none.
+fn played(refusal: Refusal) -> (String, u32) {
+    const NO_MEMORY: &str = "yovanelum: no memory for a call";
+    let recorder = Recorder::new();
+    let _entered = recorder.enter();
+    let (tx, mut rx) = broadcast::channel(4);
+    let (setting, mut seen) = watch::channel(0);
+    let mut refused = 0;
+    for value in 1..3_000u64 {
+        if let Some(said) = panic_of(refusal, || tx.send(value).unwrap()) {
+            assert_eq!(said, NO_MEMORY);
+            refused += 1;
+            tx.send(value).unwrap();
+        }
+        assert_eq!(rx.try_recv(), Ok(value));
+        if let Some(said) = panic_of(refusal, || setting.send(value).unwrap()) {
+            assert_eq!(said, NO_MEMORY);
+            refused += 1;
+            setting.send(value).unwrap();
+        }
+        assert_eq!(*seen.borrow_and_update(), value);
+    }
+    (recorder.journal().unwrap(), refused)
+}
+
+/// The words of each line. A call that found no memory has used up a stamp, and the number of its value.
+fn words(journal: &str) -> Vec<Vec<&str>> {
+    let lines = journal.lines().map(|line| line.split(' '));
+    lines
+        .map(|words| words.filter(|word| word.parse::<u64>().is_err()).collect())
+        .collect()
+}
+
+#[test]
+#[cfg_attr(target_family = "wasm", ignore = "WebAssembly ends at the first panic")]
+fn a_call_that_finds_no_memory_panics_and_leaves_no_entry() {
+    let (wanted, refused) = played(Refusal::above(usize::MAX));
+    assert_eq!(refused, 0);
+    // A channel's entries are the blocks above 48 KiB. They grow to 64, 128 and 256 KiB, each time by a send, since each second entry is one.
+    let (journal, refused) = played(first_above(48 << 10));
+    assert_eq!(refused, 2 * 3);
+    assert!(words(&journal) == words(&wanted), "the journals differ");
+}
+
+#[test]
+fn a_journal_that_finds_no_memory_is_an_error_and_can_be_asked_for_again() {
+    let recorder = Recorder::new();
+    let _entered = recorder.enter();
+    let (tx, mut rx) = broadcast::channel(4);
+    let (setting, _seen) = watch::channel(0);
+    for value in 0..2_000u64 {
+        tx.send(value).unwrap();
+        setting.send(value).unwrap();
+        rx.try_recv().unwrap();
+    }
+    let journal = recorder.journal().unwrap();
+    let mut requests = 0;
+    loop {
+        let refusal = Refusal {
+            least: 1 << 10,
+            ..Refusal::after(requests)
+        };
+        let (result, refused) = refusing(refusal, || recorder.journal());
+        if refused == 0 {
+            assert_eq!(result.unwrap(), journal);
+            break;
+        }
+        assert_eq!(result.unwrap_err().to_string(), "no memory for the journal");
+        assert_eq!(recorder.journal().unwrap(), journal);
+        requests += 1;
+    }
+    // At least one for the calls of each channel, one for them together, and one for the text.
+    assert!(requests >= 4, "{requests}");
+}

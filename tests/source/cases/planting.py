@@ -1,0 +1,123 @@
+"""Plants an edit in a copy of the Rust source, compiles the program, and runs tests over it."""
+import hashlib
+import os
+import shutil
+import signal
+import subprocess
+import typing
+
+from cases import rattle
+from eraser import layout, rust
+
+# Most of a program stays compiled from one edit to the next, and a program without symbols is the same where its code is.
+PROFILE = {"CARGO_PROFILE_RELEASE_OPT_LEVEL": "1", "CARGO_PROFILE_RELEASE_INCREMENTAL": "true", "CARGO_PROFILE_RELEASE_CODEGEN_UNITS": "16",
+           "CARGO_PROFILE_RELEASE_STRIP": "symbols", "CARGO_NET_OFFLINE": "true", "RUSTFLAGS": "--cap-lints allow"}
+# The tests of the Rust crate that compare its calls, its journals and what is found in them with models or with the kit's program.
+CRATE = ("--lib", "--test", "model_broadcast", "--test", "model_watch", "--test", "journals", "--test", "limits", "--test", "broadcast", "--test", "watch")
+MOST_SECONDS = 900
+
+
+class Edit(typing.NamedTuple):
+    crate: str
+    name: str
+    # Files of the crate, with a text that is in it once and what comes in its place.
+    pairs: tuple
+
+
+def edits_of(top, crate):
+    """The edits of a crate that change its code. Their format is that of ./mutants."""
+    found = []
+    for home in (f"{top}/crates/{crate}/must-fail", f"{top}/tests/mutants/{crate}"):
+        for file in sorted(os.listdir(home)) if os.path.isdir(home) else []:
+            if file.endswith(".edit"):
+                with open(f"{home}/{file}", encoding="utf-8") as text:
+                    pairs = tuple(it for it in pairs_of(text.read()) if it[0].startswith("src/"))
+                if pairs:
+                    found.append(Edit(crate, f"{crate}/{file.removesuffix('.edit')}", pairs))
+    return found
+
+
+def pairs_of(text):
+    path = old = ""
+    for line in text.split("\n"):
+        word, _, rest = line.partition(" ")
+        if word == "file:":
+            path = rest.strip()
+        elif word == "old:":
+            old = rest
+        elif word == "new:":
+            yield path, old, rest
+
+
+def run(words, folder, target):
+    """Whether a command of cargo succeeds, in time."""
+    env = {**os.environ, **PROFILE, "CARGO_TARGET_DIR": target}
+    child = subprocess.Popen(words, cwd=folder, env=env, stdin=subprocess.DEVNULL, stdout=subprocess.DEVNULL, stderr=subprocess.DEVNULL, start_new_session=True)
+    try:
+        return child.wait(MOST_SECONDS) == 0
+    except subprocess.TimeoutExpired:
+        os.killpg(child.pid, signal.SIGKILL)
+        child.wait()
+        return False
+
+
+class Lane:
+    """A copy of the Rust crate, in which one edit at a time is planted."""
+
+    def __init__(self, top, folder):
+        self.top, self.folder, self.crates = top, folder, layout.Crates(top)
+        self.rust, self.target = f"{folder}/rust", f"{folder}/target"
+        self.program = f"{self.target}/release/ttd"
+        shutil.rmtree(self.rust, ignore_errors=True)
+        shutil.copytree(f"{top}/rust", self.rust, ignore=shutil.ignore_patterns("target", "built", "tokio*"))
+        rattle.make(top, self.rust, f"{folder}/rattle")
+        if not (self.build() and self.rattle_tests() and self.crate_tests()):
+            raise RuntimeError(f"the sources don't pass as they are: {folder}")
+        self.unplanted = self.digest()
+
+    def plant(self, edit):
+        """Plants an edit, and returns `built`, or `unused` where the program is the same as without, `refused` where rustc refuses it,
+        or `contracts` where it changes no code."""
+        texts = {}
+        for path, old, new in edit.pairs:
+            texts.setdefault(path, self.source(edit.crate, path))
+            if texts[path].count(old) != 1:
+                return "misfit"
+            texts[path] = texts[path].replace(old, new)
+        if not any([self.write(edit.crate, path, text) for path, text in texts.items()]):
+            return "contracts"
+        if not self.build():
+            return "refused"
+        return "unused" if self.digest() == self.unplanted else "built"
+
+    def restore(self, edit):
+        for path, _, _ in edit.pairs:
+            self.write(edit.crate, path, self.source(edit.crate, path))
+
+    def source(self, crate, path):
+        with open(f"{self.top}/crates/{crate}/{path}", encoding="utf-8") as file:
+            return file.read()
+
+    def write(self, crate, path, text):
+        """Writes the Rust of a source, and returns whether it changed."""
+        made, _ = rust.rust(crate, f"crates/{crate}/{path}", text, self.crates)
+        place = f"{self.rust}/src/source/{layout.place_of(f'{crate}/{path}')}"
+        with open(place, encoding="utf-8") as file:
+            if file.read() == made:
+                return False
+        with open(place, "w", encoding="utf-8") as file:
+            file.write(made)
+        return True
+
+    def digest(self):
+        with open(self.program, "rb") as file:
+            return hashlib.file_digest(file, "blake2b").digest()
+
+    def build(self):
+        return run(["cargo", "build", "--release", "--locked", "-j2", "--bin", "ttd"], self.rust, self.target)
+
+    def rattle_tests(self):
+        return run(["cargo", "test", "-j2", "--lib", "--", "--test-threads=2"], f"{self.folder}/rattle", f"{self.folder}/target-rattle")
+
+    def crate_tests(self):
+        return run(["cargo", "test", "--release", "--locked", "-j2", *CRATE, "--", "--test-threads=2"], self.rust, self.target)

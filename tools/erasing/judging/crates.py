@@ -1,0 +1,68 @@
+"""The lists of sources.txt, and which source belongs to which Rust file."""
+import os
+import typing
+
+
+class Pair(typing.NamedTuple):
+    """A Rust file, the source that it is made of, and their crate."""
+
+    crate: str
+    rust: str
+    source: str
+
+    def name(self):
+        """The source's path below crates/."""
+        return self.source.rpartition("/crates/")[2]
+
+
+def read(path):
+    with open(path, encoding="utf-8", newline="") as file:
+        return file.read()
+
+
+def files_below(folder, ending):
+    """The files of a folder with this ending, as paths from it without the ending."""
+    return {os.path.relpath(f"{at}/{name}", folder).removesuffix(ending)
+            for at, _, names in os.walk(folder) for name in names if name.endswith(ending)}
+
+
+class Crates:
+    """Which crates are Rust source too. `both` are in the library and in the program, and `ports` are modules of the shim.
+
+    `inlined` are the functions of inlined.txt, by the source's path below crates/.
+    """
+
+    def __init__(self, top):
+        self.top = top
+        lines = [line.split() for line in read(f"{top}/tools/erasing/sources.txt").split("\n")]
+        lists = {words[0]: words[1:] for words in lines if words and words[0] in ("both:", "library:", "program:", "ports:")}
+        self.both, self.library, self.program, self.ports = (lists[f"{name}:"] for name in ("both", "library", "program", "ports"))
+        hints = [line.partition(":") for line in read(f"{top}/tools/erasing/inlined.txt").split("\n") if line and not line.startswith("#")]
+        self.inlined = {path: names.split() for path, _, names in hints}
+
+    def all(self):
+        return self.both + self.library + self.program
+
+    def strangers(self):
+        """What isn't allowed to be there: a crate that the repository doesn't prove, and a file of Rust source of no crate."""
+        proved = {line.partition(":")[0].split()[0] for line in read(f"{self.top}/crates.txt").split("\n") if line and not line.startswith("#")}
+        for crate in self.all():
+            if crate not in proved:
+                yield f"crates.txt: {crate} isn't in it, so nothing proves it"
+        for name in sorted(files_below(f"{self.top}/rust/src/source", "")):
+            if name != "program.rs" and (name.partition("/")[0] not in self.all() or not name.endswith(".rs")):
+                yield f"rust/src/source/{name}: it is of no crate"
+
+    def below(self, crate):
+        """The crates that a crate may name: itself, and those before it of the library or of the program."""
+        order = self.both + (self.library if crate in self.library else self.program)
+        return order[: order.index(crate) + 1]
+
+    def pairs(self):
+        """Each pair of which one file is there at least."""
+        found = []
+        for crate in self.all():
+            rust, source = f"{self.top}/rust/src/source/{crate}", f"{self.top}/crates/{crate}/src"
+            names = {("lib" if name == "mod" else name) for name in files_below(rust, ".rs")} | files_below(source, ".rt")
+            found += [Pair(crate, f"{rust}/{'mod' if name == 'lib' else name}.rs", f"{source}/{name}.rt") for name in sorted(names)]
+        return found
