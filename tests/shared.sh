@@ -6,6 +6,8 @@ out=${YOVANELUM_OUT:-$top/out}
 mkdir -p "$out" && out=$(cd "$out" && pwd) && work=$(mktemp -d "$out/work.XXXXXX") || { echo "the tests can't write into $out"; exit 70; }
 trap 'rm -rf "$work"' EXIT
 export YOVANELUM_OUT=$out TMPDIR=$work PYTHONDONTWRITEBYTECODE=1
+# What cargo keeps to build an edited crate again takes half of a target folder.
+export CARGO_INCREMENTAL=0
 # The program that is tested.
 export YOVANELUM_TTD=${YOVANELUM_TTD:-$top/rust/built/x86_64-linux/ttd}
 passed=0

@@ -58,13 +58,24 @@ add_sources() {
   unpack_sources "${crates[@]/#/vendor/}" && empty_windows_sys
 }
 
+# Puts its file in the place of each link, since `rt ci` refuses a checkout with links. A link to no file of this folder is removed.
+replace_links() {
+  local link file root
+  root=$(readlink -f "$rust_root")
+  while IFS= read -r -d '' link; do
+    file=$(readlink -f "$link")
+    rm "$link" || return
+    [[ $file != "$root"/* || ! -f $file ]] || ln "$file" "$link" || return
+  done < <(find "$root" -type l -print0)
+}
+
 # Makes the folder. What is printed is for the case that it can't be made.
 make_rust_root() {
   local package
   rm -rf "$rust_root" "$packages"
   download_packages || return
   for package in "$packages"/archives/*.deb; do dpkg-deb -x "$package" "$rust_root.unpacked" || return; done
-  mv "$rust_root.unpacked/usr" "$rust_root" && rm -rf "$rust_root.unpacked" && add_sources && rm -rf "$packages" && touch "$rust_root/made"
+  mv "$rust_root.unpacked/usr" "$rust_root" && rm -rf "$rust_root.unpacked" && add_sources && replace_links && rm -rf "$packages" && touch "$rust_root/made"
 }
 
 # Makes sure that the folder is there, or ends the script. `cargo_1_85` is to be used from then on. It is offline, and finds the crates of std.
