@@ -1,5 +1,6 @@
 // Whether a file of names is one of the opened run.
 
+import { checksum } from "./checksum.js";
 import { countOf, grouped } from "./numbers.js";
 
 // The calls by which a value gets into a channel, with the value as the first of their arguments.
@@ -39,7 +40,7 @@ export function misfit(names, run) {
       return `none of the ${countOf(count, "value")} that it names on channel ${channel} is sent there in this run`;
     }
   }
-  return misfitOfCalls(names.tables.calls, run);
+  return misfitOfCalls(names.tables.calls, run) ?? misfitOfText(names.journal, run);
 }
 
 // The places of calls are by the order of a channel's entries, so there are as many: of a run that was cut off, perhaps more.
@@ -51,4 +52,10 @@ function misfitOfCalls(calls, run) {
     return `it has ${countOf(list.length, "call")} of channel ${channel}, and this run has ${grouped(counts[channel])}`;
   }
   return null;
+}
+
+// The names may have the checksum of their journal. Of a script, and of a journal that was cut off, the page doesn't have that text.
+function misfitOfText(sum, run) {
+  if (sum === null || !run.isWholeJournal || sum === checksum(run.journal)) return null;
+  return "it was written beside another journal";
 }

@@ -45,6 +45,7 @@ const KEYS = {
   tasks: [value => isTable(value, isNumber), "its tasks are no numbers of locations by actor"],
   waiting: [value => isList(value, isWait), "its waiting calls have no actor, channel, handle, call and stamp"],
   waited: [value => isTable(value, list => isList(list, isNumber)), "its key \"waited\" has no lists of entries by channel"],
+  journal: [isText, "its checksum of the journal is no text"],
   account: [isAccount, "its account has no facts with their lines and places"],
 };
 
@@ -76,13 +77,15 @@ function named(table, number, otherwise) {
 
 export class Names {
   constructor(tables = {}) {
-    const { core = "", actors = {}, channels = {}, values = {}, handles = {}, locations = [], made = {}, calls = {}, tasks = {}, waiting = [] } = tables;
+    const { core = "", actors = {}, channels = {}, values = {}, handles = {}, locations = [], made = {}, calls = {}, tasks = {}, waiting = [], journal = null } = tables;
     this.tables = { actors, channels, values, handles, locations, made, calls, tasks };
     this.core = visible(core);
     /** @type {Account | null} what was found in the run, in words */
     this.account = known(tables.account);
     // By channel, which of its entries are of calls that wait.
     this.waited = new Map(Object.entries(tables.waited ?? {}).map(([channel, entries]) => [Number(channel), new Set(entries)]));
+    /** @type {string | null} the checksum of the journal that these are the names of */
+    this.journal = journal;
     /** @type {{ actor: number, channel: number, handle: number, call: string, since: number, location?: number }[]} */
     this.waiting = waiting;
     // The names that the run's own script gives to handles.

@@ -159,6 +159,7 @@ export class Opener {
   show(opened, source) {
     const run = new Run(this.client, opened, new Names());
     run.isCut = source.kept !== undefined;
+    run.isWholeJournal = isJournal(source.bytes) && !run.isCut;
     tellCut(source, run);
     if (!isJournal(source.bytes)) run.bindings = bindingsOf(source.bytes, run);
     if (opened.waitingLine) run.waiting = waitingCall(source.bytes, opened.waitingLine, run);

@@ -44,6 +44,8 @@ export class Run {
     this.waiting = null;
     this.waits = [];
     this.isCut = false;
+    // Whether `journal` is the text that was opened, and not that of a script's run or of what is left of one.
+    this.isWholeJournal = false;
     // Whether only the first calls are read so far, so that nothing can be counted.
     this.isBeginning = opened.isBeginning ?? false;
     this.orders = null;

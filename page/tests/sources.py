@@ -82,4 +82,32 @@ def wrong_sources(tab, folder, journals):
         check_place(tab, opening.asker(native.record(SCRIPT)), 1)
 
 
-TESTS = [source_lines, waiting_calls, calls_that_waited, wrong_sources]
+def fnv1a(data):
+    """The published 64-bit FNV-1a hash."""
+    sum = 0xCBF29CE484222325
+    for byte in data:
+        sum = (sum ^ byte) * 0x100000001B3 % 2**64
+    return f"{sum:016x}"
+
+
+def names_of_another_journal(tab, folder, journals):
+    """Names with the checksum of another journal aren't used, though all in them fits. A script and a journal that was cut off have no such text."""
+    journal = native.record(SCRIPT)
+    stamps_later = journal.replace(b"\n3 ", b"\n4 ")
+    assert fnv1a(b"foobar") == "85944171f73967e8" and stamps_later != journal
+    names = {**NAMES, "journal": fnv1a(journal)}
+    refused = "isn't of this run: it was written beside another journal."
+    opening.put(folder, "own.names", json.dumps(names).encode())
+    for opened, is_refused in {"own.journal": False, "other.journal": True}.items():
+        opening.put(folder, "other.names", json.dumps(names).encode())
+        opening.load(tab, opening.page_of(folder, opened, stamps_later if is_refused else journal), 1)
+        assert (refused in tab.text("notice")) == is_refused, (opened, tab.text("notice"))
+        assert (" at src/worker.rs:30" in tab.text("sentence")) != is_refused, (opened, tab.text("sentence"))
+    # The last line of a journal that was cut off isn't there, and a script has another text.
+    for opened, text in {"cut.journal": journal[:-4], "cut.script": SCRIPT}.items():
+        opening.put(folder, "cut.names", json.dumps({**names, "journal": fnv1a(b"foobar")}).encode())
+        opening.load(tab, opening.page_of(folder, opened, text), 1)
+        assert " at src/worker.rs:30" in tab.text("sentence"), (opened, tab.text("sentence"))
+
+
+TESTS = [names_of_another_journal, source_lines, waiting_calls, calls_that_waited, wrong_sources]
