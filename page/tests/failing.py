@@ -260,10 +260,15 @@ def beside(page, end):
     return os.path.splitext(page)[0] + end
 
 
-def why(page, *words):
-    """What `yovanelum why` says of the journal beside a page."""
+def command(*words):
+    """What the command `yovanelum` prints."""
     program = os.path.join(PACKAGE, "target", "debug", "why")
-    return subprocess.run([program, "why", beside(page, ".journal"), *words], env=environment(), stdout=subprocess.PIPE, check=True).stdout.decode()
+    return subprocess.run([program, *words], env={**environment(), "PAGE": native.PAGE}, stdout=subprocess.PIPE, check=True).stdout.decode()
+
+
+def why(page, *words):
+    """What it says of the journal beside a page."""
+    return command("why", beside(page, ".journal"), *words)
 
 
 def line_of(comment):
@@ -466,4 +471,22 @@ def keys_of_a_later_writer(tab, folder, journals):
     check_page(tab, name)
 
 
-TESTS = [*map(page_of_test, WANTED), keys_of_a_later_writer]
+def account_of_an_opened_journal(tab, folder, journals):
+    """`yovanelum open` puts the account into the page of a journal whose names have none, and of one without names. Other keys stay in the page."""
+    page, place = addresses()["no_price_is_missing"]
+    with open(beside(page, ".names"), encoding="utf-8") as file:
+        names = json.load(file)
+    del names["account"]
+    opening.put(folder, "old.names", json.dumps({**names, "later": [7]}).encode())
+    for name in ("old", "bare"):
+        with open(beside(page, ".journal"), "rb") as file:
+            journal = opening.put(folder, f"{name}.journal", file.read())
+        opened = command("open", journal).strip()
+        account = json.loads(command("why", journal, "--json"))
+        opening.load(tab, opened, place)
+        check_answer(tab, account)
+        embedded = tab.run("atob(document.getElementById('run').textContent.split('\\n')[2])")
+        assert ('"later": [7]' in embedded) == (name == "old"), embedded
+
+
+TESTS = [*map(page_of_test, WANTED), keys_of_a_later_writer, account_of_an_opened_journal]

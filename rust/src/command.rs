@@ -137,6 +137,12 @@ struct Journal {
     names: io::Result<String>,
 }
 
+/// What is found in a journal, and the text of the names that were read, which are left out if they can't be.
+struct Found {
+    report: Report,
+    names: String,
+}
+
 impl Journal {
     fn read(path: &Path) -> Result<Journal, Fault> {
         let text = read_whole(path)
@@ -149,19 +155,24 @@ impl Journal {
         })
     }
 
-    /// Returns the report. Names that can't be read are left out, and a line says so.
-    fn report(&self, told: &mut impl Write) -> Result<Report, Fault> {
+    /// Finds what is in the run. Names that can't be read are left out, and a line says so.
+    fn find(&self, told: &mut impl Write) -> Result<Found, Fault> {
+        let without = || (Names::default(), Names::default().to_json());
         let read = match &self.names {
-            Ok(text) => Names::read(text),
-            Err(error) if error.kind() == io::ErrorKind::NotFound => Ok(Names::default()),
+            Ok(text) => Names::read(text).map(|names| (names, text.clone())),
+            Err(error) if error.kind() == io::ErrorKind::NotFound => Ok(without()),
             Err(error) => Err(error.to_string()),
         };
-        let names = read.unwrap_or_else(|fault| {
+        let (names, text) = read.unwrap_or_else(|fault| {
             let path = self.path.with_extension("names");
             let _ = writeln!(told, "yovanelum: {} is left out: {fault}", path.display());
-            Names::default()
+            without()
         });
-        Report::new(&self.text, &names).map_err(Fault::Refused)
+        let report = Report::new(&self.text, &names).map_err(Fault::Refused)?;
+        Ok(Found {
+            report,
+            names: text,
+        })
     }
 
     /// Returns the path of the page.
@@ -194,7 +205,7 @@ fn why(
     out: &mut (impl Write + IsTerminal),
     told: &mut impl Write,
 ) -> Result<(), Fault> {
-    let report = journal.report(told)?;
+    let Found { report, .. } = journal.find(told)?;
     match form {
         Form::Lines => {}
         Form::Json => return write_to(out, &format!("{}\n", report.account().to_json())),
@@ -212,19 +223,26 @@ fn why(
     write_to(out, &report.text(Some(look), has_colours))
 }
 
-/// Writes the page with the run inside, and prints its name.
+/// Writes the page with the run and its account inside, and prints its name.
 fn open(
     journal: &Journal,
     page: &[u8],
     out: &mut impl Write,
     told: &mut impl Write,
 ) -> Result<(), Fault> {
-    let report = journal.report(told)?;
+    let Found { report, names } = journal.find(told)?;
     let name = journal.path.file_name().unwrap_or_default();
-    let names = journal.names.as_deref().ok().map(str::as_bytes);
     let path = journal.page();
-    let written = page::with_run(page, &name.to_string_lossy(), &journal.text, names)
-        .ok_or_else(|| "the page has no place for a run".to_string())
+    let written = Names::with_account(&names, &report.account().to_json())
+        .and_then(|names| {
+            page::with_run(
+                page,
+                &name.to_string_lossy(),
+                &journal.text,
+                names.as_bytes(),
+            )
+            .ok_or_else(|| "the page has no place for a run".to_string())
+        })
         .and_then(|page| fs::write(&path, page).map_err(|error| error.to_string()));
     written.map_err(|fault| Fault::Write(format!("{}: {fault}", path.display())))?;
     write_to(out, &format!("{}\n", path.display()))?;

@@ -302,10 +302,16 @@ fn the_names_of_another_journal_are_left_out() {
     assert!(!out.contains("`orders`"), "{out}");
     let (status, _, told) = run(&folder.0, &["open", "orders.journal"]);
     assert!(status == 0 && told.starts_with(line), "{told}");
-    // The run in the page is its name, and the journal in an element of its own.
+    // The page is as without them.
     let page = fs::read_to_string(path.with_extension("html")).unwrap();
-    let (_, run) = page.split_once("id=\"run\">\n").unwrap();
-    assert_eq!(run.lines().position(|line| line == "</script>"), Some(1));
+    fs::remove_file(path.with_extension("names")).unwrap();
+    run(&folder.0, &["open", "orders.journal"]);
+    let without = fs::read_to_string(path.with_extension("html")).unwrap();
+    assert!(page == without);
+    fs::write(path.with_extension("names"), NAMES).unwrap();
+    run(&folder.0, &["open", "orders.journal"]);
+    let with = fs::read_to_string(path.with_extension("html")).unwrap();
+    assert!(page != with);
     assert!(page.contains(&format!("id=\"journal\">\n{JOURNAL}</script>\n")));
 }
 

@@ -6,9 +6,11 @@ mod support;
 
 use std::collections::BTreeMap;
 use std::fs;
+use std::io::{BufRead, BufReader, Read, Write};
 use std::path::{Path, PathBuf};
-use std::process::{Child, Command, Stdio};
+use std::process::{Child, ChildStderr, Command, Stdio};
 use std::sync::{Mutex, MutexGuard, OnceLock, PoisonError};
+use std::time::{Duration, SystemTime};
 use support::named::{checksum, member};
 use support::workspace::{Workspace, printed};
 
@@ -29,7 +31,12 @@ const RACE: &str = r#"
 pub fn race(name: &str) {
     let recorder = yovanelum::Recorder::for_test(name);
     let (bids, mut auction) = yovanelum::broadcast::channel(4);
-    recorder.name(&bids, "bids").show(&bids, |bid: &&str| bid.to_string());
+    let house = std::env::var("HOUSE");
+    recorder.name(&bids, house.as_deref().unwrap_or("bids")).show(&bids, |bid: &&str| bid.to_string());
+    if house.is_ok() {
+        eprintln!("open");
+        std::io::stdin().read_line(&mut String::new()).unwrap();
+    }
     let ann_waits = std::env::var("LATE").is_ok_and(|late| late == "Ann");
     let (bob_has_bid, wait_for_bob) = std::sync::mpsc::channel();
     let ann = bids.clone();
@@ -322,31 +329,48 @@ fn a_program_that_no_cargo_runs_is_replayed_as_it_was_started() {
     assert_brings_back(&line, "race");
 }
 
-/// Starts a failing test by its program. Each end of a process is followed by the next one's start.
-fn start(program: &Path) -> Child {
-    Command::new(program)
-        .args(["--exact", "ann_is_first"])
-        .env("LATE", "Ann")
-        .stdout(Stdio::null())
-        .stderr(Stdio::null())
-        .spawn()
-        .unwrap()
+/// Returns the command that runs a failing test by its program.
+fn command_of(program: &Path) -> Command {
+    let line = format!(
+        "exec '{}' --exact ann_is_first --nocapture",
+        program.display()
+    );
+    let mut command = workspace().shell(&line);
+    command.env("LATE", "Ann").stdout(Stdio::null());
+    command
+}
+
+/// The journals of the test `race` in this folder.
+fn journals_in(folder: &Path) -> Vec<PathBuf> {
+    let files = fs::read_dir(folder).unwrap().map(|it| it.unwrap().path());
+    let journals: Vec<_> = files
+        .filter(|path| {
+            let name = path.file_name().unwrap().to_str().unwrap();
+            name.starts_with("race") && name.ends_with(".journal")
+        })
+        .collect();
+    assert!(!journals.is_empty());
+    journals
 }
 
 #[test]
 fn the_files_of_processes_side_by_side_are_whole() {
     let _turn = in_turn();
+    let _ = fs::remove_dir_all(files());
     let shop = program("my-shop", "my-bus");
     let depot = program("depot", "my-bus");
     let journals = [("my-shop", &shop), ("depot", &depot)]
         .map(|(package, _)| files().join(package).join("test-my-bus/race.journal"));
     for _ in 0..ROUNDS {
         // Two of one test, and one of another package's of that name.
-        let children = [&shop, &shop, &depot].map(|program| start(program));
+        let children = [&shop, &shop, &depot]
+            .map(|program| command_of(program).stderr(Stdio::null()).spawn().unwrap());
         for mut child in children {
             assert_eq!(child.wait().unwrap().code(), Some(101));
         }
-        assert_whole(&journals[0], "my-shop", "my-bus");
+        for journal in journals_in(journals[0].parent().unwrap()) {
+            assert_whole(&journal, "my-shop", "my-bus");
+        }
         assert_whole(&journals[1], "depot", "my-bus");
     }
     let mut left: Vec<_> = fs::read_dir(journals[1].parent().unwrap())
@@ -362,6 +386,63 @@ fn the_files_of_processes_side_by_side_are_whole() {
             .starts_with("race.")
     });
     assert!(left.is_empty(), "{left:?}");
+}
+
+/// Starts a failing test that waits for a line of input, and returns it once its recorder is there.
+fn start_and_wait(program: &Path, house: &str) -> (Child, BufReader<ChildStderr>) {
+    let mut command = command_of(program);
+    let command = command.env("HOUSE", house).stdin(Stdio::piped());
+    let mut child = command.stderr(Stdio::piped()).spawn().unwrap();
+    let mut said = BufReader::new(child.stderr.take().unwrap());
+    let mut line = String::new();
+    said.read_line(&mut line).unwrap();
+    assert_eq!(line, "open\n");
+    (child, said)
+}
+
+/// Lets a failing test go on, and returns the journal that its line names.
+fn journal_of((mut child, mut said): (Child, BufReader<ChildStderr>)) -> PathBuf {
+    child.stdin.take().unwrap().write_all(b"\n").unwrap();
+    let mut text = String::new();
+    said.read_to_string(&mut text).unwrap();
+    assert_eq!(child.wait().unwrap().code(), Some(101), "{text}");
+    let lines = replay_lines(&text);
+    let rest = lines[0].strip_prefix("YOVANELUM_REPLAY=").unwrap();
+    PathBuf::from(rest.strip_prefix('\'').unwrap().split_once('\'').unwrap().0)
+}
+
+fn channel_of(journal: &Path) -> String {
+    let names = fs::read_to_string(journal.with_extension("names")).unwrap();
+    member(&names, "channels").to_string()
+}
+
+#[test]
+fn processes_that_run_one_test_at_the_same_time_keep_their_files() {
+    let _turn = in_turn();
+    let _ = fs::remove_dir_all(files());
+    let shop = program("my-shop", "my-bus");
+    let file = |name: &str| files().join("my-shop/test-my-bus").join(name);
+    let waiting = ["first", "second", "third"].map(|house| start_and_wait(&shop, house));
+    let journals = waiting.map(journal_of);
+    let wanted = ["race.journal", "race~2.journal", "race~3.journal"].map(file);
+    assert_eq!(journals, wanted);
+    for (journal, house) in journals.iter().zip(["first", "second", "third"]) {
+        assert_whole(journal, "my-shop", "my-bus");
+        assert_eq!(channel_of(journal), format!("{{\"0\": \"{house}\"}}"));
+        let line = format!("YOVANELUM_REPLAY='{}' ", journal.display());
+        assert_brings_back(
+            &format!("{line}cargo test -p my-shop --test my-bus -- ann_is_first --exact"),
+            journal.file_stem().unwrap().to_str().unwrap(),
+        );
+    }
+    // A later process replaces what is older than itself.
+    let an_hour_ago = SystemTime::now() - Duration::from_secs(3600);
+    for journal in &journals {
+        let file = fs::File::options().write(true).open(journal).unwrap();
+        file.set_modified(an_hour_ago).unwrap();
+    }
+    assert_eq!(journal_of(start_and_wait(&shop, "later")), wanted[0]);
+    assert_eq!(channel_of(&wanted[0]), "{\"0\": \"later\"}");
 }
 
 /// The files of a test, by their names.

@@ -56,6 +56,22 @@ impl Names {
     }
 }
 
+impl Names {
+    /// Returns the text of a file of names with this account of its run. What else it has stays, also what isn't known here.
+    ///
+    /// # Errors
+    ///
+    /// Returns what is wrong with the text.
+    pub(crate) fn with_account(text: &str, account: &str) -> Result<String, String> {
+        let mut members = object(json::read(text)?)?;
+        members.retain(|(key, _)| key != "account");
+        members.push(("account".to_string(), json::read(account)?));
+        let mut out = String::new();
+        Json::Object(members).push(&mut out);
+        Ok(out + "\n")
+    }
+}
+
 fn of_key(key: &str, fault: String) -> String {
     format!("its `{key}`: {fault}")
 }

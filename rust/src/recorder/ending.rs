@@ -69,7 +69,7 @@ impl TestRun {
         };
         names.account = Some(report.account().to_json());
         let (look, more) = match write(&path, &journal, &names, report.place()) {
-            Ok(look) => (Some(look), replay_line::of(&path, self)),
+            Ok((path, look)) => (Some(look), replay_line::of(&path, self)),
             Err(error) => (None, not_written(&path, &error)),
         };
         let has_colours = report::has_colours(&io::stderr());
@@ -96,11 +96,17 @@ fn not_written(path: &Path, error: &io::Error) -> String {
     format!("yovanelum: {} isn't written: {error}\n", path.display())
 }
 
-/// Writes the journal, and beside it the names and the page with both inside. Returns where to look. If one can't be written, all are as before.
-pub(super) fn write(path: &Path, journal: &str, names: &Names, place: u64) -> io::Result<String> {
+/// Writes the journal, and beside it the names and the page with both inside. Returns the journal's path, which is another one beside this one where a
+/// process that runs the same test has written this one, and where to look. If one can't be written, all are as before.
+pub(super) fn write(
+    path: &Path,
+    journal: &str,
+    names: &Names,
+    place: u64,
+) -> io::Result<(PathBuf, String)> {
     let names = names.to_json();
     let page = page_of(path, journal, &names);
-    files::replace(
+    let path = files::replace(
         path,
         &[
             ("journal", Some(journal.as_bytes())),
@@ -108,16 +114,17 @@ pub(super) fn write(path: &Path, journal: &str, names: &Names, place: u64) -> io
             ("html", page.as_deref().ok()),
         ],
     )?;
-    Ok(match page {
+    let look = match page {
         Ok(_) => page::address(&path.with_extension("html"), place),
         Err(fault) => format!("{}, at place {place} (no page: {fault})", path.display()),
-    })
+    };
+    Ok((path, look))
 }
 
 /// Returns the page with the run inside.
 fn page_of(path: &Path, journal: &str, names: &str) -> Result<Vec<u8>, String> {
     let name = path.file_name().unwrap_or_default().to_string_lossy();
     let page = fs::read(PAGE).map_err(|error| format!("{PAGE}: {error}"))?;
-    page::with_run(&page, &name, journal.as_bytes(), Some(names.as_bytes()))
+    page::with_run(&page, &name, journal.as_bytes(), names.as_bytes())
         .ok_or_else(|| format!("{PAGE} has no place for a run"))
 }

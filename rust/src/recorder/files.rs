@@ -2,8 +2,10 @@
 
 mod lock_file;
 mod name;
+mod own;
 
 pub(super) use name::file_name;
+pub(super) use own::begin;
 
 use crate::explore;
 use crate::program::Program;
@@ -27,14 +29,15 @@ pub(super) fn folder() -> PathBuf {
         .join(file_name(&program.target.folder_name()))
 }
 
-/// Replaces the files beside this one. All are written before the first one is replaced, so if one can't be written, all are as before.
+/// Replaces the files of a test, of which this is the journal, and returns the journal that was written. It is another one, beside this one, where a
+/// process that runs the same test at the same time has written this one.
 ///
-/// Of two processes that replace them at the same time, the files of one stay.
+/// All are written before the first one is replaced, so if one can't be written, all are as before.
 ///
 /// # Errors
 ///
 /// Returns an error if a file or the folder can't be written.
-pub(super) fn replace(path: &Path, files: &Files<'_>) -> io::Result<()> {
+pub(super) fn replace(path: &Path, files: &Files<'_>) -> io::Result<PathBuf> {
     path.parent().map_or(Ok(()), fs::create_dir_all)?;
     let written: io::Result<Vec<_>> = files
         .iter()
@@ -42,24 +45,28 @@ pub(super) fn replace(path: &Path, files: &Files<'_>) -> io::Result<()> {
         .collect();
     let written = written?;
     let _locked = LockFile::acquire(path);
-    written.into_iter().try_for_each(Written::put)
+    let own = own::in_place_of(path);
+    written.into_iter().try_for_each(|file| file.put(&own))?;
+    Ok(own)
 }
 
 /// A file that is written beside the one that it is to replace. If it doesn't, it is removed.
-struct Written {
+struct Written<'a> {
     beside: Option<PathBuf>,
-    path: PathBuf,
+    extension: &'a str,
 }
 
-impl Written {
-    fn new(path: &Path, extension: &str, bytes: Option<&[u8]>) -> io::Result<Written> {
-        let path = path.with_extension(extension);
+impl<'a> Written<'a> {
+    fn new(path: &Path, extension: &'a str, bytes: Option<&[u8]>) -> io::Result<Written<'a>> {
         let Some(bytes) = bytes else {
-            return Ok(Written { beside: None, path });
+            return Ok(Written {
+                beside: None,
+                extension,
+            });
         };
         let written = Written {
-            beside: Some(beside(&path)),
-            path,
+            beside: Some(beside(&path.with_extension(extension))),
+            extension,
         };
         // `written` is dropped on a failure, and removes what there is of the file.
         let failed = written
@@ -69,13 +76,14 @@ impl Written {
         failed.unwrap_or(Ok(())).map(|()| written)
     }
 
-    /// Replaces the file.
-    fn put(mut self) -> io::Result<()> {
+    /// Replaces the file beside this journal.
+    fn put(mut self, journal: &Path) -> io::Result<()> {
+        let path = journal.with_extension(self.extension);
         match self.beside.take() {
-            Some(beside) => fs::rename(&beside, &self.path).inspect_err(|_| {
+            Some(beside) => fs::rename(&beside, &path).inspect_err(|_| {
                 let _ = fs::remove_file(&beside);
             }),
-            None => match fs::remove_file(&self.path) {
+            None => match fs::remove_file(&path) {
                 Err(error) if error.kind() != io::ErrorKind::NotFound => Err(error),
                 _ => Ok(()),
             },
@@ -83,7 +91,7 @@ impl Written {
     }
 }
 
-impl Drop for Written {
+impl Drop for Written<'_> {
     fn drop(&mut self) {
         if let Some(beside) = &self.beside {
             let _ = fs::remove_file(beside);

@@ -201,7 +201,13 @@ fn is_journal_of(path: &Path, name: &str) -> bool {
     let mut rests = names
         .iter()
         .filter_map(|name| stem.strip_prefix(name.as_str()));
-    rests.any(|rest| rest.replace(REPLAYED, "").is_empty())
+    rests.any(|rest| is_end_of_file_name(&rest.replace(REPLAYED, "")))
+}
+
+/// Whether this is what follows the name of a test in a file's: nothing, or the number of one of several processes.
+fn is_end_of_file_name(rest: &str) -> bool {
+    let number = rest.strip_prefix('~').map(str::parse::<usize>);
+    rest.is_empty() || matches!(number, Some(Ok(_)))
 }
 
 /// Returns the path of a file. A relative one may be meant from the folder of the workspace, while a test runs in that of its package.
@@ -223,6 +229,9 @@ mod tests {
         assert!(is_of("a_test.journal"));
         assert!(is_of("a_test.replayed.journal"));
         assert!(is_of("a_test.replayed.replayed.journal"));
+        assert!(is_of("a%2Ftest~2.journal"));
+        assert!(is_of("a%2Ftest.replayed~12.journal"));
+        assert!(!is_of("a%2Ftest~.journal"));
         assert!(!is_of("a_test_too.journal"));
         assert!(!is_of("another.journal"));
     }

@@ -2,6 +2,7 @@
 
 use super::Shared;
 use super::current::is_entered;
+use super::files;
 use crate::actors;
 use crate::cut::start_of;
 use crate::lock::{lock, try_lock_for};
@@ -53,6 +54,7 @@ pub(crate) struct NotedPanic {
 impl TestRun {
     /// Begins to note what happens to the test of this name, whose recorder is made on this thread.
     pub(super) fn start(recorder: &Arc<Shared>, name: &str) -> Arc<TestRun> {
+        files::begin();
         let run = Arc::new(TestRun {
             recorder: Arc::downgrade(recorder),
             recorder_id: recorder.id,

@@ -87,10 +87,16 @@ impl TestRun {
             names.account = report.ok().map(|report| report.account().to_json());
             ending::write(&path, &journal, &names, place)
         });
-        let (name, shown) = (&self.name, path.display());
+        let name = &self.name;
         let mut lines = match &saved {
-            Ok(_) => format!("yovanelum: {name} {why}; its calls so far are in {shown}\n"),
-            Err(error) => format!("yovanelum: {name} {why}; {shown} isn't written: {error}\n"),
+            Ok((path, _)) => format!(
+                "yovanelum: {name} {why}; its calls so far are in {}\n",
+                path.display()
+            ),
+            Err(error) => format!(
+                "yovanelum: {name} {why}; {} isn't written: {error}\n",
+                path.display()
+            ),
         };
         let waiting = run.waiting();
         for call in waiting.iter().take(LISTED) {
@@ -103,7 +109,7 @@ impl TestRun {
             }
             _ => {}
         }
-        if let Ok(look) = saved {
+        if let Ok((path, look)) = saved {
             lines.push_str(&format!("look: {look}\n"));
             if is_replayed {
                 lines.push_str(&replay_line::of(&path, self));

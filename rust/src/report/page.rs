@@ -14,25 +14,21 @@ const JOURNAL_START: &[u8] = b"<script type=\"text/plain\" id=\"journal\">\n";
 
 const DIGITS: &[u8; 64] = b"ABCDEFGHIJKLMNOPQRSTUVWXYZabcdefghijklmnopqrstuvwxyz0123456789+/";
 
-/// Returns the page with a run inside: the name of the journal's file, its text, which was accepted, and that of its names, if there are any.
+/// Returns the page with a run inside: the name of the journal's file, its text, which was accepted, and that of its names.
 /// Returns `None` if the page has no element for a run.
 pub(crate) fn with_run(
     page: &[u8],
     file_name: &str,
     journal: &[u8],
-    names: Option<&[u8]>,
+    names: &[u8],
 ) -> Option<Vec<u8>> {
     let at = page.windows(SLOT.len()).position(|part| part == SLOT)?;
-    let parts = [Some(file_name.as_bytes()), names];
-    let length: usize = parts
-        .iter()
-        .flatten()
-        .map(|part| part.len() / 3 * 4 + 5)
-        .sum();
+    let parts = [file_name.as_bytes(), names];
+    let length: usize = parts.iter().map(|part| part.len() / 3 * 4 + 5).sum();
     let mut out = Vec::with_capacity(page.len() + length + journal.len() + 200);
     out.extend_from_slice(&page[..at]);
     out.extend_from_slice(SLOT_START);
-    for part in parts.into_iter().flatten() {
+    for part in parts {
         push_base64(&mut out, part);
         out.push(b'\n');
     }
@@ -104,13 +100,9 @@ mod tests {
         let page = b"<html>\n<script type=\"text/plain\" id=\"run\"></script>\n</html>\n";
         let wanted = "<html>\n<script type=\"text/plain\" id=\"run\">\nYS5qb3VybmFs\nZm9vYmE=\n</script>\n\
             <script type=\"text/plain\" id=\"journal\">\nfoob\n</script>\n</html>\n";
-        let out = with_run(page, "a.journal", b"foob\n", Some(b"fooba")).unwrap();
+        let out = with_run(page, "a.journal", b"foob\n", b"fooba").unwrap();
         assert_eq!(String::from_utf8(out).unwrap(), wanted);
-        let out = with_run(page, "a.journal", b"", None).unwrap();
-        let wanted = "<html>\n<script type=\"text/plain\" id=\"run\">\nYS5qb3VybmFs\n</script>\n\
-            <script type=\"text/plain\" id=\"journal\">\n</script>\n</html>\n";
-        assert_eq!(String::from_utf8(out).unwrap(), wanted);
-        assert_eq!(with_run(b"<html></html>\n", "a", b"", None), None);
+        assert_eq!(with_run(b"<html></html>\n", "a", b"", b""), None);
     }
 
     #[test]
