@@ -57,7 +57,7 @@ fn numbered(path: &Path, number: usize) -> PathBuf {
 fn is_written_since(path: &Path, began: Option<SystemTime>) -> bool {
     let written = fs::metadata(path).and_then(|file| file.modified());
     match (written, began) {
-        (Ok(written), Some(began)) => written + TICK >= began,
+        (Ok(written), Some(began)) => written >= began.checked_sub(TICK).unwrap_or(began),
         _ => false,
     }
 }
