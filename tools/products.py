@@ -1,4 +1,4 @@
-"""What is built: the Rust source, the program and the page, each as the bytes of its files under rust/."""
+"""What is built: the Rust source, the index of contracts, the program and the page, each as the bytes of its files."""
 import hashlib
 import os
 import sys
@@ -12,12 +12,13 @@ sys.path += [os.path.join(os.path.dirname(HERE), "page", "tools"), os.path.join(
 import document
 import eraser.layout
 import eraser.source
+import index.pages
 import module
 
-# Folders in which nothing stands that isn't built, and the list of the library's modules.
-BUILT, SOURCE, LIST = "built", "src/source", "src/source.rs"
-PAGE = "built/yovanelum.html"
-PROGRAM = "built/x86_64-linux/ttd"
+# Folders in which nothing stands that isn't built.
+BUILT, SOURCE, INDEX = "rust/built", "rust/src/source", "docs/proof/index"
+PAGE = f"{BUILT}/yovanelum.html"
+PROGRAM = f"{BUILT}/x86_64-linux/ttd"
 
 
 def read(path):
@@ -43,7 +44,12 @@ def sources(top, crate):
 def source(top, _):
     """The Rust source of the proved crates. It needs no kit."""
     files, _ = eraser.layout.made(top)
-    return {f"src/{path}": text.encode() for path, text in files.items()}
+    return {f"rust/src/{path}": text.encode() for path, text in files.items()}
+
+
+def contracts(top, _):
+    """The index of contracts. It needs no kit."""
+    return {f"{INDEX}/{name}": text.encode() for name, text in index.pages.made(top).items()}
 
 
 def program(top, work):
@@ -63,22 +69,22 @@ def page(top, work):
 
 def page_again(top):
     """The page with the current scripts and the module of the built page, for work on the page alone. It needs no kit."""
-    built = read(f"{top}/rust/{PAGE}").decode()
+    built = read(f"{top}/{PAGE}").decode()
     module_there = document.module_of(built)
     if module_there is None:
-        raise kit.Refused(f"rust/{PAGE} has no module: build it whole")
+        raise kit.Refused(f"{PAGE} has no module: build it whole")
     try:
         return {PAGE: document.page(f"{top}/page", module_there).encode()}
     except document.Refused as why:
         raise kit.Refused(str(why)) from why
 
 
-# What is built under each name: how, and of which crate, which has to be proved first.
-PRODUCTS = {"source": (source, None), "ttd": (program, "rw_ttd"), "page": (page, "rw_page")}
+# What is built under each name: how, of which crate, which has to be proved first, and the folder that it fills, if it fills one.
+PRODUCTS = {"source": (source, None, SOURCE), "index": (contracts, None, INDEX), "ttd": (program, "rw_ttd", None), "page": (page, "rw_page", None)}
 
 
 def build(name, top):
-    make, _ = PRODUCTS[name]
+    make = PRODUCTS[name][0]
     try:
         with tempfile.TemporaryDirectory() as work:
             return make(top, work)
