@@ -10,7 +10,7 @@ from .words import Words
 HEAD = """# Index of contracts
 
 Each public function of the proved crates with its contract, the definitions that the contract names, and the edits of the function.
-`./build index` makes these pages from the sources, and `./test docs` compares them.
+[PROVED.md](../PROVED.md) says what it adds up to. `./build index` makes these pages from the sources, and `./test docs` compares them.
 
 A contract stands between the signature and the body, and is shown as it is written: `requires` says what the caller has shown before the call,
 and `ensures` what holds after it. Each of these clauses has a line below, which says what it is about and where the definitions stand that it names.
