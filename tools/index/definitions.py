@@ -11,6 +11,8 @@ ALIAS = re.compile(r"ghost use ([\w.]+) as (\w+);")
 # What a comment begins with that is about all that follows.
 SECTION = "-- ----"
 NAME = re.compile(r"(\S+?)(?: as (\S+))?")
+# A name in a clause, with what is behind its dots.
+WORD = re.compile(r"(?<![\w.\-])[^\W\d][\w\-]*(?:\.\w+)*")
 # The first word of a clause, behind what says of which results it holds.
 HEAD = re.compile(r"(?:(?:IfOk|IfErr|IfSome|OnOk|OnErr) result \((?:λ \w+\. )?)?([\w\-]*)")
 
@@ -61,35 +63,30 @@ class Definitions:
         return "" if names else None
 
     def imported(self, file, shown_path, imports):
-        """What imports bring, as a dict from a name in clauses to its file and its own name there, and a dict from a prefix to its file."""
-        names, prefixes = {}, {}
-        for text, place in imports:
-            line = file.text.count("\n", 0, file.text.find(text)) + 1
+        """What imports bring: for each name in clauses its file and its own name there. Of a file that has a name itself, the name ends in a dot and
+        its own name is empty."""
+        names = {}
+        for text in imports:
+            where = f"{shown_path}:{file.text.count(chr(10), 0, file.text.find(text)) + 1}"
             found, alias = LIST.fullmatch(text), ALIAS.fullmatch(text)
             if not (found or alias):
-                raise items.Refused(f"{shown_path}:{line}: an import in an unknown form")
+                raise items.Refused(f"{where}: an import in an unknown form")
             path = self.file_of((found or alias)[1])
             if path == "":
-                raise items.Refused(f"{shown_path}:{line}: no file is meant by {(found or alias)[1]}")
-            if path and alias:
-                prefixes[alias[2]] = path
-            for part in parts_of(found[2]) if path and found else []:
-                name = NAME.fullmatch(part)
-                names[name[2] or name[1]] = path, name[1]
-        return names, prefixes
+                raise items.Refused(f"{where}: no file is meant by {(found or alias)[1]}")
+            pairs = [NAME.fullmatch(part) for part in parts_of(found[2])] if found else []
+            names.update({f"{alias[2]}.": (path, "")} if alias else {pair[2] or pair[1]: (path, pair[1]) for pair in pairs})
+        return {name: place for name, place in names.items() if place[0]}
 
-    def named(self, body, names, prefixes):
+    def named(self, body, names):
         """The definitions that a clause names, in their order there: those of specs/, and the constants of sources."""
         found = {}
-        for name, (path, own) in names.items():
-            place = re.search(rf"(?<![\w.\-]){re.escape(name)}(?![\w\-])", body)
-            if place and self.is_listed(path, own):
-                found[place.start()] = self.definition(path, own)
-        for prefix, path in prefixes.items():
-            for place in re.finditer(rf"(?<![\w.\-]){prefix}\.([\w\-]+)", body):
-                if self.is_listed(path, place[1]):
-                    found[place.start()] = self.definition(path, place[1])
-        return list(dict.fromkeys(found[place] for place in sorted(found)))
+        for word in WORD.finditer(body):
+            prefix, dot, last = word[0].partition(".")
+            path, own = names.get(prefix) or names.get(prefix + dot) or (None, "")
+            if path and self.is_listed(path, own or last):
+                found.setdefault((path, own or last), self.definition(path, own or last))
+        return list(found.values())
 
     def head(self, body, names):
         """The predicate that a clause says of its result or of what it changes, where it says no more than that."""

@@ -46,7 +46,10 @@ def by_function(top, crate):
     texts, found = {path: file.text for path, file in crate.files.items()}, {}
     for edit in edits_of(top, crate.name):
         try:
-            places = places_of(pairs_of(read_text(f"{top}/{edit}")), texts)
+            pairs = pairs_of(read_text(f"{top}/{edit}"))
+            if not pairs:
+                raise Misfit("it changes nothing")
+            places = places_of(pairs, texts)
         except Misfit as why:
             raise items.Refused(f"{edit}:1: {why}") from why
         for path, place in places:

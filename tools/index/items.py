@@ -134,7 +134,7 @@ class Reader:
     def ghost(self, i, block):
         end = self.source.next_of(i, ";")
         if self.source.has(i + 1, "use"):
-            block.imports.append((self.source.between(i, end), i))
+            block.imports.append(self.source.between(i, end))
         return end + 1
 
     def block(self, i):

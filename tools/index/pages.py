@@ -98,9 +98,8 @@ class Page:
         lines += ["```rust", one.written, "```", ""]
         if not one.clauses:
             lines += [f"- {self.without_contract(one)}"]
-        names, prefixes = self.imports(file, one)
-        for clause in one.clauses:
-            lines += [self.clause(clause, names, prefixes)]
+        names = self.imports(file, one)
+        lines += [self.clause(clause, names) for clause in one.clauses]
         edits = self.edits.get((file.path, one.start), [])
         return [*lines, f"- Edits: {', '.join(map(link_to_edit, edits)) or 'none'}.", ""]
 
@@ -115,14 +114,12 @@ class Page:
     def imports(self, file, one):
         """The definitions that a function's clauses can name: what its file and its `impl` import."""
         shown = f"crates/{self.crate.name}/{file.path}"
-        names, prefixes = self.definitions.imported(file, shown, file.imports)
-        more, others = self.definitions.imported(file, shown, one.block.imports)
-        return {**names, **more}, {**prefixes, **others}
+        return {**self.definitions.imported(file, shown, file.imports), **self.definitions.imported(file, shown, one.block.imports)}
 
-    def clause(self, clause, names, prefixes):
+    def clause(self, clause, names):
         """The line of a clause: what it is about, and the definitions that it names."""
         by_file = {}
-        for found in self.definitions.named(clause.body, names, prefixes):
+        for found in self.definitions.named(clause.body, names):
             self.named.add(found)
             by_file.setdefault(found.path, []).append(f"`{found.name}`")
         shown = [f"{', '.join(them)} of [{path.split('/', 2)[2]}](../../../crates/{path})" for path, them in by_file.items()]
@@ -143,7 +140,8 @@ class Page:
         for (path, start), edits in sorted(self.edits.items(), key=lambda it: (it[0][0], it[0][1] or -1)):
             if (path, start) not in public:
                 one = next((it for it in self.crate.files[path].functions if it.start == start), None)
-                rows.append(f"| {f'`{inner_name(one)}`' if one else '-'} | [{path}](../../../crates/{self.crate.name}/{path}) | {', '.join(map(link_to_edit, edits))} |")
+                name = f"`{inner_name(one)}`" if one else "-"
+                rows.append(f"| {name} | [{path}](../../../crates/{self.crate.name}/{path}) | {', '.join(map(link_to_edit, edits))} |")
         return ["## Edits of what is private", "", "| Function | File | Edits |", "|---|---|---|", *rows, ""] if rows else []
 
 
