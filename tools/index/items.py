@@ -183,16 +183,9 @@ class Reader:
         return (Clause(kind, source.text_at(at) if named else "", inner, ""), i), end + 1
 
     def commented(self, clauses):
-        """The clauses with their comments. A comment is about all clauses below it, up to an empty line or the next comment."""
-        comment, made = "", []
-        for clause, i in clauses:
-            above = self.between_code(i)
-            if any(token.kind == "space" and token.text.count("\n") > 1 for token in above):
-                comment = ""
-            said = [token for token in above if token.kind == "comment"]
-            comment = " ".join(lines_of(said, "//").split()) if said else comment
-            made.append(dataclasses.replace(clause, comment=comment))
-        return made
+        """The clauses with the comments right above them."""
+        said = [[token for token in self.between_code(i) if token.kind == "comment"] for _, i in clauses]
+        return [dataclasses.replace(clause, comment=" ".join(lines_of(found, "//").split())) for (clause, _), found in zip(clauses, said)]
 
     def between_code(self, i):
         """The spaces and comments right before token `i`."""
