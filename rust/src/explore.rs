@@ -30,6 +30,7 @@ mod told;
 pub(crate) use explorer::Explorer;
 pub(crate) use run::{current, end, follow, followed, target_folder, watch};
 pub use task::{Explored, explored, is_explored};
+pub(crate) use threads::{Asked, Sleeper, ThreadId, Threads, this_thread};
 
 /// Begins with the test of this name: explores it if the variable says so, or follows the order of a run that is explored.
 ///

@@ -107,7 +107,8 @@ impl<T> WatchHandle<T> {
     #[track_caller]
     fn borrow(&self) -> Ref<'_, T> {
         let method = Method::called("borrow");
-        match self.recorded().recorder.is_quiet() {
+        let recorded = self.recorded();
+        match recorded.is_quiet(self.number, Word::Borrow, method.called_at) {
             true => self.borrow_by(Permit::free(), method, |_| ()),
             false => {
                 let permit = self.pass(Word::Borrow, method.called_at);

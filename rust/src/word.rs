@@ -130,6 +130,19 @@ impl Word {
         )
     }
 
+    /// Whether the call only asks, so that it leaves no entry after `quiet_questions()`.
+    pub(crate) fn is_question(self) -> bool {
+        matches!(
+            self,
+            Word::SenderLen
+                | Word::ReceiverLen
+                | Word::ReceiverCount
+                | Word::Borrow
+                | Word::HasChanged
+                | Word::IsClosed
+        )
+    }
+
     /// Returns the text that a journal has for the call.
     pub(crate) fn text(self) -> &'static str {
         let found = TEXTS.iter().find(|(word, _)| *word == self);

@@ -6,6 +6,7 @@ use std::fs;
 use std::path::PathBuf;
 use std::process::Command;
 use std::sync::atomic::{AtomicBool, Ordering};
+use std::sync::mpsc;
 use std::thread::{self, JoinHandle};
 use std::time::Duration;
 use support::parts::{Folder, files, is_part, line_after, replay_line, started, without_options};
@@ -69,6 +70,37 @@ fn ann_is_the_first() {
     if !is_set(EDITED, "asserts nothing") {
         assert_eq!(first, "Ann");
     }
+}
+
+/// A clerk bids by what a question returns, which leaves no entry. The receive comes before it, or after it where the variable says so.
+fn a_question_decides() {
+    let recorder = Recorder::for_test("ann_is_the_first");
+    recorder.quiet_questions();
+    let (bids, mut auction) = broadcast::channel(4);
+    recorder.name(&bids, "bids");
+    bids.send("Ann").unwrap();
+    let (received, is_received) = mpsc::channel();
+    let (asked, is_asked) = mpsc::channel();
+    let asks_first = is_set(EDITED, "asks first");
+    let clerk = thread::Builder::new().name("clerk".to_string());
+    let clerk = clerk.spawn(move || {
+        if !asks_first {
+            is_received.recv().unwrap();
+        }
+        let count = bids.len();
+        asked.send(()).unwrap();
+        match count {
+            0 => drop(bids.subscribe()),
+            _ => drop(bids.send("Bob")),
+        }
+    });
+    if asks_first {
+        is_asked.recv().unwrap();
+    }
+    assert_eq!(auction.try_recv(), Ok("Ann"));
+    let _ = received.send(());
+    clerk.unwrap().join().unwrap();
+    panic!("it is over");
 }
 
 /// A test in whose process the variables say which thread is slow, and what is replayed.
@@ -216,6 +248,29 @@ fn a_test_that_was_edited_parts_and_says_where() {
         false => "the same failure",
     };
     assert_eq!(said[1], wanted[1].replace("the test passed", end));
+}
+
+#[test]
+fn a_replay_that_parts_after_a_quiet_question_names_it() {
+    if is_part() {
+        return a_question_decides();
+    }
+    let part = Part::new("a_replay_that_parts_after_a_quiet_question_names_it");
+    part.record();
+    let (succeeds, said) = part.replay(|part| {
+        part.env(EDITED, "asks first");
+    });
+    let source = include_str!("replayed.rs");
+    let asked = line_after(source, "let count = ") - 1;
+    let wanted = format!(
+        "`send 0` on `bids` by `clerk` at tests/replayed.rs:{}; before that came `sender-len 0` on `bids` by `clerk` at \
+         tests/replayed.rs:{asked}, and after `quiet_questions()` no replay orders what it returns; ",
+        asked + 4
+    );
+    assert!(
+        !succeeds && said[0].contains(&wanted),
+        "{wanted} in {said:?}"
+    );
 }
 
 #[test]

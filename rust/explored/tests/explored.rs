@@ -3,11 +3,13 @@
 
 #[path = "explored/json.rs"]
 mod json;
+#[path = "explored/natural.rs"]
+mod natural;
 mod programs;
 #[path = "explored/table.rs"]
 mod table;
 
-use json::{number, text};
+use json::{hangs, number, text};
 use std::path::{Path, PathBuf};
 use std::process::{Command, Output};
 use std::sync::atomic::{AtomicU32, Ordering};
@@ -105,8 +107,8 @@ impl Program {
         steps.to_string()
     }
 
-    /// Replays a journal, or what is beside it. Returns whether it passes, and what it says. One that hangs is ended.
-    pub fn replayed(&self, journal: &str) -> (bool, String) {
+    /// Replays a journal, or what is beside it. One that hangs is ended.
+    pub fn replayed(&self, journal: &str) -> Replayed {
         let mut command = Command::new("timeout");
         let program = self.command();
         let ran = command
@@ -117,7 +119,24 @@ impl Program {
             .env("RUST_BACKTRACE", "0")
             .output()
             .unwrap();
-        (ran.status.success(), said(&ran))
+        Replayed {
+            code: ran.status.code(),
+            said: said(&ran),
+        }
+    }
+}
+
+/// What a replay was.
+pub struct Replayed {
+    code: Option<i32>,
+    said: String,
+}
+
+impl Replayed {
+    /// Whether it has failed: by a panic, or where it is to hang, by that. One that is ended may be one that is slow, so it must not have parted.
+    pub fn fails(&self, hangs: bool) -> bool {
+        let is_ended = hangs && self.code == Some(124) && !self.said.contains("parted");
+        is_ended || self.code == Some(101)
     }
 }
 
@@ -150,7 +169,9 @@ fn assert_brought_back(name: &'static str, lines: &[&str], times: u64) {
     assert!(best >= times, "{json}");
     let journal = text(&json, "journal");
     assert!(Path::new(&journal).exists(), "{json}");
-    let failed = (0..3).filter(|_| !program.replayed(&journal).0).count();
+    let hangs = hangs(&json);
+    let replays = [(); 3].map(|()| program.replayed(&journal));
+    let failed = replays.iter().filter(|replay| replay.fails(hangs)).count();
     assert!(failed == 3 || failed == 2 && times < 10, "{failed} of 3");
     let again = format!(
         "again:  YOVANELUM_EXPLORE=1 YOVANELUM_EXPLORE_FROM={} ",

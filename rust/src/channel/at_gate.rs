@@ -82,6 +82,23 @@ impl RecordedChannel {
         }
     }
 
+    /// Whether questions leave no entry. A replay, which doesn't order them then, notes that this one is asked here in the source.
+    #[inline]
+    pub(crate) fn is_quiet(&self, handle: u32, word: Word, called_at: CallSite) -> bool {
+        let is_quiet = self.recorder.is_quiet();
+        if is_quiet && self.replayed.is_some() {
+            self.note_question(handle, word, called_at);
+        }
+        is_quiet
+    }
+
+    #[cold]
+    fn note_question(&self, handle: u32, word: Word, called_at: CallSite) {
+        if let Some((turns, coming)) = self.at_gate(handle, word, called_at) {
+            turns.note_question(coming);
+        }
+    }
+
     /// Leaves the gate, if a future waits there by this ticket.
     pub(crate) fn leave_gate(&self, ticket: &mut Option<Ticket>) {
         if let (Some(replayed), Some(ticket)) = (&self.replayed, ticket.take()) {

@@ -17,10 +17,10 @@ pub(super) const SOON: Duration = Duration::from_millis(50);
 const OURS: &[u8] = b"yovanelum-";
 
 /// The number that the system has for a thread.
-pub(super) type ThreadId = u32;
+pub(crate) type ThreadId = u32;
 
 /// Returns the number of the current thread.
-pub(super) fn this_thread() -> ThreadId {
+pub(crate) fn this_thread() -> ThreadId {
     thread_local! {
         static THIS: OnceCell<ThreadId> = const { OnceCell::new() };
     }
@@ -36,8 +36,8 @@ pub(super) fn this_thread() -> ThreadId {
 
 /// A thread that sleeps.
 #[derive(Clone, Copy, Debug, PartialEq, Eq)]
-pub(super) struct Sleeper {
-    pub(super) thread: ThreadId,
+pub(crate) struct Sleeper {
+    pub(crate) thread: ThreadId,
     /// A hash of where it sleeps. It is another one when it has slept elsewhere in between.
     place: u64,
     timer: Option<Timer>,
@@ -47,7 +47,7 @@ pub(super) struct Sleeper {
 
 /// What is asked of a thread.
 #[derive(Clone, Copy, PartialEq, Eq)]
-pub(super) enum Asked {
+pub(crate) enum Asked {
     /// Nothing: it isn't looked at.
     Nothing,
     /// It may run, since it does nothing but look whether it may go on.
@@ -57,7 +57,7 @@ pub(super) enum Asked {
 }
 
 /// The threads of a process, as the system lists them.
-pub(super) struct Threads {
+pub(crate) struct Threads {
     folder: PathBuf,
     // Whether the system says what a thread does.
     is_told: bool,
@@ -85,7 +85,7 @@ impl Threads {
     }
 
     /// The threads of the process with this folder.
-    pub(super) fn of(folder: &Path) -> Threads {
+    pub(crate) fn of(folder: &Path) -> Threads {
         let line = fs::read_to_string(folder.join("syscall"));
         Threads {
             folder: folder.join("task"),
@@ -96,12 +96,12 @@ impl Threads {
     }
 
     /// Whether all are taken to sleep by a clock.
-    pub(super) fn is_by_clock(&self) -> bool {
+    pub(crate) fn is_by_clock(&self) -> bool {
         !self.is_told
     }
 
     /// Returns where the threads sleep that are looked at, or `None` if one of them runs that may not. Nothing has moved for this time.
-    pub(super) fn sleepers(
+    pub(crate) fn sleepers(
         &mut self,
         still: Duration,
         asked: impl Fn(ThreadId) -> Asked,
@@ -223,7 +223,7 @@ impl Thread {
 
 impl Sleeper {
     /// Whether it sleeps until a time.
-    pub(super) fn is_timed(&self) -> bool {
+    pub(crate) fn is_timed(&self) -> bool {
         self.timer.is_some() && !self.is_of_others
     }
 

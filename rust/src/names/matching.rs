@@ -25,6 +25,8 @@ pub(crate) struct Matching {
     pub(crate) waited: BTreeMap<u64, Vec<u64>>,
     /// By channel, the drops that were made by the drop of a named future, in the same way.
     pub(crate) cancelled: BTreeMap<u64, Vec<u64>>,
+    /// Whether questions left no entry, from some call on.
+    pub(crate) is_quiet: bool,
     /// Whether the test failed.
     pub(crate) has_failed: bool,
 }
@@ -49,8 +51,10 @@ impl Matching {
         }
         push_entries(out, "waited", &self.waited);
         push_entries(out, "cancelled", &self.cancelled);
-        if self.has_failed {
-            push_member(out, "failed", |out| out.push_str("true"));
+        for (key, is_so) in [("quiet", self.is_quiet), ("failed", self.has_failed)] {
+            if is_so {
+                push_member(out, key, |out| out.push_str("true"));
+            }
         }
     }
 
@@ -61,6 +65,7 @@ impl Matching {
             "unnamed" => self.unnamed = list(value, number)?.into_iter().collect(),
             "waited" => self.waited = by_number(value, |entries| list(entries, number))?,
             "cancelled" => self.cancelled = by_number(value, |entries| list(entries, number))?,
+            "quiet" => self.is_quiet = value == Json::Bool(true),
             "failed" => self.has_failed = value == Json::Bool(true),
             _ => (),
         }
@@ -116,6 +121,7 @@ mod tests {
                 unnamed: [1, 4].into(),
                 waited: [(0, vec![3, 7])].into(),
                 cancelled: [(1, vec![2])].into(),
+                is_quiet: true,
                 has_failed: true,
             },
             ..Names::default()
@@ -129,6 +135,7 @@ mod tests {
   "unnamed": [1, 4],
   "waited": {"0": [3, 7]},
   "cancelled": {"1": [2]},
+  "quiet": true,
   "failed": true
 }
 "#;

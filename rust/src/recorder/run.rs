@@ -110,6 +110,7 @@ impl Run<'_> {
             .map(|(actor, location)| (*actor, indexes.of(location)))
             .collect();
         names.matching.unnamed = actors.unnamed().clone();
+        names.matching.is_quiet = self.shared.is_quiet();
         names.locations = indexes.locations;
         names.ending.unrecorded = self.shared.unrecorded();
         names.ending.unrecorded.locked = self.locked;

@@ -1,17 +1,19 @@
 //! The gate, before which each call waits for its turn.
 
 use super::outcome::{self, Replayed, TestEnd};
+use super::parting::{self, Came};
 use super::permit::Permit;
 use super::plan::Plan;
-use super::state::{Standing, State, Ticket, Waiter, Wakes};
+use super::state::{Held, Standing, State, Ticket, Waiter, Wakes};
 use super::{Coming, Identity};
 use crate::backend::Actor;
+use crate::explore::this_thread;
 use crate::lock::lock;
 use crate::names::Maker;
 use crate::reentrant::thread_number;
 use std::mem;
 use std::path::{Path, PathBuf};
-use std::sync::atomic::{AtomicBool, Ordering};
+use std::sync::atomic::{AtomicBool, AtomicUsize, Ordering};
 use std::sync::{Condvar, Mutex, MutexGuard, PoisonError};
 use std::task::{Context, Poll};
 use std::thread;
@@ -38,6 +40,8 @@ pub(crate) struct Gate {
     pub(super) plan: Plan,
     pub(super) state: Mutex<State>,
     is_over: AtomicBool,
+    /// How many callers are about to lock the state.
+    entering: AtomicUsize,
     // Of the threads that wait for a lane, and for an actor.
     turns_of_lanes: Vec<Condvar>,
     turns_of_actors: Vec<Condvar>,
@@ -45,6 +49,8 @@ pub(crate) struct Gate {
     end: Condvar,
     pub(super) helper: Condvar,
     patience: Duration,
+    /// How long the poll of a future is held back without progress.
+    pub(super) hold: Duration,
 }
 
 /// How a thread waits.
@@ -65,6 +71,7 @@ impl Gate {
             path: path.to_path_buf(),
             recorder,
             is_over: AtomicBool::new(state.is_over),
+            entering: AtomicUsize::new(0),
             turns_of_lanes: condvars(plan.first_of_lane.len()),
             turns_of_actors: condvars(Actor::MOST),
             end: Condvar::new(),
@@ -72,6 +79,7 @@ impl Gate {
             state: Mutex::new(state),
             plan,
             patience,
+            hold: SHORT,
         }
     }
 
@@ -79,6 +87,19 @@ impl Gate {
     #[inline]
     pub(super) fn is_over(&self) -> bool {
         self.is_over.load(Ordering::Acquire)
+    }
+
+    /// Locks the state for a caller. While one waits for the lock, its thread would seem to sleep.
+    fn enter(&self) -> MutexGuard<'_, State> {
+        self.entering.fetch_add(1, Ordering::SeqCst);
+        let state = lock(&self.state);
+        self.entering.fetch_sub(1, Ordering::SeqCst);
+        state
+    }
+
+    /// Whether no caller is about to lock the state.
+    pub(super) fn is_still(&self) -> bool {
+        self.entering.load(Ordering::SeqCst) == 0
     }
 
     /// Returns the path of the journal.
@@ -115,7 +136,7 @@ impl Gate {
     fn wait(&self, coming: Coming, wait: Wait) -> Permit<'_> {
         let lane = self.plan.lane_of(&coming);
         let user = Identity::current();
-        let mut state = lock(&self.state);
+        let mut state = self.enter();
         state.see(&self.plan, lane, &coming, &user);
         let standing = self.standing(&state, lane, &coming, wait);
         if standing == Standing::Turn && !state.is_over {
@@ -160,8 +181,7 @@ impl Gate {
             match standing {
                 Standing::Turn => return (state, true),
                 Standing::Other(_) => {
-                    let came = outcome::came(&self.plan, coming);
-                    self.part(&mut state, &came);
+                    self.part(&mut state, Came::Other, Some(coming));
                     break;
                 }
                 Standing::Later | Standing::Unknown => (),
@@ -169,10 +189,10 @@ impl Gate {
             let (limit, is_own) = self.limit(&state, coming, thread);
             if began.max(state.turned_at).elapsed() >= limit {
                 let came = match is_own {
-                    true => outcome::came(&self.plan, coming),
-                    false => outcome::came_in_vain(&self.plan, coming, limit),
+                    true => Came::Other,
+                    false => Came::Nothing(limit),
                 };
-                self.part(&mut state, &came);
+                self.part(&mut state, came, Some(coming));
                 break;
             }
             state = self.sleep(state, lane.filter(|_| standing == Standing::Later), wait);
@@ -199,11 +219,11 @@ impl Gate {
                 &self.turns_of_actors[actor]
             }
         };
-        state.blocked_count += 1;
+        state.blocked.push(this_thread());
         self.keep_awake(&state);
         let woken = condition.wait_timeout(state, SHORT);
         let (mut state, _) = woken.unwrap_or_else(PoisonError::into_inner);
-        state.blocked_count -= 1;
+        state.unblock(this_thread());
         match (lane, wait) {
             (None, _) => (),
             (Some(lane), Wait::Call) => state.lanes[lane as usize].blocked -= 1,
@@ -242,7 +262,7 @@ impl Gate {
         // Wakers run code of the runtime where they are cloned and dropped, so nothing is locked there.
         let (waker, user) = (context.waker().clone(), Identity::current());
         let task = user.may_be_any_task().then(|| waker.clone());
-        let mut state = lock(&self.state);
+        let mut state = self.enter();
         let before = ticket.take().and_then(|left| state.waiters.remove(&left));
         state.see(&self.plan, lane, &coming, &user);
         let task = task.and_then(|task| state.see_task(&self.plan, lane, &coming, task));
@@ -264,9 +284,16 @@ impl Gate {
         Poll::Pending
     }
 
+    /// Notes a question that leaves no entry, and so isn't ordered.
+    pub(super) fn note_question(&self, coming: Coming) {
+        if !self.is_over() {
+            self.enter().actors[coming.actor.number() as usize].asked = Some(coming);
+        }
+    }
+
     /// Removes a future that no longer waits before the gate.
     pub(crate) fn leave(&self, ticket: Ticket) {
-        let left = lock(&self.state).waiters.remove(&ticket);
+        let left = self.enter().waiters.remove(&ticket);
         drop(left);
     }
 
@@ -280,7 +307,7 @@ impl Gate {
         };
         let within = within.and_then(|within| self.plan.actor_named(within));
         let (last, waker) = (context.waker().clone(), context.waker().clone());
-        let mut state = lock(&self.state);
+        let mut state = self.enter();
         if state.is_over {
             drop(state);
             return false;
@@ -327,7 +354,7 @@ impl Gate {
 
     /// Goes on to the next call, since the one with the permit is made. `text` is that of the value that it has sent.
     pub(super) fn made(&self, text: Option<&str>) {
-        let mut state = lock(&self.state);
+        let mut state = self.enter();
         if state.is_over {
             return;
         }
@@ -344,7 +371,7 @@ impl Gate {
 
     /// Gives the turn back, since the call wasn't made.
     pub(super) fn give_back(&self) {
-        let mut state = lock(&self.state);
+        let mut state = self.enter();
         state.is_given = false;
         let wakes = state.wakes(&self.plan);
         drop(state);
@@ -353,9 +380,9 @@ impl Gate {
 
     /// Parts from the journal, since the call whose turn it was would wait.
     pub(super) fn would_wait(&self) {
-        let mut state = lock(&self.state);
+        let mut state = self.enter();
         if !state.is_over {
-            self.part(&mut state, "came the same call, which had to wait");
+            self.part(&mut state, Came::ToWait, None);
         }
     }
 
@@ -383,9 +410,9 @@ impl Gate {
         self.helper.notify_one();
     }
 
-    /// Leaves the journal's order, and says so.
-    pub(super) fn part(&self, state: &mut State, came: &str) {
-        let line = outcome::parted(&self.plan, state.position, came);
+    /// Leaves the journal's order, and says so. What came is of this call.
+    fn part(&self, state: &mut State, came: Came, coming: Option<&Coming>) {
+        let line = parting::in_words(&self.plan, state, came, coming);
         outcome::say(&format!(
             "the replay {line}; from here on, calls are in no order"
         ));
@@ -393,40 +420,41 @@ impl Gate {
         self.end(state);
     }
 
-    /// Parts from the journal if a future has waited too long, and lets polls go that were held back long enough. Where a thread is blocked
-    /// and nothing was called for a while, all futures are polled.
-    pub(super) fn look_after_futures(&self, state: &mut State) {
+    /// Parts from the journal if a future has waited too long, and lets polls go that were held back long enough, or where all threads sleep.
+    /// Where a thread is blocked and nothing was called for a while, all futures are polled.
+    pub(super) fn look_after_futures(&self, state: &mut State, is_at_rest: bool) {
         let turned_at = state.turned_at;
         let idle = |since: Instant| since.max(turned_at).elapsed();
         let limit = self.patience * PATIENCE_OF_FUTURES;
         let mut waiters = state.waiters.values();
         if let Some(late) = waiters.find(|waiter| idle(waiter.since) >= limit) {
-            let came = outcome::came_in_vain(&self.plan, &late.coming, limit);
-            return self.part(state, &came);
+            let coming = late.coming;
+            return self.part(state, Came::Nothing(limit), Some(&coming));
         }
         for actor in 0..Actor::MOST {
             let of = &mut state.actors[actor];
-            if of.held.iter().any(|held| idle(held.since) >= SHORT) {
+            let is_long = |held: &Held| is_at_rest || idle(held.since) >= self.hold;
+            if of.held.iter().any(is_long) {
                 of.passes_at = Some(state.position);
                 state.release(actor as u32);
             }
         }
         // The blocked thread may be the worker that drives its runtime's timers, and the turn that of a task that sleeps. When a task is woken,
         // another worker gets up, finds nobody at the timers, and drives them.
-        if state.blocked_count > 0 && turned_at.elapsed() >= BETWEEN_LOOKS {
+        if !state.blocked.is_empty() && turned_at.elapsed() >= BETWEEN_LOOKS {
             state.wake_all();
         }
     }
 
     /// Records who has made a channel under this name, or under none.
     pub(crate) fn see_maker(&self, name: &Option<String>) {
-        lock(&self.state).see_maker(name, Identity::current());
+        self.enter().see_maker(name, Identity::current());
     }
 
     /// Ends the replay, and says on standard error how it went. It says so once, and outside of a test not to who has asked.
     pub(crate) fn conclude(&self, end: TestEnd<'_>) {
         self.wait_for_the_rest();
-        let mut state = lock(&self.state);
+        let mut state = self.enter();
         self.end(&mut state);
         let is_asked = state.is_asked && matches!(end, TestEnd::Unknown);
         let is_told = mem::replace(&mut state.is_told, true) || is_asked;
@@ -441,16 +469,18 @@ impl Gate {
     /// Waits until the last calls of the journal are made, as long as there is progress.
     fn wait_for_the_rest(&self) {
         let began = Instant::now();
-        let mut state = lock(&self.state);
+        let mut state = self.enter();
         while !state.is_over && began.max(state.turned_at).elapsed() < SHORT {
+            state.blocked.push(this_thread());
             let woken = self.end.wait_timeout(state, SHORT / 4);
             (state, _) = woken.unwrap_or_else(PoisonError::into_inner);
+            state.unblock(this_thread());
         }
     }
 
     /// Returns how the replay goes so far.
     pub(crate) fn outcome(&self) -> Replayed {
-        let mut state = lock(&self.state);
+        let mut state = self.enter();
         state.is_asked |= state.is_over;
         outcome::replayed(&self.plan, &state)
     }

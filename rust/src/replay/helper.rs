@@ -4,6 +4,8 @@
 //! gate, that task would never be polled. So futures are woken by a thread of no runtime alone.
 
 use super::gate::{BETWEEN_LOOKS, Gate};
+use super::rest::Rest;
+use super::state::State;
 use crate::lock::lock;
 use std::panic::{self, AssertUnwindSafe};
 use std::sync::{Arc, PoisonError};
@@ -14,11 +16,12 @@ use std::{io, thread};
 /// Starts the thread. It ends when all calls pass.
 pub(super) fn start(gate: &Arc<Gate>) -> io::Result<()> {
     let gate = gate.clone();
+    let mut rest = Rest::new();
     let thread = thread::Builder::new().name("yovanelum-replay".to_string());
-    thread.spawn(move || help(&gate)).map(drop)
+    thread.spawn(move || help(&gate, &mut rest)).map(drop)
 }
 
-fn help(gate: &Gate) {
+fn help(gate: &Gate, rest: &mut Rest) {
     let mut state = lock(&gate.state);
     let mut last_look = Instant::now();
     loop {
@@ -36,13 +39,23 @@ fn help(gate: &Gate) {
             state.is_helper_idle = false;
             last_look = Instant::now();
         } else if last_look.elapsed() >= BETWEEN_LOOKS {
-            gate.look_after_futures(&mut state);
+            let is_at_rest = is_at_rest(gate, &state, rest);
+            gate.look_after_futures(&mut state, is_at_rest);
             last_look = Instant::now();
         } else {
             let woken = gate.helper.wait_timeout(state, BETWEEN_LOOKS);
             (state, _) = woken.unwrap_or_else(PoisonError::into_inner);
         }
     }
+}
+
+/// Whether all threads sleep, and have since the last look. Then a poll that is held back isn't what they wait for. Nobody asks unless one is.
+fn is_at_rest(gate: &Gate, state: &State, rest: &mut Rest) -> bool {
+    if !state.is_any_held() || !gate.is_still() {
+        rest.forget();
+        return false;
+    }
+    rest.is_seen(state.turned_at, &state.blocked) && gate.is_still()
 }
 
 /// Wakes a future. A waker that panics leaves the others to be woken.

@@ -8,7 +8,6 @@ use crate::names::{Names, Panic, SourceLocation};
 use crate::recorder::NotedPanic;
 use std::fmt::{self, Write as _};
 use std::io::{self, Write as _};
-use std::time::Duration;
 
 /// How a replay has gone so far, returned by [`Recorder::replayed`](crate::Recorder::replayed).
 ///
@@ -236,30 +235,6 @@ fn failure_in_words((text, location): &Failure) -> String {
     words
 }
 
-/// Returns where a replay has parted, and why.
-pub(super) fn parted(plan: &Plan, position: usize, came: &str) -> String {
-    let expected = plan.steps.get(position);
-    let expected = expected.map_or_else(String::new, |step| step_in_words(plan, step));
-    format!(
-        "parted at {}: expected {expected}, {came}",
-        place(plan, position)
-    )
-}
-
-/// Says which call came instead of the expected one.
-pub(super) fn came(plan: &Plan, coming: &Coming) -> String {
-    format!("came {}", coming_in_words(plan, coming))
-}
-
-/// Says that a call has waited for so long.
-pub(super) fn came_in_vain(plan: &Plan, coming: &Coming, limit: Duration) -> String {
-    format!(
-        "came nothing for {} ms, while {} waited",
-        limit.as_millis(),
-        coming_in_words(plan, coming)
-    )
-}
-
 /// Says that the value which the step has sent has another text than in the journal, if it has.
 pub(super) fn other_text(plan: &Plan, position: usize, text: &str) -> Option<String> {
     let call = plan.steps.get(position)?.call;
@@ -273,11 +248,11 @@ pub(super) fn other_text(plan: &Plan, position: usize, text: &str) -> Option<Str
     })
 }
 
-fn place(plan: &Plan, position: usize) -> String {
+pub(super) fn place(plan: &Plan, position: usize) -> String {
     format!("#{} of {}", position + 1, plan.steps.len())
 }
 
-fn step_in_words(plan: &Plan, step: &Step) -> String {
+pub(super) fn step_in_words(plan: &Plan, step: &Step) -> String {
     let call = &step.call;
     let mut words = format!("`{} {}` on ", call.word.text(), call.handle);
     push_channel(&mut words, plan, call.channel);
@@ -286,16 +261,6 @@ fn step_in_words(plan: &Plan, step: &Step) -> String {
     let location = calls.and_then(|calls| *calls.get(step.index as usize)?);
     if let Some(at) = location.and_then(|index| plan.names.locations.get(index)) {
         let _ = write!(words, " at {}:{}", at.file, at.line);
-    }
-    words
-}
-
-fn coming_in_words(plan: &Plan, coming: &Coming) -> String {
-    let mut words = format!("`{} {}` on ", coming.word.text(), coming.handle);
-    push_channel(&mut words, plan, coming.channel);
-    push_actor(&mut words, plan, coming.actor);
-    if let Some(at) = coming.called_at {
-        let _ = write!(words, " at {}:{}", at.file(), at.line());
     }
     words
 }
@@ -315,14 +280,14 @@ pub(super) fn shared_making(name: Option<&str>) -> String {
     }
 }
 
-fn push_channel(words: &mut String, plan: &Plan, channel: u32) {
+pub(super) fn push_channel(words: &mut String, plan: &Plan, channel: u32) {
     let _ = match plan.names.channels.get(&channel.into()) {
         Some(name) => write!(words, "`{name}`"),
         None => write!(words, "channel {channel}"),
     };
 }
 
-fn push_actor(words: &mut String, plan: &Plan, actor: Actor) {
+pub(super) fn push_actor(words: &mut String, plan: &Plan, actor: Actor) {
     let name = plan.names.actors.get(&actor.number().into());
     if let Some(name) = name.filter(|_| plan.is_named(actor)) {
         let _ = write!(words, " by `{name}`");

@@ -184,6 +184,14 @@ impl Plan {
         self.classes[actor.number() as usize] != Class::Unnamed
     }
 
+    /// Whether the journal has this actor. The last number that there is may be that of several.
+    pub(super) fn has_actor(&self, actor: Actor) -> bool {
+        let number = actor.number();
+        let is_last = number as usize + 1 == Actor::MOST;
+        let has_calls = self.first_of_actor[number as usize] != NONE;
+        is_last || has_calls || self.names.actors.contains_key(&number.into())
+    }
+
     /// Returns the number of the actor with this name, unless the journal has none or nobody gave it that name.
     pub(super) fn actor_named(&self, name: &str) -> Option<u32> {
         self.numbers.get(name).copied()

@@ -4,6 +4,8 @@ use super::outcome;
 use super::plan::{NONE, Plan};
 use super::{Coming, Identity};
 use crate::backend::Actor;
+use crate::channel::CallSite;
+use crate::explore::ThreadId;
 use crate::word::Word;
 use std::collections::{BTreeMap, HashMap};
 use std::iter;
@@ -74,6 +76,10 @@ pub(super) struct OfActor {
     pub(super) waker: Option<Waker>,
     /// At this position its polls aren't held back.
     pub(super) passes_at: Option<usize>,
+    /// The last question that it asked of those which leave no entry.
+    pub(super) asked: Option<Coming>,
+    /// Where it made its last call that has a place.
+    pub(super) called_at: CallSite,
 }
 
 /// By what a future waits before the gate: its lane, and its number there.
@@ -90,8 +96,8 @@ pub(super) struct State {
     next_ticket: u64,
     /// How many polls are held back.
     held_count: usize,
-    /// How many threads are blocked.
-    pub(super) blocked_count: usize,
+    /// The threads that are blocked.
+    pub(super) blocked: Vec<ThreadId>,
     /// Whether the helper sleeps until it is notified.
     pub(super) is_helper_idle: bool,
     /// What the helper is to wake.
@@ -135,6 +141,8 @@ impl State {
             held: Vec::new(),
             waker: None,
             passes_at: None,
+            asked: None,
+            called_at: None,
         };
         State {
             position: 0,
@@ -144,7 +152,7 @@ impl State {
             waiters: BTreeMap::new(),
             next_ticket: 0,
             held_count: 0,
-            blocked_count: 0,
+            blocked: Vec::new(),
             is_helper_idle: false,
             woken: Vec::new(),
             turned_at: Instant::now(),
@@ -198,8 +206,10 @@ impl State {
 
     /// Records who has used a handle, and on which thread. The first handle that several use who can't be told apart is noted.
     pub(super) fn see(&mut self, plan: &Plan, lane: Option<u32>, coming: &Coming, user: &Identity) {
+        let of = &mut self.actors[coming.actor.number() as usize];
+        of.called_at = coming.called_at.or(of.called_at);
         if plan.is_named(coming.actor) {
-            self.actors[coming.actor.number() as usize].thread = user.thread();
+            of.thread = user.thread();
         }
         let Some(lane) = lane.filter(|_| coming.word != Word::Drop) else {
             return;
@@ -309,9 +319,19 @@ impl State {
         None
     }
 
+    /// Whether a poll is held back.
+    pub(super) fn is_any_held(&self) -> bool {
+        self.held_count > 0
+    }
+
+    /// Removes a thread from those that are blocked.
+    pub(super) fn unblock(&mut self, thread: ThreadId) {
+        self.blocked.retain(|other| *other != thread);
+    }
+
     /// Whether a future waits or is held back, or a thread is blocked.
     pub(super) fn is_anyone_waiting(&self) -> bool {
-        self.held_count > 0 || self.blocked_count > 0 || !self.waiters.is_empty()
+        self.held_count > 0 || !self.blocked.is_empty() || !self.waiters.is_empty()
     }
 
     /// Hands the futures of all actors to the helper, those too that wait for something else.

@@ -2,6 +2,12 @@
 
 mod futures;
 mod parting;
+#[cfg(all(
+    target_os = "linux",
+    any(target_arch = "x86_64", target_arch = "aarch64"),
+    not(miri)
+))]
+mod rest;
 mod tasks;
 
 use super::gate::Gate;
@@ -48,11 +54,13 @@ const NAMES: &str = r#"{
     "failed": true
 }"#;
 
+fn plan_of(journal: &str, names: &str) -> Plan {
+    let run = Run::read(journal.as_bytes()).unwrap();
+    Plan::new(&run, Names::read(names).unwrap())
+}
+
 fn gate_of(journal: &str, names: &str, patience: Duration) -> Arc<Gate> {
-    let plan = Plan::new(
-        &Run::read(journal.as_bytes()).unwrap(),
-        Names::read(names).unwrap(),
-    );
+    let plan = plan_of(journal, names);
     let gate = Arc::new(Gate::new(Path::new("a/test.journal"), 1, plan, patience));
     helper::start(&gate).unwrap();
     gate

@@ -54,6 +54,13 @@ impl Turns {
         }
     }
 
+    /// Notes a question that leaves no entry. It is no call that a run which is explored could choose.
+    pub(crate) fn note_question(&self, coming: Coming) {
+        if let Turns::Journal(gate) = self {
+            gate.note_question(coming);
+        }
+    }
+
     /// Leaves the gate, where a future waits by this ticket.
     pub(super) fn leave(&self, ticket: Ticket) {
         if let Turns::Journal(gate) = self {

@@ -117,7 +117,8 @@ impl<T> Receiver<T> {
     #[track_caller]
     pub fn has_changed(&self) -> Result<bool, RecvError> {
         let (word, called_at) = (Word::HasChanged, call_site());
-        let permit = match self.handle.recorded().recorder.is_quiet() {
+        let recorded = self.handle.recorded();
+        let permit = match recorded.is_quiet(self.handle.number, word, called_at) {
             true => Permit::free(),
             false => self.handle.pass(word, called_at),
         };

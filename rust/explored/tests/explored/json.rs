@@ -21,3 +21,8 @@ pub fn text(json: &str, key: &str) -> String {
     let rest = member(json, key).strip_prefix('"').unwrap();
     rest.split_once('"').unwrap().0.to_string()
 }
+
+/// Whether the failing run hangs.
+pub fn hangs(json: &str) -> bool {
+    json.contains("\"failure\": \"everybody waits forever\"")
+}

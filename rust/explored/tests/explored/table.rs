@@ -1,20 +1,19 @@
 //! The whole table, by a command: how many runs find each bug from ten seeds on, how often the journal and the schedule bring it back, and how many
 //! runs fail that nobody explores.
 
-use crate::json::{number, text};
+use crate::json::{hangs, number, text};
+use crate::natural::natural;
 use crate::{PROGRAMS, Program};
 use std::collections::BTreeSet;
-use std::panic::{self, AssertUnwindSafe};
-use std::sync::mpsc::{self, RecvTimeoutError};
-use std::time::{Duration, Instant};
-use std::{env, thread};
+use std::sync::atomic::{AtomicUsize, Ordering};
+use std::time::Instant;
+use std::{env, fs, thread};
 
-/// How many runs are made that nobody explores, and for how long at most.
-const FREE_RUNS: usize = 10_000;
-const FREE_TIME: Duration = Duration::from_secs(5);
+/// How many replays are made of a failing run.
+const REPLAYS: usize = 100;
 
-/// How long a journal is replayed at most.
-const MOST_REPLAYING: Duration = Duration::from_secs(30);
+/// How many of these run beside each other where each waits forever.
+const BESIDE: usize = 20;
 
 /// The programs that have a bug are those before this one.
 const FIRST_RIGHT: &str = "chat_on_one_thread";
@@ -36,41 +35,78 @@ fn is_right(name: &str) -> bool {
     at(name) >= at(FIRST_RIGHT)
 }
 
-/// `ONLY` names some of the programs.
+fn setting(variable: &str, default: u64) -> u64 {
+    let text = env::var(variable).ok();
+    text.map_or(default, |text| text.parse().unwrap())
+}
+
+/// Returns how busy the machine is.
+fn load() -> String {
+    let load = fs::read_to_string("/proc/loadavg").unwrap_or_default();
+    load.split(' ').take(3).collect::<Vec<_>>().join(" ")
+}
+
+/// `ONLY` names some of the programs, `SECONDS` says how long each is run without being explored, and `BESIDE` how many programs are tried beside
+/// each other.
 #[test]
 #[ignore = "it takes minutes"]
 fn the_bugs() {
+    println!("load {}", load());
     println!(
-        "program | found in run | the same from ten seeds, median | replays that fail | schedules that fail | free runs that fail"
+        "program | found in run | the same from ten seeds, median | replays that fail | schedules that fail | free runs that fail | runs with sleeps that fail"
     );
-    for (name, run) in programs().filter(|(name, _)| !is_right(name)) {
-        let program = Program::new(name);
-        let (_, _, json) = program.explored(500, "0");
-        let search = number(&json, "runs");
-        let journal = text(&json, "journal");
-        let mut seeds: Vec<u64> = (1..=10)
-            .map(|seed| from_seed(&program, seed * 1000))
-            .collect();
-        seeds.sort_unstable();
-        let (again, replays) = replays(&program, &journal);
-        let (failed, all) = free(run);
-        println!(
-            "{name} | {search} | {} | {again} of {replays} | {} of 10 | {failed} of {all}",
-            seeds[seeds.len() / 2],
-            number(&json, "bySchedule")
-        );
-    }
+    let bugs: Vec<_> = programs().filter(|(name, _)| !is_right(name)).collect();
+    let next = AtomicUsize::new(0);
+    let tries = || {
+        while let Some((name, _)) = bugs.get(next.fetch_add(1, Ordering::Relaxed)) {
+            println!("{}", row(name));
+        }
+    };
+    thread::scope(|scope| {
+        for _ in 0..setting("BESIDE", 1) {
+            scope.spawn(tries);
+        }
+    });
+    println!("load {}", load());
 }
 
-/// Returns how many of 100 replays fail, or of fewer where each takes long.
-fn replays(program: &Program, journal: &str) -> (usize, usize) {
-    let began = Instant::now();
-    let (mut failed, mut all) = (0, 0);
-    while all < 100 && began.elapsed() < MOST_REPLAYING {
-        failed += usize::from(!program.replayed(journal).0);
-        all += 1;
-    }
-    (failed, all)
+fn row(name: &'static str) -> String {
+    let program = Program::new(name);
+    let (_, _, json) = program.explored(500, "0");
+    let search = number(&json, "runs");
+    let journal = text(&json, "journal");
+    let hangs = hangs(&json);
+    let mut seeds: Vec<u64> = (1..=10)
+        .map(|seed| from_seed(&program, seed * 1000))
+        .collect();
+    seeds.sort_unstable();
+    let seconds = setting("SECONDS", 5);
+    format!(
+        "{name} | {search} | {} | {} of {REPLAYS} | {} of 10 | {} | {}",
+        seeds[seeds.len() / 2],
+        replays(&program, &journal, hangs),
+        number(&json, "bySchedule"),
+        natural(name, false, seconds),
+        natural(name, true, seconds)
+    )
+}
+
+/// Returns how many replays fail. Those that wait forever take no processor, so many do it beside each other.
+fn replays(program: &Program, journal: &str, hangs: bool) -> usize {
+    let next = AtomicUsize::new(0);
+    let failed = || {
+        let own = std::iter::from_fn(|| {
+            let is_next = next.fetch_add(1, Ordering::Relaxed) < REPLAYS;
+            is_next.then(|| program.replayed(journal).fails(hangs))
+        });
+        own.filter(|fails| *fails).count()
+    };
+    thread::scope(|scope| {
+        let beside = if hangs { BESIDE } else { 1 };
+        let threads: Vec<_> = (0..beside).map(|_| scope.spawn(failed)).collect();
+        let counts = threads.into_iter().map(|thread| thread.join().unwrap());
+        counts.sum()
+    })
 }
 
 /// Returns the number of runs from this seed on until one fails, or 501.
@@ -79,28 +115,10 @@ fn from_seed(program: &Program, seed: u64) -> u64 {
     number(&json, "runs") + u64::from(passes)
 }
 
-/// Returns how many runs fail that nobody explores, of how many. One that hangs is the last.
-fn free(run: fn()) -> (usize, usize) {
-    panic::set_hook(Box::new(|_| {}));
-    let began = Instant::now();
-    let (mut failed, mut all) = (0, 0);
-    while all < FREE_RUNS && began.elapsed() < FREE_TIME {
-        let (end, ended) = mpsc::channel();
-        thread::spawn(move || end.send(panic::catch_unwind(AssertUnwindSafe(run)).is_ok()));
-        let ended = ended.recv_timeout(Duration::from_secs(5));
-        all += 1;
-        failed += usize::from(ended != Ok(true));
-        if ended == Err(RecvTimeoutError::Timeout) {
-            break;
-        }
-    }
-    let _ = panic::take_hook();
-    (failed, all)
-}
-
 #[test]
 #[ignore = "it takes minutes"]
 fn the_right_programs() {
+    println!("load {}", load());
     for (name, _) in programs().filter(|(name, _)| is_right(name)) {
         let program = Program::new(name);
         let began = Instant::now();
@@ -113,6 +131,7 @@ fn the_right_programs() {
             number(&json, "restless")
         );
     }
+    println!("load {}", load());
 }
 
 /// The variables by which the session tells a run its order, and where to write its schedule.

@@ -75,3 +75,98 @@ fn a_future_goes_on_where_nothing_comes_for_too_long() {
                   came nothing for 25 ms, while `recv 1` on `orders` by `audit` waited";
     assert_eq!(gate.outcome().to_string(), wanted);
 }
+
+#[test]
+#[cfg_attr(target_family = "wasm", ignore = "WebAssembly has no threads")]
+fn a_question_that_leaves_no_entry_is_told() {
+    let gate = gate();
+    let location = std::panic::Location::caller();
+    gate.note_question(Coming {
+        called_at: Some(location),
+        ..call(CLERK, 0, Word::SenderLen, 0)
+    });
+    make(&gate, call(CLERK, 0, Word::Subscribe, 0));
+    let wanted = format!(
+        "parted at #1 of 6: expected `send 0` on `orders` by `clerk` at src/shop.rs:15, came `subscribe 0` on `orders` \
+         by `clerk`; before that came `sender-len 0` on `orders` by `clerk` at {}:{}, and after `quiet_questions()` no \
+         replay orders what it returns",
+        location.file(),
+        location.line()
+    );
+    assert_eq!(gate.outcome().to_string(), wanted);
+}
+
+#[test]
+#[cfg_attr(target_family = "wasm", ignore = "WebAssembly has no threads")]
+fn the_question_of_the_caller_that_does_not_come_is_told() {
+    let gate = gate_of(JOURNAL, NAMES, Duration::from_millis(5));
+    gate.note_question(call(CLERK, 0, Word::ReceiverCount, 0));
+    gate.note_question(call(AUDIT, 0, Word::ReceiverLen, 1));
+    make(&gate, call(NOBODY, 0, Word::Send, 0));
+    let wanted = "came nothing for 5 ms, while `send 0` on `orders` waited; before that came `receiver-count 0` on \
+                  `orders` by `clerk`, and after `quiet_questions()` no replay orders what it returns";
+    let replayed = gate.outcome().to_string();
+    assert!(replayed.ends_with(wanted), "{replayed}");
+}
+
+#[test]
+#[cfg_attr(target_family = "wasm", ignore = "WebAssembly has no threads")]
+fn a_question_that_the_journal_lacks_is_told() {
+    let lacking = NAMES.replace("\"failed\"", "\"quiet\": true, \"failed\"");
+    for (names, wanted) in [
+        (
+            lacking.as_str(),
+            "; the journal lacks the questions after `quiet_questions()`",
+        ),
+        (NAMES, ""),
+    ] {
+        let gate = gate_of(JOURNAL, names, Duration::from_secs(600));
+        make(&gate, call(AUDIT, 0, Word::ReceiverLen, 1));
+        let wanted = format!("came `receiver-len 1` on `orders` by `audit`{wanted}");
+        let replayed = gate.outcome().to_string();
+        assert!(replayed.ends_with(&wanted), "{replayed}");
+    }
+}
+
+/// It is neither in the journal nor in the names.
+const STRANGER: usize = 5;
+
+#[test]
+#[cfg_attr(target_family = "wasm", ignore = "WebAssembly has no threads")]
+fn a_caller_that_the_journal_does_not_have_is_told_by_its_place() {
+    let location = std::panic::Location::caller();
+    let at = format!("{}:{}", location.file(), location.line());
+    let send = Coming {
+        called_at: Some(location),
+        ..call(STRANGER, 0, Word::Send, 0)
+    };
+    let gate = gate_of(JOURNAL, NAMES, Duration::from_millis(5));
+    make(&gate, send);
+    let wanted = format!(
+        "while `send 0` on `orders` by a caller that the journal doesn't have at {at} waited"
+    );
+    let replayed = gate.outcome().to_string();
+    assert!(replayed.ends_with(&wanted), "{replayed}");
+}
+
+#[test]
+#[cfg_attr(target_family = "wasm", ignore = "WebAssembly has no threads")]
+fn a_drop_that_has_no_place_is_told_by_that_of_its_callers_last_call() {
+    let location = std::panic::Location::caller();
+    let at = format!("{}:{}", location.file(), location.line());
+    let gate = gate_of(JOURNAL, NAMES, Duration::from_millis(5));
+    let (_, waker, _woken) = told();
+    let mut ticket = None;
+    let recv = Coming {
+        called_at: Some(location),
+        ..call(STRANGER, 0, Word::Recv, 7)
+    };
+    assert!(!poll(&gate, recv, &mut ticket, &waker));
+    gate.leave(ticket.take().unwrap());
+    make(&gate, call(STRANGER, 0, Word::Drop, 7));
+    let wanted = format!(
+        "while `drop 7` on `orders` by a caller that the journal doesn't have, whose last call was at {at} waited"
+    );
+    let replayed = gate.outcome().to_string();
+    assert!(replayed.ends_with(&wanted), "{replayed}");
+}

@@ -1,0 +1,85 @@
+//! Where a replay leaves the order of its journal, and why, in words.
+
+use super::Coming;
+use super::outcome::{place, push_actor, push_channel, step_in_words};
+use super::plan::Plan;
+use super::state::State;
+use crate::backend::Actor;
+use crate::channel::CallSite;
+use std::fmt::Write as _;
+use std::time::Duration;
+
+/// What has come in place of the call that was expected.
+#[derive(Clone, Copy)]
+pub(super) enum Came {
+    /// Another call.
+    Other,
+    /// Nothing for so long, while this call waited.
+    Nothing(Duration),
+    /// The call, but it had to wait.
+    ToWait,
+}
+
+/// Returns where a replay has parted, and why. What came is of this call.
+pub(super) fn in_words(plan: &Plan, state: &State, came: Came, coming: Option<&Coming>) -> String {
+    let mut words = format!("parted at {}: expected ", place(plan, state.position));
+    if let Some(step) = plan.steps.get(state.position) {
+        words.push_str(&step_in_words(plan, step));
+    }
+    let call = coming.map(|coming| call_in_words(plan, state, coming));
+    let call = call.unwrap_or_default();
+    let _ = match came {
+        Came::Other => write!(words, ", came {call}"),
+        Came::Nothing(limit) => write!(
+            words,
+            ", came nothing for {} ms, while {call} waited",
+            limit.as_millis()
+        ),
+        Came::ToWait => write!(words, ", came the same call, which had to wait"),
+    };
+    words + &of_questions(plan, state, coming)
+}
+
+/// Returns a call that has come. One of a caller whose name the journal doesn't have is told by its place, or else by that of the caller's last call.
+fn call_in_words(plan: &Plan, state: &State, coming: &Coming) -> String {
+    let mut words = format!("`{} {}` on ", coming.word.text(), coming.handle);
+    push_channel(&mut words, plan, coming.channel);
+    push_actor(&mut words, plan, coming.actor);
+    let is_known = plan.has_actor(coming.actor);
+    if !is_known {
+        words.push_str(" by a caller that the journal doesn't have");
+    }
+    let last = state.actors[coming.actor.number() as usize].called_at;
+    match coming.called_at {
+        None if !is_known => push_place(&mut words, ", whose last call was", last),
+        at => push_place(&mut words, "", at),
+    }
+    words
+}
+
+fn push_place(words: &mut String, before: &str, at: CallSite) {
+    if let Some(at) = at {
+        let _ = write!(words, "{before} at {}:{}", at.file(), at.line());
+    }
+}
+
+/// Says what questions without an entry have to do with it: what they return is in no order, and the caller may have gone by it.
+fn of_questions(plan: &Plan, state: &State, coming: Option<&Coming>) -> String {
+    let expected = plan.steps.get(state.position);
+    let expected = expected.map(|step| Actor::of(step.call.actor as usize));
+    let expected = expected.filter(|actor| plan.is_named(*actor));
+    let came = coming.map(|coming| coming.actor);
+    let mut callers = expected.into_iter().chain(came);
+    let asked = callers.find_map(|actor| state.actors[actor.number() as usize].asked);
+    if let Some(asked) = asked {
+        let asked = call_in_words(plan, state, &asked);
+        return format!(
+            "; before that came {asked}, and after `quiet_questions()` no replay orders what it returns"
+        );
+    }
+    let is_question = coming.is_some_and(|coming| coming.word.is_question());
+    match is_question && plan.names.matching.is_quiet {
+        true => "; the journal lacks the questions after `quiet_questions()`".to_string(),
+        false => String::new(),
+    }
+}

@@ -1,0 +1,113 @@
+//! Polls that are held back until all threads sleep. Each test has a process of its own, where no other test runs beside it.
+
+use super::{JOURNAL, NAMES, PATIENT, make_first, plan_of, told};
+use crate::replay::gate::Gate;
+use crate::replay::helper;
+use crate::replay::rest::Rest;
+use std::path::Path;
+use std::process::{Command, Stdio};
+use std::sync::atomic::{AtomicBool, Ordering};
+use std::sync::{Arc, mpsc};
+use std::task::Context;
+use std::time::{Duration, Instant};
+use std::{env, thread};
+
+const ALONE: &str = "YOVANELUM_TEST_ALONE";
+
+/// Returns `true` in a process that runs this test alone. Else it is run in one, and has to succeed there.
+fn is_alone(test: &str) -> bool {
+    if env::var_os(ALONE).is_some() {
+        return true;
+    }
+    let mut alone = Command::new(env::current_exe().unwrap())
+        .args(["--exact", &format!("replay::tests::rest::{test}")])
+        .env(ALONE, "1")
+        .stdout(Stdio::null())
+        .spawn()
+        .unwrap();
+    let began = Instant::now();
+    while alone.try_wait().unwrap().is_none() && began.elapsed() < Duration::from_secs(120) {
+        thread::sleep(Duration::from_millis(5));
+    }
+    let _ = alone.kill();
+    assert!(alone.wait().unwrap().success());
+    false
+}
+
+/// Looks until all are seen to sleep, or for so many times in vain.
+fn is_seen(rest: &mut Rest, times: usize) -> bool {
+    let now = Instant::now();
+    (0..times).any(|_| {
+        thread::yield_now();
+        rest.is_seen(now, &[])
+    })
+}
+
+/// Starts a thread, and returns when it runs.
+fn start(run: impl FnOnce() + Send + 'static) {
+    let (begin, begun) = mpsc::channel();
+    thread::spawn(move || {
+        begin.send(()).unwrap();
+        run();
+    });
+    begun.recv().unwrap();
+}
+
+#[test]
+fn a_poll_is_held_back_no_longer_than_anybody_runs() {
+    if !is_alone("a_poll_is_held_back_no_longer_than_anybody_runs") {
+        return;
+    }
+    let mut gate = Gate::new(
+        Path::new("a/test.journal"),
+        1,
+        plan_of(JOURNAL, NAMES),
+        PATIENT,
+    );
+    gate.hold = PATIENT;
+    let gate = Arc::new(gate);
+    helper::start(&gate).unwrap();
+    let (_, waker, woken) = told();
+    let context = Context::from_waker(&waker);
+    // The turn is that of one without a name, who never comes.
+    make_first(&gate, 3);
+    assert!(gate.holds("audit", None, &context));
+    assert_eq!(woken.recv().unwrap(), "yovanelum-replay");
+    assert!(!gate.holds("audit", None, &context));
+}
+
+#[test]
+fn threads_that_wait_for_each_other_sleep() {
+    if !is_alone("threads_that_wait_for_each_other_sleep") {
+        return;
+    }
+    let mut rest = Rest::new();
+    let (_kept, never) = mpsc::channel::<()>();
+    start(move || {
+        let _ = never.recv();
+    });
+    while !is_seen(&mut rest, 1000) {}
+}
+
+#[test]
+fn a_thread_that_waits_for_a_time_may_go_on() {
+    if !is_alone("a_thread_that_waits_for_a_time_may_go_on") {
+        return;
+    }
+    let mut rest = Rest::new();
+    start(|| thread::sleep(Duration::from_secs(600)));
+    assert!(!is_seen(&mut rest, 1000));
+}
+
+#[test]
+fn a_thread_that_runs_may_go_on() {
+    if !is_alone("a_thread_that_runs_may_go_on") {
+        return;
+    }
+    let mut rest = Rest::new();
+    let is_over = Arc::new(AtomicBool::new(false));
+    let of_thread = is_over.clone();
+    start(move || while !of_thread.load(Ordering::Relaxed) {});
+    assert!(!is_seen(&mut rest, 1000));
+    is_over.store(true, Ordering::Relaxed);
+}
