@@ -113,6 +113,41 @@
 //! The channel then retained the values 1 and 2, and receiver 1 had not received value 0. `rforward` searches forwards, `back`, `forward`
 //! and `goto 4` walk from call to call, and `list` prints all calls.
 //!
+//! # A failing order, found
+//!
+//! Two workers claim a lease that both may see as free. This test passes nearly always:
+//!
+//! ```no_run
+//! use std::sync::Arc;
+//! use std::sync::atomic::{AtomicU32, Ordering};
+//! use std::thread;
+//! use yovanelum::{Recorder, watch};
+//!
+//! let recorder = Recorder::for_test("one_has_the_lease");
+//! let (lease, _rx) = watch::channel(None);
+//! recorder.name(&lease, "lease");
+//! let claims = Arc::new((lease, AtomicU32::new(0)));
+//! let workers = ["ann", "bob"].map(|name| {
+//!     let claims = claims.clone();
+//!     let worker = thread::Builder::new().name(name.to_string());
+//!     worker.spawn(move || {
+//!         if claims.0.borrow().is_none() {
+//!             claims.0.send(Some(name)).unwrap();
+//!             claims.1.fetch_add(1, Ordering::Relaxed);
+//!         }
+//!     })
+//! });
+//! for worker in workers {
+//!     worker.unwrap().join().unwrap();
+//! }
+//! assert_eq!(claims.1.load(Ordering::Relaxed), 1);
+//! ```
+//!
+//! `YOVANELUM_EXPLORE=200 cargo test one_has_the_lease` runs it again and again, each time in another order of its calls, until one fails. The
+//! report names the switch of which it fails: one worker was held after its look and before its send, while the other one made its own. Then
+//! comes the report of a failing test, and the command that brings the failure back. The README beside this source says more, and compares this
+//! with loom and shuttle.
+//!
 //! # Recording
 //!
 //! - [`Recorder::for_test`] records the channels that the test's thread creates. A channel that is created under no recorder is not recorded,

@@ -2,7 +2,7 @@
 
 mod current;
 mod ending;
-mod files;
+pub(crate) mod files;
 mod for_test;
 mod handle;
 mod named;

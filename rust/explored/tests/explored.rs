@@ -51,7 +51,8 @@ programs! {
     tasks: overtaken_router old_price heart_and_monitor config_by_timer told_too_early read_before_await subscribes_after_answer
         job_behind_stop first_of_a_set closed_pool;
     servers: chat acknowledged_too_early chat_on_one_thread;
-    right: paused_clock long_timeout socket spin held_lock nested_closures barrier biased_select join_set blocking_pool;
+    right: paused_clock long_timeout socket spin held_lock nested_closures barrier biased_select join_set blocking_pool
+        many_sends;
 }
 
 /// A program, which is run again in a process of its own.
@@ -82,9 +83,20 @@ impl Program {
 
     /// Explores the program. Returns whether it passes, what it says, and what it writes as JSON.
     pub fn explored(&self, runs: u64, from: &str) -> (bool, String, String) {
+        self.explored_with(&[], runs, from)
+    }
+
+    /// The same, with these variables.
+    pub fn explored_with(
+        &self,
+        variables: &[(&str, &str)],
+        runs: u64,
+        from: &str,
+    ) -> (bool, String, String) {
         let out = self.folder.join("out.json");
         let ran = self
             .command()
+            .envs(variables.iter().copied())
             .env("YOVANELUM_EXPLORE", runs.to_string())
             .env("YOVANELUM_EXPLORE_FROM", from)
             .env("YOVANELUM_EXPLORE_JOBS", "1")
@@ -405,6 +417,46 @@ fn time_never_passes_where_it_may_not() {
         .output()
         .unwrap();
     assert!(ran.status.success(), "{}", said(&ran));
+}
+
+#[test]
+fn no_run_begins_later_than_it_may() {
+    let program = Program::new("double_claim");
+    let ran = program
+        .command()
+        .env("YOVANELUM_EXPLORE", "1000000")
+        .env("YOVANELUM_EXPLORE_SECONDS", "0")
+        .output()
+        .unwrap();
+    let said = said(&ran);
+    assert!(ran.status.success(), "{said}");
+    assert!(
+        said.contains("explored double_claim: all 0 runs passed"),
+        "{said}"
+    );
+}
+
+/// Each takes seconds, since runs and replays hang.
+#[test]
+fn sessions_of_one_test_beside_each_other_keep_their_files() {
+    let journals = std::thread::scope(|scope| {
+        let explored = || {
+            let (passes, said, json) = Program::new("waits_forever").explored(100, "0");
+            assert!(!passes, "{said}");
+            let journal = text(&json, "journal");
+            let replay = said.lines().find(|line| line.starts_with("replay: "));
+            assert!(replay.unwrap().contains(&journal), "no {journal} in {said}");
+            journal
+        };
+        [(); 2]
+            .map(|()| scope.spawn(explored))
+            .map(|session| session.join().unwrap())
+    });
+    assert!(journals[0] != journals[1], "{journals:?}");
+    for journal in journals {
+        let names = fs::read_to_string(Path::new(&journal).with_extension("names")).unwrap();
+        assert!(Path::new(&journal).exists() && names.contains("waits_forever"));
+    }
 }
 
 #[test]

@@ -120,7 +120,7 @@ impl TestProgram {
             By::Order(order) => command
                 .env(ORDER, order.to_string())
                 .env(SCHEDULE, &path)
-                .env(PROCESSOR, processor.to_string()),
+                .env(PROCESSOR, (first_processor() + processor).to_string()),
             By::Journal(journal) => command.env(REPLAY, journal),
         };
         let knows_hangs = matches!(by, By::Order(_));
@@ -164,6 +164,11 @@ impl TestProgram {
             was_ended,
         ))
     }
+}
+
+/// Returns the number of the processor that the first runs of this process use. Sessions beside each other begin at different ones.
+fn first_processor() -> usize {
+    process::id() as usize
 }
 
 impl Drop for TestProgram {
@@ -248,4 +253,23 @@ fn waits_forever(id: u32) -> bool {
         let mut of_test = sleepers.iter().filter(is_of_test).peekable();
         of_test.peek().is_some() && !of_test.any(Sleeper::is_timed)
     })
+}
+
+#[cfg(all(test, not(any(target_family = "wasm", miri))))]
+mod tests {
+    use super::*;
+
+    #[test]
+    fn a_run_that_does_not_end_is_ended_and_says_so() {
+        if env::var_os(SESSION).is_some() {
+            loop {
+                thread::sleep(Duration::from_secs(60));
+            }
+        }
+        let test = "explore::process::tests::a_run_that_does_not_end_is_ended_and_says_so";
+        let program = TestProgram::new(test, crate::temporary::path("no-end")).unwrap();
+        let order = Order::read("s").unwrap();
+        let ran = program.run(&By::Order(&order), 0, Duration::from_millis(100));
+        assert_eq!(ran.unwrap().failure, Some(Failure(NO_END.to_string())));
+    }
 }

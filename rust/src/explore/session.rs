@@ -1,12 +1,14 @@
 //! The test's own process, which runs its program again and again.
 
 use super::process::{By, Ran, TIME_OF_RUN, TestProgram};
+use super::schedule::Schedule;
 use super::search::{Search, Task};
 use super::settings::{From, RUNS, Settings};
 use super::shorten::{Failing, Shortening};
 use super::told::{Counts, Found, Progress};
 use crate::lock::lock;
 use crate::program::Program;
+use crate::recorder::files;
 use crate::replay;
 use std::collections::HashSet;
 use std::path::{Path, PathBuf};
@@ -45,6 +47,7 @@ pub(super) fn explore(name: &str) {
     if !explored.get_or_insert_default().insert(test.clone()) {
         return;
     }
+    files::begin();
     let session = Session::new(name, &test, settings);
     let session =
         session.unwrap_or_else(|error| panic!("yovanelum: {name} isn't explored: {error}"));
@@ -231,12 +234,16 @@ impl Session {
             let order = found.following(&path);
             found.by_schedule = self.tries(&By::Order(&order), &found);
         }
-        if let Some(journal) = journal {
-            self.put(&journal, &failing, &mut found);
+        if let Some(journal) = &journal {
+            self.put(journal, &failing, &mut found);
         }
         let (counts, search) = (lock(&self.counts), lock(&self.search));
         let lines = found.in_words(&self.name, &counts, &search, &failing, took);
-        replay::say(&self.without_folder(&lines, &failing.ran.target));
+        let mut lines = self.without_folder(&lines, &failing.ran.target);
+        if let (Some(named), Some(journal)) = (journal, &found.journal) {
+            lines = with_files_of(journal, &named, lines);
+        }
+        replay::say(&lines);
         found
     }
 
@@ -252,32 +259,17 @@ impl Session {
     /// Puts the files of a run where those of its test are. The schedule is among them where it brings the failure back more often than the
     /// journal.
     fn put(&self, journal: &Path, failing: &Failing, found: &mut Found) {
-        let target = &Program::this().target_folder;
         let Ok(below) = journal.strip_prefix(&failing.ran.target) else {
             return;
         };
-        let put = target.join(below);
-        let moved = put.parent().map_or(Ok(()), fs::create_dir_all);
-        let moved = moved.and_then(|()| {
-            for extension in ["journal", "names", "html"] {
-                let from = journal.with_extension(extension);
-                if from.exists() {
-                    fs::rename(from, put.with_extension(extension))?;
-                }
+        let path = Program::this().target_folder.join(below);
+        let is_better = found.by_schedule > found.by_journal;
+        match replace(&path, journal, is_better.then_some(&failing.schedule)) {
+            Ok(path) => {
+                found.schedule = is_better.then(|| path.with_extension("schedule"));
+                found.journal = Some(path);
             }
-            let text = fs::read_to_string(&put)?;
-            let schedule = put.with_extension("schedule");
-            if found.by_schedule > found.by_journal {
-                fs::write(&schedule, failing.schedule.text_beside(&text))?;
-                found.schedule = Some(schedule);
-            } else if schedule.exists() {
-                fs::remove_file(&schedule)?;
-            }
-            Ok(())
-        });
-        match moved {
-            Ok(()) => found.journal = Some(put),
-            Err(error) => replay::say(&format!("{} isn't written: {error}", put.display())),
+            Err(error) => replay::say(&format!("{} isn't written: {error}", path.display())),
         }
     }
 
@@ -289,6 +281,42 @@ impl Session {
             Some(part) => lines.replace(&format!("{}/", part.display()), ""),
             None => lines.to_string(),
         }
+    }
+}
+
+/// Replaces the files of a test, of which this is the journal, by those of a run with another one. Returns the journal that was written.
+fn replace(path: &Path, of_run: &Path, schedule: Option<&Schedule>) -> io::Result<PathBuf> {
+    let beside = |extension| match fs::read(of_run.with_extension(extension)) {
+        Err(error) if error.kind() == io::ErrorKind::NotFound => Ok(None),
+        read => read.map(Some),
+    };
+    let journal = fs::read_to_string(of_run)?;
+    let (names, page) = (beside("names")?, beside("html")?);
+    let schedule = schedule.map(|schedule| schedule.text_beside(&journal));
+    files::replace(
+        path,
+        &[
+            ("journal", Some(journal.as_bytes())),
+            ("names", names.as_deref()),
+            ("html", page.as_deref()),
+            ("schedule", schedule.as_deref().map(str::as_bytes)),
+        ],
+    )
+}
+
+/// Returns lines in which the files of a test are those of this journal, which may be another one than they say.
+fn with_files_of(journal: &Path, named: &Path, lines: String) -> String {
+    let stem = |path: &Path| Some(path.file_stem()?.to_string_lossy().into_owned());
+    match (stem(named), stem(journal)) {
+        (Some(before), Some(own)) if before != own => {
+            ["journal", "html"].iter().fold(lines, |lines, extension| {
+                lines.replace(
+                    &format!("/{before}.{extension}"),
+                    &format!("/{own}.{extension}"),
+                )
+            })
+        }
+        _ => lines,
     }
 }
 

@@ -16,6 +16,10 @@ use std::path::{Path, PathBuf};
 use std::sync::Mutex;
 use std::time::{Duration, Instant};
 
+/// What is said where the system doesn't tell who sleeps.
+const BY_CLOCK: &str =
+    "threads were taken to sleep by a clock, so a seed or an order may not come back";
+
 /// How many runs were made, and what they were.
 #[derive(Default)]
 pub(super) struct Counts {
@@ -100,9 +104,7 @@ impl Counts {
             );
         }
         if self.by_clock {
-            text.push_str(
-                "; threads were taken to sleep by a clock, so an order may not come back",
-            );
+            let _ = write!(text, "; {BY_CLOCK}");
         }
         text.push_str(
             "\n  not chosen: tasks without a name, and what happens between two calls or polls: atomics, locks, other channels",
@@ -265,6 +267,9 @@ impl Found {
             "  the journal brings it back {} of 10, the schedule {} of 10",
             self.by_journal, self.by_schedule
         );
+        if failing.schedule.by_clock {
+            let _ = writeln!(text, "  {BY_CLOCK}");
+        }
         text.push_str(&failing.ran.said);
         let _ = write!(text, "again:  {}", self.again(name, &failing.ran.said));
         text

@@ -5,7 +5,7 @@ mod name;
 mod own;
 
 pub(super) use name::file_name;
-pub(super) use own::begin;
+pub(crate) use own::begin;
 
 use crate::explore;
 use crate::program::Program;
@@ -16,7 +16,7 @@ use std::sync::atomic::{AtomicU64, Ordering};
 use std::{fs, io, process};
 
 /// What each file of a test is: what its name ends with, and its bytes. `None` stands for a file that is to be gone.
-pub(super) type Files<'a> = [(&'a str, Option<&'a [u8]>)];
+pub(crate) type Files<'a> = [(&'a str, Option<&'a [u8]>)];
 
 /// Returns the folder for the files of the tests of this program. No other program of the build has the same.
 pub(super) fn folder() -> PathBuf {
@@ -37,7 +37,7 @@ pub(super) fn folder() -> PathBuf {
 /// # Errors
 ///
 /// Returns an error if a file or the folder can't be written.
-pub(super) fn replace(path: &Path, files: &Files<'_>) -> io::Result<PathBuf> {
+pub(crate) fn replace(path: &Path, files: &Files<'_>) -> io::Result<PathBuf> {
     path.parent().map_or(Ok(()), fs::create_dir_all)?;
     let written: io::Result<Vec<_>> = files
         .iter()

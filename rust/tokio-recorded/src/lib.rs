@@ -1,13 +1,17 @@
 //! tokio, with [`sync::broadcast`] and [`sync::watch`] recorded by yovanelum.
 //!
 //! Everything else is tokio's own, but the [`runtime::Runtime`] and its builder: their threads follow the test, and their tasks have a number each
-//! in its journal. Tasks of [`spawn`] are seen where a test is explored. Types, functions and macros are re-exported, and so is what a later version
-//! adds.
+//! in its journal. What spawns tasks is wrapped too ([`spawn`], a runtime and its handle, and sets of tasks), so that they are seen where a test is
+//! explored. Types, functions and macros are re-exported, and so is what a later version adds.
 
 pub use real_tokio::*;
 
 #[cfg(all(feature = "rt", feature = "sync"))]
+mod handle;
+#[cfg(all(feature = "rt", feature = "sync"))]
 pub mod runtime;
+#[cfg(all(feature = "rt", feature = "sync"))]
+mod sets;
 #[cfg(all(feature = "rt", feature = "sync"))]
 mod spawning;
 #[cfg(all(feature = "rt", feature = "sync"))]
@@ -16,9 +20,10 @@ mod tasks;
 #[cfg(all(feature = "rt", feature = "sync"))]
 pub use spawning::spawn;
 
-/// tokio's `task`, with functions that spawn tasks which are seen where a test is explored.
+/// tokio's `task`, with functions and sets that spawn tasks which are seen where a test is explored.
 #[cfg(all(feature = "rt", feature = "sync"))]
 pub mod task {
+    pub use crate::sets::{JoinSet, LocalSet};
     pub use crate::spawning::{spawn, spawn_local};
     pub use real_tokio::task::*;
 }

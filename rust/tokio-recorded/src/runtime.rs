@@ -4,10 +4,14 @@
 //! the threads of its runtime too, where its tasks run. Tasks without a name are told apart by their ids, where this tokio has `task::try_id`. An
 //! older one, as 1.24, has it under `--cfg tokio_unstable` alone.
 
+pub use crate::handle::Handle;
 pub use real_tokio::runtime::*;
 
+use crate::spawning::seen;
 use crate::tasks;
 use real_tokio::runtime as theirs;
+use real_tokio::task::JoinHandle;
+use std::future::Future;
 use std::io;
 use std::ops::{Deref, DerefMut};
 use std::time::Duration;
@@ -85,7 +89,9 @@ impl Builder {
 
     /// As tokio's own.
     pub fn build(&mut self) -> io::Result<Runtime> {
-        self.0.build().map(Runtime)
+        let runtime = self.0.build()?;
+        let handle = Handle(runtime.handle().clone());
+        Ok(Runtime { runtime, handle })
     }
 }
 
@@ -105,7 +111,10 @@ impl DerefMut for Builder {
 
 /// tokio's runtime. Its threads have the recorder that is entered on the thread which has built it. It dereferences to tokio's own.
 #[derive(Debug)]
-pub struct Runtime(theirs::Runtime);
+pub struct Runtime {
+    runtime: theirs::Runtime,
+    handle: Handle,
+}
 
 impl Runtime {
     /// As tokio's own.
@@ -115,13 +124,28 @@ impl Runtime {
     }
 
     /// As tokio's own.
+    pub fn handle(&self) -> &Handle {
+        &self.handle
+    }
+
+    /// As tokio's own.
+    #[track_caller]
+    pub fn spawn<F>(&self, future: F) -> JoinHandle<F::Output>
+    where
+        F: Future + Send + 'static,
+        F::Output: Send + 'static,
+    {
+        seen!(future => self.runtime.spawn(future))
+    }
+
+    /// As tokio's own.
     pub fn shutdown_timeout(self, duration: Duration) {
-        self.0.shutdown_timeout(duration);
+        self.runtime.shutdown_timeout(duration);
     }
 
     /// As tokio's own.
     pub fn shutdown_background(self) {
-        self.0.shutdown_background();
+        self.runtime.shutdown_background();
     }
 }
 
@@ -129,12 +153,12 @@ impl Deref for Runtime {
     type Target = theirs::Runtime;
 
     fn deref(&self) -> &theirs::Runtime {
-        &self.0
+        &self.runtime
     }
 }
 
 impl DerefMut for Runtime {
     fn deref_mut(&mut self) -> &mut theirs::Runtime {
-        &mut self.0
+        &mut self.runtime
     }
 }

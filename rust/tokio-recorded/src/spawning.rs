@@ -2,7 +2,22 @@
 
 use real_tokio::task::{self, JoinHandle};
 use std::future::Future;
-use yovanelum::{explored, is_explored};
+
+/// Spawns a future by a method of tokio's. Where a test is explored, it is wrapped before: its polls are chosen then. It is for functions that track
+/// their caller, whose place tells the task from others.
+macro_rules! seen {
+    ($future:ident => $spawn:expr) => {
+        match yovanelum::is_explored() {
+            true => {
+                let $future = yovanelum::explored($future);
+                $spawn
+            }
+            false => $spawn,
+        }
+    };
+}
+
+pub(crate) use seen;
 
 /// As tokio's own.
 #[track_caller]
@@ -11,10 +26,7 @@ where
     F: Future + Send + 'static,
     F::Output: Send + 'static,
 {
-    match is_explored() {
-        true => task::spawn(explored(future)),
-        false => task::spawn(future),
-    }
+    seen!(future => task::spawn(future))
 }
 
 /// As tokio's own.
@@ -24,8 +36,5 @@ where
     F: Future + 'static,
     F::Output: 'static,
 {
-    match is_explored() {
-        true => task::spawn_local(explored(future)),
-        false => task::spawn_local(future),
-    }
+    seen!(future => task::spawn_local(future))
 }

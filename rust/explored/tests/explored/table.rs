@@ -134,6 +134,22 @@ fn the_right_programs() {
     println!("load {}", load());
 }
 
+/// How long a step takes in which one is let go: what longer runs take longer, by what they have more steps.
+#[test]
+#[ignore = "it is a measurement"]
+fn what_a_choice_costs() {
+    let program = Program::new("many_sends");
+    let took = |sends: &str| {
+        let began = Instant::now();
+        let (passes, said, json) = program.explored_with(&[("SENDS", sends)], 100, "1");
+        assert!(passes, "{said}");
+        (began.elapsed().as_secs_f64(), number(&json, "steps") as f64)
+    };
+    let (short, long) = (took("10"), took("510"));
+    let microseconds = (long.0 - short.0) / (long.1 - short.1) * 1e6;
+    println!("load {}: {microseconds:.1} microseconds a step", load());
+}
+
 /// The variables by which the session tells a run its order, and where to write its schedule.
 #[test]
 #[ignore = "it takes minutes"]

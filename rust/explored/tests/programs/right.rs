@@ -217,3 +217,18 @@ pub fn blocking_pool() {
         assert_eq!(ended(blocking).await, 22);
     });
 }
+
+/// Two threads that send as often as the variable says, or ten times.
+pub fn many_sends() {
+    let sends = std::env::var("SENDS").map_or(10, |sends| sends.parse().unwrap());
+    let (bus, _rx) = broadcast::channel(4);
+    let senders = ["a", "b"].map(|name| {
+        let bus = bus.clone();
+        spawn(name, move || {
+            for number in 0..sends {
+                bus.send(number).unwrap();
+            }
+        })
+    });
+    let _ = senders.map(joined);
+}

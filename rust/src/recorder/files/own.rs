@@ -20,7 +20,7 @@ static BEGAN: OnceLock<SystemTime> = OnceLock::new();
 static OWN: Mutex<BTreeMap<PathBuf, PathBuf>> = Mutex::new(BTreeMap::new());
 
 /// Notes that a test begins.
-pub(in crate::recorder) fn begin() {
+pub(crate) fn begin() {
     // A system without files may have no clock, and to ask for its time would panic.
     if !cfg!(target_os = "unknown") {
         BEGAN.get_or_init(SystemTime::now);
