@@ -14,6 +14,7 @@ mod json;
 mod losses;
 mod naming;
 mod rest;
+mod saying;
 #[cfg(test)]
 mod tests;
 mod unknown;
@@ -23,6 +24,7 @@ mod watches;
 
 pub(crate) use fact::{Fact, Role, Step};
 pub(crate) use rest::Rest;
+pub(crate) use saying::Saying;
 pub(crate) use waits::Wait;
 
 use crate::names::Names;

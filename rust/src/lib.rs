@@ -202,6 +202,7 @@ pub mod broadcast;
 mod channel;
 mod command;
 mod cut;
+pub mod debugger;
 mod explore;
 #[doc(hidden)]
 pub mod given;

@@ -21,10 +21,13 @@ const VERSION: u64 = 3;
 
 /// A location in a source: the file as the compiler was given it, with the line and the column, which count from 1.
 #[derive(Clone, Debug, PartialEq, Eq)]
-pub(crate) struct SourceLocation {
-    pub(crate) file: String,
-    pub(crate) line: u32,
-    pub(crate) column: u32,
+pub struct SourceLocation {
+    /// The file.
+    pub file: String,
+    /// The line.
+    pub line: u32,
+    /// The column.
+    pub column: u32,
 }
 
 impl From<&Location<'_>> for SourceLocation {

@@ -97,6 +97,22 @@ impl Reply {
         }
     }
 
+    /// The number that it carries, if it does.
+    pub(crate) fn number(self) -> Option<u64> {
+        match self {
+            Reply::Sent(number)
+            | Reply::NoReceivers(number)
+            | Reply::Value(number)
+            | Reply::Lagged(number)
+            | Reply::New(number)
+            | Reply::Count(number)
+            | Reply::Old(number)
+            | Reply::Told(number)
+            | Reply::Flag(number) => Some(number),
+            _ => None,
+        }
+    }
+
     /// Whether a call that is recorded has left an entry, of which this is the reply.
     #[cfg_attr(debug_assertions, inline(never))]
     #[cfg_attr(not(debug_assertions), inline)]

@@ -47,6 +47,11 @@ impl Report {
         Account::on(run, names).map(Report)
     }
 
+    /// Makes the report of an account.
+    pub(crate) fn of(account: Account) -> Report {
+        Report(account)
+    }
+
     /// The account that it prints.
     pub(crate) fn account(&self) -> &Account {
         &self.0

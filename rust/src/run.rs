@@ -3,7 +3,7 @@
 //! A place is a number of entries: at place 3 the first three calls have been made.
 
 #[cfg(test)]
-mod tests;
+pub(crate) mod tests;
 
 pub(crate) use crate::source::rw_recording::{
     Closing, Counts, Findings, LateReader, Loss, LossEnd, Spec, TextFault, Totals,
@@ -12,6 +12,7 @@ pub(crate) use crate::source::rw_recording::{
 use crate::reply::Reply;
 use crate::shim::alloc::Global;
 use crate::source::rw_law::{self, NoMemory};
+use crate::source::rw_navigator::Debugger;
 use crate::source::rw_recording::{self, ChanCall, World};
 use crate::source::rw_text;
 use crate::word::Word;
@@ -33,7 +34,7 @@ pub(crate) struct Entry {
 }
 
 impl Entry {
-    fn of(entry: &rw_law::Entry<World<u64>>) -> Entry {
+    pub(crate) fn of(entry: &rw_law::Entry<World<u64>>) -> Entry {
         let call = &entry.call.call;
         Entry {
             stamp: entry.stamp,
@@ -82,6 +83,25 @@ impl Run {
     /// Returns the first fault of the text, as `ttd check` does.
     pub(crate) fn read(text: &[u8]) -> Result<Run, TextFault> {
         rw_text::read(Global, text).map(Run)
+    }
+
+    /// Reads the run of a journal text that may have been cut off. Returns also how many bytes its whole lines have.
+    ///
+    /// # Errors
+    ///
+    /// Returns the first fault of the text, if it isn't only cut off.
+    pub(crate) fn salvage(text: &[u8]) -> Result<(Run, usize), TextFault> {
+        let (run, bytes) = rw_text::salvage(Global, text)?;
+        Ok((Run(run), bytes as usize))
+    }
+
+    /// Opens the debugger of a copy of the run, at place 0.
+    ///
+    /// # Errors
+    ///
+    /// Returns `NoMemory` if there is none for the copy.
+    pub(crate) fn debugger(&self) -> Result<Debugger<u64>, TextFault> {
+        Debugger::open(Global, &self.0).map_err(|NoMemory| TextFault::NoMemory)
     }
 
     /// Returns what is found in the run.

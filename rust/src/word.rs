@@ -148,4 +148,24 @@ impl Word {
         let found = TEXTS.iter().find(|(word, _)| *word == self);
         found.map_or("", |(_, text)| text)
     }
+
+    /// Returns tokio's name of the method. A drop isn't one.
+    pub(crate) fn method(self) -> &'static str {
+        match self {
+            Word::SendReplace => "send_replace",
+            Word::Modify => "send_modify",
+            Word::CloneSender | Word::CloneReceiver | Word::CloneWeak => "clone",
+            Word::TryRecv => "try_recv",
+            Word::Update => "borrow_and_update",
+            Word::WaitFor => "wait_for",
+            Word::HasChanged => "has_changed",
+            Word::MarkChanged => "mark_changed",
+            Word::MarkUnchanged => "mark_unchanged",
+            Word::SenderLen | Word::ReceiverLen => "len",
+            Word::ReceiverCount => "receiver_count",
+            Word::NoReceiver => "closed",
+            Word::IsClosed => "is_closed",
+            word => word.text(),
+        }
+    }
 }

@@ -5,8 +5,7 @@
 use super::fact::{Fact, Role, Step};
 use super::{Context, visible};
 use crate::names::Json;
-use crate::run::{Counts, Entry, Totals};
-use crate::word::Word;
+use crate::run::{Counts, Totals};
 use std::cmp::Reverse;
 
 /// What a receiver never did with some of the changes that came to it.
@@ -131,22 +130,11 @@ fn step(context: &Context<'_>, place: u64, role: Role) -> Step {
     let naming = context.naming;
     let entry = context.run.entry(place);
     let value = entry.value.map(|value| naming.value(entry.channel, value));
-    let method = method_of(context, place, &entry);
+    let method = context.naming.word(place, &entry).method();
     let what = format!("{method}({})", value.unwrap_or_default());
     let said = match role {
         Role::Look => format!("its last look: {}", naming.returned(&entry)),
         _ => role.sentence().to_string(),
     };
     context.step(place, role, naming.method(entry.channel, &what), said)
-}
-
-/// Returns the method that a call's word stands for.
-fn method_of(context: &Context<'_>, place: u64, entry: &Entry) -> &'static str {
-    match context.naming.word(place, entry) {
-        Word::SendReplace => "send_replace",
-        Word::Modify => "send_modify",
-        Word::Update => "borrow_and_update",
-        Word::WaitFor => "wait_for",
-        other => other.text(),
-    }
 }

@@ -10,7 +10,7 @@ use model::Model;
 use std::process::Command;
 
 /// How many random runs are made: 1,000, or as many as the variable `YOVANELUM_RUNS` says.
-fn runs() -> u64 {
+pub(crate) fn runs() -> u64 {
     match std::env::var("YOVANELUM_RUNS") {
         Ok(wanted) => wanted.parse().unwrap(),
         Err(_) if cfg!(miri) => 20,
@@ -19,10 +19,10 @@ fn runs() -> u64 {
 }
 
 /// Random numbers from a seed (xorshift64*).
-struct Random(u64);
+pub(crate) struct Random(u64);
 
 impl Random {
-    fn below(&mut self, n: u32) -> u32 {
+    pub(crate) fn below(&mut self, n: u32) -> u32 {
         self.0 ^= self.0 >> 12;
         self.0 ^= self.0 << 25;
         self.0 ^= self.0 >> 27;
@@ -96,12 +96,12 @@ fn text_of(channels: &[Recording], last: u64) -> String {
 }
 
 /// Returns random numbers for a run.
-fn random_of(seed: u64) -> Random {
+pub(crate) fn random_of(seed: u64) -> Random {
     Random(seed.wrapping_mul(0x9E37_79B9_7F4A_7C15) | 1)
 }
 
 /// Returns the journal text of random calls.
-fn random_journal(seed: u64) -> String {
+pub(crate) fn random_journal(seed: u64) -> String {
     text_of(&random_channels(&mut random_of(seed)), u64::MAX)
 }
 

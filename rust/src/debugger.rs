@@ -1,0 +1,305 @@
+//! A recorded run as a debugger holds it: it is at a place, goes to others, and is asked what the channels were there.
+//!
+//! Place n is the run after its first n calls. At each place the channels are what tokio documents after these calls, whatever moves led there.
+//! That is proved of the core, which `ttd` walks by too. A step by one place takes the time of one call, and allocates nothing.
+//!
+//! ```
+//! use yovanelum::debugger::{Channel, Condition, Walk};
+//!
+//! let journal = "ttd-journal 2\nbroadcast 2\nsteps\n\
+//!     1 0 0 send 0 0 = sent 1\n2 0 0 send 0 1 = sent 1\n3 0 0 send 0 2 = sent 1\n4 0 0 try-recv 1 = lagged 1\nend\n";
+//! let mut walk = Walk::open(journal.as_bytes())?;
+//! // Which call made receiver 1 of channel 0 lag?
+//! assert_eq!(walk.find_back(&Condition::lagging(0, 1)), Some(3));
+//! assert_eq!(walk.entry(3).unwrap().to_string(), "3 0 0 send 0 2 = sent 1");
+//! let Some(Channel::Broadcast(prices)) = walk.channel(0) else {
+//!     unreachable!()
+//! };
+//! assert_eq!(prices.window().collect::<Vec<_>>(), [1, 2]);
+//! assert_eq!(prices.receiver(1).unwrap().lag, 1);
+//! # Ok::<(), yovanelum::debugger::Fault>(())
+//! ```
+
+mod channel;
+mod condition;
+mod entry;
+mod fault;
+#[doc(hidden)]
+pub mod recorded;
+mod state;
+#[cfg(test)]
+mod tests;
+
+pub use channel::{Broadcast, BroadcastReceiver, Channel, Watch, WatchReceiver};
+pub use condition::{Condition, NoCondition};
+pub use entry::Entry;
+pub use fault::Fault;
+pub use state::State;
+
+use crate::run::Run;
+use crate::source::rw_navigator::{Debugger, Move};
+use std::fmt;
+
+/// A run, and a place in it.
+pub struct Walk {
+    debugger: Debugger<u64>,
+}
+
+impl Walk {
+    /// Opens the run of a journal text, at its last place. All memory that the walk will need is allocated here.
+    ///
+    /// # Errors
+    ///
+    /// Returns the first fault of the text, as `ttd check` does, or that there is no memory.
+    ///
+    /// ```
+    /// use yovanelum::debugger::Walk;
+    ///
+    /// let journal = "ttd-journal 2\nbroadcast 2\nsteps\n1 0 0 send 0 0 = sent 1\nend\n";
+    /// assert_eq!(Walk::open(journal.as_bytes())?.place(), 1);
+    /// let wrong = journal.replace("sent 1", "sent 2");
+    /// let fault = Walk::open(wrong.as_bytes()).unwrap_err();
+    /// assert_eq!(fault.to_string(), "journal fault wrong-reply 4");
+    /// assert_eq!(fault.line(), Some(4));
+    /// # Ok::<(), yovanelum::debugger::Fault>(())
+    /// ```
+    pub fn open(text: &[u8]) -> Result<Walk, Fault> {
+        Walk::over(&Run::read(text).map_err(Fault)?)
+    }
+
+    /// Opens the run of a journal text that may have been cut off, as it is where a program was killed: the calls of its whole lines.
+    /// Returns also how many bytes these lines have.
+    ///
+    /// # Errors
+    ///
+    /// Returns the first fault of the text, if it isn't only cut off, or that there is no memory.
+    ///
+    /// ```
+    /// use yovanelum::debugger::Walk;
+    ///
+    /// let cut_off = "ttd-journal 2\nbroadcast 2\nsteps\n1 0 0 send 0 0 = sent 1\n2 0 0 se";
+    /// assert!(Walk::open(cut_off.as_bytes()).unwrap_err().is_cut_off());
+    /// let (walk, bytes) = Walk::salvage(cut_off.as_bytes())?;
+    /// assert_eq!((walk.len(), bytes), (1, cut_off.len() - "2 0 0 se".len()));
+    /// # Ok::<(), yovanelum::debugger::Fault>(())
+    /// ```
+    pub fn salvage(text: &[u8]) -> Result<(Walk, usize), Fault> {
+        let (run, bytes) = Run::salvage(text).map_err(Fault)?;
+        Ok((Walk::over(&run)?, bytes))
+    }
+
+    /// Opens a run at its last place, with a copy of it.
+    fn over(run: &Run) -> Result<Walk, Fault> {
+        let mut debugger = run.debugger().map_err(Fault)?;
+        let _ = debugger.step(Move::End);
+        Ok(Walk { debugger })
+    }
+
+    /// How many calls the run has. This is also the last place.
+    ///
+    /// ```
+    /// # use yovanelum::debugger::Walk;
+    /// # let journal = "ttd-journal 2\nbroadcast 2\nsteps\n1 0 0 send 0 0 = sent 1\nend\n";
+    /// # let walk = Walk::open(journal.as_bytes())?;
+    /// assert_eq!(walk.len(), 1);
+    /// # Ok::<(), yovanelum::debugger::Fault>(())
+    /// ```
+    pub fn len(&self) -> u64 {
+        self.debugger.len()
+    }
+
+    /// Whether the run has no call.
+    ///
+    /// ```
+    /// # use yovanelum::debugger::Walk;
+    /// let journal = "ttd-journal 2\nbroadcast 2\nsteps\nend\n";
+    /// assert!(Walk::open(journal.as_bytes())?.is_empty());
+    /// # Ok::<(), yovanelum::debugger::Fault>(())
+    /// ```
+    pub fn is_empty(&self) -> bool {
+        self.debugger.is_empty()
+    }
+
+    /// The place that the walk is at: how many calls have been made.
+    ///
+    /// ```
+    /// # use yovanelum::debugger::Walk;
+    /// # let journal = "ttd-journal 2\nbroadcast 2\nsteps\n1 0 0 send 0 0 = sent 1\nend\n";
+    /// let mut walk = Walk::open(journal.as_bytes())?;
+    /// walk.back();
+    /// assert_eq!(walk.place(), 0);
+    /// # Ok::<(), yovanelum::debugger::Fault>(())
+    /// ```
+    pub fn place(&self) -> u64 {
+        self.debugger.place()
+    }
+
+    /// Goes to a place. Returns `false` if there is none of this number, and stays where it is.
+    ///
+    /// It makes or takes back each call on the way.
+    ///
+    /// ```
+    /// # use yovanelum::debugger::Walk;
+    /// # let journal = "ttd-journal 2\nbroadcast 2\nsteps\n1 0 0 send 0 0 = sent 1\nend\n";
+    /// let mut walk = Walk::open(journal.as_bytes())?;
+    /// assert!(walk.go_to(0));
+    /// assert!(!walk.go_to(2));
+    /// assert_eq!(walk.place(), 0);
+    /// # Ok::<(), yovanelum::debugger::Fault>(())
+    /// ```
+    pub fn go_to(&mut self, place: u64) -> bool {
+        self.debugger.step(Move::Goto(place)).is_ok()
+    }
+
+    /// Goes back by one place: the last call is taken back. Returns `false` at place 0, and stays there.
+    ///
+    /// ```
+    /// # use yovanelum::debugger::Walk;
+    /// # let journal = "ttd-journal 2\nbroadcast 2\nsteps\n1 0 0 send 0 0 = sent 1\nend\n";
+    /// let mut walk = Walk::open(journal.as_bytes())?;
+    /// assert!(walk.back());
+    /// assert!(!walk.back());
+    /// # Ok::<(), yovanelum::debugger::Fault>(())
+    /// ```
+    pub fn back(&mut self) -> bool {
+        self.debugger.step(Move::Back(1)).is_ok()
+    }
+
+    /// Goes on by one place: the next call is made. Returns `false` at the last place, and stays there.
+    ///
+    /// ```
+    /// # use yovanelum::debugger::Walk;
+    /// # let journal = "ttd-journal 2\nbroadcast 2\nsteps\n1 0 0 send 0 0 = sent 1\nend\n";
+    /// let mut walk = Walk::open(journal.as_bytes())?;
+    /// walk.go_to(0);
+    /// assert!(walk.forward());
+    /// assert!(!walk.forward());
+    /// # Ok::<(), yovanelum::debugger::Fault>(())
+    /// ```
+    pub fn forward(&mut self) -> bool {
+        self.debugger.step(Move::Forward(1)).is_ok()
+    }
+
+    /// Returns the entry of the call that leads to a place, wherever the walk is. No call leads to place 0.
+    ///
+    /// ```
+    /// # use yovanelum::debugger::Walk;
+    /// # let journal = "ttd-journal 2\nbroadcast 2\nsteps\n1 0 0 send 0 0 = sent 1\nend\n";
+    /// # let walk = Walk::open(journal.as_bytes())?;
+    /// assert_eq!(walk.entry(1).unwrap().call(), "send");
+    /// assert!(walk.entry(0).is_none());
+    /// assert!(walk.entry(2).is_none());
+    /// # Ok::<(), yovanelum::debugger::Fault>(())
+    /// ```
+    pub fn entry(&self, place: u64) -> Option<Entry> {
+        self.debugger.entry(place.checked_sub(1)?).map(Entry::of)
+    }
+
+    /// Goes back to the nearest hit of a condition before the place, and returns it. Without one it stays where it is.
+    ///
+    /// ```
+    /// # use yovanelum::debugger::{Condition, Walk};
+    /// # let journal = "ttd-journal 2\nbroadcast 2\nsteps\n1 0 0 send 0 0 = sent 1\n2 0 0 recv 1 = value 0\nend\n";
+    /// let mut walk = Walk::open(journal.as_bytes())?;
+    /// assert_eq!(walk.find_back(&Condition::unread(0, 1, 1)), Some(1));
+    /// assert_eq!(walk.find_back(&Condition::unread(0, 1, 1)), None);
+    /// assert_eq!(walk.place(), 1);
+    /// # Ok::<(), yovanelum::debugger::Fault>(())
+    /// ```
+    pub fn find_back(&mut self, condition: &Condition) -> Option<u64> {
+        self.debugger.back_to(&condition.0)
+    }
+
+    /// Goes on to the nearest hit of a condition after the place, and returns it. Without one it stays where it is.
+    ///
+    /// ```
+    /// # use yovanelum::debugger::{Condition, Walk};
+    /// # let journal = "ttd-journal 2\nbroadcast 2\nsteps\n1 0 0 send 0 0 = sent 1\n2 0 0 recv 1 = value 0\nend\n";
+    /// let mut walk = Walk::open(journal.as_bytes())?;
+    /// walk.go_to(0);
+    /// assert_eq!(walk.find_forward(&Condition::actor(0)), Some(1));
+    /// assert_eq!(walk.find_forward(&Condition::actor(0)), Some(2));
+    /// assert_eq!(walk.find_forward(&Condition::actor(0)), None);
+    /// # Ok::<(), yovanelum::debugger::Fault>(())
+    /// ```
+    pub fn find_forward(&mut self, condition: &Condition) -> Option<u64> {
+        self.debugger.forward_to(&condition.0)
+    }
+
+    /// Counts the hits of a condition from the start to the place, with the place itself. The walk is at the same place then.
+    ///
+    /// It makes the calls up to there again.
+    ///
+    /// ```
+    /// # use yovanelum::debugger::{Condition, Walk};
+    /// # let journal = "ttd-journal 2\nbroadcast 2\nsteps\n1 0 0 send 0 0 = sent 1\n2 0 0 recv 1 = value 0\nend\n";
+    /// let mut walk = Walk::open(journal.as_bytes())?;
+    /// assert_eq!(walk.hits_so_far(&Condition::actor(0)), 2);
+    /// walk.back();
+    /// assert_eq!(walk.hits_so_far(&Condition::actor(0)), 1);
+    /// # Ok::<(), yovanelum::debugger::Fault>(())
+    /// ```
+    pub fn hits_so_far(&mut self, condition: &Condition) -> u64 {
+        let here = self.place();
+        let mut hits = 0;
+        self.go_to(0);
+        while self.find_forward(condition).is_some_and(|hit| hit <= here) {
+            hits += 1;
+        }
+        self.go_to(here);
+        hits
+    }
+
+    /// How many channels the run has. They have the numbers from 0 on.
+    ///
+    /// ```
+    /// # use yovanelum::debugger::Walk;
+    /// let journal = "ttd-journal 2\nbroadcast 2\nwatch 0\nsteps\nend\n";
+    /// assert_eq!(Walk::open(journal.as_bytes())?.channels(), 2);
+    /// # Ok::<(), yovanelum::debugger::Fault>(())
+    /// ```
+    pub fn channels(&self) -> u32 {
+        self.debugger.specs().len() as u32
+    }
+
+    /// Returns a channel as it is at the place, or `None` if there is none of this number.
+    ///
+    /// ```
+    /// # use yovanelum::debugger::{Channel, Walk};
+    /// let journal = "ttd-journal 2\nwatch 0\nsteps\n1 0 0 send 0 1 = stored\nend\n";
+    /// let walk = Walk::open(journal.as_bytes())?;
+    /// let Some(Channel::Watch(level)) = walk.channel(0) else {
+    ///     unreachable!()
+    /// };
+    /// assert_eq!(level.value(), 1);
+    /// # Ok::<(), yovanelum::debugger::Fault>(())
+    /// ```
+    #[inline]
+    pub fn channel(&self, channel: u32) -> Option<Channel<'_>> {
+        let machine = self.debugger.state().channel(channel as usize)?;
+        Some(Channel::of(machine))
+    }
+
+    /// Returns what all channels are at the place, to be printed as the console's `state` prints it.
+    ///
+    /// ```
+    /// # use yovanelum::debugger::Walk;
+    /// let journal = "ttd-journal 2\nbroadcast 2\nsteps\n1 0 0 send 0 0 = sent 1\nend\n";
+    /// let walk = Walk::open(journal.as_bytes())?;
+    /// let wanted = "place 1 of 1\nchannel 0 broadcast capacity 2 sent 1 queued 1 made 2 open\n\
+    ///     window 0\nsenders 0\nreceiver 1 position 0 unread 1 lag 0\n";
+    /// assert_eq!(walk.state().to_string(), wanted);
+    /// # Ok::<(), yovanelum::debugger::Fault>(())
+    /// ```
+    pub fn state(&self) -> State<'_> {
+        State(self)
+    }
+}
+
+impl fmt::Debug for Walk {
+    fn fmt(&self, f: &mut fmt::Formatter<'_>) -> fmt::Result {
+        let mut walk = f.debug_struct("Walk");
+        walk.field("place", &self.place()).field("len", &self.len());
+        walk.finish_non_exhaustive()
+    }
+}

@@ -1,0 +1,60 @@
+//! Why a journal text is refused.
+
+use crate::run::{self, TextFault};
+use std::error::Error;
+use std::fmt;
+
+/// The first fault of a journal text, or that there was no memory. Its text is that of `ttd check`.
+///
+/// ```
+/// use yovanelum::debugger::Walk;
+///
+/// let fault = Walk::open(b"ttd-journal 2\nsteps\nend\n").unwrap_err();
+/// assert_eq!(fault.to_string(), "journal fault malformed 2");
+/// ```
+#[derive(Clone, Copy, PartialEq, Eq)]
+pub struct Fault(pub(super) TextFault);
+
+impl Fault {
+    /// The line that is at fault, counted from 1. A text that was cut off has none, and neither has missing memory.
+    ///
+    /// ```
+    /// # use yovanelum::debugger::Walk;
+    /// let fault = Walk::open(b"ttd-journal 2\nsteps\nend\n").unwrap_err();
+    /// assert_eq!(fault.line(), Some(2));
+    /// ```
+    pub fn line(&self) -> Option<u64> {
+        match self.0 {
+            TextFault::Malformed(line)
+            | TextFault::LimitExceeded(line)
+            | TextFault::WrongOrder(line)
+            | TextFault::WrongReply(line) => Some(line),
+            TextFault::Truncated | TextFault::NoMemory => None,
+        }
+    }
+
+    /// Whether the text ends too early and has no other fault, so that [`Walk::salvage`](super::Walk::salvage) opens what is there.
+    ///
+    /// ```
+    /// # use yovanelum::debugger::Walk;
+    /// let fault = Walk::open(b"ttd-journal 2\nbroadcast 2\nsteps\n").unwrap_err();
+    /// assert!(fault.is_cut_off());
+    /// ```
+    pub fn is_cut_off(&self) -> bool {
+        self.0 == TextFault::Truncated
+    }
+}
+
+impl fmt::Debug for Fault {
+    fn fmt(&self, f: &mut fmt::Formatter<'_>) -> fmt::Result {
+        write!(f, "Fault({self})")
+    }
+}
+
+impl fmt::Display for Fault {
+    fn fmt(&self, f: &mut fmt::Formatter<'_>) -> fmt::Result {
+        f.write_str(&run::said(self.0))
+    }
+}
+
+impl Error for Fault {}
