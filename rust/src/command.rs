@@ -13,11 +13,13 @@ use std::path::{Path, PathBuf};
 const USAGE: &str = "\
 Usage: yovanelum why JOURNAL [--json | --sarif]
        yovanelum open JOURNAL
+       yovanelum dap [--port PORT]
 
 why    prints what was found in the run of a journal: which values were lost, by whom and where
        --json    prints it as an object
        --sarif   prints it as a SARIF log
 open   writes the page with the run inside beside the journal, and prints its name
+dap    starts the debug adapter for an editor, the program yovanelum-dap
 
 Names are read from the file NAME.names beside NAME.journal.
 ";

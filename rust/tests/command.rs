@@ -378,3 +378,39 @@ fn a_reader_that_is_gone_is_a_write_fault() {
         "{status:?}"
     );
 }
+
+/// Copies the command into a folder, where no other program is beside it.
+fn copied(folder: &Folder) -> PathBuf {
+    let name = format!("yovanelum{}", std::env::consts::EXE_SUFFIX);
+    let copy = folder.0.join(name);
+    fs::copy(env!("CARGO_BIN_EXE_yovanelum"), &copy).unwrap();
+    copy
+}
+
+#[test]
+fn dap_says_how_the_adapter_is_installed() {
+    let folder = Folder::new("dap_missing");
+    let mut command = Command::new(copied(&folder));
+    let ended = command.arg("dap").env("PATH", &folder.0).output().unwrap();
+    let said = String::from_utf8(ended.stderr).unwrap();
+    let wanted =
+        "yovanelum: `dap` needs the program yovanelum-dap: cargo install --path rust/dap\n";
+    assert_eq!((said.as_str(), ended.status.code()), (wanted, Some(69)));
+}
+
+#[test]
+fn dap_starts_the_adapter_beside_it_with_its_words() {
+    let folder = Folder::new("dap_beside");
+    let copy = copied(&folder);
+    // Any program will do: this one refuses the words that it gets.
+    let adapter = format!("yovanelum-dap{}", std::env::consts::EXE_SUFFIX);
+    fs::copy(env!("CARGO_BIN_EXE_yovanelum"), folder.0.join(adapter)).unwrap();
+    let mut command = Command::new(copy);
+    let ended = command.args(["dap", "sideways"]).output().unwrap();
+    let said = String::from_utf8(ended.stderr).unwrap();
+    assert!(
+        said.starts_with("yovanelum: there is no command `sideways`\n"),
+        "{said}"
+    );
+    assert_eq!(ended.status.code(), Some(2));
+}

@@ -1,0 +1,307 @@
+//! What is typed or watched: the commands of the console of `ttd`, and expressions.
+
+use crate::arguments::Arguments;
+use crate::expression::{Expression, Thing, thing_of};
+use crate::moves::Debuggee;
+use crate::shown::text_of;
+use crate::variables::Group;
+use crate::{Answer, Refusal};
+use serde_json::{Value, json};
+use yovanelum::debugger::Condition;
+
+/// The words of the console.
+const WORDS: [&str; 23] = [
+    "back", "forward", "goto", "start", "end", "step", "state", "list", "rback", "rforward",
+    "hits", "why", "help", "actor", "channel", "reply", "lagging", "unread", "unseen", "version",
+    "closed", "queue", "value",
+];
+
+/// How many entries `list` prints.
+const MOST_LISTED: u32 = 10_000;
+
+const HELP: &str = "\
+back [N], forward [N], goto N, start, end   go to another step
+rback CONDITION, rforward CONDITION         go to the nearest step that meets it
+hits CONDITION                              count these up to here
+step, state, list, why                      print the call, the channels, all calls, the report
+An expression prints its value: audit, audit.lag, orders.queued, reply, call, actor, step
+Conditions: lagging R, unread R N, unseen R, closed C, queue C N, version C N, actor A, channel C, reply WORD";
+
+impl Debuggee {
+    pub(crate) fn evaluate(&mut self, given: Arguments<'_>) -> Answer {
+        let text = given.need_text("expression")?.trim();
+        if given.text("context")? == Some("repl") {
+            if let Some(answer) = self.command(text)? {
+                return Ok(json!({"result": answer, "variablesReference": 0}));
+            }
+        }
+        let at = match given.number("frameId")?.filter(|id| *id > 0) {
+            Some(id) => self.frame_of(id)?.at,
+            None => self.place,
+        };
+        self.recording.at(at);
+        match thing_of(text.trim_matches('`'), &self.recording) {
+            Some(thing) => Ok(self.shown_thing(thing, at)),
+            None => self.value_of(text, at),
+        }
+    }
+
+    fn value_of(&self, text: &str, at: u32) -> Answer {
+        let expression = Expression::read(text, &self.recording)?;
+        let value = expression.value(&self.recording);
+        let value = value.ok_or_else(|| Refusal(format!("there is no `{text}` at step {at}")))?;
+        Ok(json!({"result": value.to_string(), "variablesReference": 0}))
+    }
+
+    fn shown_thing(&mut self, thing: Thing, at: u32) -> Value {
+        let text = text_of(thing, &self.recording);
+        let group = match thing {
+            Thing::Channel(channel) => self.numbered_group(Group::Channel(channel, at)),
+            Thing::Receiver(channel, handle) => {
+                self.numbered_group(Group::Receiver(channel, handle, at))
+            }
+            Thing::Actor(_) => 0,
+        };
+        json!({"result": text, "variablesReference": group})
+    }
+
+    /// Runs a command, and returns what it prints, or `None` if the text is none.
+    fn command(&mut self, text: &str) -> Answer<Option<String>> {
+        let (word, rest) = text.split_once(' ').unwrap_or((text, ""));
+        let rest = rest.trim();
+        let last = self.recording.len();
+        let answer = match (word, rest) {
+            ("back", _) => self.moved(self.place.checked_sub(steps(rest)?)),
+            ("forward", _) => self.moved(self.place.checked_add(steps(rest)?)),
+            ("goto", _) => self.moved(rest.parse().ok()),
+            ("start", "") => self.moved(Some(0)),
+            ("end", "") => self.moved(Some(last)),
+            ("step", "") => self.entry_line(self.place).unwrap_or("no step".to_string()),
+            ("state", "") => self
+                .recording
+                .at(self.place)
+                .state()
+                .to_string()
+                .trim_end()
+                .to_string(),
+            ("list", "") => self.listed(),
+            ("rback" | "rforward", _) => self.searched(rest, word == "rback")?,
+            ("hits", _) => {
+                let condition = self.condition(rest)?;
+                let hits = self.recording.at(self.place).hits_so_far(&condition);
+                format!("{hits} of `{condition}` up to place {}", self.place)
+            }
+            ("why", "") => self.recording.names.report().trim_end().to_string(),
+            ("help", "") => HELP.to_string(),
+            _ => return Ok(None),
+        };
+        Ok(Some(answer))
+    }
+
+    fn place_line(&self) -> String {
+        format!("place {} of {}", self.place, self.recording.len())
+    }
+
+    /// Goes to a place if the run has it.
+    fn moved(&mut self, place: Option<u32>) -> String {
+        match place.filter(|place| *place <= self.recording.len()) {
+            Some(place) => {
+                self.jump(place);
+                self.place_line()
+            }
+            None => format!("out of range, {}", self.place_line()),
+        }
+    }
+
+    fn searched(&mut self, condition: &str, is_back: bool) -> Answer<String> {
+        let condition = self.condition(condition)?;
+        let walk = self.recording.at(self.place);
+        let found = match is_back {
+            true => walk.find_back(&condition),
+            false => walk.find_forward(&condition),
+        };
+        let Some(hit) = found else {
+            return Ok(format!("no hit, {}", self.place_line()));
+        };
+        self.jump(hit as u32);
+        Ok(format!("hit {hit} of {}", self.recording.len()))
+    }
+
+    /// Reads a condition, in which names may stand for numbers.
+    fn condition(&self, text: &str) -> Answer<Condition> {
+        let (word, rest) = text.split_once(' ').unwrap_or((text, ""));
+        let is_actor = word == "actor";
+        let rest = if word == "reply" {
+            rest.to_string()
+        } else {
+            self.numbers(rest, is_actor)
+        };
+        let condition = format!("{word} {rest}").parse();
+        condition.map_err(|_| Refusal(format!("there is no condition `{text}`: see `help`")))
+    }
+
+    /// Replaces the name at the beginning of a text by its numbers. It may have blanks in it.
+    fn numbers(&self, text: &str, is_actor: bool) -> String {
+        let (name, count) = match text.rsplit_once(' ') {
+            Some((name, count)) if count.parse::<u64>().is_ok() && name.parse::<u64>().is_err() => {
+                (name, format!(" {count}"))
+            }
+            _ => (text, String::new()),
+        };
+        let name = name.trim_matches('`');
+        let numbers = match (is_actor, thing_of(name, &self.recording)) {
+            (true, _) => self
+                .recording
+                .actor_named(name)
+                .map(|actor| actor.to_string()),
+            (_, Some(Thing::Receiver(channel, handle))) => Some(format!("{channel} {handle}")),
+            (_, Some(Thing::Channel(channel))) => Some(channel.to_string()),
+            (_, Some(Thing::Actor(actor))) => Some(actor.to_string()),
+            (_, None) => None,
+        };
+        match numbers {
+            Some(numbers) => numbers + &count,
+            None => text.to_string(),
+        }
+    }
+
+    fn entry_line(&self, place: u32) -> Option<String> {
+        let entry = self.recording.entry(place)?;
+        Some(format!("#{place} {entry}"))
+    }
+
+    fn listed(&self) -> String {
+        let shown = self.recording.len().min(MOST_LISTED);
+        let mut lines: Vec<_> = (1..=shown)
+            .filter_map(|place| self.entry_line(place))
+            .collect();
+        let left = self.recording.len() - shown;
+        if left > 0 {
+            lines.push(format!("and {left} more"));
+        }
+        lines.join("\n")
+    }
+
+    /// Completes the word before the cursor.
+    pub(crate) fn completions(&self, given: Arguments<'_>) -> Answer {
+        let text = given.need_text("text")?;
+        let column = given
+            .need_number("column")?
+            .saturating_sub(self.bases.column);
+        let before: String = text
+            .chars()
+            .take(usize::try_from(column).unwrap_or(usize::MAX))
+            .collect();
+        let part = before.rsplit(' ').next().unwrap_or_default();
+        let names = self.recording.things.keys().map(String::as_str);
+        let words = WORDS
+            .into_iter()
+            .chain(names)
+            .filter(|word| word.starts_with(part));
+        let targets = words
+            .take(100)
+            .map(|word| json!({"label": word, "length": part.chars().count()}));
+        Ok(json!({"targets": targets.collect::<Vec<_>>()}))
+    }
+
+    /// Says by which condition a variable can be watched.
+    pub(crate) fn data_breakpoint_info(&self, given: Arguments<'_>) -> Answer {
+        let name = given.need_text("name")?;
+        let group = given.number("variablesReference")?.filter(|id| *id > 0);
+        let owner = group.map(|id| self.group_of(id)).transpose()?;
+        let (thing, field) = match owner {
+            Some(Group::Channel(channel, _)) => match self.receiver_named(channel, name) {
+                Some(handle) => (Some(Thing::Receiver(channel, handle)), "lag"),
+                None => (Some(Thing::Channel(channel)), name),
+            },
+            Some(Group::Receivers(channel, _)) => (
+                self.receiver_named(channel, name)
+                    .map(|handle| Thing::Receiver(channel, handle)),
+                "lag",
+            ),
+            Some(Group::Receiver(channel, handle, _)) => {
+                (Some(Thing::Receiver(channel, handle)), name)
+            }
+            _ => match name.rsplit_once('.') {
+                Some((owner, field)) => (thing_of(owner.trim_matches('`'), &self.recording), field),
+                None => (thing_of(name, &self.recording), "lag"),
+            },
+        };
+        let watched = thing.and_then(|thing| self.watched(thing, field));
+        Ok(match watched {
+            Some((id, text)) => {
+                json!({"dataId": id, "description": text, "accessTypes": ["write"], "canPersist": true})
+            }
+            None => json!({"dataId": null, "description": format!("`{name}` can't be watched")}),
+        })
+    }
+
+    fn receiver_named(&self, channel: u32, name: &str) -> Option<u32> {
+        let mut own = self
+            .recording
+            .receivers
+            .range((channel, 0)..=(channel, u32::MAX));
+        let found =
+            own.find(|(channel, handle)| self.recording.names.receiver(*channel, *handle) == name);
+        found.map(|(_, handle)| *handle)
+    }
+
+    fn watched(&self, thing: Thing, field: &str) -> Option<(String, String)> {
+        use yovanelum::debugger::Channel;
+        let names = &self.recording.names;
+        let is_broadcast = |channel| {
+            matches!(
+                self.recording.walk().channel(channel),
+                Some(Channel::Broadcast(_))
+            )
+        };
+        match thing {
+            Thing::Receiver(channel, handle) => {
+                let name = names.receiver(channel, handle);
+                match (field, is_broadcast(channel)) {
+                    ("lag", true) => Some((
+                        format!("lagging {channel} {handle}"),
+                        format!("{name} begins to lag"),
+                    )),
+                    ("unread", true) => Some((
+                        format!("unread {channel} {handle} N"),
+                        format!("{name} has N values to receive (N is the condition)"),
+                    )),
+                    ("seen" | "lag", false) => Some((
+                        format!("unseen {channel} {handle}"),
+                        format!("{name} has a value that it hasn't seen"),
+                    )),
+                    _ => None,
+                }
+            }
+            Thing::Channel(channel) => {
+                let name = names.channel(channel);
+                match (field, is_broadcast(channel)) {
+                    ("closed" | "lag" | "senders", _) => {
+                        Some((format!("closed {channel}"), format!("{name} closes")))
+                    }
+                    ("queued" | "window", true) => Some((
+                        format!("queue {channel} N"),
+                        format!("{name} retains N values (N is the condition)"),
+                    )),
+                    ("version" | "value", false) => Some((
+                        format!("version {channel} N"),
+                        format!("{name} has version N (N is the condition)"),
+                    )),
+                    _ => None,
+                }
+            }
+            Thing::Actor(_) => None,
+        }
+    }
+}
+
+/// Returns how many places a command goes, or 1.
+fn steps(text: &str) -> Answer<u32> {
+    match text {
+        "" => Ok(1),
+        // Too many are out of range.
+        text if text.chars().all(|c| c.is_ascii_digit()) => Ok(text.parse().unwrap_or(u32::MAX)),
+        text => Err(Refusal(format!("`{text}` is no number"))),
+    }
+}

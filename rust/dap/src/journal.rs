@@ -1,0 +1,118 @@
+//! The files of a journal.
+
+use crate::{Answer, Refusal};
+use std::fs::{self, File};
+use std::io::{self, Read};
+use std::path::{Path, PathBuf};
+use std::time::SystemTime;
+use yovanelum::debugger::recorded::test_of;
+
+/// How many bytes a journal or its names have at most, as for `ttd`.
+const MOST_BYTES: u64 = 268_435_456;
+
+/// How many folders deep journals are below `target/yovanelum`, and how many files are looked at.
+const DEPTH: usize = 3;
+const MOST_FILES: usize = 10_000;
+
+/// The texts of a journal and its names.
+pub(crate) struct Journal {
+    pub(crate) path: PathBuf,
+    pub(crate) names_path: PathBuf,
+    pub(crate) text: Vec<u8>,
+    pub(crate) names: Option<String>,
+    pub(crate) warnings: Vec<String>,
+}
+
+impl Journal {
+    pub(crate) fn read(path: &Path) -> Answer<Journal> {
+        let text = read_whole(path).map_err(|error| {
+            let path = path.display();
+            Refusal(match error.kind() {
+                io::ErrorKind::NotFound => format!("{path}: no such file; run the test first"),
+                _ => format!("{path}: {error}"),
+            })
+        })?;
+        let names_path = path.with_extension("names");
+        let read = read_whole(&names_path)
+            .and_then(|names| String::from_utf8(names).map_err(io::Error::other));
+        let mut warnings = vec![];
+        let shown = names_path.display();
+        let names = match read {
+            Ok(names) => Some(names),
+            Err(error) => {
+                warnings.push(match error.kind() {
+                    io::ErrorKind::NotFound => {
+                        format!("{shown} isn't there: calls have no lines and no names")
+                    }
+                    _ => format!("{shown} is left out: {error}"),
+                });
+                None
+            }
+        };
+        Ok(Journal {
+            path: path.to_path_buf(),
+            names_path,
+            text,
+            names,
+            warnings,
+        })
+    }
+}
+
+fn read_whole(path: &Path) -> io::Result<Vec<u8>> {
+    let mut text = vec![];
+    let mut file = File::open(path)?.take(MOST_BYTES + 1);
+    match file.read_to_end(&mut text)? as u64 > MOST_BYTES {
+        true => Err(io::Error::other("it has more than 268,435,456 bytes")),
+        false => Ok(text),
+    }
+}
+
+/// Returns the newest journal below a target folder, of a test if one is named, and not older than this.
+pub(crate) fn newest(
+    target: &Path,
+    test: Option<&str>,
+    since: Option<SystemTime>,
+) -> Option<PathBuf> {
+    let mut journals = vec![];
+    collect(&target.join("yovanelum"), DEPTH, &mut journals);
+    let newer = journals
+        .into_iter()
+        .filter(|(time, _)| since.is_none_or(|since| *time >= since));
+    let mut newer: Vec<_> = newer.collect();
+    newer.sort();
+    let mut paths = newer.into_iter().rev().map(|(_, path)| path);
+    paths.find(|path| test.is_none_or(|test| is_of(path, test)))
+}
+
+fn collect(folder: &Path, depth: usize, journals: &mut Vec<(SystemTime, PathBuf)>) {
+    let Ok(entries) = fs::read_dir(folder) else {
+        return;
+    };
+    for entry in entries.flatten().take(MOST_FILES) {
+        let path = entry.path();
+        let Ok(data) = entry.metadata() else {
+            continue;
+        };
+        if data.is_dir() && depth > 1 {
+            collect(&path, depth - 1, journals);
+        } else if path.extension().is_some_and(|it| it == "journal") {
+            let time = data.modified().unwrap_or(SystemTime::UNIX_EPOCH);
+            journals.push((time, path));
+        }
+    }
+}
+
+/// Whether a journal is of the test of this name: that of its recorder, or cargo's with or without its modules.
+fn is_of(journal: &Path, test: &str) -> bool {
+    let names = fs::read_to_string(journal.with_extension("names")).ok();
+    let Some((name, thread)) = names.and_then(|names| test_of(&names)) else {
+        return journal
+            .file_stem()
+            .is_some_and(|stem| stem.to_string_lossy() == test);
+    };
+    let is_end = thread
+        .strip_suffix(test)
+        .is_some_and(|rest| rest.is_empty() || rest.ends_with("::"));
+    name == test || is_end
+}

@@ -1,0 +1,357 @@
+//! A session with one client: requests in, and for each a response. Before a launch little is answered.
+
+use crate::arguments::Arguments;
+use crate::breakpoints::FILTERS;
+use crate::inbox::{Inbox, Incoming};
+use crate::journal::Journal;
+use crate::launch::{Launch, Running, StopAt, absolute};
+use crate::moves::Debuggee;
+use crate::recording::Recording;
+use crate::sources::{Bases, Sources};
+use crate::{Answer, Refusal, message};
+use serde_json::{Value, json};
+use std::io::{Read, Write};
+use std::panic::{AssertUnwindSafe, catch_unwind};
+use std::path::PathBuf;
+
+/// What a client may do.
+#[derive(Clone, Copy)]
+pub struct Options {
+    /// Whether a launch may run `cargo test`.
+    pub runs_tests: bool,
+}
+
+/// What is supported, as the answer to `initialize` has it.
+const SUPPORTED: [&str; 21] = [
+    "supportsConfigurationDoneRequest",
+    "supportsFunctionBreakpoints",
+    "supportsConditionalBreakpoints",
+    "supportsHitConditionalBreakpoints",
+    "supportsEvaluateForHovers",
+    "supportsStepBack",
+    "supportsRestartFrame",
+    "supportsGotoTargetsRequest",
+    "supportsStepInTargetsRequest",
+    "supportsCompletionsRequest",
+    "supportsExceptionFilterOptions",
+    "supportsExceptionInfoRequest",
+    "supportsTerminateRequest",
+    "supportsRestartRequest",
+    "supportsDelayedStackTraceLoading",
+    "supportsLoadedSourcesRequest",
+    "supportsLogPoints",
+    "supportsDataBreakpoints",
+    "supportsBreakpointLocationsRequest",
+    "supportsSteppingGranularity",
+    "supportsCancelRequest",
+];
+
+struct Session<W> {
+    inbox: Inbox,
+    output: W,
+    options: Options,
+    sent: u64,
+    bases: Bases,
+    has_progress: bool,
+    launched: Option<Value>,
+    debuggee: Option<Debuggee>,
+    is_over: bool,
+}
+
+/// Serves a client until it disconnects or its stream ends. Returns `false` if the stream had bytes that are no message.
+pub fn serve(input: impl Read + Send + 'static, output: impl Write, options: Options) -> bool {
+    let mut session = Session {
+        inbox: Inbox::over(input),
+        output,
+        options,
+        sent: 0,
+        bases: Bases { line: 1, column: 1 },
+        has_progress: false,
+        launched: None,
+        debuggee: None,
+        is_over: false,
+    };
+    while !session.is_over {
+        match session.inbox.next() {
+            Incoming::Message(bytes) => session.receive(&bytes),
+            Incoming::Line(_) | Incoming::Ended => {}
+            Incoming::NoMore(None) => return true,
+            Incoming::NoMore(Some(fault)) => {
+                session.respond(&Value::Null, Err(Refusal(fault.to_string())));
+                return false;
+            }
+        }
+    }
+    true
+}
+
+impl<W: Write> Session<W> {
+    fn send(&mut self, mut message: Value) {
+        self.sent += 1;
+        message["seq"] = self.sent.into();
+        // A client that is gone gets no answers, and the session ends.
+        if message::write(&mut self.output, &message).is_err() {
+            self.is_over = true;
+        }
+    }
+
+    fn event(&mut self, event: &str, body: Value) {
+        self.send(json!({"type": "event", "event": event, "body": body}));
+    }
+
+    fn print(&mut self, category: &str, text: &str) {
+        self.event("output", json!({"category": category, "output": text}));
+    }
+
+    /// Answers a message, and sends the events that come of it.
+    fn receive(&mut self, bytes: &[u8]) {
+        let request = match serde_json::from_slice::<Value>(bytes) {
+            Ok(request) => request,
+            Err(fault) => {
+                return self.respond(
+                    &Value::Null,
+                    Err(Refusal(format!("a message is no JSON: {fault}"))),
+                );
+            }
+        };
+        match request.get("type").and_then(Value::as_str) {
+            // The answer to a request of the adapter's.
+            Some("response" | "event") => return,
+            Some("request") => {}
+            _ => return self.respond(&request, Err(Refusal::new("a message is no request"))),
+        }
+        let answer = catch_unwind(AssertUnwindSafe(|| self.answer(&request)));
+        let answer =
+            answer.unwrap_or_else(|_| Err(Refusal::new("the adapter has failed at this request")));
+        let is_right = answer.is_ok();
+        self.respond(&request, answer);
+        let command = request.get("command").and_then(Value::as_str);
+        if is_right && matches!(command, Some("launch" | "attach")) {
+            self.event("initialized", json!({}));
+        }
+        if is_right && command == Some("terminate") {
+            self.event("terminated", json!({}));
+        }
+        let events = self
+            .debuggee
+            .as_mut()
+            .map(|debuggee| std::mem::take(&mut debuggee.events));
+        for (event, body) in events.unwrap_or_default() {
+            self.event(event, body);
+        }
+    }
+
+    fn respond(&mut self, request: &Value, answer: Answer) {
+        let mut response = json!({
+            "type": "response",
+            "request_seq": request.get("seq").and_then(Value::as_u64).unwrap_or(0),
+            "command": request.get("command").and_then(Value::as_str).unwrap_or_default(),
+            "success": answer.is_ok(),
+        });
+        match answer {
+            Ok(Value::Null) => {}
+            Ok(body) => response["body"] = body,
+            Err(Refusal(fault)) => {
+                response["body"] = json!({"error": {"id": 1, "format": fault, "showUser": true}});
+                response["message"] = fault.into();
+            }
+        }
+        self.send(response);
+    }
+
+    fn answer(&mut self, request: &Value) -> Answer {
+        let command = request.get("command").and_then(Value::as_str);
+        let command = command.ok_or_else(|| Refusal::new("a request has no command"))?;
+        let given = Arguments::of(request.get("arguments").unwrap_or(&Value::Null))?;
+        match command {
+            "initialize" => self.initialize(given),
+            "launch" | "attach" => self.launch(given),
+            "restart" => self.restart(),
+            "cancel" | "terminate" => Ok(Value::Null),
+            "disconnect" => {
+                self.is_over = true;
+                Ok(Value::Null)
+            }
+            _ => match &mut self.debuggee {
+                Some(debuggee) => debuggee.answer(command, given),
+                None => Err(Refusal(format!(
+                    "`{command}` isn't answered before a launch"
+                ))),
+            },
+        }
+    }
+
+    fn initialize(&mut self, given: Arguments<'_>) -> Answer {
+        let base = |key| Ok(u64::from(given.flag(key)?.unwrap_or(true)));
+        self.bases = Bases {
+            line: base("linesStartAt1")?,
+            column: base("columnsStartAt1")?,
+        };
+        self.has_progress = given.flag("supportsProgressReporting")?.unwrap_or(false);
+        let mut answer = json!({});
+        for key in SUPPORTED {
+            answer[key] = true.into();
+        }
+        let filters = FILTERS.iter().map(|filter| filter.listed());
+        answer["exceptionBreakpointFilters"] = filters.collect();
+        Ok(answer)
+    }
+
+    fn launch(&mut self, given: Arguments<'_>) -> Answer {
+        let launch = Launch::read(given)?;
+        self.launched = Some(given.value().clone());
+        let path = absolute(&self.journal_of(&launch)?);
+        let journal = Journal::read(&path)?;
+        let sources = Sources::new(launch.root.as_deref(), launch.replaced.clone(), &path);
+        let (recording, warnings) = Recording::open(&journal, sources)?;
+        for warning in warnings {
+            self.print("important", &format!("{warning}\n"));
+        }
+        let last = recording.len();
+        let place = match launch.stop_at {
+            StopAt::Cause => recording.names.look() as u32,
+            StopAt::Start => 0,
+            StopAt::End => last,
+            StopAt::Step(step) => step,
+        };
+        let debuggee = Debuggee::new(recording, self.bases, place.min(last));
+        for line in debuggee.report_lines() {
+            self.event("output", line);
+        }
+        self.debuggee = Some(debuggee);
+        Ok(Value::Null)
+    }
+
+    /// Opens what was launched again. A test is run again.
+    fn restart(&mut self) -> Answer {
+        let launched = self
+            .launched
+            .clone()
+            .ok_or_else(|| Refusal::new("nothing was launched"))?;
+        let before = self.debuggee.take();
+        let launch = Arguments::of(&launched).and_then(|given| self.launch(given));
+        if launch.is_err() {
+            self.debuggee = before;
+            return launch;
+        }
+        if let (Some(before), Some(debuggee)) = (before, &mut self.debuggee) {
+            debuggee.breakpoints = before.breakpoints;
+            debuggee.begin();
+        }
+        launch
+    }
+
+    /// Returns the path of the journal that is launched.
+    fn journal_of(&mut self, launch: &Launch) -> Answer<PathBuf> {
+        match (&launch.journal, &launch.test) {
+            (Some(journal), _) => Ok(journal.clone()),
+            (None, Some(test)) if launch.runs => {
+                if !self.options.runs_tests {
+                    return Err(Refusal::new(
+                        "no test is run for a client of a port: start the adapter with `--run-tests`",
+                    ));
+                }
+                self.run_test(launch, test)
+            }
+            _ => launch.newest(None, self.options.runs_tests),
+        }
+    }
+
+    /// Runs a test, whose output is printed. A request to cancel, to terminate or to disconnect ends it.
+    fn run_test(&mut self, launch: &Launch, test: &str) -> Answer<PathBuf> {
+        let mut running = launch.start(test, &self.inbox.sender())?;
+        if self.has_progress {
+            let title = format!("cargo test {test}");
+            self.event(
+                "progressStart",
+                json!({"progressId": "test", "title": title, "cancellable": true}),
+            );
+        }
+        let is_whole = self.follow(&mut running);
+        if self.has_progress {
+            self.event("progressEnd", json!({"progressId": "test"}));
+        }
+        if !is_whole {
+            return Err(Refusal::new("the test was ended"));
+        }
+        running.wait();
+        launch.newest(Some(running.since), true).map_err(|_| {
+            Refusal(format!("`cargo test {test}` wrote no journal of a test `{test}`: see its output, and whether the test has a `Recorder::for_test`"))
+        })
+    }
+
+    /// Prints the lines of a test until it ends. Returns `false` if the client ended it.
+    fn follow(&mut self, running: &mut Running) -> bool {
+        let mut streams = Running::STREAMS;
+        while streams > 0 {
+            match self.inbox.next_new() {
+                Incoming::Line(line) => self.print("stdout", &line),
+                Incoming::Ended => streams -= 1,
+                incoming => {
+                    let is_end = ends_test(&incoming);
+                    self.inbox.put_back(incoming);
+                    if is_end || self.is_over {
+                        running.end();
+                        return false;
+                    }
+                }
+            }
+        }
+        true
+    }
+}
+
+/// Whether a message ends the test that runs: it is one of those that need no answer of the test's, or there are no more.
+fn ends_test(incoming: &Incoming) -> bool {
+    let Incoming::Message(bytes) = incoming else {
+        return true;
+    };
+    let request = serde_json::from_slice::<Value>(bytes).unwrap_or(Value::Null);
+    let command = request.get("command").and_then(Value::as_str);
+    matches!(command, Some("cancel" | "terminate" | "disconnect"))
+}
+
+impl Debuggee {
+    fn answer(&mut self, command: &str, given: Arguments<'_>) -> Answer {
+        match command {
+            "configurationDone" => {
+                self.begin();
+                Ok(Value::Null)
+            }
+            "threads" => self.threads(),
+            "stackTrace" => self.stack_trace(given),
+            "scopes" => self.scopes(given),
+            "variables" => self.variables(given),
+            "evaluate" => self.evaluate(given),
+            "completions" => self.completions(given),
+            "next" => self.step(given, false),
+            "stepBack" => self.step(given, true),
+            "stepIn" => self.step_in(given),
+            "stepInTargets" => self.step_in_targets(given),
+            "stepOut" => self.step_out(given),
+            "continue" => self.run(given, false),
+            "reverseContinue" => self.run(given, true),
+            "gotoTargets" => self.goto_targets(given),
+            "goto" => self.goto(given),
+            "restartFrame" => self.restart_frame(given),
+            "exceptionInfo" => self.exception_info(),
+            "setBreakpoints" => {
+                self.breakpoints
+                    .set_of_source(given, self.bases, &mut self.recording)
+            }
+            "setFunctionBreakpoints" => self.breakpoints.set_functions(given, &mut self.recording),
+            "setDataBreakpoints" => self.breakpoints.set_data(given, &mut self.recording),
+            "setExceptionBreakpoints" => {
+                self.breakpoints.set_exceptions(given, &mut self.recording)
+            }
+            "breakpointLocations" => self.recording.breakpoint_locations(given, self.bases),
+            "dataBreakpointInfo" => self.data_breakpoint_info(given),
+            "loadedSources" => self.loaded_sources(),
+            "source" => self.source(given),
+            "locations" => self.location(given),
+            other => Err(Refusal(format!(
+                "`{other}` isn't supported: a recording doesn't change"
+            ))),
+        }
+    }
+}
