@@ -8,14 +8,14 @@ const NUMBER = /^\d+$/;
 let timer = 0;
 
 // Returns the place in an address, and what else it has: the columns in view, the folded bands, the filter, the channels' order, and the condition
-// of a stop.
+// of a stop. A place that is no number is the start.
 /** @returns {Address} */
 export function readAddress(address) {
   const parts = new URLSearchParams(new URL(address).hash.slice(1));
-  const place = parts.get("place") ?? "";
+  const place = parts.get("place");
   const view = VIEW.exec(parts.get("view") ?? "");
   return {
-    place: NUMBER.test(place) ? Number(place) : 0,
+    place: place === null && !parts.has("view") ? null : NUMBER.test(place ?? "") ? Number(place) : 0,
     view: view && [Number(view[1]), Number(view[2])],
     fold: parts.get("fold"),
     filter: parts.get("filter"),
@@ -74,8 +74,8 @@ export function setRun(key) {
   write("replaceState", { run: key }, location.hash);
 }
 
-// Makes a step of the history for a run that is opened at its start.
+// Makes a step of the history for a run that is opened where it is worth looking at first.
 export function pushRun(key) {
   clearTimeout(timer);
-  write("pushState", { run: key }, "#place=0");
+  write("pushState", { run: key }, "#");
 }

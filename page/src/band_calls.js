@@ -7,7 +7,9 @@ import { SHAPES } from "./shapes.js";
 import { countUpTo } from "./values.js";
 
 const LARGEST = 4.6;
-const CODE_COLUMN = 24;
+// How wide a letter of a code is, and how far a code is from its mark and from what comes after it.
+const LETTER = 6.1;
+const CODE_GAP = 1;
 const VALUE_GAP = 7;
 const LEAST_VALUE = 12;
 const VALUED = new Set(["sent", "unsent"]);
@@ -30,7 +32,7 @@ function drawSentValues(drawing) {
   pen.textAlign = "left";
   pen.fillStyle = palette.mute;
   eachCall(drawing, (place, mark, row) => {
-    const x = frame.middle(place) + VALUE_GAP;
+    const x = frame.middle(place) + VALUE_GAP + codeWidth(drawing, place, row);
     const room = (ends.get(row) ?? frame.right) - x;
     ends.set(row, frame.middle(place) - VALUE_GAP);
     if (!VALUED.has(MARK_NAMES[mark]) || room < LEAST_VALUE) return;
@@ -39,11 +41,17 @@ function drawSentValues(drawing) {
   }, { isBack: true });
 }
 
-// Draws the code of a caller that isn't the one whose row it is.
+// How wide the code beside a call's mark is: that of a caller that isn't the one whose row it is, where it fits before the next mark.
+function codeWidth({ run, frame }, place, row) {
+  const actor = run.columns.actors[place];
+  const width = run.actors.codes[actor].length * LETTER;
+  return actor !== row.lives[0].user && width + 2 * (LARGEST + CODE_GAP) <= frame.column ? width : 0;
+}
+
 function drawCaller({ pen, run }, entry, x, y) {
   pen.font = CODE;
   pen.textAlign = "left";
-  pen.fillText(run.actors.codes[entry.actor], x + LARGEST + 1, y + 1);
+  pen.fillText(run.actors.codes[entry.actor], x + LARGEST + CODE_GAP, y + 1);
 }
 
 // Draws a dashed line from the handle that made another to the other's row.
@@ -67,7 +75,7 @@ function drawNear(drawing, place, mark, row) {
   pen.fillStyle = pen.strokeStyle = mark === "closed" ? palette.closed : mark === "lagged" ? palette.lag : palette.actor(entry.actor);
   pen.lineWidth = 1.6;
   SHAPES[mark](pen, x, y, Math.min(LARGEST, frame.column / 2.2));
-  if (frame.column >= CODE_COLUMN && entry.actor !== row.lives[0].user) drawCaller(drawing, entry, x, y);
+  if (codeWidth(drawing, place, row) > 0) drawCaller(drawing, entry, x, y);
   if (mark === "made") drawMaking(drawing, entry, x, y);
 }
 

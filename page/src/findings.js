@@ -69,20 +69,27 @@ function changesIn(scanner) {
   return { missed: scanner.number(), unlooked: scanner.number() };
 }
 
-// Returns the place from which on each of so many channels is closed, or null, and where each receiver that was there then was told so, or null.
+// Returns the place from which on each of so many channels is closed, or null, and where each receiver that was there then was told so, or null, and
+// how many values it received from then on.
 /** @returns {Closings} */
 export function closingsIn(engine, journal, count) {
   const scanner = new Scanner(engine.call("ttd_closings", [journal]));
   const places = Array.from({ length: count }, () => null);
   const told = Array.from({ length: count }, () => new Map());
+  const readOn = Array.from({ length: count }, () => new Map());
   while (scanner.at < scanner.bytes.length) {
     const isClosing = scanner.word() === "closed";
     const channel = scanner.number();
-    if (isClosing) places[channel] = scanner.number();
-    else told[channel].set(scanner.number(), scanner.numberOrNone());
+    if (isClosing) {
+      places[channel] = scanner.number();
+    } else {
+      const receiver = scanner.number();
+      told[channel].set(receiver, scanner.numberOrNone());
+      readOn[channel].set(receiver, scanner.number());
+    }
     scanner.goBehind(LINE_END);
   }
-  return { places, told };
+  return { places, told, readOn };
 }
 
 // Returns the lines of the handles of all channels.

@@ -2,7 +2,8 @@
 
 import { byId, fieldOf } from "./dom.js";
 import { pointed } from "./pointer.js";
-import { copyCommands, savePicture } from "./sharing.js";
+import { copyCommands, copyReport, savePicture } from "./sharing.js";
+import { leaveAnswer, showTab } from "./tabs.js";
 
 // The share of the view that one turn of the wheel scrolls, and the factor by which one zooms.
 const WHEEL_SHARE = 0.1;
@@ -31,14 +32,6 @@ function turnChannel(page, event) {
   page.walk?.telling.turn(Number(head.parentElement.dataset.channel));
 }
 
-// On a narrow screen the picture, the state and the table of receivers are shown one at a time.
-function showTab(page, tab) {
-  document.body.dataset.tab = tab;
-  for (const button of byId("tabs").children) button.toggleAttribute("aria-current", button === byId("tabs").querySelector(`[data-tab=${tab}]`));
-  page.walk?.scrolled();
-  page.walk?.table.draw();
-}
-
 // The steps that the account tells of. One of a loss has the loss chosen.
 function listenToAnswer(page) {
   byId("answer-box").addEventListener("click", event => {
@@ -59,7 +52,7 @@ function listenToTable(page) {
   box.addEventListener("scroll", () => page.walk?.table.draw());
   const go = row => {
     const [channel, receiver] = row.split(" ").map(Number);
-    showTab(page, "picture");
+    showTab("picture", page.walk);
     page.walk?.lossMoves.toReceiver(channel, receiver);
   };
   chosenIn("table-box", "receiver", go);
@@ -81,13 +74,18 @@ function listenToButtons(page) {
   press(page, "whole", walk => walk.whole());
   press(page, "open-stops", walk => walk.ask());
   press(page, "copy", copyCommands);
+  press(page, "report", walk => copyReport(walk, page.source.name));
   press(page, "save", walk => savePicture(walk, page.source.name));
   chosenIn("state", "place", place => page.walk?.lossMoves.to(Number(place)));
   chosenIn("dock", "place", place => page.walk?.jumpTo(Number(place)));
   byId("state").addEventListener("click", event => turnChannel(page, event));
+  chosenIn("state", "value", value => {
+    const [channel, number] = value.split(" ").map(Number);
+    page.walk?.showLife(value === "" ? null : { channel, number });
+  });
   chosenIn("state", "loss", what => (what === "all" ? page.walk?.lossMoves.showAll() : page.walk?.lossMoves.turn()));
   press(page, "said", walk => walk.telling.turnWhole());
-  press(page, "peek", () => showTab(page, "state"));
+  press(page, "peek", walk => showTab("state", walk));
   byId("told").addEventListener("toggle", () => page.walk?.telling.tellConsole());
 }
 
@@ -114,6 +112,7 @@ function listenToStops(page) {
     event.preventDefault();
     seek(/** @type {HTMLButtonElement} */ (event.submitter).value);
   });
+  field.addEventListener("input", () => field.value === "" && page.walk?.forgetHits());
   field.addEventListener("keydown", event => {
     if (event.key === "Escape") closeStops();
     if (event.key !== "Enter") return;
@@ -159,11 +158,22 @@ function listenToRows(page) {
   press(page, "fold-all", walk => walk.refold(folds => folds.turnAll()));
 }
 
+// The link before all others leads to the walk, and not to another address.
+function listenToSkip(page) {
+  byId("skip").addEventListener("click", event => {
+    event.preventDefault();
+    if (!page.walk) return;
+    leaveAnswer(page.walk);
+    byId("slider").focus();
+  });
+}
+
 export function listenToHands(page) {
+  listenToSkip(page);
   listenToButtons(page);
   listenToSlider(page);
   listenToStops(page);
-  chosenIn("tabs", "tab", tab => showTab(page, tab));
+  chosenIn("tabs", "tab", tab => showTab(tab, page.walk));
   listenToTable(page);
   listenToAnswer(page);
   pointed(byId("picture-box"), {

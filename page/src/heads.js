@@ -20,15 +20,17 @@ export function headY({ y, height }, top) {
   return Math.max(y, Math.min(top, y + height - HEAD));
 }
 
-function wordsOf({ run, band }) {
+function wordsOf({ run, frame, band }) {
   if (band.key === ACTORS) return [countOf(run.actorCount, "actor"), band.isFolded ? "folded" : "the calls of each"];
   const receivers = run.isBeginning ? [] : [countOf(run.receiverCounts[band.channel], "receiver")];
-  return [run.names.channel(band.channel), [kindOf(run.channels[band.channel]), ...receivers].join(" · ")];
+  // Without room beside the names, that it is closed is said here.
+  const closed = frame.left === 0 && run.closings.places[band.channel] !== null ? ["closed"] : [];
+  return [run.names.channel(band.channel), [...closed, kindOf(run.channels[band.channel]), ...receivers].join(" · ")];
 }
 
-// Says in a head where its channel is closed.
+// Says in a head where its channel is closed, right of the words that end at `least`, or left of the place where it closed.
 /** @param {Drawing} drawing */
-function drawClosed({ pen, run, view, frame, band, palette }, y) {
+function drawClosed({ pen, run, view, frame, band, palette }, y, least) {
   const closing = run.closings.places[band.channel];
   if (closing === null || closing > view.to) return;
   pen.font = SMALL_BOLD;
@@ -36,8 +38,11 @@ function drawClosed({ pen, run, view, frame, band, palette }, y) {
   pen.fillStyle = palette.closed;
   const x = Math.max(frame.left, frame.x(closing));
   if (closing > view.from) pen.fillRect(x, y + 3, 2, HEAD - 6);
+  if (least === null) return;
   const width = pen.measureText("closed").width;
-  pen.fillText("closed", Math.min(x + 6, frame.right - width), y + HEAD / 2);
+  const right = Math.max(x + 6, least);
+  const at = right + width <= frame.right ? right : x - 6 - width;
+  if (at >= least) pen.fillText("closed", at, y + HEAD / 2);
 }
 
 // The losses of a folded channel in one band, at the right of its name how many values were lost.
@@ -48,9 +53,9 @@ function drawLosses(drawing, y) {
   drawLostCount(drawing, band.channel, (frame.left || frame.width) - 6, y + HEAD / 2);
 }
 
-function lostText({ lost, untold }) {
+function lostText({ lost, untold, unwound }) {
   if (lost === 0) return "";
-  return `lost ${grouped(lost)}${untold ? `, ${grouped(untold)} untold` : ""}`;
+  return `lost ${grouped(lost)}${untold ? `, ${grouped(untold)} untold` : ""}${unwound ? `, ${grouped(unwound)} open at failure` : ""}`;
 }
 
 /** @param {Drawing} drawing */
@@ -79,7 +84,7 @@ export function drawHead(drawing) {
   const text = isCut ? fitted(pen, facts, room - x - (lost ? COUNT : 0)) : facts;
   pen.fillText(text, x, y + HEAD / 2);
   if (band.key === ACTORS) return;
-  drawClosed(drawing, y);
+  if (band.isFolded || isCut) drawClosed(drawing, y, frame.left || null);
   if (band.isFolded) return drawLosses(drawing, y);
   if (isCut) return drawLostCount(drawing, band.channel, room + NAME - 6, y + HEAD / 2);
   const end = x + pen.measureText(text).width + 12;
@@ -87,4 +92,5 @@ export function drawHead(drawing) {
   pen.textAlign = "left";
   pen.fillStyle = palette["lag-ink"];
   pen.fillText(lost, end, y + HEAD / 2);
+  drawClosed(drawing, y, end + (lost ? pen.measureText(lost).width + 12 : 0));
 }

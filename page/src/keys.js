@@ -29,7 +29,7 @@ const KEYS = [
   { keys: ["f", "F"], shown: "F", does: "into the field that filters the rows by name; Escape leaves it", move: () => fieldOf("filter").select() },
   { keys: ["z", "Z"], shown: "Z", does: "fold or unfold all", move: walk => walk.refold(folds => folds.turnAll()) },
   { keys: ["o", "O"], shown: "O", does: "the channels that lost most first, or all by number", move: walk => walk.reorder() },
-  { keys: ["/"], shown: "/", does: "into the field for a stop; Enter there seeks on, with Shift back", move: walk => walk.ask() },
+  { keys: ["/"], shown: "/", does: "into the search; Enter there goes on, with Shift back", move: walk => walk.ask() },
 ];
 
 // Whether a key belongs to a field, or to the help that is shown.

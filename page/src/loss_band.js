@@ -30,10 +30,11 @@ export function drawStretch(pen, palette, { x, end }, y, height, isTold) {
   pen.setLineDash([]);
 }
 
-function textOf({ count, sum, untold }) {
+// How many values were lost, and how many of them nobody was told of: never, or since the test failed before.
+function textOf({ count, sum, untold, unwound }) {
   const many = count > 1 ? `${grouped(sum)} in ${grouped(count)}` : grouped(sum);
-  if (untold === 0) return many;
-  return untold === sum ? `${many} untold` : `${many}, ${grouped(untold)} untold`;
+  const of = (part, word) => (part === 0 ? "" : part === sum ? ` ${word}` : `, ${grouped(part)} ${word}`);
+  return `${many}${of(untold - unwound, "untold")}${of(unwound, "open at failure")}`;
 }
 
 // Where the label of some stretches goes: into a single told one at its right end, else from the first of them on.
@@ -53,7 +54,8 @@ function joined(frame, parts) {
     while (labels.length && next.labelX - PAD < labels.at(-1).labelX + labels.at(-1).width + PAD) {
       const last = labels.pop();
       next = labelled(frame, {
-        x: last.x, end: Math.max(last.end, next.end), sum: last.sum + next.sum, untold: last.untold + next.untold, count: last.count + next.count,
+        x: last.x, end: Math.max(last.end, next.end), sum: last.sum + next.sum, untold: last.untold + next.untold,
+        unwound: last.unwound + next.unwound, count: last.count + next.count,
       });
     }
     labels.push(next);
@@ -105,12 +107,15 @@ export function uncovered(stretches) {
 // What is drawn of the losses of a band in a view, which stays the same while the place changes and rows are scrolled.
 const plans = new WeakMap();
 
-/** @param {Loss[]} losses the same array each time, in the order in which they begin */
-function planOf(frame, losses) {
-  const key = `${frame.from} ${frame.to} ${frame.left} ${frame.width}`;
+/**
+ * @param {Drawing} drawing
+ * @param {Loss[]} losses the same array each time, in the order in which they begin
+ */
+function planOf({ run, frame }, losses) {
+  const key = `${frame.from} ${frame.to} ${frame.left} ${frame.width} ${run.losses.failure}`;
   if (plans.get(losses)?.key === key) return plans.get(losses);
   const shown = losses.filter(({ from, to }) => to >= frame.from && from <= frame.to);
-  const parts = shown.map(loss => ({ ...stretchOf(frame, loss), sum: loss.lost, untold: loss.end === "told" ? 0 : loss.lost, count: 1 }));
+  const parts = shown.map(loss => ({ ...stretchOf(frame, loss), sum: loss.lost, count: 1, untold: loss.end === "told" ? 0 : loss.lost, unwound: run.losses.isUnwound(loss) ? loss.lost : 0 }));
   const told = shown.filter(({ end }) => end === "told");
   const posts = new Set(told.map(({ to }) => Math.round(2 * frame.x(to)) / 2).filter(x => x > frame.left && x < frame.right));
   const stretches = [uncovered(parts.filter(it => it.untold === 0)), uncovered(parts.filter(it => it.untold > 0))].flat();
@@ -126,7 +131,7 @@ function planOf(frame, losses) {
  */
 export function drawLossBand(drawing, losses, y, height) {
   const { pen, frame, palette } = drawing;
-  const { told, stretches, labels } = planOf(frame, losses);
+  const { told, stretches, labels } = planOf(drawing, losses);
   pen.font = CODE;
   pen.textAlign = "left";
   for (const part of stretches) drawStretch(pen, palette, part, y, height, part.untold === 0);
@@ -139,7 +144,8 @@ export function drawLossBand(drawing, losses, y, height) {
  * @param {Drawing} drawing
  * @param {Loss[]} losses
  */
-export function drawPosts({ pen, frame, palette }, losses, y, base) {
+export function drawPosts(drawing, losses, y, base) {
+  const { pen, palette } = drawing;
   pen.fillStyle = palette.lag;
-  for (const x of planOf(frame, losses).posts) pen.fillRect(x - 1.5, y, 1.5, base - y);
+  for (const x of planOf(drawing, losses).posts) pen.fillRect(x - 1.5, y, 1.5, base - y);
 }

@@ -4,6 +4,7 @@ import { element, outside, quoted } from "./dom.js";
 import { RECEIVED } from "./marks.js";
 import { countOf, grouped } from "./numbers.js";
 import { rowName } from "./row_names.js";
+import { sourceLink } from "./source_links.js";
 
 const FEW = 6;
 const MOST = 500;
@@ -27,10 +28,16 @@ function part(head, ...children) {
   return element("div", {}, element("dt", {}, head), element("dd", {}, ...children));
 }
 
+// Where the call of a place stands in the sources.
+function sourceOf(run, place) {
+  const source = run.sourceOf(place);
+  return source ? [" at ", sourceLink(run, source)] : [];
+}
+
 function cause(run, loss) {
   const { capacity } = run.channels[loss.channel];
   const { actor } = run.entry(loss.from);
-  return part("cause", toPlace("cause", loss.from, "C"), " ", ...who(run, actor), " sent ", quoted(run.valueSent(loss.from)),
+  return part("cause", toPlace("cause", loss.from, "C"), " ", ...who(run, actor), ...sourceOf(run, loss.from), " sent ", quoted(run.valueSent(loss.from)),
     `, one more than the ${grouped(capacity)} that are kept`);
 }
 
@@ -69,7 +76,7 @@ function end(run, loss) {
   const next = run.losses.firstOf(loss) + loss.lost;
   const told = loss.end === "told" ? [` was told “lagged ${loss.lost}”, and goes on with `, quoted(run.values.text(loss.channel, next))]
     : [run.losses.isUnwound(loss) ? " dropped it after the test failed" : " dropped it: nobody was ever told"];
-  return part("end", toPlace("end", loss.to, "E"), " ", ...who(run, actor), ...told);
+  return part("end", toPlace("end", loss.to, "E"), " ", ...who(run, actor), ...sourceOf(run, loss.to), ...told);
 }
 
 // `here` has the losses at the place, the one that is shown first.

@@ -1,5 +1,7 @@
 // Moves by losses. Each is a jump, with the loss chosen that it leads to.
 
+import { leaveAnswer } from "./tabs.js";
+
 export class LossMoves {
   constructor(walk) {
     this.walk = walk;
@@ -18,6 +20,7 @@ export class LossMoves {
   // To a place with a loss chosen, whose row scrolls in. `isAll` brings all of it into view.
   show(loss, place, isAll = false) {
     const { walk, losses } = this;
+    leaveAnswer(walk);
     walk.step(() => {
       losses.chosen = loss;
       if (isAll) losses.show(loss, walk.screen.isNarrow);

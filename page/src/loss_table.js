@@ -5,10 +5,11 @@ import { countOf, grouped } from "./numbers.js";
 import { receiversOf } from "./receivers.js";
 import { rowName } from "./row_names.js";
 
-const ROW = 22;
+// As in the style sheet: fingers need higher rows.
+const ROW = matchMedia("(pointer: coarse)").matches ? 44 : 22;
 
 // As in the style sheet.
-export const NARROW = 720;
+const NARROW = 720;
 
 // Rows that are made above and below those in sight.
 const SPARE = 6;
@@ -17,40 +18,20 @@ const SPARE = 6;
 const COLUMNS = [
   { key: "name", head: "channel", isText: true }, { key: "title", head: "receiver", isText: true },
   { key: "received", head: "received" }, { key: "told", head: "told" }, { key: "lost", head: "lost" }, { key: "greatest", head: "worst lag" },
-  { key: "rest", head: "to read at the end" }, { key: "never", head: "never told" }, { key: "ending", head: "at the end", isText: true },
+  { key: "rest", head: "to read at the end" }, { key: "never", head: "not told" }, { key: "ending", head: "at the end", isText: true },
 ];
 
 // On a narrow screen, who lost what comes first.
 const NARROW_ORDER = ["title", "lost", "never", "name", "greatest", "told", "received", "rest", "ending"];
 
-function endOf(run, loss) {
-  const { end, to, lost } = loss;
-  if (end === "told") return `${grouped(lost)} told at ${grouped(to)}`;
-  if (run.losses.isUnwound(loss)) return `${grouped(lost)} not told when the test failed`;
-  return end === "dropped" ? `${grouped(lost)} never told, dropped at ${grouped(to)}` : `${grouped(lost)} not told by the end`;
-}
-
-// Says what was lost in the run. Where not all of it is known, it doesn't say that nothing was. Beside an account, which has the losses in its own
-// order, it has numbers alone.
+// Says how many values were lost in the run: which loss comes first is in the account. Where not all of it is known, it doesn't say that nothing was.
 function lineOf(run, receivers) {
-  const { account } = run.names;
+  const { account } = run;
   const losers = receivers.filter(({ lost }) => lost > 0);
   const none = account !== null && account.unknown.length > 0 ? "" : "no value was lost: ";
   if (losers.length === 0) return [none + countOf(receivers.length, "receiver")];
   const lost = losers.reduce((sum, it) => sum + it.lost, 0);
-  const sum = element("b", {}, `${countOf(losers.length, "receiver")} lost ${countOf(lost, "value")}`);
-  return account === null ? [sum, ...worstOf(run, losers, lost)] : [sum];
-}
-
-// Which receiver lost the most: of those that were read by, if there are any.
-function worstOf(run, losers, lost) {
-  const never = losers.reduce((sum, it) => sum + it.never, 0);
-  const read = losers.filter(({ isHeld }) => !isHeld);
-  const worst = (read.length > 0 ? read : losers).reduce((most, it) => (it.greatest > most.greatest ? it : most));
-  return [
-    "; worst: ", outside(worst.name), ", ", outside(worst.title), `, ${endOf(run, worst.worst)}`,
-    ...(never > 0 && never !== worst.greatest ? ["; ", element("b", {}, `${grouped(never)} of the ${grouped(lost)} never told`)] : []),
-  ];
+  return [element("b", {}, `${countOf(losers.length, "receiver")} lost ${countOf(lost, "value")}`)];
 }
 
 function cell(run, receiver, column) {
@@ -67,14 +48,14 @@ function compared(a, b) {
 }
 
 export class LossTable {
-  constructor(run, isOpen) {
+  constructor(run) {
     this.run = run;
     /** @type {Loss | null} */
     this.chosen = null;
     this.sorted = { key: "lost", isDown: true };
     // At first, receivers that lost values and were never read by are below the others.
     this.isAtFirst = true;
-    this.isOpen = isOpen && !run.isBeginning && run.losses.all.length > 0;
+    this.isOpen = false;
     this.fill();
   }
 

@@ -14,27 +14,44 @@ export class Losses {
     this.byLives = new WeakMap();
     this.stops = Uint32Array.from(new Set(all.flatMap(({ from, end, to }) => (end === "open" ? [from] : [from, to])))).sort();
     this.byReceiver = run.channels.map(() => new Map());
-    // How many values each channel's receivers lost, of how many of them nobody was told, and how many receivers lost that were ever read by.
-    this.sums = run.channels.map(() => ({ lost: 0, untold: 0, read: 0 }));
-    const reading = readersIn(run, all);
+    this.reading = readersIn(run, all);
+    // The sums of the channels, with the failure of the test that they were counted with.
+    this.counted = { failure: undefined, sums: [] };
     for (const loss of all) {
-      if (!run.isBeginning) this.count(loss, reading.has(keyOf(loss.channel, loss.receiver)));
       const those = this.byReceiver[loss.channel].get(loss.receiver);
       if (those) those.push(loss);
       else this.byReceiver[loss.channel].set(loss.receiver, [loss]);
     }
   }
 
-  count({ channel, lost, end }, isRead) {
-    this.sums[channel].lost += lost;
-    if (isRead) this.sums[channel].read += lost;
-    if (end !== "told") this.sums[channel].untold += lost;
+  // How many values each channel's receivers lost, of how many of them nobody was told, how many were open at the failure of the test, and how many
+  // receivers lost that were ever read by.
+  get sums() {
+    if (this.counted.failure !== this.failure) this.counted = { failure: this.failure, sums: this.count() };
+    return this.counted.sums;
+  }
+
+  count() {
+    const sums = this.run.channels.map(() => ({ lost: 0, untold: 0, unwound: 0, read: 0 }));
+    if (this.run.isBeginning) return sums;
+    for (const loss of this.all) {
+      const sum = sums[loss.channel];
+      sum.lost += loss.lost;
+      if (this.reading.has(keyOf(loss.channel, loss.receiver))) sum.read += loss.lost;
+      if (this.isUnwound(loss)) sum.unwound += loss.lost;
+      else if (loss.end !== "told") sum.untold += loss.lost;
+    }
+    return sums;
+  }
+
+  // The place at which the test failed, or null.
+  get failure() {
+    return this.run.account?.failure ?? null;
   }
 
   // Whether a loss ended by a drop after the panic or error that ended the test. Its receiver wasn't told by then.
   isUnwound({ end, to }) {
-    const failure = this.run.names.account?.failure ?? null;
-    return end === "dropped" && failure !== null && to > failure;
+    return end === "dropped" && this.failure !== null && to > this.failure;
   }
 
   /** @returns {Loss[]} */

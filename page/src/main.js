@@ -9,6 +9,7 @@ import { recall } from "./kept.js";
 import { keyRows, listenToKeys, showHelp } from "./keys.js";
 import { during, showPart, tell, tellFault } from "./notice.js";
 import { Opener } from "./opener.js";
+import { listenToSources } from "./source_links.js";
 import { WayIn } from "./way_in.js";
 
 // A module that has only a memory with 64-bit addresses.
@@ -76,6 +77,7 @@ function listen(opener, wayIn) {
   window.addEventListener("popstate", () => followHistory(opener));
   window.addEventListener("resize", () => opener.redraw());
   matchMedia("(prefers-color-scheme: dark)").addEventListener("change", () => opener.redraw());
+  listenToSources(() => page.walk?.renew());
   listenToHands(page);
   listenToKeys(page);
 }

@@ -2,7 +2,7 @@
 // in them is written out. Such a file may also have a note on the core that answered the calls, and the calls that waited when it was written.
 
 import { isAccount, known } from "./account.js";
-import { visible } from "./text.js";
+import { visible, visibleLines } from "./text.js";
 
 const NEWEST = 3;
 
@@ -31,7 +31,7 @@ function isWait(value) {
 }
 
 // Each key that the page uses, with the test of its value, and what is wrong where that fails. Other keys are ignored: `made_by` and others are
-// for a replay, and later writers add keys within a version.
+// for a replay, and later writers add keys within a version. What says how a test ended is used as far as it has its form.
 const KEYS = {
   version: [isNumber, "its version is no number"],
   core: [isText, "its note on the core is no text"],
@@ -44,6 +44,7 @@ const KEYS = {
   calls: [value => isTable(value, list => isList(list, it => it === null || isNumber(it))), "its calls are no lists of locations by channel"],
   tasks: [value => isTable(value, isNumber), "its tasks are no numbers of locations by actor"],
   waiting: [value => isList(value, isWait), "its waiting calls have no actor, channel, handle, call and stamp"],
+  root: [isText, "its folder of the sources is no text"],
   waited: [value => isTable(value, list => isList(list, isNumber)), "its key \"waited\" has no lists of entries by channel"],
   journal: [isText, "its checksum of the journal is no text"],
   account: [isAccount, "its account has no facts with their lines and places"],
@@ -67,6 +68,18 @@ export function readNames(text) {
   return new Names(tables);
 }
 
+// How a test ended, and what of it wasn't recorded.
+function endingOf({ panics, returned, test, unrecorded, journal = null }) {
+  const isPanic = it => isTable(it, () => true) && isNumber(it.since) && (it.actor === null || isNumber(it.actor));
+  const counts = isTable(unrecorded, () => true) ? Object.entries(unrecorded).filter(([, count]) => isNumber(count) || count === true) : [];
+  return {
+    panics: isList(panics, isPanic) ? panics : [],
+    returned: isTable(returned, () => true) && isNumber(returned.since) ? returned : null,
+    test: isTable(test, isText) ? test.thread : undefined,
+    unrecorded: Object.fromEntries(counts), journal,
+  };
+}
+
 function lookUp(table, key) {
   return table !== undefined && Object.hasOwn(table, key) ? table[key] : undefined;
 }
@@ -76,14 +89,18 @@ function named(table, number, otherwise) {
 }
 
 export class Names {
+  /** @param {any} tables */
   constructor(tables = {}) {
-    const { core = "", actors = {}, channels = {}, values = {}, handles = {}, locations = [], made = {}, calls = {}, tasks = {}, waiting = [], journal = null } = tables;
+    const { core = "", actors = {}, channels = {}, values = {}, handles = {}, locations = [], made = {}, calls = {}, tasks = {}, waiting = [], journal = null, root = null } = tables;
     this.tables = { actors, channels, values, handles, locations, made, calls, tasks };
     this.core = visible(core);
     /** @type {Account | null} what was found in the run, in words */
     this.account = known(tables.account);
     // By channel, which of its entries are of calls that wait.
     this.waited = new Map(Object.entries(tables.waited ?? {}).map(([channel, entries]) => [Number(channel), new Set(entries)]));
+    this.ending = endingOf(tables);
+    /** @type {string | null} the folder that the files of sources are relative to */
+    this.root = root;
     /** @type {string | null} the checksum of the journal that these are the names of */
     this.journal = journal;
     /** @type {{ actor: number, channel: number, handle: number, call: string, since: number, location?: number }[]} */
@@ -117,20 +134,37 @@ export class Names {
     return named(lookUp(this.tables.values, channel), number, String(number));
   }
 
+  // The same with its lines below each other.
+  valueLines(channel, number) {
+    return visibleLines(lookUp(lookUp(this.tables.values, channel), number) ?? String(number));
+  }
+
   // A place in the sources by its number, as `src/bus.rs:15`, or undefined.
   location(number) {
-    const found = number === undefined || number === null ? undefined : this.tables.locations[number];
+    const found = this.place(number);
     return found && visible(`${found[0]}:${found[1]}`);
   }
 
-  // Where a handle was made in the sources, or undefined.
-  madeAt(channel, handle) {
-    return this.location(lookUp(lookUp(this.tables.made, channel), handle));
+  // The same as file, line and column.
+  /** @returns {[string, number, number] | undefined} */
+  place(number) {
+    return number === undefined || number === null ? undefined : this.tables.locations[number];
   }
 
-  // Where one of a channel's calls was made in the sources, or undefined.
+  // Where a handle was made in the sources, as file, line and column, or undefined.
+  madeAt(channel, handle) {
+    return this.place(lookUp(lookUp(this.tables.made, channel), handle));
+  }
+
+  // Where one of a channel's calls was made in the sources, as file, line and column, or undefined.
   calledAt(channel, index) {
-    return this.location(lookUp(this.tables.calls, channel)?.[index]);
+    return this.place(lookUp(this.tables.calls, channel)?.[index]);
+  }
+
+  // What the account of a run needs of these names where they have none.
+  get parts() {
+    const { tables, waited, waiting, ending } = this;
+    return { tables, waited, waiting, ending };
   }
 
   // The name of a channel's call, which is its word but for two calls that wait.

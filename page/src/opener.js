@@ -1,6 +1,6 @@
 // Opens a run: reads it with the debugger, and shows it, or why it is refused.
 
-import { showAccount } from "./account.js";
+import { firstPlace, openAccount } from "./account.js";
 import { pushRun, readAddress } from "./address.js";
 import { asBeginning, beginningOf } from "./beginning.js";
 import { bindingsOf } from "./bindings.js";
@@ -11,13 +11,14 @@ import { misfit } from "./fitting.js";
 import { keep, newKey } from "./kept.js";
 import { Latest } from "./latest.js";
 import { legend } from "./legend.js";
-import { LossTable, NARROW } from "./loss_table.js";
+import { LossTable } from "./loss_table.js";
 import { Names, readNames } from "./names.js";
 import { during, showPart, tell, tellFault } from "./notice.js";
 import { countOf, grouped, sizeOf } from "./numbers.js";
 import { Run } from "./run.js";
 import { Screen } from "./screen.js";
 import { isJournal } from "./source.js";
+import { showTab } from "./tabs.js";
 import { isolated, visible } from "./text.js";
 import { unpacked } from "./unpacked.js";
 import { View, columnsThatFit, placesAtFirst } from "./view.js";
@@ -32,6 +33,18 @@ function factsOf(source, run) {
   else if (run.waits.length > 0) facts.push(` · ${countOf(run.waits.length, "call")} ${run.waits.length === 1 ? "waits" : "wait"}: `, outside(run.waits.map(it => it.text).join("; ")));
   if (run.names.core !== "") facts.push(" · ", outside(run.names.core));
   return facts;
+}
+
+// The place in the address, or else the one that the account in the file of names says is worth looking at first, or the start.
+function placeWanted({ names }) {
+  const { place } = readAddress(location.href);
+  if (place !== null || !names) return place ?? 0;
+  try {
+    return firstPlace(readNames(new TextDecoder().decode(names)).account);
+  } catch {
+    // What is wrong with them is said once the run is read.
+    return 0;
+  }
 }
 
 // Reads a file of names for a run. If that fails, or the names are those of another run, the notice says why, and the result is null. Whether they
@@ -100,7 +113,7 @@ export class Opener {
     byId("walk").removeAttribute("aria-busy");
   }
 
-  // Opens a run at the place in the address. A run that is dropped or chosen gets an address of its own, at its start.
+  // Opens a run at the place in the address. A run that is dropped or chosen gets an address of its own, without a place.
   async open(source) {
     tell(...(source.notice ?? []));
     source.notice = [];
@@ -123,7 +136,7 @@ export class Opener {
 
   // Reads a run with the debugger. Of a journal that was cut off, what is left of it is read.
   async read(source) {
-    const places = placesAtFirst(readAddress(location.href).place);
+    const places = placesAtFirst(placeWanted(source));
     const opened = await this.openText(source.bytes, places);
     if (opened.fault?.text !== "truncated") return opened;
     const left = await this.client.request("salvage", source.bytes);
@@ -138,7 +151,7 @@ export class Opener {
     const text = isJournal(source.bytes) ? beginningOf(source.bytes) : null;
     if (text === null) return;
     const address = readAddress(location.href);
-    const places = placesAtFirst(address.place);
+    const places = placesAtFirst(placeWanted(source));
     const opened = await this.openText(text, places);
     if (opened.fault || Math.max(...places, ...(address.view ?? [])) > opened.lastPlace) return;
     const run = new Run(this.client, asBeginning(opened, source.bytes), new Names());
@@ -174,9 +187,10 @@ export class Opener {
   // Shows a run, or its beginning, at the place in the address.
   walkOver(run) {
     showPart("walk");
-    const view = new View(run.lastPlace, run.lastColumn, columnsThatFit(byId("picture-box").clientWidth));
-    showAccount(run.names.account);
-    const table = new LossTable(run, innerWidth >= NARROW && run.names.account === null);
+    const view = new View(run.lastPlace, run.lastColumn, columnsThatFit(byId("picture-box").clientWidth || innerWidth));
+    openAccount(run);
+    showTab("answer", null);
+    const table = new LossTable(run);
     const screen = new Screen(run, view);
     byId("legend").replaceChildren(...legend(run, screen.palette));
     const walk = new Walk(run, view, screen, table, tellFault);
@@ -191,7 +205,7 @@ export class Opener {
     if (names === null) return;
     tell();
     walk.rename(names);
-    showAccount(names.account);
+    openAccount(walk.run);
     byId("facts").replaceChildren(...factsOf(source, walk.run));
     source.names = bytes;
     source.namesFile = name;

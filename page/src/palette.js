@@ -2,7 +2,7 @@
 
 export const ACTOR_COLOURS = 8;
 const NAMES = ["ink", "mute", "line", "card", "head", "lag", "lag-ink", "lag-ground", "unread", "unread-ink", "unseen", "unseen-ink", "closed", "hatch",
-  "hatch-line", "place", "place-line", "alive", "alive-sender", "frame", "on-dark", "on-actor"];
+  "hatch-line", "place", "place-line", "alive", "alive-sender", "frame", "on-dark", "on-actor", "hit"];
 
 export const FONT = "12px system-ui, 'DejaVu Sans', sans-serif";
 export const BOLD = `bold ${FONT}`;

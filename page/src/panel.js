@@ -8,11 +8,13 @@ import { standingOf } from "./versions.js";
 const MOST_HANDLES = 64;
 const FEW_CHANNELS = 4;
 const MOST_OVERWRITTEN = 3;
+const MOST_READERS = 6;
 
 // A retained value, and beside it the receivers that read it next.
-function valueBox(text, readers) {
-  const marks = readers.map(receiver => element("span", { class: receiver.lag ? "reader lag" : "reader" }, `↑ ${receiver.handle}`));
-  return element("li", {}, element("span", { class: "box", title: text }, outside(text)), ...marks);
+function valueBox(index, number, text, readers) {
+  const marks = readers.slice(0, MOST_READERS).map(receiver => element("span", { class: receiver.lag ? "reader lag" : "reader" }, `↑ ${receiver.handle}`));
+  if (readers.length > MOST_READERS) marks.push(element("span", { class: "reader" }, `+${readers.length - MOST_READERS}`));
+  return element("li", {}, element("button", { type: "button", class: "box", "data-value": `${index} ${number}`, title: `${text}: who sent, received and lost it` }, outside(text)), ...marks);
 }
 
 // The values before the retained ones that a receiver hadn't read yet, struck out: the last of them, and how many there are before those.
@@ -20,8 +22,11 @@ function overwritten(channel, index, run) {
   const oldest = channel.sent - channel.retained;
   const first = channel.receivers.reduce((least, { lag, position }) => (lag ? Math.min(least, position) : least), oldest);
   if (first === oldest) return "";
-  const shown = Array.from({ length: Math.min(MOST_OVERWRITTEN, oldest - first) }, (_, i) => run.values.text(index, oldest - i - 1)).reverse();
-  const boxes = shown.map(text => element("li", {}, element("del", { class: "box", title: text }, outside(text))));
+  const shown = Array.from({ length: Math.min(MOST_OVERWRITTEN, oldest - first) }, (_, i) => oldest - i - 1).reverse();
+  const boxes = shown.map(number => {
+    const text = run.values.text(index, number);
+    return element("li", {}, element("del", { class: "box", title: text, "data-value": `${index} ${number}` }, outside(text)));
+  });
   const hidden = oldest - first - shown.length;
   if (hidden) boxes.unshift(element("li", {}, element("span", { class: "box older" }, `+${hidden}`)));
   return element("ol", { class: "overwritten", "aria-label": "overwritten values that receivers lost, the oldest first" }, ...boxes);
@@ -35,7 +40,7 @@ function retained(channel, index, names) {
   const boxes = channel.window.map((value, i) => {
     const position = oldest + hidden + i;
     const readers = channel.receivers.filter(receiver => receiver.unread > 0 && Math.max(receiver.position, oldest) === position);
-    return valueBox(names.value(index, value), readers);
+    return valueBox(index, position, names.value(index, value), readers);
   });
   if (hidden) boxes.unshift(element("li", {}, element("span", { class: "box older" }, `+${hidden}`)));
   return element("ol", { class: "values", "aria-label": "retained values, the oldest first" }, ...boxes);

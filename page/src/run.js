@@ -57,7 +57,7 @@ export class Run {
     this.ending = opened.ending;
     // What is counted in the whole run, once it is loaded.
     /** @type {Closings} */
-    this.closings = { places: this.channels.map(() => null), told: this.channels.map(() => new Map()) };
+    this.closings = { places: this.channels.map(() => null), told: this.channels.map(() => new Map()), readOn: [] };
     /** @type {Totals[] | null} */
     this.totals = null;
     /** @type {Listed | null} */
@@ -74,6 +74,8 @@ export class Run {
 
   rename(names) {
     this.names = names;
+    /** @type {Account | null} what was found in the run, in words: of the names, or else made once it is needed */
+    this.account = names.account;
     this.actors = new Actors(this.actorCount, names);
     names.bindings = this.bindings;
     this.waits = this.waiting ? [this.waiting] : waitsOf(this);
@@ -111,7 +113,8 @@ export class Run {
     return this.names.waited.has(channel) ? this.names.method(channel, this.orderOf(number), word) : word;
   }
 
-  // Where the call of an entry stands in the sources, if the names say so: they have one item for each of a channel's entries.
+  // Where the call of an entry stands in the sources, as file, line and column, if the names say so: they have one item for each of a channel's
+  // entries.
   sourceOf(number) {
     return this.names.hasCalls ? this.names.calledAt(this.columns.channels[number], this.orderOf(number)) : undefined;
   }
@@ -175,8 +178,18 @@ export class Run {
   async *findings() {
     yield this.closings = await this.client.request("closings");
     yield this.totals = await this.client.request("totals");
+    yield await this.findAccount();
     yield this.listed = new Listed(await this.client.request("lives"), this.lives, this.lastPlace + 1);
     for (const channel of this.losses.channels) yield this.values.load(channel);
+  }
+
+  // Makes the account of a run whose names have none.
+  async findAccount() {
+    const { names } = this;
+    if (this.account !== null) return;
+    const made = await this.client.request("account", names.parts);
+    if (this.waiting) made.waiting.push({ text: `${names.actor(this.waiting.actor)} would wait in line ${this.waiting.line}: ${this.waiting.text}`, since: this.lastPlace });
+    if (this.names === names) this.account = made;
   }
 
   // Loads what is found in the beginning of a run. Losses that are open at its end are left out, so their channels aren't known.

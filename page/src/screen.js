@@ -13,6 +13,7 @@ import { Overview } from "./overview.js";
 import { readPalette } from "./palette.js";
 import { drawPicture } from "./picture.js";
 import { drawStrip, drawStripCursor, stripCap, stripHeight, stripRow } from "./strip.js";
+import { isTabbed } from "./tabs.js";
 
 // How much of a row's surroundings is scrolled in with it.
 const AROUND = 60;
@@ -38,6 +39,8 @@ export class Screen {
     this.dots = new ActorDots(run);
     /** @type {Loss | null} the loss whose cause is drawn */
     this.loss = null;
+    // The places of the hits of a search.
+    this.hits = [];
     this.folds = new Folds(run);
     this.sight = { top: 0, bottom: 0 };
     this.rows = rowsOf(run);
@@ -73,8 +76,8 @@ export class Screen {
   // Called after a change of the window's size, of names, or between light and dark.
   resize() {
     this.palette = readPalette();
-    // The pane has no width while another part of a narrow page is shown.
-    this.width = byId("pane").clientWidth || this.width || 0;
+    // The pane has no width while another part of a narrow page is shown. It will have that of the window.
+    this.width = byId("pane").clientWidth || (isTabbed() ? innerWidth : this.width) || 0;
     const cap = stripCap(this.run, this.isNarrow || byId("losses").classList.contains("is-open") ? LOW_SHARE : SHARE);
     byId("strip-box").style.maxHeight = `${cap}px`;
     this.strip = {
@@ -149,7 +152,7 @@ export class Screen {
 
   drawPlace() {
     const { run, view, palette, frame } = this;
-    drawStripCursor({ ...this.strip, pen: this.pen("strip-cursor", this.strip.height) });
+    drawStripCursor({ ...this.strip, hits: this.hits, pen: this.pen("strip-cursor", this.strip.height) });
     drawAxis({ run, view, palette, frame, pen: this.pen("axis", AXIS_HEIGHT) });
     if (!this.picture) return;
     const pen = this.pen("cursor", this.picture.bottom - this.picture.top);

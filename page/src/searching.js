@@ -1,8 +1,11 @@
-// Searches for a condition, one after the other, each from the place where the one before has ended.
+// Searches for a condition or a text, one after the other, each from the place where the one before has ended.
 
 import { byId, outside } from "./dom.js";
 import { during } from "./notice.js";
+import { countOf, grouped } from "./numbers.js";
 import { seek } from "./stops.js";
+import { hitsOf } from "./text_search.js";
+import { countUpTo } from "./values.js";
 
 export class Searching {
   // `placeNow` returns the current place, and `jump` goes to a place that was found.
@@ -15,6 +18,8 @@ export class Searching {
     this.stops = 0;
     // The last search that found a place: where it began, its command, and the place.
     this.found = null;
+    // The text that was searched for last, and the places of all calls that have it.
+    this.hits = { text: "", places: [] };
     byId("found").textContent = "";
   }
 
@@ -43,6 +48,41 @@ export class Searching {
     if (found.place === null) return;
     this.found = { start, command: `${word} ${found.condition}`, place: found.place };
     this.jump(found.place);
+  }
+
+  // Asks for the nearest call that has a text.
+  askText(word, text) {
+    const { stops } = this;
+    const isOver = () => this.stops !== stops;
+    this.last = this.last.then(() => this.searchText(word, text, isOver)).catch(this.onFault);
+  }
+
+  async searchText(word, text, isOver) {
+    if (isOver()) return;
+    if (this.hits.text !== text) {
+      const places = await during(["searching for ", outside(text)], () => hitsOf(this.run, text, isOver));
+      if (places === null) return;
+      this.hits = { text, places };
+    }
+    const { places } = this.hits;
+    const here = this.placeNow();
+    const index = word === "rback" ? countUpTo(places, here - 1) - 1 : countUpTo(places, here);
+    const place = places[index];
+    this.found = null;
+    if (place !== undefined) this.jump(place);
+    byId("found").classList.toggle("lag", place === undefined);
+    byId("found").replaceChildren(...(place === undefined ? this.noHit(word) : [`hit ${grouped(index + 1)} of ${grouped(places.length)}`]));
+  }
+
+  noHit(word) {
+    const { places, text } = this.hits;
+    if (places.length === 0) return ["no call has ", outside(text)];
+    return [`none of the ${countOf(places.length, "hit")} is ${word === "rback" ? "before" : "after"} it`];
+  }
+
+  // Forgets the hits of the last text.
+  forget() {
+    this.hits = { text: "", places: [] };
   }
 
   // Returns the commands by which the last search led to this place, or null if it led elsewhere.

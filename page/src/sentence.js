@@ -4,9 +4,11 @@ import { coloured, element, outside, quoted } from "./dom.js";
 import { grouped } from "./numbers.js";
 import { actorColour } from "./palette.js";
 import { rowName } from "./row_names.js";
+import { sourceLink } from "./source_links.js";
+import { visible } from "./text.js";
 
 const FEW = 2;
-const MOST_NAMED = 3;
+const MOST_NAMED = 2;
 
 // Asking whether a watch has changed fails once it is closed, even if the last change wasn't seen: then one receive still succeeds.
 function closedMeaning(entry) {
@@ -44,11 +46,21 @@ function lossMeaning(entry, run, here) {
   return [lag(" overwrites ", quoted(overwritten), ", not read by ", ...readers(run, lagging))];
 }
 
+// The number of the value that a call sends or gets, or an empty text.
+function valueOf(entry) {
+  return (entry.reply === "value" ? entry.answer : entry.rest).split(" ")[0];
+}
+
 // The text of the value that a call sends or gets, or null if it has none but its number.
 export function textOf(entry, names) {
-  const [number] = (entry.reply === "value" ? entry.answer : entry.rest).split(" ");
+  const number = valueOf(entry);
   const text = number === "" ? "" : names.value(entry.channel, number);
   return text === number ? null : text;
+}
+
+// The same with its lines below each other.
+export function linesOf(entry, names) {
+  return textOf(entry, names) === null ? null : names.valueLines(entry.channel, valueOf(entry));
 }
 
 function meaning(entry, run) {
@@ -74,9 +86,9 @@ export function sentence(entry, run, here) {
     actors.badge(entry.actor), " ", coloured(actorColour(entry.actor), outside(names.actor(entry.actor))),
     " on ", outside(names.channel(entry.channel)), ": ",
     element("b", {}, callText(entry, run)), " → ", element("b", { class: entry.reply }, replyText(entry)),
-    // What was lost comes before the call's own text, since what is last may be cut.
+    // Where it stands in the sources comes first, and what was lost before the call's own text, since what is last may be cut.
+    ...(source ? [element("span", { class: "mute" }, " at ", sourceLink(run, source))] : []),
     ...losses, ...(losses.length > 0 ? [] : meaning(entry, run)),
-    ...(source ? [element("span", { class: "mute" }, " at ", outside(source))] : []),
   ];
 }
 
@@ -85,12 +97,15 @@ export function atTheStart(run) {
   return [element("span", { class: "mute" }, `the start: no call has been made${hint}`)];
 }
 
-// A call in one short line, for a list, and where it stands in the sources.
+// A call in one short line, for a list, and the file and line where it stands in the sources. A value that has a text is shown by it alone.
 export function shortLine(entry, run) {
   const text = textOf(entry, run.names);
   const source = run.sourceOf(entry.number);
+  const channel = run.channels.length > 1 ? `${entry.channel}: ` : "";
+  const whole = `${callText(entry, run)} → ${replyText(entry)}`;
+  const call = text === null ? [`${channel}${whole}`] : [`${channel}${run.methodOf(entry)} ${entry.handle} `, quoted(text)];
   return [
-    element("span", {}, `${entry.channel}: ${callText(entry, run)} → ${replyText(entry)}`, ...(text === null ? [] : [" ", quoted(text)])),
-    ...(source ? [element("small", {}, outside(source))] : []),
+    element("span", { title: whole }, ...call),
+    ...(source ? [element("small", { title: visible(`${source[0]}:${source[1]}`) }, outside(`${source[0].split(/[\\/]/).at(-1)}:${source[1]}`))] : []),
   ];
 }

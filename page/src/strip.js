@@ -60,14 +60,14 @@ function drawLosses({ pen, run, frame, palette }, channel, { y, bar }) {
 
 // How many values a channel's receivers lost, and a sign where nobody was told of some.
 export function drawLostCount({ pen, run, palette }, channel, right, middle) {
-  const { lost, untold } = run.losses.sums[channel];
+  const { lost, untold, unwound } = run.losses.sums[channel];
   if (lost === 0) return;
   const { height, width } = SIGN;
   pen.font = CODE;
   pen.textAlign = "right";
   pen.fillStyle = palette["lag-ink"];
   pen.fillText(`−${grouped(lost)}`, right - width - 4, middle);
-  if (untold === 0) return;
+  if (untold + unwound === 0) return;
   drawStretch(pen, palette, { x: right - width, end: right }, middle - height / 2, height, false);
 }
 
@@ -93,8 +93,20 @@ export function drawStrip(drawing) {
   });
 }
 
-// Draws the part in view, and the place.
-export function drawStripCursor({ pen, view, frame, palette, height }) {
+// Marks the hits of a search in the lower half, so that the place is seen above them. Those on one point are marked once.
+function drawHits({ pen, frame, palette, height, hits }) {
+  pen.fillStyle = palette.hit;
+  let last = null;
+  for (const place of hits) {
+    const x = Math.round(frame.middle(place));
+    if (x !== last) pen.fillRect(x - 1, height / 2, 2, height / 2);
+    last = x;
+  }
+}
+
+// Draws the part in view, the place, and the hits of a search.
+export function drawStripCursor(drawing) {
+  const { pen, view, frame, palette, height } = drawing;
   const x = frame.x(view.from);
   const width = Math.max(frame.x(view.to + 1) - x, 3);
   pen.globalAlpha = 0.1;
@@ -106,4 +118,5 @@ export function drawStripCursor({ pen, view, frame, palette, height }) {
   pen.strokeRect(x, 1, width, height - 2);
   pen.fillStyle = palette["place-line"];
   pen.fillRect(frame.middle(view.place) - 1, 0, 2, height);
+  drawHits(drawing);
 }

@@ -9,6 +9,7 @@ import { grouped } from "./numbers.js";
 import { statePanel } from "./panel.js";
 import { atTheStart, sentence } from "./sentence.js";
 import { conditionsAt } from "./stops.js";
+import { valueCard } from "./value_life.js";
 import { wholeCall } from "./whole_call.js";
 
 const MOST_CHIPS = 8;
@@ -42,6 +43,8 @@ export class Telling {
     this.console = new Latest(() => this.askConsole(), onFault);
     this.isLeft = false;
     this.calls = byId("calls-part");
+    /** @type {{ channel: number, number: number } | null} the value whose life is shown */
+    this.life = null;
     // The channels that are folded in the panel other than by themselves.
     this.turned = new Set();
     fieldOf("slider").max = run.lastPlace;
@@ -108,7 +111,8 @@ export class Telling {
     const { isNarrow } = this.screen;
     const calls = isNarrow ? [] : [this.calls];
     if (isNarrow) byId("dock").replaceChildren(this.calls);
-    const card = lossCard(run, this.losses.here, view.place, this.losses.isAll);
+    const life = this.life === null ? [] : [valueCard(run, this.life)];
+    const card = [...life, ...lossCard(run, this.losses.here, view.place, this.losses.isAll)];
     byId("state").replaceChildren(...statePanel(state, run, this.channels, this.turned, calls, card));
     byId("state").dataset.place = String(view.place);
     this.offer(conditionsAt(state, run));

@@ -53,7 +53,8 @@ interface ChannelState {
 
 /** What the page's address has. */
 interface Address {
-  place: number;
+  /** It is null where the address has neither a place nor what is in view. */
+  place: number | null;
   view: number[] | null;
   fold: string | null;
   filter: string | null;
@@ -65,11 +66,15 @@ interface Address {
 interface Account {
   version: number;
   unknown: string[];
-  facts: { kind: string; channel: number; receiver?: number; places: { place: number; line: number }[]; text: string[] }[];
+  facts: {
+    kind: string; channel: number; receiver?: number; text: string[];
+    places: { place: number; line: number; role?: string; location?: [string, number, number] | null }[];
+  }[];
   rest: { after: number; text: string | null };
   nothing: string | null;
-  waiting: { text: string; since: number }[];
+  waiting: { text: string; since: number; actor?: number; channel?: number; handle?: number; location?: [string, number, number] | null }[];
   failure: number | null;
+  look: number;
 }
 
 interface RunState {
@@ -110,6 +115,8 @@ interface Totals {
 interface Closings {
   places: (number | null)[];
   told: Map<number, number | null>[];
+  /** How many values each of them received from then on. */
+  readOn: Map<number, number>[];
 }
 
 /** Where the values of a channel were sent and overwritten, by number. */

@@ -1,5 +1,6 @@
 // The walk over an opened run: its place, and the moves.
 
+import { firstPlace, showAccount } from "./account.js";
 import { forgetAddress, pushAddress, putIntoAddress } from "./address.js";
 import { byId, fieldOf } from "./dom.js";
 import { Latest } from "./latest.js";
@@ -7,7 +8,9 @@ import { LossMoves } from "./loss_moves.js";
 import { LossWalk } from "./loss_walk.js";
 import { Searching } from "./searching.js";
 import { unseenConditions } from "./stops.js";
+import { leaveAnswer } from "./tabs.js";
 import { Telling } from "./telling.js";
+import { conditionOf } from "./text_search.js";
 import { wholeCall } from "./whole_call.js";
 
 const NEIGHBOURS = 24;
@@ -27,6 +30,10 @@ export class Walk {
     this.onFault = onFault;
     this.searching = new Searching(run, () => view.place, place => this.jump(() => this.go(place)), onFault);
     this.isLeft = false;
+    // Whether the address names no place, and the account, which has the place to begin at, is still to come.
+    this.isStarting = false;
+    // Whether the account is shown.
+    this.hasAccount = false;
   }
 
   // Called when another run is opened. Replies that arrive after that are not shown.
@@ -53,29 +60,71 @@ export class Walk {
     };
   }
 
-  // Goes where an address leads. One with a place alone leaves folds and filter as they are.
+  // Goes where an address leads, or without a place to where the account says. One with a place alone leaves folds and filter as they are.
   /** @param {Address} address */
   restore({ place, view, fold, filter, order, stop }) {
     const { folds } = this.screen;
     this.searching.stop();
+    this.isStarting = place === null && this.run.account === null;
     if (stop !== null) fieldOf("condition").value = stop;
     if (view !== null) {
       folds.text = fold ?? folds.first;
       fieldOf("filter").value = folds.filter = filter ?? "";
       this.order(order === "number");
     }
-    this.view.restore(place, view);
+    if (place === null) this.begin();
+    else this.view.restore(place, view);
+    this.chooseTold();
     this.reveal();
     this.show();
+  }
+
+  // Goes to the place that is worth looking at first, and what is around it.
+  begin() {
+    const { view } = this;
+    const place = firstPlace(this.run.account);
+    view.go(place);
+    if (place > 0) view.centre(place);
+    this.chooseTold();
+  }
+
+  // Chooses the loss that the account tells of first, where that begins.
+  chooseTold() {
+    const { run, view } = this;
+    const [fact] = run.account?.facts ?? [];
+    if (fact?.kind !== "loss" || this.losses.chosen !== null) return;
+    this.losses.chosen = run.losses.at(view.place).find(it => it.channel === fact.channel && it.receiver === fact.receiver && it.from === view.place) ?? null;
+  }
+
+  // Shows the account once it is made, and returns whether it is new. Where nobody has moved yet, it leads to where the run begins.
+  showAccount() {
+    if (this.run.account === null || this.hasAccount) return false;
+    this.hasAccount = true;
+    showAccount(this.run);
+    if (!this.isStarting) return true;
+    this.isStarting = false;
+    this.begin();
+    this.reveal();
+    this.show();
+    return true;
   }
 
   // Gives the run other names.
   rename(names) {
     this.run.rename(names);
+    this.searching.forget();
+    this.hasAccount = false;
+    this.run.findAccount().then(() => this.isLeft || this.showFindings()).catch(this.onFault);
     this.view.lastColumn = this.run.lastColumn;
     this.view.show(this.view.from, this.view.width);
     this.table.fill();
     this.loadWhole();
+  }
+
+  // Shows all texts anew, such as for another editor.
+  renew() {
+    showAccount(this.run);
+    this.show();
   }
 
   // Goes to a place, without a step of the browser's history, and without scrolling the rows.
@@ -87,12 +136,14 @@ export class Walk {
 
   // The same by hand. It discards earlier searches.
   to(place) {
+    this.isStarting = false;
     this.searching.stop();
     this.go(place);
   }
 
   // Scrolls before anything is changed, since the browser lays out the page for it.
   by(places) {
+    this.isStarting = false;
     this.searching.stop();
     this.losses.isAll = false;
     this.view.go(this.view.place + places);
@@ -109,6 +160,7 @@ export class Walk {
 
   // Jumps, and scrolls in where that led. Each jump is a step of the browser's history.
   jump(move) {
+    leaveAnswer(this);
     this.step(move);
     this.reveal();
     this.redraw();
@@ -234,9 +286,26 @@ export class Walk {
     fieldOf("condition").select();
   }
 
-  // Searches for a condition, and jumps to where it holds.
-  seek(word, condition) {
+  // Searches for a condition, by numbers or names, or for a text, and jumps to where it holds or stands.
+  seek(word, text) {
+    const condition = conditionOf(this.run, text);
+    if (condition === null) return this.searching.askText(word, text);
+    this.forgetHits();
     this.searching.ask(word, condition);
+  }
+
+  // Takes the marks of the last text from the strip.
+  forgetHits() {
+    this.searching.forget();
+    this.redraw();
+  }
+
+  // Shows the life of a value beside the picture, or no more.
+  async showLife(value) {
+    if (value) await this.run.values.load(value.channel);
+    if (this.isLeft) return;
+    this.telling.life = value;
+    this.telling.describe();
   }
 
   // Searches for the nearest place where a receiver of a watch begins to have a value that it hasn't seen.
@@ -253,7 +322,7 @@ export class Walk {
   // The texts change at once, and the picture when its states are loaded.
   show() {
     this.telling.show();
-    putIntoAddress(this.address);
+    if (!this.isStarting) putIntoAddress(this.address);
     this.drawing.ask();
   }
 
@@ -307,7 +376,7 @@ export class Walk {
 
   showFindings() {
     const { table, screen, run } = this;
-    if (run.totals !== null && table.receivers.length === 0) table.fill();
+    if (this.showAccount() || (run.totals !== null && table.receivers.length === 0)) table.fill();
     screen.drawStrip();
     screen.drawn = null;
     this.redraw();
@@ -334,6 +403,7 @@ export class Walk {
   // Draws what is loaded.
   redraw() {
     this.screen.loss = this.losses.current;
+    this.screen.hits = this.searching.hits.places;
     this.screen.drawView();
     this.screen.drawPlace();
   }

@@ -2,7 +2,8 @@
 
 import { element, outside } from "./dom.js";
 import { countOf, grouped } from "./numbers.js";
-import { callText, replyText, textOf } from "./sentence.js";
+import { callText, linesOf, replyText } from "./sentence.js";
+import { sourceLink } from "./source_links.js";
 
 const MOST_CALLERS = 4;
 
@@ -35,14 +36,14 @@ function ownersOf(run, life) {
 export function wholeCall(entry, run) {
   const { channel, handle, actor, number } = entry;
   const life = run.lifeOf(channel, handle);
-  const text = textOf(entry, run.names);
+  const text = linesOf(entry, run.names);
   const called = run.sourceOf(number);
   const made = run.names.madeAt(channel, handle);
   return [
     line(element("b", {}, grouped(number)), " ", run.actors.badge(actor), " ", outside(run.actors.names[actor]), " on ", outside(run.names.channel(channel))),
     line(element("code", {}, `${callText(entry, run)} → `, element("b", { class: entry.reply }, replyText(entry)))),
-    ...(text === null ? [] : [line(element("code", { class: "text" }, outside(text)))]),
-    ...(called ? [line("called at ", outside(called))] : []),
-    ...(life ? [line(outside(run.titleOf(channel, handle)), ...(made ? [", made at ", outside(made)] : [])), ...ownersOf(run, life)] : []),
+    ...(text === null ? [] : [line(element("code", { class: "text" }, element("bdi", {}, text)))]),
+    ...(called ? [line("called at ", sourceLink(run, called))] : []),
+    ...(life ? [line(outside(run.titleOf(channel, handle)), ...(made ? [", made at ", sourceLink(run, made)] : [])), ...ownersOf(run, life)] : []),
   ];
 }

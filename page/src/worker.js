@@ -2,6 +2,7 @@
 
 import { Debugger } from "./debugger.js";
 import { closingsIn, levelsIn, livesIn, salvagedFrom, totalsIn, valuesIn } from "./findings.js";
+import { accountOf } from "./found/account.js";
 import { inflated } from "./inflating.js";
 import { openRun } from "./opening.js";
 import { isJournal, questions } from "./source.js";
@@ -11,9 +12,11 @@ let starting = null;
 let engine = null;
 let ask = null;
 let heading = "";
-// The opened run as a journal text, also where a script was opened, and its channels at the start.
+// The opened run as a journal text, also where a script was opened, its channels at the start, how many calls it has, and what was found in it.
 let journal = null;
 let channels = [];
+let lastPlace = 0;
+let found = { losses: [], totals: null, closings: null };
 
 const text = bytes => new TextDecoder().decode(bytes);
 
@@ -29,11 +32,14 @@ const requests = {
     heading = opened.heading;
     channels = opened.opening?.channels ?? [];
     journal = opened.journal;
+    lastPlace = opened.lastPlace;
+    found = { losses: opened.losses, totals: null, closings: null };
     // The page has the text that it sent.
     return { ...opened, journal: text ? null : journal };
   },
-  totals: () => totalsIn(engine, journal),
-  closings: () => closingsIn(engine, journal, channels.length),
+  totals: () => (found.totals ??= totalsIn(engine, journal)),
+  closings: () => (found.closings ??= closingsIn(engine, journal, channels.length)),
+  account: names => accountOf(journal, channels, lastPlace, { losses: found.losses, totals: requests.totals(), closings: requests.closings() }, names),
   lives: () => livesIn(engine, journal),
   values: channel => valuesIn(engine, journal, channel),
   levels: (wanted, from, each, count) => levelsIn(engine, journal, channels, wanted, from, each, count),

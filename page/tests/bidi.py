@@ -66,7 +66,8 @@ def written_out(tab, folder, journals):
     for character in BIDI + HIDDEN:
         assert character == "\n" or character not in shown, f"U+{ord(character):04X} stands in the page as it is"
         for name in ("sentence", "state", "legend"):
-            assert written(character) in tab.text(name), f"{name} lacks {written(character)}"
+            shown_as = "↵" if character == "\n" else written(character)
+            assert shown_as in tab.text(name), f"{name} lacks {shown_as}"
     for name in ("#sentence", "#state h3", "#facts"):
         in_order(tab, name)
     journal = opening.put(folder, f"fi{BIDI}le", native.record(SCRIPT))

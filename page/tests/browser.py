@@ -86,7 +86,7 @@ def pass_pipes(to_read, to_write):
 class Tab:
     """A page in the browser, with hands."""
 
-    KEYS = {"ArrowLeft": 37, "ArrowRight": 39, "Home": 36, "End": 35, "PageUp": 33, "PageDown": 34, "Enter": 13, "Escape": 27}
+    KEYS = {"ArrowLeft": 37, "ArrowRight": 39, "Home": 36, "End": 35, "PageUp": 33, "PageDown": 34, "Enter": 13, "Tab": 9, "Escape": 27}
 
     def __init__(self, browser, width=1440, height=920):
         self.browser = browser
@@ -122,7 +122,7 @@ class Tab:
             raise BrowserFault(f"{script[:200]}: {answer['exceptionDetails'].get('exception', {}).get('description')}")
         return answer["result"].get("value")
 
-    def wait(self, condition, seconds=20):
+    def wait(self, condition, seconds=PATIENCE):
         """Waits until an expression is true."""
         self.run(f"""new Promise((done, failed) => {{
             const end = performance.now() + {seconds * 1000};

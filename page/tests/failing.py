@@ -54,9 +54,9 @@ class Wanted:
 
 
 def note(number):
-    """The text of an order by `{:#?}`, with the ends of its lines written out as the page does."""
+    """The text of an order by `{:#?}`, with the ends of its lines as the page writes them."""
     notes = "🦀 \\\\ 'note' " * 200
-    return f'Order {{⟨U+000A⟩    id: {number},⟨U+000A⟩    note: "{notes}",⟨U+000A⟩}} 👩‍🚀🦀'
+    return f'Order {{↵ id: {number},↵ note: "{notes}",↵ }} 👩‍🚀🦀'
 
 
 def euros(numbers):
@@ -157,7 +157,7 @@ WANTED = {
     "the_notes_are_whole": Wanted(
         {"the_notes_are_whole"}, ["👩‍🚀 orders 🦀"], {"0 1": '<b>desk</b> &amp; "co" · receiver 1'}, {note(1), note(2), note(3)},
         [("the_notes_are_whole on 👩‍🚀 orders 🦀: send 0 1 → sent 1", note(1), "a note is sent"),
-         ("the_notes_are_whole on 👩‍🚀 orders 🦀: try-recv 1 → lagged 2", "lost Order {⟨U+000A⟩    id: 1", "the note is missing")],
+         ("the_notes_are_whole on 👩‍🚀 orders 🦀: try-recv 1 → lagged 2", "lost Order {↵ id: 1", "the note is missing")],
         [[r'`<b>desk</b> &amp; "co"` lost 2 of 3 values of `👩\u{200d}🚀 orders 🦀` (capacity 1)',
           r" step 2 👩\u{200d}🚀 orders 🦀.send(" + SHORT_NOTES[2] + ") the_notes_are_whole {a note is sent} overwrote " + SHORT_NOTES[1]
           + ', which <b>desk</b> &amp; "co" had not read',
@@ -338,8 +338,8 @@ ANSWER = """(() => {
 })()"""
 
 
-def check_answer(tab, account):
-    """The page shows the account, and each step of it leads to its place."""
+def check_answer_text(tab, account):
+    """The page shows the account, open."""
     answer = tab.run(ANSWER)
     unknown = [f"not all is known: {'; '.join(account['unknown'])}"] if account["unknown"] else []
     assert answer == {
@@ -347,6 +347,11 @@ def check_answer(tab, account):
         "others": unknown + ([account["nothing"]] if account["nothing"] else []), "rest": account["rest"]["text"],
         "folded": len(account["facts"]) - account["rest"]["after"],
     }, answer
+
+
+def check_answer(tab, account):
+    """The page shows the account, and each step of it leads to its place."""
+    check_answer_text(tab, account)
     tab.run("document.querySelectorAll('#answer details').forEach(it => { it.open = true; })")
     places = [place for fact in account["facts"] for place in fact["places"]]
     for index, place in enumerate(places):

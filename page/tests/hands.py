@@ -12,7 +12,7 @@ from shown import points_of
 
 GUTTER, MARGIN = 268, 14
 STOPS = [("rforward", "lagging 0 2"), ("rforward", "lagging 0 2"), ("rback", "actor 2"), ("rforward", "closed 1"),
-         ("rback", "unseen 1 2"), ("rforward", "queue 0 4"), ("rforward", "reply nonsense"), ("rback", "sideways"),
+         ("rback", "unseen 1 2"), ("rforward", "queue 0 4"), ("rforward", "reply nonsense"),
          ("rback", "closed 0"), ("rforward", "lagging 99999999999999999999 1")]
 
 # For the page, the next request to the debugger fails for lack of memory.
@@ -264,7 +264,7 @@ def example(tab, folder, journals):
     tab.load(native.PAGE)
     tab.wait("window.ttd")
     tab.click("#example-button")
-    opening.settle(tab, 0)
+    opening.settle_at_start(tab)
     tab.key("l")
     tab.key("l")
     opening.settle(tab, 23)

@@ -1,7 +1,9 @@
 """Jumps are steps of the browser's history, the address keeps what is seen, and what is seen can be taken along."""
 import json
 import os
+import re
 
+import failing
 import found
 import opening
 import real_runs
@@ -95,7 +97,8 @@ def address_keeps(tab, folder, journals):
     assert tab.run("document.getElementById('condition').value") == "lagging 0 6"
     for wrong in ("#place=x&view=9-", "#view=99999-9999999999", "#place=99999&view=5-1", "#stop=%00"):
         tab.load(f"{path}{wrong}")
-        opening.settle(tab, 648 if "99999&" in wrong else 0)
+        # Without a place, it is opened where its account says.
+        opening.settle(tab, 648 if "99999&" in wrong else None if "stop" in wrong else 0)
 
 
 def console_commands(tab, folder, journals):
@@ -132,12 +135,32 @@ def picture_as_png(tab, folder, journals):
         saved = tab.run(POINTS)
         assert saved["type"] == "image/png" and saved["clear"] == 0 and saved["corner"] == card, saved
         heights = "['strip', 'picture'].reduce((sum, name) => sum + document.getElementById(name).height, 0)"
-        assert saved["width"] == tab.run("document.getElementById('picture').width") and saved["height"] > tab.run(heights), saved
+        # Below the drawings are the card of a loss, and the legend.
+        notes = tab.run("document.querySelectorAll('#state .loss h3, #state .loss dl > div, #legend li').length")
+        assert notes > 5 and saved["width"] == tab.run("document.getElementById('picture').width") and saved["height"] > tab.run(heights) + 18 * notes, saved
         while tab.browser.event("Browser.downloadProgress", None)["state"] != "completed":
             pass
     tab.prefer("light")
     with open(os.path.join(downloads, "bus.journal.place-30.png"), "rb") as file:
         assert file.read(8) == b"\x89PNG\r\n\x1a\n"
+
+
+def report_as_markdown(tab, folder, journals):
+    """What is copied as Markdown has the account, the call at the place, the loss there and the page's address, and its fences hold what is in them."""
+    page, place = failing.addresses()["no_price_is_missing"]
+    opening.load(tab, page, place)
+    tab.wait("location.hash.includes('view')")
+    tab.run(f"void {CLIPBOARD}")
+    tab.click("#report")
+    tab.wait("document.getElementById('copied').textContent === 'copied'")
+    copied = tab.run("copied")
+    with open(failing.beside(page, ".names"), encoding="utf-8") as file:
+        facts = json.load(file)["account"]["facts"]
+    head, found_, here, link = re.fullmatch(r"(### .*)\n\n(```+)text\n(.*?)\n\2\n\n```+text\n(.*?)\n```+\n\n(.*)\n", copied, re.S).group(1, 3, 4, 5)
+    assert head == "### no\\_price\\_is\\_missing.journal" and found_ == "\n".join(line for fact in facts for line in fact["text"]), copied
+    lines = here.split("\n")
+    assert lines[0].startswith("place 3 of 8: ticker on prices: send 0 2 → sent 1 at src/lib.rs:") and lines[1].startswith("auditor · receiver 1 lost 1 of 3"), lines
+    assert link == f"The page: <{tab.run('location.href')}>", link
 
 
 def help_of_keys(tab, folder, journals):

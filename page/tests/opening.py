@@ -6,6 +6,8 @@ import subprocess
 import native
 
 NEWEST = 16
+# How many seconds are waited at most for what a busy machine takes long for.
+PATIENCE = 60
 OPEN = os.path.join(native.TOP, "page", "open")
 
 
@@ -22,16 +24,29 @@ def page_of(folder, name, data):
     return made.stdout.decode().rstrip("\n")
 
 
-def load(tab, path, place=None, seconds=20):
+def load(tab, path, place=0, seconds=PATIENCE):
+    """Opens a page at a place. Without one in the address, a run is opened where its account says: `load_first`."""
     tab.load(path, place)
     settle(tab, place, seconds)
 
 
-def settle(tab, place=None, seconds=20):
+def load_first(tab, path, seconds=PATIENCE):
+    tab.load(path)
+    settle(tab, None, seconds)
+
+
+def settle(tab, place=None, seconds=PATIENCE):
     """Waits until a run is shown with what is counted in it, and the state at its place."""
     shown = ("!document.getElementById('walk').hidden && !document.getElementById('losses').hasAttribute('aria-busy')"
              " && document.getElementById('state').dataset.place")
     tab.wait(f"{shown} !== undefined" if place is None else f"{shown} === '{place}'", seconds)
+
+
+def settle_at_start(tab):
+    """Waits until a run is shown where its account says, and goes to its start."""
+    settle(tab)
+    tab.key("Home")
+    settle(tab, 0)
 
 
 def standing(receiver, channel):

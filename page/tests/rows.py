@@ -49,6 +49,11 @@ def page_of(folder, name, run):
     return opening.page_of(folder, f"{name}.journal", journal), opening.asker(journal)
 
 
+def to_picture(tab):
+    """Shows the picture where the parts of the page are shown one at a time."""
+    tab.run("document.querySelector('#tabs [data-tab=picture]').click()")
+
+
 def wide():
     """64 channels, each with 30 receivers, and 64 actors."""
     head = "broadcast 4\n" * 64 + "actors 64\n"
@@ -64,6 +69,7 @@ def seen_after_losses(tab, folder, journals):
     for width, height in SIZES:
         tab.resize(width, height)
         opening.load(tab, path)
+        to_picture(tab)
         for place in found.stops_of(losses)[:HITS]:
             tab.key("l")
             opening.settle(tab, place)
@@ -78,6 +84,7 @@ def wide_after_losses(tab, folder, journals):
     for width, height in SIZES:
         tab.resize(width, height)
         opening.load(tab, path)
+        to_picture(tab)
         few_rows(tab)
         for place in found.stops_of(losses)[:HITS // 2]:
             tab.key("l")
@@ -197,6 +204,7 @@ def nothing_moves(tab, folder, journals):
     for width, height in SIZES:
         tab.resize(width, height)
         opening.load(tab, path)
+        to_picture(tab)
         before = boxes(tab, *parts)
         for key in ("l", "ArrowRight", "End", "l", "Home"):
             tab.key(key)
@@ -281,14 +289,14 @@ def in_order(tab, channels):
 
 
 def narrow_tabs(tab, folder, journals):
-    """On a narrow screen picture and state are shown one at a time."""
+    """On a narrow screen answer, picture and state are shown one at a time, the answer first."""
     path, _ = page_of(folder, "bus", real_runs.bus())
     tab.resize(390, 844)
     opening.load(tab, path, 300)
-    shown = "['left', 'state'].map(name => document.getElementById(name).checkVisibility())"
-    assert tab.run(shown) == [True, False]
+    shown = "['answer-box', 'left', 'state'].map(name => document.getElementById(name).checkVisibility())"
+    assert tab.run(shown) == [True, False, False]
     tab.click("#tabs [data-tab=state]")
-    assert tab.run(shown) == [False, True]
+    assert tab.run(shown) == [False, False, True]
     tab.click("#tabs [data-tab=picture]")
-    assert tab.run(shown) == [True, False]
+    assert tab.run(shown) == [False, True, False]
     tab.resize(1440, 920)

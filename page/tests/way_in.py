@@ -6,7 +6,7 @@ import subprocess
 import native
 import opening
 import real_runs
-from given import SCRIPT, empty_page, told
+from given import CAUSE, SCRIPT, empty_page, told
 from hands import script_asker
 from opening import check_place
 
@@ -43,13 +43,14 @@ def files_of(folder, name, run):
 def names_in_any_order(tab, folder, journals):
     """A file of names comes before its run, with it or after it, and several at once find theirs."""
     journal, names = files_of(folder, "bus", real_runs.bus())
-    shown = "document.getElementById('state').textContent.startsWith('event bus')"
+    shown = "document.getElementById('state').textContent.includes('event bus')"
     for dropped in ([[names], [journal]], [[journal], [names]], [[journal, names]]):
         empty_page(tab)
         for files in dropped:
             tab.drop(*files)
-            tab.wait("!document.getElementById('notice').hidden || document.getElementById('state').dataset.place === '0'")
+            tab.wait("!document.getElementById('notice').hidden || document.getElementById('state').dataset.place !== undefined")
         tab.wait(shown)
+        opening.settle_at_start(tab)
         tab.key("ArrowRight")
         opening.settle(tab, 1)
         assert tab.text("sentence").startswith("ma main on event bus: "), tab.text("sentence")
@@ -66,7 +67,7 @@ def names_of_another_run(tab, folder, journals):
     _, pool_names = files_of(folder, "pool", real_runs.pool())
     empty_page(tab)
     tab.drop(bus, bus_names)
-    opening.settle(tab, 0)
+    opening.settle_at_start(tab)
     tab.drop(pool_names)
     told(tab, "notice", "pool.names isn't of this run: it names channel 19, and this run has 2 channels, from 0 on.")
     assert tab.text("state").startswith("event bus"), tab.text("state")[:100]
@@ -76,7 +77,7 @@ def names_of_another_run(tab, folder, journals):
     assert tab.text("state").startswith("event bus"), tab.text("state")[:100]
     tab.drop(bus, pool_names)
     told(tab, "notice", "pool.names isn't of this run: ")
-    opening.settle(tab, 0)
+    opening.settle_at_start(tab)
     assert tab.text("state").startswith("channel 0"), tab.text("state")[:100]
 
 
@@ -90,11 +91,11 @@ def foreign_texts(tab, folder, journals):
         empty_page(tab)
         tab.drop(opening.put(folder, f"foreign{number}.ttd", data))
         told(tab, "facts", f"foreign{number}.ttd · 4 calls · 1 channel · 1 actor · read from {note}")
-        check_place(tab, script_asker(SCRIPT), 0)
+        check_place(tab, script_asker(SCRIPT), CAUSE)
     journal, names = real_runs.bus()
     tab.drop(opening.put(folder, "bus.journal.gz", gzip.compress(journal)), opening.put(folder, "bus.names.gz", gzip.compress(names)))
     told(tab, "facts", "bus.journal.gz · 648 calls")
-    tab.wait("document.getElementById('state').textContent.startsWith('event bus')")
+    tab.wait("document.getElementById('state').textContent.includes('event bus')")
     for data, wanted in ((b"PK\3\4 and more", "it is packed by zip"), (gzip.compress(journal)[:900], "it is no whole gzip file")):
         tab.drop(opening.put(folder, "packed", data))
         told(tab, "notice", f"packed can't be read: {wanted}")
@@ -114,7 +115,7 @@ def several_runs(tab, folder, journals):
     for number, name, channel in ((1, "pool.journal", "jobs."), (0, "bus.journal", "event bus"), (2, "third.ttd", "channel 0")):
         tab.click(f"#choice [data-run='{number}']")
         told(tab, "facts", f"{name} · ")
-        opening.settle(tab, 0)
+        opening.settle_at_start(tab)
         assert tab.text("state").startswith(channel), tab.text("state")[:100]
         tab.click("#runs")
         tab.wait("!document.getElementById('choice').hidden")
@@ -132,9 +133,11 @@ def kept_for_a_reload(tab, folder, journals):
     opening.load(tab, opening.page_of(folder, "own.ttd", SCRIPT), 2)
     tab.drop(*files_of(folder, "bus", real_runs.bus()))
     told(tab, "facts", "bus.journal · 648 calls")
-    opening.settle(tab, 0)
+    opening.settle(tab)
     tab.key("ArrowRight")
-    tab.wait("location.hash.includes('place=1')")
+    place = tab.run("document.getElementById('slider').valueAsNumber")
+    tab.wait(f"location.hash.includes('place={place}&')")
+    said = tab.text("sentence")
     tab.run("""new Promise(done => {
         const look = () => indexedDB.open('yovanelum').onsuccess = ({ target: { result } }) => {
             const count = result.transaction('runs').objectStore('runs').count();
@@ -143,17 +146,17 @@ def kept_for_a_reload(tab, folder, journals):
         look();
     })""")
     reload(tab)
-    opening.settle(tab, 1)
-    assert tab.text("sentence").startswith("ma main on event bus: "), tab.text("sentence")
+    opening.settle(tab, place)
+    assert tab.text("sentence") == said and " on event bus: " in said, tab.text("sentence")
     assert tab.text("facts").startswith("bus.journal · "), tab.text("facts")
     tab.run("history.back()")
     told(tab, "facts", "own.ttd · 4 calls")
     check_place(tab, script_asker(SCRIPT), 2)
     tab.run("history.forward()")
     told(tab, "facts", "bus.journal · ")
-    opening.settle(tab, 1)
+    opening.settle(tab, place)
     reload(tab)
-    opening.settle(tab, 1)
+    opening.settle(tab, place)
 
 
 def salvaged(path):
@@ -172,7 +175,7 @@ def cut_journals(tab, folder, journals):
         calls = left.count(b" = ")
         empty_page(tab)
         tab.drop(path)
-        opening.settle(tab, 0)
+        opening.settle(tab)
         count = "1 call" if calls == 1 else f"{calls} calls"
         told = f"This journal was cut off. Its whole lines are shown: {kept:,} of {end:,} bytes, with {count}. What came after them isn't known."
         assert tab.text("cut") == told, (tab.text("cut"), told)
@@ -194,7 +197,7 @@ def signs(tab, folder, journals):
     for sign, then in (("reading large.journal", "readOn"), ("opening large.journal, 3 MB", "goOn")):
         tab.wait(f"document.getElementById('busy-text').textContent === '{sign}' && {SEEN}('busy')")
         tab.run(f"void {then}()")
-    opening.settle(tab, 0)
+    opening.settle_at_start(tab)
     assert tab.run("document.getElementById('busy').hidden")
     tab.run(HELD)
     tab.click("#stops [value=rforward]")

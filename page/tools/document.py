@@ -6,7 +6,8 @@ import re
 import subprocess
 import zlib
 
-BUNDLE = ("--bundle", "--format=iife", "--charset=utf8", "--legal-comments=none", "--log-level=warning", '--banner:js="use strict";')
+# Names and statements stay as they are, so that a browser's tools, which lay them out again, show what can be read.
+BUNDLE = ("--bundle", "--format=iife", "--charset=utf8", "--minify-whitespace", "--legal-comments=none", "--log-level=warning", '--banner:js="use strict";')
 
 
 class Refused(Exception):

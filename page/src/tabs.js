@@ -1,0 +1,30 @@
+// In a window that is narrow or low, the answer, the picture, the state and the receivers are shown one at a time.
+
+import { byId } from "./dom.js";
+
+// As in the style sheet.
+const TABBED = matchMedia("(max-width: 899px), (max-height: 499px)");
+
+export function isTabbed() {
+  return TABBED.matches;
+}
+
+// Shows a part, and what `walk` has to show in it.
+export function showTab(tab, walk) {
+  document.body.dataset.tab = tab;
+  for (const button of byId("tabs").children) {
+    if (button.getAttribute("data-tab") === tab) button.setAttribute("aria-current", "true");
+    else button.removeAttribute("aria-current");
+  }
+  walk?.table.draw();
+  if (!walk || !isTabbed() || tab !== "picture") return;
+  walk.screen.resize();
+  walk.reveal();
+  walk.show();
+  walk.scrolled();
+}
+
+// A move leads from the answer to the picture.
+export function leaveAnswer(walk) {
+  if (isTabbed() && document.body.dataset.tab === "answer") showTab("picture", walk);
+}
