@@ -6,8 +6,9 @@ out=${YOVANELUM_OUT:-$top/out}
 mkdir -p "$out" && out=$(cd "$out" && pwd) && work=$(mktemp -d "$out/work.XXXXXX") || { echo "the tests can't write into $out"; exit 70; }
 trap 'rm -rf "$work"' EXIT
 export YOVANELUM_OUT=$out TMPDIR=$work PYTHONDONTWRITEBYTECODE=1
-# What cargo keeps to build an edited crate again takes half of a target folder.
-export CARGO_INCREMENTAL=0
+# What cargo keeps to build an edited crate again takes half of a target folder, and debug info, which no test reads, two fifths of the time that
+# compiling takes.
+export CARGO_INCREMENTAL=0 CARGO_PROFILE_DEV_DEBUG=0
 # The program that is tested.
 export YOVANELUM_TTD=${YOVANELUM_TTD:-$top/rust/built/x86_64-linux/ttd}
 passed=0
@@ -21,6 +22,21 @@ left_out() {
   echo "${0#"$top/"}: $1 is left out, as YOVANELUM_SKIP says" >&2
 }
 
+# Sets `spent` to the time, in hundredths of a second, that processors took for what this shell has started and that has ended.
+read_spent() {
+  local fields
+  read -r -a fields </proc/$BASHPID/stat
+  spent=$((fields[15] + fields[16]))
+}
+
+# Appends to the file that the variable YOVANELUM_TIMES names, if any, how many seconds of processors a command took since `spent` was read.
+tell_spent() {
+  local since=$spent
+  [ -n "${YOVANELUM_TIMES-}" ] || return 0
+  read_spent
+  printf '%6d.%02d %s: %s\n' $(((spent - since) / 100)) $(((spent - since) % 100)) "${0#"$top/"}" "$*" >>"$YOVANELUM_TIMES"
+}
+
 # Counts a failure, and prints what failed.
 fail() {
   failed=$((failed + 1))
@@ -29,18 +45,21 @@ fail() {
 
 # Counts a command that has no count of its own, and prints its output if it fails.
 step() {
-  local said
+  local said spent
+  read_spent
   if said=$("$@" 2>&1); then
     passed=$((passed + 1))
   else
     fail "failed: $*"
     printf '%s\n' "$said"
   fi
+  tell_spent "$@"
 }
 
 # Runs a command whose last line is 'N passed, M failed', perhaps with ', K skipped', adds that, and prints how long it took.
 count() {
-  local since=$SECONDS last
+  local since=$SECONDS last spent
+  read_spent
   last=$("$@" | tee >(cat >&2) | tail -n 1)
   if [[ $last =~ ^([0-9]+)\ passed,\ ([0-9]+)\ failed(,\ ([0-9]+)\ skipped)? ]]; then
     passed=$((passed + BASH_REMATCH[1]))
@@ -50,6 +69,7 @@ count() {
     fail "$* gave no count; its last line: $last"
   fi
   printf '%s: %s: %s, %s s\n' "${0#"$top/"}" "$*" "$last" "$((SECONDS - since))" >&2
+  tell_spent "$@"
 }
 
 # Calls a function for each line of standard input, as many side by side as there are processors, and adds their counts. The output

@@ -195,7 +195,10 @@ def make_package():
         file.write(MANIFEST.format(path=json.dumps(os.path.join(native.TOP, "rust"))))
     # Debian's sources of tokio, as in rust/tokio.
     shutil.copytree(os.path.join(native.TOP, "rust", "tokio", ".cargo"), os.path.join(PACKAGE, ".cargo"), dirs_exist_ok=True)
-    shutil.rmtree(os.path.join(PACKAGE, "target", "yovanelum"), ignore_errors=True)
+    target = os.path.join(PACKAGE, "target")
+    shutil.rmtree(os.path.join(target, "yovanelum"), ignore_errors=True)
+    # With the environment of the tests, so that it is what they would compile.
+    subprocess.run([os.path.join(native.TOP, "tests", "seed"), target], env={**environment(), "YOVANELUM_OUT": os.path.dirname(native.PICTURES)}, check=True)
 
 
 def environment():

@@ -47,12 +47,17 @@ def lay(folder, case):
 
 
 def run(program, folder, case):
-    """Runs a program on the case whose files are in the folder. Its status is negative where a signal ended it, and -1000 where it
-    didn't end in time."""
+    """Runs a program on the case whose files are in the folder."""
     words = [program, *(f"{folder}/{FILE}" if word == FILE else word for word in case.words)]
-    actions = [(os.POSIX_SPAWN_OPEN, 0, f"{folder}/{IN}", os.O_RDONLY, 0)]
+    return start(words, f"{folder}/{IN}", folder, os.environ)
+
+
+def start(words, given, folder, environment):
+    """Starts a program with a file as its standard input, and returns how it ended. Its output goes to files in the folder. Its status is
+    negative where a signal ended it, and -1000 where it didn't end in time."""
+    actions = [(os.POSIX_SPAWN_OPEN, 0, given, os.O_RDONLY, 0)]
     actions += [(os.POSIX_SPAWN_OPEN, number, f"{folder}/{name}", os.O_WRONLY | os.O_CREAT | os.O_TRUNC, 0o600) for number, name in ((1, OUT), (2, ERR))]
-    child = os.posix_spawn(program, words, os.environ, file_actions=actions)
+    child = os.posix_spawn(words[0], words, environment, file_actions=actions)
     resource.prlimit(child, resource.RLIMIT_CPU, (MOST_SECONDS, MOST_SECONDS))
     signal.setitimer(signal.ITIMER_REAL, MOST_WAITING)
     try:
