@@ -193,13 +193,12 @@ def indexes():
     yield session("broadcast 2", "actors 3", "0 0 send 0 1", "1 0 recv 1", "2 0 send 0 1", "---", "goto 1", *asked, "rback actor 0", "rforward actor 1", *asked, "step")
 
 
-def padded(text, size):
-    """The text with skipped lines behind it, up to this size."""
-    line = b"#" * (LINE - 1) + b"\n"
-    return text + (line * ((size - len(text)) // LINE)).ljust(size - len(text), b"#")
-
-
 def sizes():
+    """Texts with skipped lines behind them, up to these sizes."""
+    skipped = memoryview((b"#" * (LINE - 1) + b"\n") * (BYTES // LINE))
+    def padded(text, size):
+        lines = (size - len(text)) // LINE * LINE
+        return b"".join((text, skipped[:lines], b"#" * (size - len(text) - lines)))
     for size in (BYTES, BYTES + 1):
         yield checked(padded(b"y\n", size))
         yield recorded(padded(text_of("broadcast 1"), size))

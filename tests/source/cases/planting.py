@@ -15,6 +15,18 @@ PROFILE = {"CARGO_PROFILE_RELEASE_OPT_LEVEL": "1", "CARGO_PROFILE_RELEASE_INCREM
 # The tests of the Rust crate that compare its calls, its journals and what is found in them with models or with the kit's program.
 CRATE = ("--lib", "--test", "model_broadcast", "--test", "model_watch", "--test", "journals", "--test", "limits", "--test", "broadcast", "--test", "watch")
 MOST_SECONDS = 900
+# The program alone. Cargo would compile the library of its package too, of which it uses nothing.
+PROGRAM = """[package]
+name = "planted"
+version = "0.0.0"
+edition = "2024"
+
+[[bin]]
+name = "ttd"
+path = "../rust/src/bin/ttd.rs"
+
+[workspace]
+"""
 
 
 class Edit(typing.NamedTuple):
@@ -67,11 +79,14 @@ class Lane:
     def __init__(self, top, folder):
         self.top, self.folder, self.crates = top, folder, layout.Crates(top)
         self.rust, self.target = f"{folder}/rust", f"{folder}/target"
-        self.program = f"{self.target}/release/ttd"
+        self.program = f"{folder}/target-program/release/ttd"
         shutil.rmtree(self.rust, ignore_errors=True)
+        os.makedirs(f"{folder}/program", exist_ok=True)
+        with open(f"{folder}/program/Cargo.toml", "w", encoding="utf-8") as file:
+            file.write(PROGRAM)
         shutil.copytree(f"{top}/rust", self.rust, ignore=shutil.ignore_patterns("target", "built", "tokio*"))
         rattle.make(top, self.rust, f"{folder}/rattle")
-        if not (self.build() and self.rattle_tests() and self.crate_tests()):
+        if not (self.build() and self.reads_library() and self.rattle_tests() and self.crate_tests()):
             raise RuntimeError(f"the sources don't pass as they are: {folder}")
         self.unplanted = self.digest()
 
@@ -88,7 +103,10 @@ class Lane:
             return "contracts"
         if not self.build():
             return "refused"
-        return "unused" if self.digest() == self.unplanted else "built"
+        if self.digest() != self.unplanted:
+            return "built"
+        # What only the library has isn't compiled with the program.
+        return "unused" if edit.crate in self.crates.program or self.reads_library() else "refused"
 
     def restore(self, edit):
         for path, _, _ in edit.pairs:
@@ -114,7 +132,10 @@ class Lane:
             return hashlib.file_digest(file, "blake2b").digest()
 
     def build(self):
-        return run(["cargo", "build", "--release", "--locked", "-j2", "--bin", "ttd"], self.rust, self.target)
+        return run(["cargo", "build", "--release", "-j2"], f"{self.folder}/program", f"{self.folder}/target-program")
+
+    def reads_library(self):
+        return run(["cargo", "check", "--release", "--locked", "-j2", "--lib"], self.rust, self.target)
 
     def rattle_tests(self):
         return run(["cargo", "test", "-j2", "--lib", "--", "--test-threads=2"], f"{self.folder}/rattle", f"{self.folder}/target-rattle")
