@@ -18,7 +18,7 @@ use support::workspace::{Workspace, printed};
 const REPLAYS: usize = 3;
 
 /// How many rounds two processes write their files side by side.
-const ROUNDS: usize = 50;
+const ROUNDS: usize = 10;
 
 /// Two bidders, of whom Bob is late. The test fails where the variable makes Ann wait for him.
 const RACE: &str = r#"
