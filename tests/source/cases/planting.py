@@ -9,9 +9,10 @@ import typing
 from cases import rattle
 from eraser import layout, rust
 
-# Most of a program stays compiled from one edit to the next, and a program without symbols is the same where its code is.
-PROFILE = {"CARGO_PROFILE_RELEASE_OPT_LEVEL": "1", "CARGO_PROFILE_RELEASE_INCREMENTAL": "true", "CARGO_PROFILE_RELEASE_CODEGEN_UNITS": "16",
-           "CARGO_PROFILE_RELEASE_STRIP": "symbols", "CARGO_NET_OFFLINE": "true", "RUSTFLAGS": "--cap-lints allow"}
+# Most of a program stays compiled from one edit to the next, since it has many parts that aren't optimised together. A program without symbols is the
+# same where its code is.
+PROFILE = {"CARGO_PROFILE_RELEASE_OPT_LEVEL": "1", "CARGO_PROFILE_RELEASE_INCREMENTAL": "true", "CARGO_PROFILE_RELEASE_CODEGEN_UNITS": "256",
+           "CARGO_PROFILE_RELEASE_LTO": "off", "CARGO_PROFILE_RELEASE_STRIP": "symbols", "CARGO_NET_OFFLINE": "true", "RUSTFLAGS": "--cap-lints allow"}
 # The tests of the Rust crate that compare its calls, its journals and what is found in them with models or with the kit's program.
 CRATE = ("--lib", "--test", "model_broadcast", "--test", "model_watch", "--test", "journals", "--test", "limits", "--test", "broadcast", "--test", "watch")
 MOST_SECONDS = 900
