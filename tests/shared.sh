@@ -9,6 +9,8 @@ export YOVANELUM_OUT=$out TMPDIR=$work PYTHONDONTWRITEBYTECODE=1
 # What cargo keeps to build an edited crate again takes half of a target folder, and debug info, which no test reads, two fifths of the time that
 # compiling takes.
 export CARGO_INCREMENTAL=0 CARGO_PROFILE_DEV_DEBUG=0
+# Many tests start programs that panic or abort. Each would take ten times as long with a backtrace, which nobody reads.
+export RUST_BACKTRACE=0
 # The program that is tested.
 export YOVANELUM_TTD=${YOVANELUM_TTD:-$top/rust/built/x86_64-linux/ttd}
 passed=0
