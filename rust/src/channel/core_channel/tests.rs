@@ -274,13 +274,19 @@ impl Pair {
     }
 }
 
-/// How many runs of random calls are compared. Miri needs a second for each.
-const SEEDS: u64 = if cfg!(miri) { 10 } else { 200 };
+/// How many runs of random calls are compared: 200, or as many as the variable `YOVANELUM_RUNS` says. Miri needs a second for each.
+fn seeds() -> u64 {
+    match std::env::var("YOVANELUM_RUNS") {
+        Ok(wanted) => wanted.parse().unwrap(),
+        Err(_) if cfg!(miri) => 10,
+        Err(_) => 200,
+    }
+}
 
 /// Makes 400 random calls on both, for each seed. Returns how many further machines were opened at most.
 fn play(spec_of: impl Fn(&mut Random) -> Spec<u64>, step: fn(&mut Pair, usize)) -> usize {
     let mut most_opened = 0;
-    for seed in 0..SEEDS {
+    for seed in 0..seeds() {
         let mut random = Random(seed * 2 + 1);
         let spec = spec_of(&mut random);
         let mut pair = Pair::open(spec, 4 + random.below(5) as u32, seed);
