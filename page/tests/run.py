@@ -83,10 +83,18 @@ def in_tab(test, browser, journals):
         tab.close()
 
 
-def run_all(program, wanted):
+def named(word):
+    """The tests of this name, or else those whose names have it as a part."""
+    tests = [test for test in TESTS if test.__name__ == word] or [test for test in TESTS if word in test.__name__]
+    if not tests:
+        print(f"no test of the page has {word} in its name\n0 passed, 1 failed")
+        sys.exit(1)
+    return tests
+
+
+def run_all(program, tests):
     """Runs the tests. Returns how many there were, and how many passed."""
     journals = runs.journals()
-    tests = [test for test in TESTS if not wanted or test.__name__ in wanted]
     browser = Browser(program)
     try:
         passed = [passes(test.__name__, lambda: in_tab(test, browser, journals)) for test in tests]
@@ -96,7 +104,9 @@ def run_all(program, wanted):
 
 
 def main():
-    count, passed = run_all(sys.argv[1], sys.argv[2:])
+    program, *words = sys.argv[1:]
+    tests = [test for word in words for test in named(word)] if words else TESTS
+    count, passed = run_all(program, tests)
     print(f"{passed} passed, {count - passed} failed")
     sys.exit(passed < count)
 
