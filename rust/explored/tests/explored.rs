@@ -283,6 +283,12 @@ fn an_order_in_which_time_passes_is_found() {
 }
 
 #[test]
+fn time_is_a_choice_without_a_search_too() {
+    let (passes, said, _) = Program::new("heart_and_monitor").explored(200, "1000");
+    assert!(!passes && said.contains("  time passed at step "), "{said}");
+}
+
+#[test]
 fn a_task_that_is_told_too_early_is_found() {
     assert_found(
         "told_too_early",

@@ -123,18 +123,18 @@ impl Search {
             false => (schedule.choices() as u32).max(1),
         };
         self.has_begun = true;
-        let Some(switches) = task.switches else {
-            return;
-        };
-        self.in_flight[switches] -= 1;
-        if schedule.has_timers && !self.has_timers && !task.order.has_timers {
+        let finds_timers = schedule.has_timers && !self.has_timers;
+        if finds_timers {
             // Time is a choice from here on, so the search begins anew.
             self.has_timers = true;
             self.passed = [0; SWITCHES + 1];
             self.waiting = [VecDeque::from([Vec::new()]), VecDeque::new()];
-            return;
         }
-        if task.order.has_timers != self.has_timers {
+        let Some(switches) = task.switches else {
+            return;
+        };
+        self.in_flight[switches] -= 1;
+        if finds_timers || task.order.has_timers != self.has_timers {
             return;
         }
         self.passed[switches] += 1;
@@ -245,6 +245,18 @@ mod tests {
             ["s", "ts", "ts0.1", "tr0", "tp2.1.1", "tp3.2.1"]
         );
         assert_eq!(search.passed, [1, 1]);
+    }
+
+    #[test]
+    fn a_timer_is_a_choice_without_a_search_too() {
+        let mut schedule = schedule(&[(2, Turn::Same)]);
+        schedule.has_timers = true;
+        let mut search = Search::new(3, &From::Seed(1000));
+        assert_eq!(
+            names(&mut search, &schedule),
+            ["r1000", "tp2.1001.1", "tp3.1002.1"]
+        );
+        assert_eq!(search.all_with_at_most(), None);
     }
 
     #[test]
