@@ -85,7 +85,7 @@ class Lane:
         os.makedirs(f"{folder}/program", exist_ok=True)
         with open(f"{folder}/program/Cargo.toml", "w", encoding="utf-8") as file:
             file.write(PROGRAM)
-        shutil.copytree(f"{top}/rust", self.rust, ignore=shutil.ignore_patterns("target", "built", "tokio*"))
+        shutil.copytree(f"{top}/rust", self.rust, ignore=shutil.ignore_patterns("target", "x86_64-linux", "tokio*"))
         rattle.make(top, self.rust, f"{folder}/rattle")
         if not (self.build() and self.reads_library() and self.rattle_tests() and self.crate_tests()):
             raise RuntimeError(f"the sources don't pass as they are: {folder}")
