@@ -148,12 +148,17 @@ impl Account {
     /// Makes the account of a run of which this was found.
     fn of(run: &Run, names: &Names, findings: &Findings) -> Account {
         let history = History::of(run, findings.losses(), names);
+        Account::with(run, names, findings, &history)
+    }
+
+    /// The same, of a run of which the history is known too.
+    fn with(run: &Run, names: &Names, findings: &Findings, history: &History) -> Account {
         let context = Context {
             run,
             names,
-            history: &history,
-            naming: &Naming::new(names, &history),
-            failure: &Failure::of(run, names, &history),
+            history,
+            naming: &Naming::new(names, history),
+            failure: &Failure::of(run, names, history),
             findings,
         };
         let found = Finding::all(&context);

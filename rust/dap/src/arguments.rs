@@ -91,7 +91,7 @@ impl<'a> Arguments<'a> {
 fn whole(value: &Value) -> Option<u64> {
     let float = || {
         let number = value.as_f64()?;
-        let is_whole = number >= 0.0 && number < 9e15 && number.fract() == 0.0;
+        let is_whole = (0.0..9e15).contains(&number) && number.fract() == 0.0;
         is_whole.then_some(number as u64)
     };
     value.as_u64().or_else(float)

@@ -207,7 +207,12 @@ impl Debuggee {
             (Some(place), Some(stop)) => self.go(place, stop),
             _ => self.end(is_back),
         }
-        Ok(json!({"allThreadsContinued": true}))
+        // A reverse has no body.
+        Ok(if is_back {
+            Value::Null
+        } else {
+            json!({"allThreadsContinued": true})
+        })
     }
 
     /// Returns the nearest place of a breakpoint, of one actor if it is given.

@@ -96,7 +96,11 @@ impl<W: Write> Session<W> {
     }
 
     fn event(&mut self, event: &str, body: Value) {
-        self.send(json!({"type": "event", "event": event, "body": body}));
+        let mut message = json!({"type": "event", "event": event});
+        if !body.is_null() {
+            message["body"] = body;
+        }
+        self.send(message);
     }
 
     fn print(&mut self, category: &str, text: &str) {
@@ -127,10 +131,10 @@ impl<W: Write> Session<W> {
         self.respond(&request, answer);
         let command = request.get("command").and_then(Value::as_str);
         if is_right && matches!(command, Some("launch" | "attach")) {
-            self.event("initialized", json!({}));
+            self.event("initialized", Value::Null);
         }
         if is_right && command == Some("terminate") {
-            self.event("terminated", json!({}));
+            self.event("terminated", Value::Null);
         }
         let events = self
             .debuggee

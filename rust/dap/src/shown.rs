@@ -230,10 +230,9 @@ impl Debuggee {
             .exception()
             .ok_or_else(|| Refusal::new("nothing was found at this step"))?;
         let entry = self.recording.entry(self.place);
-        let id = match entry.map(|entry| entry.reply()) {
-            Some(reply @ ("lagged" | "closed")) => reply,
-            _ => "lost",
-        };
+        let told = entry.map(|entry| entry.reply());
+        let told = told.filter(|reply| matches!(*reply, "lagged" | "closed"));
+        let id = told.unwrap_or("lost");
         Ok(json!({
             "exceptionId": id,
             "description": text,

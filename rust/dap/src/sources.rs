@@ -72,10 +72,12 @@ impl Sources {
     /// Returns the file as the names have it, of a path as the editor has it.
     pub(crate) fn file_of(&self, path: &str) -> Option<&str> {
         let real = fs::canonicalize(path).unwrap_or_else(|_| PathBuf::from(path));
-        let mut found = self.found.iter();
-        let here = found.find(|(file, found)| {
-            found.as_deref() == Some(real.as_path()) || file.as_str() == path
-        });
+        // A source that isn't here may be named by where it would be.
+        let is_it = |(file, found): &(&String, &Option<PathBuf>)| match found {
+            Some(found) => *found == real,
+            None => real.ends_with(file.as_str()),
+        };
+        let here = self.found.iter().find(is_it);
         here.map(|(file, _)| file.as_str())
     }
 

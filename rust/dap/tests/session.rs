@@ -587,3 +587,57 @@ fn lines_and_columns_may_count_from_zero() {
         (&true.into(), &(lines.recv - 1).into())
     );
 }
+
+#[test]
+fn the_newest_journal_is_found_by_the_name_of_its_test() {
+    let folder = Folder::new();
+    let below = folder.path("target/yovanelum/shop/test-orders");
+    fs::create_dir_all(&below).unwrap();
+    for (age, name, channels) in [
+        (3, "old", "broadcast 2"),
+        (2, "whole", "watch 0"),
+        (1, "late", "watch 0\nbroadcast 4"),
+    ] {
+        let journal = below.join(format!("{name}.journal"));
+        fs::write(&journal, format!("ttd-journal 2\n{channels}\nsteps\nend\n")).unwrap();
+        let test = if name == "late" {
+            "another"
+        } else {
+            "audit_is_whole"
+        };
+        let names = format!(
+            r#"{{"version": 3, "test": {{"package": "shop", "target": "orders", "name": "{name}", "thread": "tests::{test}"}}}}"#
+        );
+        fs::write(journal.with_extension("names"), names).unwrap();
+        let time = std::time::SystemTime::now() - std::time::Duration::from_secs(100 * age);
+        let file = fs::File::options().write(true).open(&journal).unwrap();
+        file.set_modified(time).unwrap();
+    }
+    let state = |arguments: Value| {
+        let mut client = Client::new(false);
+        client.launch(arguments);
+        let state = client.console("state");
+        let mut kinds = state.lines().filter(|line| line.starts_with("channel"));
+        (
+            kinds.next().unwrap().split(' ').nth(2).unwrap().to_string(),
+            kinds.count(),
+        )
+    };
+    let of_test = json!({"cwd": folder.0, "test": "audit_is_whole", "run": false});
+    assert_eq!(state(of_test), ("watch".to_string(), 0));
+    assert_eq!(
+        state(json!({"cwd": folder.0, "test": "tests::audit_is_whole", "run": false})).1,
+        0
+    );
+    assert_eq!(
+        state(json!({"cwd": folder.0, "test": "old", "run": false})).0,
+        "broadcast"
+    );
+    assert_eq!(state(json!({"cwd": folder.0})), ("watch".to_string(), 1));
+    let said = refused(json!({"cwd": folder.0, "test": "whole_audit", "run": false}));
+    let wanted = format!(
+        "there is no journal of a test `whole_audit` in {}: run the test first",
+        folder.path("target/yovanelum").display()
+    );
+    assert_eq!(said, wanted);
+}

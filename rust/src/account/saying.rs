@@ -1,5 +1,6 @@
 //! The words of the account for any place of a run: what a debugger shows is called as in the report.
 
+use super::Account;
 use super::history::History;
 use super::naming::Naming;
 use super::visible;
@@ -14,15 +15,16 @@ pub(crate) struct Saying {
 }
 
 impl Saying {
-    /// Takes a run with its names.
+    /// Takes a run with its names. Returns also the account of the run.
     ///
     /// # Errors
     ///
     /// Returns `NoMemory` if there is none for what is found.
-    pub(crate) fn of(run: &Run, names: Names) -> Result<Saying, TextFault> {
+    pub(crate) fn of(run: &Run, names: Names) -> Result<(Saying, Account), TextFault> {
         let findings = run.findings()?;
         let history = History::of(run, findings.losses(), &names);
-        Ok(Saying { names, history })
+        let account = Account::with(run, &names, &findings, &history);
+        Ok((Saying { names, history }, account))
     }
 
     pub(crate) fn names(&self) -> &Names {

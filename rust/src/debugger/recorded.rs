@@ -3,7 +3,7 @@
 //! It is for that program alone, and changes with it.
 
 use super::{Entry, Fault, Walk};
-use crate::account::{Account, Saying};
+use crate::account::Saying;
 use crate::names::{Names, checksum};
 use crate::report::Report;
 use crate::run::{Run, TextFault};
@@ -51,12 +51,15 @@ impl Opened {
             }
             read => (read.map_err(Fault)?, None),
         };
-        // The names of a journal that was cut off since can't be told from those of another one.
-        let names = names.map(|names| match cut_off {
-            Some(_) => Ok(names),
-            None => Names::beside(names, text).map_err(str::to_string),
+        let read = names.map(|names| {
+            let names = Names::read(&names)?;
+            let of = names.ending.journal;
+            // The names of a journal that was cut off since can't be told from those of another one.
+            match cut_off.is_none() && of.is_some_and(|sum| sum != checksum(text)) {
+                true => Err("it has the names of another journal".to_string()),
+                false => Ok(names),
+            }
         });
-        let read = names.map(|names| names.and_then(|names| Names::read(&names)));
         let (names, names_fault) = match read {
             Some(Ok(names)) => (names, None),
             Some(Err(fault)) => (Names::default(), Some(fault)),
@@ -75,13 +78,12 @@ impl Opened {
 
 impl Recorded {
     fn of(run: Run, names: Names) -> Result<Recorded, TextFault> {
-        let account = Account::on(&run, &names)?;
-        let (json, look) = (account.to_json(), account.look);
+        let (saying, account) = Saying::of(&run, names)?;
         Ok(Recorded {
+            saying,
+            account: account.to_json(),
+            look: account.look,
             report: Report::of(account).text(None, false),
-            account: json,
-            look,
-            saying: Saying::of(&run, names)?,
         })
     }
 

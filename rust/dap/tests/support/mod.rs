@@ -224,9 +224,10 @@ pub struct Lines {
     pub recv: u32,
 }
 
-/// The path of this file.
+/// The path of this file, as cargo says it where the test runs.
 pub fn this_file() -> PathBuf {
-    PathBuf::from(env!("CARGO_MANIFEST_DIR")).join("tests/support/mod.rs")
+    let package = std::env::var_os("CARGO_MANIFEST_DIR").expect("cargo runs the tests");
+    PathBuf::from(package).join("tests/support/mod.rs")
 }
 
 /// Saves the run of a ticker and an auditor as NAME.journal: of three prices in a channel of two, the auditor loses the first. Then the ticker
