@@ -14,7 +14,7 @@ const MOST_READERS = 6;
 function valueBox(index, number, text, readers) {
   const marks = readers.slice(0, MOST_READERS).map(receiver => element("span", { class: receiver.lag ? "reader lag" : "reader" }, `↑ ${receiver.handle}`));
   if (readers.length > MOST_READERS) marks.push(element("span", { class: "reader" }, `+${readers.length - MOST_READERS}`));
-  return element("li", {}, element("button", { type: "button", class: "box", "data-value": `${index} ${number}`, title: `${text}: who sent, received and lost it` }, outside(text)), ...marks);
+  return element("li", {}, element("button", { type: "button", class: "box", "data-value": `${index} ${number}`, title: text, "aria-description": "shows who sent, received and lost it" }, outside(text)), ...marks);
 }
 
 // The values before the retained ones that a receiver hadn't read yet, struck out: the last of them, and how many there are before those.

@@ -97,7 +97,7 @@ export function atTheStart(run) {
   return [element("span", { class: "mute" }, `the start: no call has been made${hint}`)];
 }
 
-// A call in one short line, for a list, and the file and line where it stands in the sources. A value that has a text is shown by it alone.
+// A call in one short line, for a list, and where it stands in the sources. A value that has a text is shown by it alone.
 export function shortLine(entry, run) {
   const text = textOf(entry, run.names);
   const source = run.sourceOf(entry.number);
@@ -106,6 +106,6 @@ export function shortLine(entry, run) {
   const call = text === null ? [`${channel}${whole}`] : [`${channel}${run.methodOf(entry)} ${entry.handle} `, quoted(text)];
   return [
     element("span", { title: whole }, ...call),
-    ...(source ? [element("small", { title: visible(`${source[0]}:${source[1]}`) }, outside(`${source[0].split(/[\\/]/).at(-1)}:${source[1]}`))] : []),
+    ...(source ? [element("small", { title: visible(`${source[0]}:${source[1]}`) }, outside(`${source[0]}:${source[1]}`))] : []),
   ];
 }

@@ -41,7 +41,7 @@ def first_calls(tab, folder, journals):
     """At first the state and the calls at the start are shown, without counts of what isn't read, and no key moves. They stay when all is read."""
     tab.call("Page.addScriptToEvaluateOnNewDocument", source=WATCH)
     ask = opening.asker(journal())
-    tab.load(opening.page_of(folder, "long.journal", journal()))
+    tab.load(opening.page_of(folder, "long.journal", journal()), 0)
     tab.wait("window.first", 60)
     all_read(tab)
     first = tab.run("window.first")
@@ -70,7 +70,7 @@ def late_faults(tab, folder, journals):
     tab.load(opening.page_of(folder, "faulty.journal", journal()[:-4] + b"nonsense\nend\n"))
     tab.wait("!document.getElementById('refusal').hidden", 60)
     assert tab.run("document.getElementById('walk').hidden"), "a refused run is shown"
-    tab.load(opening.page_of(folder, "cut.journal", journal()[:-20]))
+    tab.load(opening.page_of(folder, "cut.journal", journal()[:-20]), 0)
     tab.wait("!document.getElementById('cut').hidden", 60)
     all_read(tab)
     assert tab.text("place") == f"place 0 of {CALLS - 1:,}", tab.text("place")

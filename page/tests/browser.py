@@ -9,7 +9,9 @@ import subprocess
 import tempfile
 
 
-PATIENCE = 60
+# How many seconds an answer of the browser is waited for, and less than that in the page for a condition, so that its fault is told.
+PATIENCE = 150
+WAIT = 60
 
 
 class BrowserFault(Exception):
@@ -122,7 +124,7 @@ class Tab:
             raise BrowserFault(f"{script[:200]}: {answer['exceptionDetails'].get('exception', {}).get('description')}")
         return answer["result"].get("value")
 
-    def wait(self, condition, seconds=PATIENCE):
+    def wait(self, condition, seconds=WAIT):
         """Waits until an expression is true."""
         self.run(f"""new Promise((done, failed) => {{
             const end = performance.now() + {seconds * 1000};

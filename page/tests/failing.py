@@ -454,7 +454,7 @@ def page_of_test(name):
     def test(tab, folder, journals):
         page, place = addresses()[name]
         account = check_account(name, page)
-        opening.load(tab, page, place, 120 if name == FULL else 20)
+        opening.load(tab, page, place, 120 if name == FULL else opening.PATIENCE)
         check_answer(tab, account)
         check_page(tab, name)
         check_losses(tab, WANTED[name], account["losses"])

@@ -74,7 +74,7 @@ class Firefox:
     def run(self, script, *given):
         return self.call("WebDriver:ExecuteScript", script=script, args=list(given))["value"]
 
-    def wait(self, condition, seconds=20):
+    def wait(self, condition, seconds=60):
         end = time.monotonic() + seconds
         while not self.run(f"return Boolean({condition})"):
             if time.monotonic() > end:
@@ -98,7 +98,10 @@ def opens_and_walks(page, folder):
     """A run opens, keys walk through it, and the sentence has what the program writes."""
     journal = native.record(runs.example())
     ask = opening.asker(journal)
+    # The loss that the slow auditor was told of last begins there.
     page.load(opening.page_of(folder, "walked.journal", journal))
+    opening.settle(page, 31)
+    page.key("\ue011")
     opening.settle(page, 0)
     place = 0
     for key, place in (("\ue014", 1), ("l", 19), ("l", 23), ("\ue010", 63), ("\ue011", 0)):
@@ -118,6 +121,8 @@ def opens_large(page, folder):
     journal, names = real_runs.long()
     opening.put(folder, "long.names", names)
     page.load(opening.page_of(folder, "long.journal", journal))
+    opening.settle(page, 50_010)
+    page.key("\ue011")
     opening.settle(page, 0)
     for place in (50_010, 50_100):
         page.key("l")
@@ -131,8 +136,8 @@ def drops(page, folder):
     page.load(native.PAGE)
     page.wait("window.ttd")
     page.run(DROP, [["bus.names", names.decode()], ["bus.journal", journal.decode()]])
-    opening.settle(page, 0)
-    assert page.text("state").startswith("event bus"), page.text("state")[:80]
+    opening.settle(page)
+    assert "event bus" in page.text("state"), page.text("state")[:80]
     page.run(DROP, [["small.ttd", "broadcast 2\n0 0 send 0 9\n0 0 recv 1\n"]])
     page.wait("document.getElementById('facts').textContent.startsWith('small.ttd · 2 calls')")
     page.key("\ue010")

@@ -126,8 +126,8 @@ def table_of_receivers(tab, folder, journals):
     counts = [row[0] for row in tab.run(TABLE).values() if row[0] is not None]
     assert counts == sorted(counts), counts
     worst = max((it for it in losses if it.receiver == 6), key=lambda it: it.lost)
-    tab.run("document.querySelector('[data-receiver=\"0 6\"]').scrollIntoView()")
-    tab.click("[data-receiver='0 6']")
+    tab.run("document.querySelector('#table-rows [data-receiver=\"0 6\"]').scrollIntoView()")
+    tab.click("#table-rows [data-receiver='0 6']")
     opening.settle(tab, worst.to)
     assert tab.run("document.querySelector('#table-rows [aria-current]').dataset.receiver") == "0 6"
 
@@ -142,8 +142,8 @@ def row_without_loss(tab, folder, journals):
     path, ask = page_of(folder, "bus", real_runs.bus())
     opening.load(tab, path)
     tab.key("t")
-    tab.run("document.querySelector('[data-receiver=\"1 3\"]').scrollIntoView()")
-    tab.click("[data-receiver='1 3']")
+    tab.run("document.querySelector('#table-rows [data-receiver=\"1 3\"]').scrollIntoView()")
+    tab.click("#table-rows [data-receiver='1 3']")
     opening.settle(tab, last_call_of(ask, 1, 3))
 
 
@@ -201,7 +201,7 @@ def table_folds(tab, folder, journals):
     assert not tab.run(seen)
     tab.click("#tabs [data-tab=receivers]")
     assert tab.run(seen) and not tab.run("document.getElementById('left').checkVisibility()")
-    tab.run("document.querySelector('[data-receiver=\"0 6\"] td').click()")
+    tab.run("document.querySelector('#table-rows [data-receiver=\"0 6\"] td').click()")
     assert tab.run("document.getElementById('left').checkVisibility()") and not tab.run(seen)
     tab.resize(1440, 920)
 

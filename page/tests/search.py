@@ -90,7 +90,7 @@ def conditions_by_names(tab, folder, journals):
     path, ask = page_of(folder, "bus", real_runs.bus())
     opening.load(tab, path)
     place = 0
-    for named, condition in (("lagging event bus nightly-export", "lagging 0 6"), ("actor webhook", "actor 4"), ("unseen feature flags metrics", "unseen 1 3"),
+    for named, condition in (("lagging event bus nightly-export", "lagging 0 7"), ("actor webhook", "actor 4"), ("unseen feature flags metrics", "unseen 1 3"),
                              ("queue event bus 4", "queue 0 4"), ("closed feature flags", "closed 1"), ("channel event bus", "channel 0")):
         answer = ask(f"goto {place}\nrforward {condition}\n").rstrip("\n").split("\n")[-1]
         seek(tab, named)
