@@ -6,6 +6,7 @@ import { BAND, HEAD } from "./layout.js";
 import { stretchOf } from "./loss_band.js";
 import { SMALL, SMALL_BOLD } from "./palette.js";
 import { drawPlainName, drawRowName } from "./row_names.js";
+import { drawStory } from "./story.js";
 import { standingOf } from "./versions.js";
 
 const EDGE = 8;
@@ -123,7 +124,7 @@ function clipToRows({ pen, frame, bands, top }) {
   pen.clip();
 }
 
-/** @param {Drawing & { loss: Loss | null }} drawing */
+/** @param {Drawing & { loss: Loss | null, isStory: boolean }} drawing */
 function drawInRows(drawing) {
   const { run, view, loss } = drawing;
   drawRow(drawing);
@@ -131,8 +132,9 @@ function drawInRows(drawing) {
   const state = run.state(view.place);
   if (state) drawStandings(drawing, state);
   if (loss === null) return;
+  if (drawing.isStory) drawStory(drawing, loss);
   drawChosen(drawing, loss);
-  drawCause(drawing, loss);
+  if (!drawing.isStory) drawCause(drawing, loss);
 }
 
 // `drawing` is as for the picture. The column isn't drawn if the place is out of view.

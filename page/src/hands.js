@@ -83,7 +83,12 @@ function listenToButtons(page) {
     const [channel, number] = value.split(" ").map(Number);
     page.walk?.showLife(value === "" ? null : { channel, number });
   });
-  chosenIn("state", "loss", what => (what === "all" ? page.walk?.lossMoves.showAll() : page.walk?.lossMoves.turn()));
+  chosenIn("state", "loss", what => {
+    const moves = page.walk?.lossMoves;
+    if (what === "all") moves?.showAll();
+    else if (what === "story") moves?.turnStory();
+    else moves?.turn();
+  });
   press(page, "said", walk => walk.telling.turnWhole());
   press(page, "peek", walk => showTab("state", walk));
   byId("told").addEventListener("toggle", () => page.walk?.telling.tellConsole());

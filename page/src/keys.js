@@ -15,6 +15,7 @@ const KEYS = [
   { keys: ["c", "C"], shown: "C", does: "the cause of the loss: the send that overwrote first", move: walk => walk.lossMoves.toCause() },
   { keys: ["e", "E"], shown: "E", does: "the end of the loss: where it was told, or dropped", move: walk => walk.lossMoves.toEnd() },
   { keys: ["n", "N"], shown: "N", does: "the next receiver that lags at the place", move: walk => walk.lossMoves.turn() },
+  { keys: ["p", "P"], shown: "P", does: "the cause of the loss in the picture, or no more", move: walk => walk.lossMoves.turnStory() },
   { keys: ["u", "U"], shown: "U, with Shift back", does: "next change that a receiver of a watch hasn't seen", move: (walk, back) => walk.toUnseen(back) },
   { keys: ["t", "T"], shown: "T", does: "unfold or fold the table of receivers", move: walk => walk.lossMoves.turnTable() },
   { keys: ["i", "I"], shown: "I", does: "the call in whole, uncut; Escape closes it", move: walk => walk.telling.turnWhole() },

@@ -54,7 +54,7 @@ function values(run, loss, place, isAll) {
 }
 
 // The place where a receiver last received a value before its loss, or 0.
-function lastReceived({ columns }, { channel, receiver, from }, made) {
+export function lastReceived({ columns }, { channel, receiver, from }, made) {
   for (let place = from; place > made; place--) {
     if (columns.handles[place] === receiver && columns.channels[place] === channel && columns.marks[place] === RECEIVED) return place;
   }
@@ -88,7 +88,8 @@ export function lossCard(run, here, place, isAll) {
   const turn = here.length > 1 ? [element("p", { class: "turn" }, `${grouped(here.length)} receivers lose values here `,
     element("button", { type: "button", "data-loss": "turn", title: "the next of them (N)" }, "next"))] : [];
   const head = element("h3", {}, ...rowName(run, loss.channel, run.lifeOf(loss.channel, loss.receiver)), ` lost ${count} `,
-    element("span", { class: `pill ${loss.end}` }, word(run, loss)));
+    element("span", { class: `pill ${loss.end}` }, word(run, loss)), " ",
+    element("button", { type: "button", "data-loss": "story", title: "the cause in the picture, or no more (P)" }, "picture of it"));
   return [element("section", { class: `loss ${loss.end}`, "aria-label": "the loss at the place" }, ...turn, head,
     element("dl", {}, cause(run, loss), values(run, loss, place, isAll), reader(run, loss), end(run, loss)))];
 }

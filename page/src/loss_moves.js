@@ -1,5 +1,6 @@
 // Moves by losses. Each is a jump, with the loss chosen that it leads to.
 
+import { storyOf } from "./story.js";
 import { leaveAnswer } from "./tabs.js";
 
 export class LossMoves {
@@ -79,6 +80,20 @@ export class LossMoves {
     if (worst) return this.show(worst, this.endOf(worst), true);
     walk.jumpTo(life.last);
     this.reveal(channel, receiver);
+  }
+
+  // Draws the story of the loss at the place, all of it in view, or no more.
+  turnStory() {
+    const { walk, losses } = this;
+    const loss = losses.current;
+    if (!loss || !walk.run.values.has(loss.channel)) return;
+    walk.screen.isStory = !walk.screen.isStory;
+    if (!walk.screen.isStory) return walk.redraw();
+    const places = storyOf(walk.run, loss).map(({ place }) => place);
+    const [first, last] = [Math.min(...places), Math.max(...places)];
+    if (first < walk.view.from || last > walk.view.to) walk.view.show(first - 1, last - first + 3);
+    this.reveal(loss.channel, loss.receiver);
+    walk.show();
   }
 
   // Shows all values of the loss in its card.

@@ -39,6 +39,8 @@ export class Screen {
     this.dots = new ActorDots(run);
     /** @type {Loss | null} the loss whose cause is drawn */
     this.loss = null;
+    // Whether all of its story is.
+    this.isStory = false;
     // The places of the hits of a search.
     this.hits = [];
     this.folds = new Folds(run);
@@ -157,7 +159,7 @@ export class Screen {
     if (!this.picture) return;
     const pen = this.pen("cursor", this.picture.bottom - this.picture.top);
     pen.translate(0, -this.picture.top);
-    drawCursor({ ...this.picture, pen, loss: this.loss });
+    drawCursor({ ...this.picture, pen, loss: this.loss, isStory: this.isStory });
   }
 
   // Scrolls the row of a call in, with the head of its band if that fits, and its channel's row of the strip.

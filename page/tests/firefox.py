@@ -100,7 +100,7 @@ def opens_and_walks(page, folder):
     ask = opening.asker(journal)
     # The loss that the slow auditor was told of last begins there.
     page.load(opening.page_of(folder, "walked.journal", journal))
-    opening.settle(page, 31)
+    opening.settle(page, 36)
     page.key("\ue011")
     opening.settle(page, 0)
     place = 0
