@@ -14,11 +14,11 @@ use std::time::{Duration, SystemTime};
 use support::named::{checksum, member};
 use support::workspace::{Workspace, printed};
 
-/// How often a line is pasted that a failing test prints. Once would show it: without the journal Ann is always the first.
-const REPLAYS: usize = 3;
+/// How often a line is pasted that a failing test prints.
+const REPLAYS: usize = 10;
 
 /// How many rounds two processes write their files side by side.
-const ROUNDS: usize = 10;
+const ROUNDS: usize = 50;
 
 /// Two bidders, of whom Bob is late. The test fails where the variable makes Ann wait for him.
 const RACE: &str = r#"
