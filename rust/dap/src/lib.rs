@@ -19,6 +19,7 @@ mod sources;
 mod targets;
 mod texts;
 mod variables;
+mod watched;
 
 pub use session::{Options, serve};
 

@@ -61,15 +61,10 @@ pub(crate) struct Recording {
 }
 
 impl Recording {
-    /// Opens a journal.
+    /// Opens a journal. Returns also what the user should know of it.
     pub(crate) fn open(journal: &Journal, sources: Sources) -> Answer<(Recording, Vec<String>)> {
         let path = journal.path.display();
-        let Opened {
-            walk,
-            recorded,
-            cut_off,
-            names_fault,
-        } = Opened::read(&journal.text, journal.names.clone()).map_err(|fault| {
+        let opened = Opened::read(&journal.text, journal.names.clone()).map_err(|fault| {
             let line = fault
                 .line()
                 .map_or(String::new(), |line| format!(", line {line}"));
@@ -78,15 +73,20 @@ impl Recording {
             ))
         })?;
         let mut warnings = journal.warnings.clone();
-        warnings.extend(cut_off.map(|_| {
-            let calls = walk.len();
+        warnings.extend(opened.cut_off.map(|_| {
+            let calls = opened.walk.len();
             format!("{path} was cut off; the {calls} calls of its whole lines are here")
         }));
-        warnings.extend(
-            names_fault
-                .map(|fault| format!("{} is left out: {fault}", journal.names_path.display())),
-        );
-        let account: Value = serde_json::from_str(recorded.account()).unwrap_or(Value::Null);
+        let fault = opened.names_fault.as_ref();
+        let names = journal.names_path.display();
+        warnings.extend(fault.map(|fault| format!("{names} is left out: {fault}")));
+        let mut recording = Recording::of(opened.walk, opened.recorded, sources);
+        warnings.extend(recording.sources.faults(&recording.names));
+        Ok((recording, warnings))
+    }
+
+    fn of(walk: Walk, names: Recorded, sources: Sources) -> Recording {
+        let account: Value = serde_json::from_str(names.account()).unwrap_or(Value::Null);
         let mut recording = Recording {
             facts: facts_in(&account),
             losses: losses_in(&account),
@@ -94,16 +94,15 @@ impl Recording {
             receivers: (0..walk.channels()).map(|channel| (channel, 1)).collect(),
             things: BTreeMap::new(),
             of_actor: BTreeMap::new(),
-            of_location: vec![vec![]; recorded.locations().len()],
+            of_location: vec![vec![]; names.locations().len()],
             locations: Vec::with_capacity(walk.len() as usize),
             walk,
-            names: recorded,
+            names,
             sources,
         };
         recording.index();
         recording.name_things();
-        warnings.extend(recording.sources.faults(&recording.names));
-        Ok((recording, warnings))
+        recording
     }
 
     fn index(&mut self) {

@@ -339,6 +339,18 @@ impl Debuggee {
             "goto" => self.goto(given),
             "restartFrame" => self.restart_frame(given),
             "exceptionInfo" => self.exception_info(),
+            "breakpointLocations" => self.recording.breakpoint_locations(given, self.bases),
+            "dataBreakpointInfo" => self.data_breakpoint_info(given),
+            "loadedSources" => self.loaded_sources(),
+            "source" => self.source(given),
+            "locations" => self.location(given),
+            _ => self.set(command, given),
+        }
+    }
+
+    /// Sets breakpoints.
+    fn set(&mut self, command: &str, given: Arguments<'_>) -> Answer {
+        match command {
             "setBreakpoints" => {
                 self.breakpoints
                     .set_of_source(given, self.bases, &mut self.recording)
@@ -348,11 +360,6 @@ impl Debuggee {
             "setExceptionBreakpoints" => {
                 self.breakpoints.set_exceptions(given, &mut self.recording)
             }
-            "breakpointLocations" => self.recording.breakpoint_locations(given, self.bases),
-            "dataBreakpointInfo" => self.data_breakpoint_info(given),
-            "loadedSources" => self.loaded_sources(),
-            "source" => self.source(given),
-            "locations" => self.location(given),
             other => Err(Refusal(format!(
                 "`{other}` isn't supported: a recording doesn't change"
             ))),

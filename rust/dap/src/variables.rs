@@ -122,28 +122,29 @@ impl Debuggee {
             )],
         };
         variables.extend(self.contents(channel, at));
+        variables.extend(self.senders(channel));
         let name = self.recording.names.channel(channel);
-        let walk = self.recording.walk();
-        let Some(shown) = walk.channel(channel) else {
-            return variables;
+        variables.push(self.named_field(&name, Thing::Channel(channel), Field::Closed));
+        variables
+    }
+
+    /// Returns the senders of a channel, where the walk is at the place. Weak ones are there if there are any.
+    fn senders(&self, channel: u32) -> Vec<Value> {
+        let Some(shown) = self.recording.walk().channel(channel) else {
+            return vec![];
         };
         let sender = |handle| self.recording.names.sender(channel, handle);
-        let list = |handles: Vec<String>| {
-            if handles.is_empty() {
-                "none".to_string()
-            } else {
-                handles.join(", ")
-            }
-        };
-        variables.push(variable(
-            "senders",
-            list(shown.senders().map(sender).collect()),
-        ));
+        let senders: Vec<_> = shown.senders().map(sender).collect();
         let weak: Vec<_> = shown.weak_senders().map(sender).collect();
+        let none = || "none".to_string();
+        let list = |handles: &[String]| match handles {
+            [] => none(),
+            handles => handles.join(", "),
+        };
+        let mut variables = vec![variable("senders", list(&senders))];
         if !weak.is_empty() {
-            variables.push(variable("weak senders", list(weak)));
+            variables.push(variable("weak senders", list(&weak)));
         }
-        variables.push(self.named_field(&name, Thing::Channel(channel), Field::Closed));
         variables
     }
 
