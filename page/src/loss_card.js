@@ -88,10 +88,10 @@ export function lossCard(run, here, place, isAll) {
   const turn = here.length > 1 ? [element("p", { class: "turn" }, `${grouped(here.length)} receivers lose values here `,
     element("button", { type: "button", "data-loss": "turn", title: "the next of them (N)" }, "next"))] : [];
   const head = element("h3", {}, ...rowName(run, loss.channel, run.lifeOf(loss.channel, loss.receiver)), ` lost ${count} `,
-    element("span", { class: `pill ${loss.end}` }, word(run, loss)), " ",
-    element("button", { type: "button", "data-loss": "story", title: "the cause in the picture, or no more (P)" }, "picture of it"));
+    element("span", { class: `pill ${loss.end}` }, word(run, loss)));
+  const story = element("p", { class: "story" }, element("button", { type: "button", "data-loss": "story", title: "the cause in the picture, or no more (P)" }, "draw the cause"));
   return [element("section", { class: `loss ${loss.end}`, "aria-label": "the loss at the place" }, ...turn, head,
-    element("dl", {}, cause(run, loss), values(run, loss, place, isAll), reader(run, loss), end(run, loss)))];
+    element("dl", {}, cause(run, loss), values(run, loss, place, isAll), reader(run, loss), end(run, loss)), story)];
 }
 
 // The same in one line, for a narrow screen.
