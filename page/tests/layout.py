@@ -202,4 +202,21 @@ def room_for_fingers(tab, folder, journals):
     tab.resize(1440, 920)
 
 
-TESTS = [nothing_over_anything, any_window, shared_sender, receivers_beside_a_value, first_tab_stop, room_for_fingers]
+ON_PAPER = """[['answer-box', 'picture', 'state'].every(name => document.getElementById(name).checkVisibility()),
+    ['slider', 'help-button', 'tabs', 'save'].some(name => document.getElementById(name).checkVisibility()),
+    ['answer-box', 'pane', 'sentence'].every(name => (it => it.scrollHeight <= it.clientHeight + 1)(document.getElementById(name))),
+    document.getElementById('state').getBoundingClientRect().top >= document.getElementById('pane').getBoundingClientRect().bottom]"""
+
+
+def on_paper(tab, folder, journals):
+    """In print are the account, the picture and below it the state, in whole, and no controls."""
+    page, place = failing.addresses()["the_orders_are_whole"]
+    opening.load(tab, page, place)
+    assert tab.run(ON_PAPER) != [True, False, True, True]
+    tab.call("Emulation.setEmulatedMedia", media="print")
+    tab.wait("!document.getElementById('slider').checkVisibility()")
+    assert tab.run(ON_PAPER) == [True, False, True, True], tab.run(ON_PAPER)
+    tab.call("Emulation.setEmulatedMedia", media="")
+
+
+TESTS = [on_paper, nothing_over_anything, any_window, shared_sender, receivers_beside_a_value, first_tab_stop, room_for_fingers]
