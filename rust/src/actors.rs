@@ -1,5 +1,6 @@
 //! Who makes a call: the innermost named future, or else the task of a runtime that tells its tasks apart, or else the thread.
 
+use crate::atomic::AtomicU64;
 use crate::backend::Actor;
 use crate::block_on::is_blocked_on_future;
 use crate::channel::CallSite;
@@ -8,9 +9,11 @@ use crate::reentrant::thread_number;
 use crate::replay::{self, UNNAMED_THREAD};
 use std::cell::{Cell, RefCell};
 use std::collections::{BTreeMap, BTreeSet, HashMap, VecDeque};
+use std::fmt::Write;
 use std::future::Future;
 use std::panic::Location;
 use std::pin::Pin;
+use std::sync::atomic::Ordering;
 use std::sync::{Arc, OnceLock, Weak};
 use std::task::{Context, Poll};
 use std::thread;
@@ -34,7 +37,26 @@ const NOT_CACHED: CachedActor = CachedActor {
     task: 0,
 };
 
+/// The number of a caller in this process, which no other has: that of a named future, or of a thread.
+#[derive(Clone, Copy, PartialEq, Eq)]
+pub(crate) struct CallerNumber(u64);
+
+impl CallerNumber {
+    /// The number of no caller.
+    pub(crate) const NOBODY: CallerNumber = CallerNumber(u64::MAX);
+
+    // That of a thread before it is asked for the first time.
+    const NONE_YET: CallerNumber = CallerNumber(0);
+
+    fn next() -> CallerNumber {
+        static NEXT: AtomicU64 = AtomicU64::new(1);
+        CallerNumber(NEXT.fetch_add(1, Ordering::Relaxed))
+    }
+}
+
 thread_local! {
+    // The number of the future that this thread polls or drops, if that is a named one, or else its own.
+    static CALLER: Cell<CallerNumber> = const { Cell::new(CallerNumber::NONE_YET) };
     // The result of the last lookup.
     static CACHED: Cell<CachedActor> = const { Cell::new(NOT_CACHED) };
     // The name of the future that this thread polls or drops, if it has one.
@@ -137,6 +159,36 @@ pub(crate) fn current(recorder: u64, find: impl FnOnce(Option<u64>) -> Actor) ->
         task,
     });
     actor
+}
+
+/// Whether the current caller is the one with this number, and no runtime tells tasks of one thread apart.
+#[inline(always)]
+pub(crate) fn is_current_caller(number: CallerNumber) -> bool {
+    CALLER.get() == number && TASK_ID.get().is_none()
+}
+
+/// Writes the name of the current caller over another one, unless it is the name of the caller with this number already. Returns the number of
+/// the current caller.
+pub(crate) fn write_caller(before: CallerNumber, name: &mut String) -> CallerNumber {
+    if CALLER.get() == CallerNumber::NONE_YET {
+        CALLER.set(CallerNumber::next());
+    }
+    let number = CALLER.get();
+    let task = current_task();
+    if number == before && task.is_none() {
+        return number;
+    }
+    name.clear();
+    match (name_of_future(), task) {
+        (Some(future), _) => name.push_str(&future),
+        (None, Some(task)) => drop(write!(name, "task {task}")),
+        (None, None) => name.push_str(&name_of_thread()),
+    }
+    // The tasks of one thread have its number, so none of them has it for the next call.
+    match task {
+        Some(_) => CallerNumber::NONE_YET,
+        None => number,
+    }
 }
 
 /// Returns the name of the future that this thread polls or drops.
@@ -350,6 +402,7 @@ impl Identity {
 pub fn named<F: Future>(name: &str, future: F) -> Named<F> {
     Named {
         name: Some(name.into()),
+        number: CallerNumber::next(),
         cached: NOT_CACHED,
         explored: None,
         future: Some(Box::pin(future)),
@@ -377,6 +430,7 @@ pub fn named<F: Future>(name: &str, future: F) -> Named<F> {
 #[must_use = "futures do nothing unless polled"]
 pub struct Named<F> {
     name: Option<Arc<str>>,
+    number: CallerNumber,
     cached: CachedActor,
     // Its name in a run that is explored, where no other task has it.
     explored: Option<Arc<str>>,
@@ -388,6 +442,7 @@ impl<F> Named<F> {
     /// Swaps the name and the cached actor of this future with those of the thread.
     fn swap_with_thread(&mut self) {
         self.cached = CACHED.replace(self.cached);
+        self.number = CALLER.replace(self.number);
         // At the end of a thread, `NAME` may be destroyed before the future is dropped.
         let _ = NAME.try_with(|name| std::mem::swap(&mut *name.borrow_mut(), &mut self.name));
     }

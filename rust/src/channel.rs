@@ -2,20 +2,26 @@
 
 mod at_gate;
 mod core_channel;
+mod last_caller;
 mod locations;
 mod locked;
 mod machine;
+mod receivers;
+mod registry;
 mod state;
 
 pub(crate) use core_channel::{Call, CoreChannel, Send};
 pub(crate) use locations::{CallSite, CallSites, call_site};
 pub(crate) use locked::LockedChannel;
+pub(crate) use receivers::{LiveReceiver, NO_SLOT, Slot};
+pub(crate) use registry::all as all_channels;
 pub(crate) use state::ChannelState;
 
 use crate::explore;
 use crate::lock::lock;
 use crate::recorder::{RecordedBy, Recorder, TextOf, say_that_none_replays};
 use crate::replay::{ReplayedChannel, Turns};
+use registry::Registered;
 use std::sync::{Arc, Mutex, OnceLock};
 
 /// A channel with its recorder, if it has one. All calls are made through it.
@@ -24,6 +30,8 @@ pub struct RecordedChannel {
     pub(crate) state: Arc<Mutex<ChannelState>>,
     // In a replay, where its calls wait for their turns.
     replayed: Option<ReplayedChannel>,
+    // Among all channels of the process, until the last sender or receiver is dropped.
+    _registered: Registered,
 }
 
 impl RecordedChannel {
@@ -35,7 +43,8 @@ impl RecordedChannel {
             say_that_none_replays(made_at);
         }
         let recorder = current.map(|current| current.0).filter(|it| !it.is_off());
-        let mut state = ChannelState::new(core, value_count);
+        let mut state = ChannelState::new(core, value_count, made_at);
+        state.receivers.add(1, made_at);
         if let Some(recorder) = &recorder {
             state.made_by = Some(recorder.maker());
             state.store_making(made_at);
@@ -57,7 +66,9 @@ impl RecordedChannel {
         if !is_added {
             lock(&state).end_recording();
         }
+        let number = recorder.as_ref().map(|recorder| recorder.id);
         RecordedChannel {
+            _registered: Registered::add(&state, number),
             recorder: RecordedBy(recorder),
             state,
             replayed: replayed.filter(|_| is_added),

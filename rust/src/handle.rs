@@ -1,7 +1,7 @@
 //! What a sender, a weak sender and a receiver are, of either kind of channel.
 
 use crate::channel::{
-    Call, CallSite, Channel, CoreChannel, LockedChannel, RecordedChannel, call_site,
+    Call, CallSite, Channel, CoreChannel, LockedChannel, NO_SLOT, RecordedChannel, Slot, call_site,
 };
 use crate::lock::lock;
 use crate::recorder::RecordedHandle;
@@ -28,6 +28,8 @@ pub(crate) enum Kind {
 pub(crate) struct ChannelHandle<T, S> {
     pub(crate) channel: Arc<Channel<T, S>>,
     pub(crate) number: u32,
+    // Of a receiver, where it is in the channel's list of those that are alive.
+    pub(crate) slot: Slot,
     pub(crate) kind: Kind,
 }
 
@@ -42,17 +44,19 @@ impl<T, S> ChannelHandle<T, S> {
         let sender = ChannelHandle {
             channel: Arc::new(channel),
             number: 0,
+            slot: NO_SLOT,
             kind: Kind::Sender,
         };
-        let receiver = sender.sibling(Kind::Receiver, 1);
+        let receiver = sender.sibling(Kind::Receiver, 1, Slot::FIRST);
         (sender, receiver)
     }
 
     /// Returns the handle of the same channel that has this kind and this number.
-    pub(crate) fn sibling(&self, kind: Kind, number: u32) -> Self {
+    pub(crate) fn sibling(&self, kind: Kind, number: u32, slot: Slot) -> Self {
         ChannelHandle {
             channel: self.channel.clone(),
             number,
+            slot,
             kind,
         }
     }
@@ -61,7 +65,8 @@ impl<T, S> ChannelHandle<T, S> {
     #[track_caller]
     #[inline]
     pub(crate) fn create(&self, kind: Kind, word: Word, call: Call) -> Self {
-        self.sibling(kind, self.lock(word).create(call).new_handle())
+        let (reply, slot) = self.lock(word).create(kind, call);
+        self.sibling(kind, reply.new_handle(), slot)
     }
 
     pub(crate) fn same_channel(&self, other: &Self) -> bool {
@@ -152,7 +157,9 @@ impl<T, S> ChannelHandle<T, S> {
     /// Makes the call that drops this handle, and wakes those who wait for it. Drops are called by the compiler, so it has no location
     /// in the source.
     pub(crate) fn drop_by(&self, call: Call) {
-        let wakers = self.lock_at(Word::Drop, None).drop_handle(self.kind, call);
+        let mut channel = self.lock_at(Word::Drop, None);
+        let wakers = channel.drop_handle(self.kind, self.slot, call);
+        let _event = channel.unlock_with_event();
         wakers.wake();
     }
 

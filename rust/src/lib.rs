@@ -160,6 +160,42 @@
 //! - [`Recorder::waiting`] lists the calls that wait now, and [`ForTest::watchdog`] reports them where a test hangs.
 //! - [`Recorder::save`] writes the journal at any time, also if nothing fails.
 //!
+//! # In a service
+//!
+//! A service is told `Lagged(17)` at night, and nothing says which receiver it was. Without any recording, the crate knows:
+//!
+//! - [`on_lag`] sets a closure that is called with a [`Lag`]: the channel, the receiver, where both were made, how much was lost, and who sent
+//!   last. [`on_close`] does so where the last sender of a channel is dropped. The package `yovanelum-tracing`, beside the source of this one,
+//!   makes events of `tracing` of them.
+//! - [`snapshot`] returns how far each receiver of each channel is, and who waits: as a table for a health page, and as numbers for metrics.
+//! - [`Recorder::off`] names channels and receivers that nobody records.
+//!
+//! ```
+//! use std::sync::atomic::{AtomicU64, Ordering};
+//! use yovanelum::{Recorder, broadcast};
+//!
+//! static LOST: AtomicU64 = AtomicU64::new(0);
+//!
+//! /// What the service serves at `/health`.
+//! fn health() -> String {
+//!     format!("values lost: {}\n{}", LOST.load(Ordering::Relaxed), yovanelum::snapshot())
+//! }
+//!
+//! yovanelum::on_lag(|lag| {
+//!     LOST.fetch_add(lag.lost(), Ordering::Relaxed);
+//!     eprintln!("warning: {lag}");
+//! });
+//! let (prices, mut chart) = broadcast::channel(2);
+//! Recorder::off().name(&prices, "prices").name(&chart, "chart");
+//! for price in [101, 102, 103] {
+//!     prices.send(price).unwrap();
+//! }
+//! // The chart is slow, and skips what it has lost.
+//! assert!(chart.try_recv().is_err());
+//! let health = health();
+//! assert!(health.starts_with("values lost: 1\nprices: broadcast, capacity 2, sent 3, retained 2, senders 1, "));
+//! ```
+//!
 //! # Differences from tokio
 //!
 //! - A capacity is at most 65,536. More than that panics.
@@ -203,6 +239,7 @@ mod channel;
 mod command;
 mod cut;
 pub mod debugger;
+mod events;
 mod explore;
 #[doc(hidden)]
 pub mod given;
@@ -223,6 +260,7 @@ mod run;
 // `ttd` uses more of it.
 #[allow(dead_code)]
 mod shim;
+mod snapshot;
 #[rustfmt::skip]
 mod source;
 #[cfg(test)]
@@ -237,6 +275,7 @@ pub use actors::{Named, named, set_task_id};
 pub use block_on::block_on;
 #[doc(hidden)]
 pub use command::command;
+pub use events::{Close, Lag, on_close, on_lag};
 #[doc(hidden)]
 pub use explore::{Explored, explored, is_explored};
 #[doc(hidden)]
@@ -247,6 +286,7 @@ pub use recorder::{
     Entered, ForTest, Handle, Installed, Recorder, SaveOnPanic, Scoped, Waiting, follow_this_thread,
 };
 pub use replay::Replayed;
+pub use snapshot::{ChannelSnapshot, ReceiverSnapshot, Snapshot, snapshot};
 
 // Runs the programs of the README.
 #[cfg(doctest)]

@@ -2,6 +2,7 @@
 
 mod current;
 mod ending;
+mod events;
 pub(crate) mod files;
 mod for_test;
 mod handle;
@@ -22,6 +23,7 @@ pub use for_test::{ForTest, SaveOnPanic};
 pub use handle::{Handle, RecordedHandle};
 pub(crate) use replaying::say_that_none_replays;
 pub use scope::Scoped;
+pub(crate) use shared::Held;
 pub(crate) use shared::{RecordedBy, Shared};
 pub(crate) use test_run::NotedPanic;
 pub use texts::TextOf;

@@ -8,6 +8,7 @@ use crate::queue::ItemNumber;
 use crate::replay::{Permit, Ticket};
 use crate::word::Word;
 use std::task::{Context, Poll, Waker};
+use std::time::Instant;
 
 /// What a future waits for.
 #[derive(Clone, Copy)]
@@ -82,6 +83,17 @@ pub(crate) struct Wait {
     pub(crate) method: Method,
     /// The recorder's clock when the call began to wait.
     pub(crate) since: u64,
+    /// The time when it began to, where there is a clock.
+    pub(crate) began: Option<Instant>,
+}
+
+/// Returns the time. WebAssembly without an operating system has no clock, and would panic.
+#[inline]
+pub(crate) fn now() -> Option<Instant> {
+    match cfg!(all(target_family = "wasm", target_os = "unknown")) {
+        true => None,
+        false => Some(Instant::now()),
+    }
 }
 
 /// The state of a call that waits between its polls.
@@ -89,7 +101,7 @@ pub(crate) struct Wait {
 pub(crate) struct Pending {
     /// Its number in the queue of wakers.
     pub(crate) queued: Option<ItemNumber>,
-    /// Its number among the calls that wait. One that isn't recorded has none.
+    /// Its number among the calls that wait.
     pub(crate) listed: Option<ItemNumber>,
     /// Its ticket before the gate of a replay.
     pub(crate) before_gate: Option<Ticket>,
@@ -185,7 +197,7 @@ impl WaitingCall<'_> {
     fn list(&mut self, channel: &mut LockedChannel<'_>, since: u64) {
         if self.pending.listed.is_none() {
             let (kind, awaited) = (self.wait_for.kind(), self.wait_for.awaited());
-            self.pending.listed = channel.list_wait(kind, awaited, self.method, since);
+            self.pending.listed = Some(channel.list_wait(kind, awaited, self.method, since));
         }
     }
 }
@@ -193,7 +205,7 @@ impl WaitingCall<'_> {
 /// A call that blocks its thread for the lock of a watch's value, and is listed until this is dropped.
 pub(crate) struct BlockedCall<'a> {
     channel: &'a RecordedChannel,
-    listed: Option<ItemNumber>,
+    listed: ItemNumber,
 }
 
 impl<'a> BlockedCall<'a> {
@@ -213,9 +225,7 @@ impl<'a> BlockedCall<'a> {
 
 impl Drop for BlockedCall<'_> {
     fn drop(&mut self) {
-        if let Some(listed) = self.listed {
-            lock(&self.channel.state).waits.remove(listed);
-        }
+        lock(&self.channel.state).waits.remove(self.listed);
     }
 }
 

@@ -56,7 +56,7 @@ pub use borrowed::Ref;
 pub use receiver::Receiver;
 pub use sender::Sender;
 
-use crate::channel::{Channel, CoreChannel, LockedChannel, RecordedChannel, call_site};
+use crate::channel::{Channel, CoreChannel, LockedChannel, RecordedChannel, Slot, call_site};
 use crate::handle::{ChannelHandle, Kind};
 use crate::lock::lock;
 use crate::recorder::TextOf;
@@ -98,8 +98,13 @@ pub fn channel<T>(init: T) -> (Sender<T>, Receiver<T>) {
     (Sender { handle: sender }, Receiver { handle: receiver })
 }
 
-fn attempt_changed(channel: &mut LockedChannel<'_>) -> Poll<Result<(), error::RecvError>> {
-    channel.call(CoreChannel::watch_changed).changed()
+fn attempt_changed(
+    channel: &mut LockedChannel<'_>,
+    slot: Slot,
+) -> Poll<Result<(), error::RecvError>> {
+    let reply = channel.call(CoreChannel::watch_changed);
+    channel.note_receive(slot, reply);
+    reply.changed()
 }
 
 impl<T> WatchHandle<T> {
@@ -175,8 +180,10 @@ impl<T> WatchHandle<T> {
 
     /// Waits for this method until there is a value that this receiver has not seen, and marks it as seen.
     async fn changed(&self, method: Method) -> Result<(), error::RecvError> {
-        self.wait(WaitFor::Value, Word::Changed, method, attempt_changed)
-            .await
+        self.wait(WaitFor::Value, Word::Changed, method, |channel| {
+            attempt_changed(channel, self.slot)
+        })
+        .await
     }
 
     fn set_text_of(&self, text_of: TextOf<T>) {

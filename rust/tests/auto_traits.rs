@@ -2,7 +2,10 @@
 
 use std::cell::{Cell, RefCell};
 use std::panic::{RefUnwindSafe, UnwindSafe};
-use yovanelum::{Entered, ForTest, Recorder, SaveOnPanic, Waiting, broadcast, watch};
+use yovanelum::{
+    ChannelSnapshot, Close, Entered, ForTest, Lag, ReceiverSnapshot, Recorder, SaveOnPanic,
+    Snapshot, Waiting, broadcast, watch,
+};
 
 /// A value that may be sent and not shared.
 type Unshared = Cell<u8>;
@@ -71,4 +74,18 @@ fn a_recorder_is_sent_and_shared_and_its_guards_are_not() {
     is_shared::<Waiting>();
     is_not!(Entered: Send);
     is_not!(ForTest: Send);
+}
+
+#[test]
+fn events_and_snapshots_are_sent_and_shared() {
+    is_sent::<Lag>();
+    is_shared::<Lag>();
+    is_sent::<Close>();
+    is_shared::<Close>();
+    is_sent::<Snapshot>();
+    is_shared::<Snapshot>();
+    is_sent::<ChannelSnapshot>();
+    is_shared::<ChannelSnapshot>();
+    is_sent::<ReceiverSnapshot>();
+    is_shared::<ReceiverSnapshot>();
 }

@@ -163,6 +163,7 @@ impl<T> Receiver<T> {
 
     fn attempt_recv(&self, channel: &mut LockedChannel<'_>) -> Poll<Result<Value<T>, RecvError>> {
         let reply = channel.call(CoreChannel::broadcast_recv);
+        channel.note_receive(self.handle.slot, reply);
         reply
             .received()
             .map_ok(|number| self.received_value(channel, number))
@@ -313,6 +314,7 @@ impl<T: Clone> Receiver<T> {
     pub fn try_recv(&mut self) -> Result<T, TryRecvError> {
         let mut channel = self.handle.lock(Word::TryRecv);
         let reply = channel.call(CoreChannel::broadcast_try_recv);
+        channel.note_receive(self.handle.slot, reply);
         let number = reply.received_at_once()?;
         let value = self.received_value(&mut channel, number);
         channel.unlock();
@@ -353,7 +355,8 @@ impl<T> Drop for Receiver<T> {
             true => channel.core().unread(self.handle.number),
             false => 0,
         };
-        let wakers = channel.drop_handle(Kind::Receiver, CoreChannel::broadcast_drop);
+        let slot = self.handle.slot;
+        let wakers = channel.drop_handle(Kind::Receiver, slot, CoreChannel::broadcast_drop);
         let unwanted = channel.guarded(values).drop_receiver(unread);
         drop(channel);
         wakers.wake();

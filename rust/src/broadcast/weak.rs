@@ -56,13 +56,13 @@ impl<T> WeakSender<T> {
     #[must_use]
     #[track_caller]
     pub fn upgrade(&self) -> Option<Sender<T>> {
-        let number = self
+        let (reply, slot) = self
             .handle
             .lock(Word::Upgrade)
-            .create(CoreChannel::broadcast_upgrade)
-            .upgraded()?;
+            .create(Kind::Sender, CoreChannel::broadcast_upgrade);
+        let number = reply.upgraded()?;
         Some(Sender {
-            handle: self.handle.sibling(Kind::Sender, number),
+            handle: self.handle.sibling(Kind::Sender, number, slot),
         })
     }
 

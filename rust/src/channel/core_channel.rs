@@ -78,6 +78,14 @@ impl CoreChannel {
         self.first.is_full()
     }
 
+    /// Returns the capacity that a broadcast was opened with.
+    pub(crate) fn capacity(&self) -> Option<usize> {
+        match self.first.core.spec() {
+            Spec::Broadcast(capacity) => Some(capacity as usize),
+            Spec::Watch(_) => None,
+        }
+    }
+
     /// How many senders are alive.
     pub(crate) fn senders(&mut self) -> u64 {
         self.machines().map(Machine::senders).sum()

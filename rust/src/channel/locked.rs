@@ -1,8 +1,9 @@
 //! Calls, which are made while the channel is locked.
 
-use super::{Call, CallSite, ChannelState, CoreChannel, RecordedChannel, Send};
+use super::{Call, CallSite, ChannelState, CoreChannel, NO_SLOT, RecordedChannel, Send, Slot};
 use crate::actors;
 use crate::backend::{Actor, Caller};
+use crate::events::{Close, Event, Lag};
 use crate::guarded_by::GuardedBy;
 use crate::handle::Kind;
 use crate::lock::lock;
@@ -10,7 +11,7 @@ use crate::queue::ItemNumber;
 use crate::recorder::Shared;
 use crate::replay::Permit;
 use crate::reply::Reply;
-use crate::wait::{Awaited, Look, Method, Wait, WaitFor};
+use crate::wait::{Awaited, Look, Method, Wait, WaitFor, now};
 use crate::wakers::Wakers;
 use crate::word::Word;
 use std::sync::MutexGuard;
@@ -28,6 +29,10 @@ pub(crate) struct LockedChannel<'a> {
     actor: Actor,
     handle: u32,
     called_at: CallSite,
+    // The stamp of the last call, if it is recorded.
+    stamp: u64,
+    // What somebody asked to be told. It is the last field, so the channel is unlocked when it is dropped, and tells.
+    event: Event,
 }
 
 impl RecordedChannel {
@@ -56,6 +61,8 @@ impl RecordedChannel {
             actor,
             handle,
             called_at,
+            stamp: 0,
+            event: Event::default(),
         }
     }
 
@@ -131,18 +138,24 @@ impl<'a> LockedChannel<'a> {
         self.call_core(&None, move |core, caller| call(core, caller, handle))
     }
 
-    /// Makes a call that creates a handle. If a journal can't name that handle, the recording of this channel ends before.
+    /// Makes a call that creates a handle of this kind, and returns its slot with the reply. If a journal can't name that handle, the recording
+    /// of this channel ends before.
     #[cfg_attr(debug_assertions, inline(never))]
     #[cfg_attr(not(debug_assertions), inline(always))]
-    pub(crate) fn create(&mut self, call: Call) -> Reply {
+    pub(crate) fn create(&mut self, kind: Kind, call: Call) -> (Reply, Slot) {
         if self.state.is_recorded && self.state.core.has_named_all() {
             self.channel.end_for_handles(&mut self.state);
         }
         let reply = self.call(call);
-        if let Reply::New(_) = reply {
-            self.state.store_making(self.called_at);
-        }
-        reply
+        let Reply::New(number) = reply else {
+            return (reply, NO_SLOT);
+        };
+        self.state.store_making(self.called_at);
+        let slot = match kind {
+            Kind::Receiver => self.state.receivers.add(number as u32, self.called_at),
+            Kind::Sender | Kind::WeakSender => NO_SLOT,
+        };
+        (reply, slot)
     }
 
     /// Makes a call that passes a new value to the core, by the value's number, and stores its text. Returns the number with the reply.
@@ -155,6 +168,10 @@ impl<'a> LockedChannel<'a> {
         let reply = self.call_core(&text, move |core, caller| {
             call(core, caller, handle, number)
         });
+        match reply {
+            Reply::NoReceivers(_) => self.state.unsent_count += 1,
+            _ => self.state.last_send.note(self.called_at),
+        }
         if let Some(text) = text {
             self.state.store_text(number, text);
         }
@@ -175,6 +192,7 @@ impl<'a> LockedChannel<'a> {
             Some(recorder) => self.channel.tick(recorder, state, self.called_at),
             None => 0,
         };
+        self.stamp = clock + 1;
         let caller = Caller {
             actor: self.actor,
             clock,
@@ -193,10 +211,52 @@ impl<'a> LockedChannel<'a> {
     }
 
     /// Makes a call that waits, and for which a journal has the word of one that doesn't.
-    pub(crate) fn call_that_waits(&mut self, call: Call) {
-        self.call(call);
+    pub(crate) fn call_that_waits(&mut self, call: Call) -> Reply {
+        let reply = self.call(call);
         let entry = self.state.last_entry();
         self.state.waited.extend(entry);
+        reply
+    }
+
+    /// Notes what the receiver in this slot was replied when it asked for a value.
+    #[cfg_attr(debug_assertions, inline(never))]
+    #[cfg_attr(not(debug_assertions), inline(always))]
+    pub(crate) fn note_receive(&mut self, slot: Slot, reply: Reply) {
+        match reply {
+            Reply::Value(_) | Reply::Done => {
+                let state = &mut *self.state;
+                let stamp = if state.is_recorded { self.stamp } else { 0 };
+                state.receivers.receive(slot, self.called_at, stamp);
+            }
+            Reply::Lagged(lost) => self.note_lag(slot, lost),
+            _ => (),
+        }
+    }
+
+    /// Notes that the receiver in this slot was told that it has lost values. Whoever asked for it is told once the channel is unlocked.
+    #[cold]
+    #[inline(never)]
+    fn note_lag(&mut self, slot: Slot, lost: u64) {
+        self.state.receivers.lose(slot, lost);
+        let (number, received_at) = (self.handle, self.called_at);
+        let state = &mut *self.state;
+        self.event = Event::lag(&self.channel.recorder, || {
+            Lag::new(state, (number, slot), received_at, lost)
+        });
+    }
+
+    /// As [`note_lag`](LockedChannel::note_lag), of the drop of the last sender.
+    #[cold]
+    #[inline(never)]
+    fn note_close(&mut self) {
+        let state = &mut *self.state;
+        self.event = Event::close(&self.channel.recorder, || Close::new(state));
+    }
+
+    /// Unlocks the channel, and returns what is to be told.
+    #[inline]
+    pub(crate) fn unlock_with_event(self) -> Event {
+        self.event
     }
 
     /// Returns the greatest stamp that a recorded call can have so far.
@@ -221,24 +281,22 @@ impl<'a> LockedChannel<'a> {
         self.permit.would_wait();
     }
 
-    /// Lists a call of the handle, which is of this kind, among those that wait since this time of the clock. Returns its number there, and
-    /// `None` if the channel has no recorder.
+    /// Lists a call of the handle, which is of this kind, among those that wait since this time of the clock. Returns its number there.
     pub(crate) fn list_wait(
         &mut self,
         kind: Kind,
         awaited: Awaited,
         method: Method,
         since: u64,
-    ) -> Option<ItemNumber> {
-        self.has_recorder().then(|| {
-            self.state.waits.add(Wait {
-                actor: self.actor,
-                handle: self.handle,
-                kind,
-                awaited,
-                method,
-                since,
-            })
+    ) -> ItemNumber {
+        self.state.waits.add(Wait {
+            actor: self.actor,
+            handle: self.handle,
+            kind,
+            awaited,
+            method,
+            since,
+            began: now(),
         })
     }
 
@@ -268,21 +326,24 @@ impl<'a> LockedChannel<'a> {
     /// of senders if it was the last receiver.
     #[cfg_attr(debug_assertions, inline(never))]
     #[cfg_attr(not(debug_assertions), inline(always))]
-    pub(crate) fn drop_handle(&mut self, kind: Kind, call: Call) -> Wakers {
+    pub(crate) fn drop_handle(&mut self, kind: Kind, slot: Slot, call: Call) -> Wakers {
         self.call(call);
+        self.state.remove_name(self.handle);
         if actors::is_dropping_future() {
             let entry = self.state.last_entry();
             self.state.cancelled.extend(entry);
         }
-        // The core counts only where somebody waits for its answer.
         match kind {
-            Kind::Sender if self.has_waiting(WaitFor::Value) && self.core().senders() == 0 => {
+            Kind::Sender if self.core().senders() == 0 => {
+                self.note_close();
                 self.remove_wakers(WaitFor::Value)
             }
-            Kind::Receiver
-                if self.has_waiting(WaitFor::NoReceiver) && self.core().receivers() == 0 =>
-            {
-                self.remove_wakers(WaitFor::NoReceiver)
+            Kind::Receiver => {
+                self.state.receivers.remove(slot);
+                match self.state.receivers.is_empty() {
+                    true => self.remove_wakers(WaitFor::NoReceiver),
+                    false => Wakers::default(),
+                }
             }
             _ => Wakers::default(),
         }

@@ -1,7 +1,9 @@
 //! A channel without its values, as its recorder shares it.
 
 use super::CoreChannel;
+use super::last_caller::LastCaller;
 use super::locations::{CallSite, Locations};
+use super::receivers::Receivers;
 use crate::names::Maker;
 use crate::queue::Queue;
 use crate::wait::{Look, Pending, Wait, WaitFor};
@@ -15,6 +17,15 @@ pub(crate) struct ChannelState {
     pub(super) is_recorded: bool,
     // How many values were passed to the core, which is the number of the next one.
     pub(super) value_count: u64,
+    // How many of these were not sent, since there was no receiver.
+    pub(super) unsent_count: u64,
+    // How many values the channel was opened with.
+    opened_with: u64,
+    pub(crate) made_at: CallSite,
+    // The receivers that are alive.
+    pub(crate) receivers: Receivers,
+    // Who has sent last, and where.
+    pub(crate) last_send: LastCaller,
     waiting_for_value: WakerQueue,
     waiting_for_no_receiver: WakerQueue,
     // The calls that wait. A call stays here from its first poll to its end, also while it is woken and not yet polled again.
@@ -22,7 +33,7 @@ pub(crate) struct ChannelState {
     // Of a watch, the looks at its value by their numbers. One that has ended stays until the next look with its number.
     pub(super) looks: Vec<Look>,
     pub(crate) name: Option<String>,
-    // The names of senders and receivers by their numbers.
+    // The names of senders and receivers by their numbers: of those that the journal names, and of the others that are alive.
     pub(crate) handle_names: BTreeMap<u64, String>,
     // The texts of values by their numbers.
     pub(crate) texts: BTreeMap<u64, String>,
@@ -37,11 +48,16 @@ pub(crate) struct ChannelState {
 
 impl ChannelState {
     /// Wraps a channel of the core that was opened with this many values.
-    pub(crate) fn new(core: CoreChannel, value_count: u64) -> ChannelState {
+    pub(crate) fn new(core: CoreChannel, value_count: u64, made_at: CallSite) -> ChannelState {
         ChannelState {
             core,
             is_recorded: true,
             value_count,
+            unsent_count: 0,
+            opened_with: value_count,
+            made_at,
+            receivers: Receivers::default(),
+            last_send: LastCaller::default(),
             waiting_for_value: WakerQueue::default(),
             waiting_for_no_receiver: WakerQueue::default(),
             waits: Queue::default(),
@@ -79,11 +95,67 @@ impl ChannelState {
         }
     }
 
-    /// Names a handle, if the journal names it too.
+    /// Names a handle.
     pub(crate) fn name_handle(&mut self, number: u32, name: &str) {
-        if (number as usize) < self.locations.of_handles.len() {
-            self.handle_names.insert(number.into(), name.to_string());
+        self.handle_names.insert(number.into(), name.to_string());
+    }
+
+    /// Removes the name of a handle that is dropped, unless the journal names it.
+    #[inline]
+    pub(super) fn remove_name(&mut self, number: u32) {
+        if !self.handle_names.is_empty() && number as usize >= self.locations.of_handles.len() {
+            self.handle_names.remove(&number.into());
         }
+    }
+
+    /// Returns the name of the receiver with this number, or its kind and its number.
+    pub(crate) fn receiver_name(&self, number: u32) -> String {
+        match self.handle_names.get(&number.into()) {
+            Some(name) => name.clone(),
+            None => format!("receiver {number}"),
+        }
+    }
+
+    /// Returns the names of those handles that the journal names.
+    pub(crate) fn names_in_journal(&self) -> BTreeMap<u64, String> {
+        let count = self.locations.of_handles.len() as u64;
+        let named = self.handle_names.range(..count);
+        named
+            .map(|(number, name)| (*number, name.clone()))
+            .collect()
+    }
+
+    /// Returns the name of the channel, or where it was made.
+    pub(crate) fn name_or_place(&self) -> String {
+        match (&self.name, self.made_at) {
+            (Some(name), _) => name.clone(),
+            (None, Some(at)) => format!("channel at {}:{}", at.file(), at.line()),
+            (None, None) => "channel".to_string(),
+        }
+    }
+
+    /// How many values the receiver with this number has yet to receive: of a watch, 1 if it hasn't seen the value.
+    pub(crate) fn unread(&mut self, number: u32) -> u64 {
+        match self.core.capacity() {
+            Some(_) => self.core.unread(number),
+            None => u64::from(!self.core.seen(number)),
+        }
+    }
+
+    /// How many values the receiver that is most behind has yet to receive.
+    pub(crate) fn greatest_unread(&mut self) -> u64 {
+        let numbers: Vec<_> = self
+            .receivers
+            .iter()
+            .map(|receiver| receiver.number)
+            .collect();
+        let unread = numbers.into_iter().map(|number| self.unread(number));
+        unread.max().unwrap_or_default()
+    }
+
+    /// How many values were sent.
+    pub(crate) fn sent_count(&self) -> u64 {
+        self.value_count - self.opened_with - self.unsent_count
     }
 
     /// Ends recording: later calls leave no entry.

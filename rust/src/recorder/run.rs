@@ -218,8 +218,9 @@ fn add_channel(names: &mut Names, indexes: &mut Indexes, number: u64, channel: &
     if !channel.texts.is_empty() {
         names.values.insert(number, channel.texts.clone());
     }
-    if !channel.handle_names.is_empty() {
-        names.handles.insert(number, channel.handle_names.clone());
+    let handle_names = channel.names_in_journal();
+    if !handle_names.is_empty() {
+        names.handles.insert(number, handle_names);
     }
     if let Some(maker) = &channel.made_by {
         names.matching.made_by.insert(number, maker.clone());

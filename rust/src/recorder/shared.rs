@@ -131,6 +131,11 @@ impl Shared {
         })
     }
 
+    /// Returns what the recorder's handles hold, if one is alive.
+    fn held(&self) -> Option<Held> {
+        lock(&self.texts).upgrade()
+    }
+
     /// Returns the greatest stamp that a recorded call can have so far.
     #[inline]
     pub(crate) fn last(&self) -> u64 {
@@ -254,6 +259,9 @@ impl Shared {
     }
 }
 
+/// What the handles of a recorder hold. If it is dropped, that may run user code.
+pub(crate) type Held = Arc<Texts>;
+
 /// By whom a channel is recorded: the recorder that it belongs to, or none.
 pub(crate) struct RecordedBy(pub(crate) Option<Arc<Shared>>);
 
@@ -262,6 +270,11 @@ impl RecordedBy {
     #[inline]
     pub(crate) fn is_quiet(&self) -> bool {
         self.0.as_ref().is_none_or(|recorder| recorder.is_quiet())
+    }
+
+    /// Returns what the handles of the recorder hold, if there is a recorder and one is alive.
+    pub(crate) fn held(&self) -> Option<Held> {
+        self.0.as_ref()?.held()
     }
 
     /// Returns the actor of a call that is made here in the source. What isn't recorded has the first one.

@@ -1,9 +1,10 @@
-//! The functions for the texts of values.
+//! The functions for the texts of values, and the closures that are told of events.
 //!
 //! A recorder holds them, and its channels know them weakly. A function may hold a sender or a receiver. If the channel held it, the channel
 //! would hold itself, and stay open forever.
 
 use crate::cut::start_of;
+use crate::events::Hooks;
 use crate::lock::lock;
 use crate::replay::{Gate, TestEnd};
 use std::any::Any;
@@ -17,6 +18,7 @@ const MOST_BYTES: usize = 4096;
 /// The functions that a recorder holds, until its last handle is dropped. Then its replay ends too, if it has one.
 pub(crate) struct Texts {
     functions: Mutex<Functions>,
+    hooks: Hooks,
     // How many bytes a text has at most. Each function has it too, so that it needs no handle of the recorder.
     most_bytes: Arc<AtomicUsize>,
     replay: Option<Arc<Gate>>,
@@ -48,9 +50,15 @@ impl Texts {
     pub(super) fn new(replay: Option<Arc<Gate>>) -> Texts {
         Texts {
             functions: Mutex::default(),
+            hooks: Hooks::new(),
             most_bytes: Arc::new(AtomicUsize::new(MOST_BYTES)),
             replay,
         }
+    }
+
+    /// Returns the closures that are told of events.
+    pub(crate) fn hooks(&self) -> &Hooks {
+        &self.hooks
     }
 
     /// Cuts texts that have more bytes than this, from now on.

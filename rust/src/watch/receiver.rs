@@ -88,7 +88,8 @@ impl<T> Receiver<T> {
             called_at,
         };
         self.handle.borrow_by(permit, method, |channel| {
-            channel.call(CoreChannel::watch_update);
+            let reply = channel.call(CoreChannel::watch_update);
+            channel.note_receive(self.handle.slot, reply);
         })
     }
 
@@ -229,7 +230,7 @@ impl<T> Receiver<T> {
             method,
             pending,
             context,
-            attempt_changed,
+            |channel| attempt_changed(channel, self.handle.slot),
         )
     }
 
@@ -282,7 +283,8 @@ impl<T> Receiver<T> {
                     let (word, called_at) = (Word::WaitFor, method.called_at);
                     let permit = self.handle.turn(word, called_at).await;
                     let value = self.handle.borrow_by(permit, method, |channel| {
-                        channel.call_that_waits(CoreChannel::watch_update);
+                        let reply = channel.call_that_waits(CoreChannel::watch_update);
+                        channel.note_receive(self.handle.slot, reply);
                     });
                     if self.handle.channel.values.run_reading(|| f(&value)) {
                         return Ok(value);

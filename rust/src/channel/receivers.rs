@@ -1,0 +1,128 @@
+//! The receivers of a channel that are alive, with what is said of each: recorded or not.
+
+use super::CallSite;
+
+/// Where a receiver is in the list of those that are alive.
+#[derive(Clone, Copy, Debug, PartialEq, Eq)]
+pub(crate) struct Slot(u32);
+
+/// The slot of a handle that is no receiver.
+pub(crate) const NO_SLOT: Slot = Slot(u32::MAX);
+
+impl Slot {
+    /// The slot of the receiver that a channel is opened with.
+    pub(crate) const FIRST: Slot = Slot(0);
+}
+
+/// What is known of a receiver, besides what the core knows.
+pub(crate) struct LiveReceiver {
+    /// Its number as a handle.
+    pub(crate) number: u32,
+    pub(crate) made_at: CallSite,
+    /// Where it last received a value.
+    pub(crate) received_at: CallSite,
+    /// The stamp of that call, or 0 if it isn't recorded.
+    pub(crate) received_stamp: u64,
+    /// How many values it was told that it has lost.
+    pub(crate) lost: u64,
+}
+
+/// The receivers of a channel that are alive. A slot is used again once its receiver is dropped, so the list is as long as there were
+/// receivers at one time.
+#[derive(Default)]
+pub(crate) struct Receivers {
+    slots: Vec<Option<LiveReceiver>>,
+    free: Vec<u32>,
+}
+
+impl Receivers {
+    /// Adds a receiver with this number that is made here, and returns its slot.
+    pub(super) fn add(&mut self, number: u32, made_at: CallSite) -> Slot {
+        let receiver = Some(LiveReceiver {
+            number,
+            made_at,
+            received_at: None,
+            received_stamp: 0,
+            lost: 0,
+        });
+        if let Some(slot) = self.free.pop() {
+            self.slots[slot as usize] = receiver;
+            return Slot(slot);
+        }
+        self.slots.push(receiver);
+        Slot(self.slots.len() as u32 - 1)
+    }
+
+    /// Removes a receiver.
+    pub(super) fn remove(&mut self, Slot(slot): Slot) {
+        self.slots[slot as usize] = None;
+        self.free.push(slot);
+        // Where few are left of many, none of them may be moved. Where none is left, the memory of all goes.
+        if self.free.len() == self.slots.len() && self.free.len() > 64 {
+            *self = Receivers::default();
+        }
+    }
+
+    /// Whether no receiver is alive.
+    #[inline]
+    pub(super) fn is_empty(&self) -> bool {
+        self.free.len() == self.slots.len()
+    }
+
+    /// Notes that a receiver has received a value here, by a call with this stamp.
+    #[inline(always)]
+    pub(super) fn receive(&mut self, Slot(slot): Slot, received_at: CallSite, stamp: u64) {
+        if let Some(Some(receiver)) = self.slots.get_mut(slot as usize) {
+            receiver.received_at = received_at;
+            receiver.received_stamp = stamp;
+        }
+    }
+
+    /// Notes that a receiver was told that it has lost so many values.
+    pub(super) fn lose(&mut self, Slot(slot): Slot, lost: u64) {
+        if let Some(Some(receiver)) = self.slots.get_mut(slot as usize) {
+            receiver.lost += lost;
+        }
+    }
+
+    /// Returns the receiver in this slot.
+    pub(crate) fn get(&self, Slot(slot): Slot) -> &LiveReceiver {
+        let receiver = self.slots[slot as usize].as_ref();
+        receiver.expect("a receiver that is alive")
+    }
+
+    /// Returns the receivers.
+    pub(crate) fn iter(&self) -> impl Iterator<Item = &LiveReceiver> {
+        self.slots.iter().flatten()
+    }
+}
+
+#[cfg(test)]
+mod tests {
+    use super::*;
+
+    #[test]
+    fn a_slot_is_used_again_and_what_was_noted_is_gone() {
+        let mut receivers = Receivers::default();
+        assert_eq!(receivers.add(1, None), Slot::FIRST);
+        let second = receivers.add(2, None);
+        receivers.lose(second, 5);
+        receivers.receive(second, None, 9);
+        receivers.remove(second);
+        assert_eq!(receivers.add(3, None), second);
+        let third = receivers.get(second);
+        assert_eq!((third.number, third.lost, third.received_stamp), (3, 0, 0));
+        assert_eq!(receivers.slots.len(), 2);
+    }
+
+    #[test]
+    fn many_receivers_that_are_gone_leave_no_memory() {
+        let mut receivers = Receivers::default();
+        let slots: Vec<_> = (0..1000)
+            .map(|number| receivers.add(number, None))
+            .collect();
+        slots.into_iter().for_each(|slot| receivers.remove(slot));
+        assert!(receivers.is_empty());
+        assert_eq!(receivers.slots.capacity() + receivers.free.capacity(), 0);
+    }
+}

@@ -1,0 +1,211 @@
+//! Events of channels, for closures that somebody has set: a receiver lags, or a channel closes.
+
+mod close;
+mod lag;
+
+pub use close::Close;
+pub use lag::Lag;
+
+use crate::channel::{CallSite, ChannelState};
+use crate::lock::lock;
+use crate::recorder::{Held, RecordedBy};
+use std::fmt;
+use std::panic::{self, AssertUnwindSafe};
+use std::sync::{Arc, Mutex};
+use std::thread;
+
+/// A closure that is told of an event.
+type Hook<E> = Arc<dyn Fn(&E) + Send + Sync>;
+
+/// The closures that are told of events: those of a recorder, or those of the process.
+pub(crate) struct Hooks {
+    lag: Mutex<Option<Hook<Lag>>>,
+    close: Mutex<Option<Hook<Close>>>,
+}
+
+static PROCESS: Hooks = Hooks::new();
+
+impl Hooks {
+    pub(crate) const fn new() -> Hooks {
+        Hooks {
+            lag: Mutex::new(None),
+            close: Mutex::new(None),
+        }
+    }
+
+    pub(crate) fn on_lag(&self, told: impl Fn(&Lag) + Send + Sync + 'static) {
+        let before = lock(&self.lag).replace(Arc::new(told));
+        // This runs user code, so nothing is locked here.
+        drop(before);
+    }
+
+    pub(crate) fn on_close(&self, told: impl Fn(&Close) + Send + Sync + 'static) {
+        let before = lock(&self.close).replace(Arc::new(told));
+        drop(before);
+    }
+}
+
+/// Calls a closure each time a receiver is told that it has lost values, on any channel that no recorder records.
+///
+/// It is for a service: a receive that returns `Lagged(17)` says neither which receiver it was, nor who sent what it lost. The [`Lag`] says so.
+/// The closure is called by the receive that returns `Lagged`, before it returns. It is called for a recorded channel too, if the recorder has no
+/// closure of its own ([`Recorder::on_lag`](crate::Recorder::on_lag)).
+///
+/// It is set for the process. A closure that is set later replaces it. There is no lock of this crate while it runs, so it may use any channel,
+/// also this one. A panic in it is one of the receive, which has then counted the lost values as told.
+///
+/// # Examples
+///
+/// ```
+/// use yovanelum::{Recorder, broadcast};
+///
+/// yovanelum::on_lag(|lag| eprintln!("warning: {lag}"));
+///
+/// let (prices, mut chart) = broadcast::channel(2);
+/// Recorder::off().name(&prices, "prices").name(&chart, "chart");
+/// for price in [101, 102, 103] {
+///     prices.send(price).unwrap();
+/// }
+/// // Writes "warning: `chart` lost 1 value of `prices` (capacity 2), 1 in all, and has 2 to receive; ..".
+/// assert!(chart.try_recv().is_err());
+/// ```
+pub fn on_lag(told: impl Fn(&Lag) + Send + Sync + 'static) {
+    PROCESS.on_lag(told);
+}
+
+/// Calls a closure each time the last sender of a channel is dropped, on any channel that no recorder records.
+///
+/// Receivers still receive what the channel retains, and are then told that it is closed. The closure is called by the drop, once those who
+/// wait are woken. It is called for a recorded channel too, if the recorder has no closure of its own
+/// ([`Recorder::on_close`](crate::Recorder::on_close)).
+///
+/// What [`on_lag`] says of the closure is so here too. A panic in it is one of the drop. If the thread panics already, it is dropped.
+///
+/// # Examples
+///
+/// ```
+/// use std::sync::Mutex;
+/// use yovanelum::{Recorder, watch};
+///
+/// static CLOSED: Mutex<Vec<String>> = Mutex::new(vec![]);
+/// yovanelum::on_close(|close| CLOSED.lock().unwrap().push(close.channel().to_string()));
+///
+/// let (config, _server) = watch::channel("v1");
+/// Recorder::off().name(&config, "config");
+/// drop(config);
+/// assert_eq!(*CLOSED.lock().unwrap(), ["config"]);
+/// ```
+pub fn on_close(told: impl Fn(&Close) + Send + Sync + 'static) {
+    PROCESS.on_close(told);
+}
+
+/// An event with the closure that is told of it.
+enum Told {
+    Lag(Hook<Lag>, Lag),
+    Close(Hook<Close>, Close),
+}
+
+impl Told {
+    fn tell(&self) {
+        match self {
+            Told::Lag(hook, lag) => hook(lag),
+            Told::Close(hook, close) => hook(close),
+        }
+    }
+}
+
+/// An event of a call, if somebody asked for it. Whoever makes the call drops this while nothing is locked: then the closure is called.
+#[derive(Default)]
+pub(crate) struct Event(Option<Box<(Option<Told>, Option<Held>)>>);
+
+impl Event {
+    /// A lag on a channel of this recorder.
+    pub(crate) fn lag(recorder: &RecordedBy, lag: impl FnOnce() -> Lag) -> Event {
+        let find = |hooks: &Hooks| lock(&hooks.lag).clone();
+        Event::of(recorder, find, |hook| Told::Lag(hook, lag()))
+    }
+
+    /// The drop of the last sender of a channel of this recorder.
+    pub(crate) fn close(recorder: &RecordedBy, close: impl FnOnce() -> Close) -> Event {
+        let find = |hooks: &Hooks| lock(&hooks.close).clone();
+        Event::of(recorder, find, |hook| Told::Close(hook, close()))
+    }
+
+    fn of<E: ?Sized>(
+        recorder: &RecordedBy,
+        find: impl Fn(&Hooks) -> Option<Arc<E>>,
+        told: impl FnOnce(Arc<E>) -> Told,
+    ) -> Event {
+        let held = recorder.held();
+        let own = held.as_ref().and_then(|held| find(held.hooks()));
+        let told = own.or_else(|| find(&PROCESS)).map(told);
+        // What the recorder holds may be dropped with this, which runs user code.
+        let has_any = told.is_some() || held.is_some();
+        Event(has_any.then(|| Box::new((told, held))))
+    }
+}
+
+impl Drop for Event {
+    fn drop(&mut self) {
+        if let Some(event) = self.0.take() {
+            tell(*event);
+        }
+    }
+}
+
+/// Calls the closure. Its panic goes on, but within another panic, where the process would end.
+#[cold]
+fn tell((told, held): (Option<Told>, Option<Held>)) {
+    let called = panic::catch_unwind(AssertUnwindSafe(|| {
+        if let Some(told) = &told {
+            told.tell();
+        }
+    }));
+    drop((told, held));
+    if let Err(panicked) = called {
+        if !thread::panicking() {
+            panic::resume_unwind(panicked);
+        }
+    }
+}
+
+/// A channel, as an event names it.
+#[derive(Clone, Debug, PartialEq, Eq)]
+struct ChannelOf {
+    name: String,
+    made_at: CallSite,
+    capacity: Option<usize>,
+    sender: Option<String>,
+    sent_at: CallSite,
+}
+
+impl ChannelOf {
+    fn new(state: &ChannelState) -> ChannelOf {
+        ChannelOf {
+            name: state.name_or_place(),
+            made_at: state.made_at,
+            capacity: state.core.capacity(),
+            sender: state.last_send.name().map(str::to_string),
+            sent_at: state.last_send.called_at(),
+        }
+    }
+
+    /// Formats who sent last, and where.
+    fn fmt_sender(&self, f: &mut fmt::Formatter<'_>) -> fmt::Result {
+        match (&self.sender, self.sent_at) {
+            (Some(sender), Some(at)) => {
+                let (file, line) = (at.file(), at.line());
+                write!(f, "; the last send was by {sender} at {file}:{line}")
+            }
+            _ => write!(f, "; nothing was sent"),
+        }
+    }
+}
+
+/// Formats a count of values.
+fn values(count: u64) -> String {
+    match count {
+        1 => "1 value".to_string(),
+        _ => format!("{count} values"),
+    }
+}
