@@ -1,5 +1,9 @@
 //! Who makes a call: the innermost named future, or else the task of a runtime that tells its tasks apart, or else the thread.
 
+mod holders;
+
+pub(crate) use holders::Unused;
+
 use crate::atomic::AtomicU64;
 use crate::backend::Actor;
 use crate::block_on::is_blocked_on_future;
@@ -7,8 +11,9 @@ use crate::channel::CallSite;
 use crate::explore;
 use crate::reentrant::thread_number;
 use crate::replay::{self, UNNAMED_THREAD};
+use holders::{Holder, Holders};
 use std::cell::{Cell, RefCell};
-use std::collections::{BTreeMap, BTreeSet, HashMap, VecDeque};
+use std::collections::{BTreeMap, BTreeSet, HashMap, HashSet, VecDeque};
 use std::fmt::Write;
 use std::future::Future;
 use std::panic::Location;
@@ -20,6 +25,12 @@ use std::thread;
 
 /// How many tasks without a name have a number of their own in a journal. Other numbers are left for threads and named futures.
 const MOST_TASKS: usize = 32;
+
+/// How many names of those that share the last number are stored.
+const MOST_SHARING: usize = 1024;
+
+/// After how many that got no number it is looked for those that nobody needs, if no channel has left the run.
+const REFUSED_BETWEEN_LOOKS: usize = 64;
 
 /// The number that a recorder has given to an actor.
 #[derive(Clone, Copy)]
@@ -116,8 +127,16 @@ fn current_task() -> Option<u64> {
 pub(crate) struct Actors {
     // By their numbers.
     names: Vec<String>,
-    // Of threads and named futures, by their names.
+    // Who has each number, in the same order.
+    holders: Vec<Holders>,
+    // Of threads and named futures that have a number of their own, by their names.
     numbers: HashMap<String, Actor>,
+    // The names of those that share the last number with its owner. Of very many some are left out.
+    sharing: HashSet<String>,
+    // How often somebody got no number, since numbers were last looked for that nobody needs.
+    refused: usize,
+    // How many channels had left the run then.
+    left_before: usize,
     // Of tasks without a name, by the numbers that their runtime gives them.
     tasks: HashMap<u64, Actor>,
     // Where each task without a name has made its first call.
@@ -126,6 +145,8 @@ pub(crate) struct Actors {
     unnamed: BTreeSet<u64>,
     // In a replay, the numbers of such actors of the journal that nobody has yet.
     free: VecDeque<usize>,
+    // The numbers that nobody has any more, and no stored call.
+    given_away: VecDeque<usize>,
 }
 
 /// Returns the current actor for the recorder with this number, if it is cached and each thread runs one task.
@@ -221,27 +242,72 @@ fn name_of_thread() -> String {
 }
 
 impl Actors {
-    /// Returns the number of the current actor, whose call is made here in the source. Actors after the 64th share its number, and `true`
-    /// marks the first of them.
-    pub(crate) fn find(&mut self, task: Option<u64>, called_at: CallSite) -> (Actor, bool) {
+    /// Returns the number of the current actor, whose call is made here in the source, if it has one or there is one for it.
+    pub(crate) fn find(&mut self, task: Option<u64>, called_at: CallSite) -> Option<Actor> {
         if let Some(name) = name_of_future() {
             return self.find_named(name);
         }
         let of_task = task.and_then(|task| self.find_task(task, called_at));
-        match of_task {
-            Some(actor) => (actor, false),
-            None => self.find_named(name_of_thread()),
+        of_task.or_else(|| self.find_named(name_of_thread()))
+    }
+
+    /// Returns the last number, which the current actor shares. `true` marks the first one that does.
+    pub(crate) fn share(&mut self) -> (Actor, bool) {
+        let is_first = self.sharing.is_empty();
+        if self.sharing.len() < MOST_SHARING {
+            let name = name_of_future().unwrap_or_else(name_of_thread);
+            self.sharing.insert(name);
+        }
+        (Actor::of(Actor::MOST), is_first)
+    }
+
+    /// Whether it is time to look for numbers that nobody needs, since the current actor got none: where a channel has left the run since the
+    /// last time, or many have got none.
+    pub(crate) fn looks_for_unused(&mut self, left: usize) -> bool {
+        self.refused += 1;
+        let is_time = left != self.left_before || self.refused >= REFUSED_BETWEEN_LOOKS;
+        if is_time {
+            (self.refused, self.left_before) = (0, left);
+        }
+        is_time
+    }
+
+    /// Returns the numbers whose threads and named futures are all gone.
+    pub(crate) fn unused(&mut self) -> Vec<Unused> {
+        let numbers = self.holders.iter_mut().enumerate();
+        let unused = numbers.filter_map(|(number, holders)| {
+            let finds = holders.finds;
+            holders.are_gone().then_some(Unused { number, finds })
+        });
+        unused.collect()
+    }
+
+    /// Gives those numbers away that nobody has got since, and that aren't among these, the bits of which are the numbers that calls have.
+    pub(crate) fn give_away(&mut self, unused: Vec<Unused>, stored: u64) {
+        for Unused { number, finds } in unused {
+            let is_stored = stored & (1 << number) != 0;
+            if !is_stored && self.holders[number].finds == finds {
+                self.numbers.remove(&self.names[number]);
+                self.unnamed.remove(&(number as u64));
+                self.given_away.push_back(number);
+                self.holders[number] = Holders::given_away();
+            }
         }
     }
 
     /// Returns the number of the current actor, if it has one.
     pub(crate) fn known(&self) -> Option<Actor> {
         if let Some(name) = name_of_future() {
-            return self.numbers.get(&name).copied();
+            return self.known_by(&name);
         }
-        let of_task = current_task().and_then(|task| self.tasks.get(&task));
-        let known = of_task.or_else(|| self.numbers.get(&name_of_thread()));
-        known.copied()
+        let of_task = current_task().and_then(|task| self.tasks.get(&task).copied());
+        of_task.or_else(|| self.known_by(&name_of_thread()))
+    }
+
+    fn known_by(&self, name: &str) -> Option<Actor> {
+        let is_sharing = self.sharing.contains(name);
+        let own = self.numbers.get(name).copied();
+        own.or_else(|| is_sharing.then(|| Actor::of(Actor::MOST)))
     }
 
     /// Returns the number of a task without a name, unless so many others have one that this one gets none.
@@ -254,6 +320,8 @@ impl Actors {
         }
         let number = self.number_for(&format!("task {task}"), true)?;
         let actor = Actor::of(number);
+        // Nobody says when a task ends.
+        self.holders[number].never_end();
         self.tasks.insert(task, actor);
         if let Some(location) = called_at {
             self.first_calls.insert(number as u64, location);
@@ -270,11 +338,19 @@ impl Actors {
                 self.names[number] = name.to_string();
                 number
             }
-            None if self.names.len() == Actor::MOST => return None,
-            None => {
-                self.names.push(name.to_string());
-                self.names.len() - 1
-            }
+            None => match self.given_away.pop_front() {
+                Some(number) => {
+                    self.names[number] = name.to_string();
+                    self.holders[number].taken();
+                    number
+                }
+                None if self.names.len() == Actor::MOST => return None,
+                None => {
+                    self.names.push(name.to_string());
+                    self.holders.push(Holders::default());
+                    self.names.len() - 1
+                }
+            },
         };
         if is_unnamed {
             self.unnamed.insert(number as u64);
@@ -282,15 +358,21 @@ impl Actors {
         Some(number)
     }
 
-    fn find_named(&mut self, name: String) -> (Actor, bool) {
-        if let Some(actor) = self.numbers.get(&name) {
-            return (*actor, false);
-        }
-        let number = self.number_for(&name, is_unnamed(&name));
-        let actor = Actor::of(number.unwrap_or(Actor::MOST));
-        let is_first = number.is_none() && self.others() == 0;
-        self.numbers.insert(name, actor);
-        (actor, is_first)
+    fn find_named(&mut self, name: String) -> Option<Actor> {
+        let actor = match self.numbers.get(&name) {
+            Some(actor) => *actor,
+            None => {
+                // Whoever shares a number does so as long as the run is known.
+                if self.sharing.contains(&name) {
+                    return None;
+                }
+                let actor = Actor::of(self.number_for(&name, is_unnamed(&name))?);
+                self.numbers.insert(name, actor);
+                actor
+            }
+        };
+        self.holders[actor.number() as usize].add(Holder::current());
+        Some(actor)
     }
 
     /// Numbers the actors as a journal does, which is replayed. `None` stands for one that nobody named; the first ones of this run get these
@@ -303,20 +385,19 @@ impl Actors {
             }
             self.names
                 .push(name.unwrap_or_else(|| "nobody".to_string()));
+            self.holders.push(Holders::default());
         }
-    }
-
-    /// Returns how many actors share the last number with the one that it was given to.
-    fn others(&self) -> usize {
-        self.numbers.len() + self.tasks.len() + self.free.len() - self.names.len()
     }
 
     /// Returns the names by number. If others share the last number, its name says how many.
     pub(crate) fn names(&self) -> Vec<String> {
         let mut names = self.names.clone();
-        let others = self.others();
-        if let Some(last) = names.last_mut().filter(|_| others > 0) {
-            *last = format!("{last} and {others} others");
+        if let Some(last) = names.last_mut() {
+            match self.sharing.len() {
+                0 => (),
+                MOST_SHARING => *last = format!("{last} and {MOST_SHARING} others or more"),
+                others => *last = format!("{last} and {others} others"),
+            }
         }
         names
     }

@@ -33,6 +33,12 @@ impl Actor {
     pub(crate) fn number(self) -> u32 {
         self.0
     }
+
+    /// The bit that stands for this actor in a set of them.
+    #[inline]
+    pub(crate) fn bit(self) -> u64 {
+        1 << self.0
+    }
 }
 
 /// The actor of a call, and the clock of its recorder. If the call is recorded, its stamp is one more than the clock.

@@ -92,16 +92,20 @@ impl<T, S> Channel<T, S> {
         }
     }
 
-    /// Whether the channel has a function for the texts of values.
+    /// Whether the channel has a function for the texts of values, and its recorder records.
     #[inline]
     pub(crate) fn has_text_of(&self) -> bool {
-        self.text_of.get().is_some()
+        self.text_of.get().is_some() && self.recorded.recorder.is_recording()
     }
 
-    /// Returns the text of a value, if the channel has a function for it.
+    /// Returns the text of a value, if the channel has a function for it and its recorder records.
     #[inline]
     pub(crate) fn text(&self, value: &T) -> Option<String> {
-        self.text_of.get()?.text(value)
+        let text_of = self.text_of.get()?;
+        self.recorded
+            .recorder
+            .is_recording()
+            .then(|| text_of.text(value))?
     }
 
     /// Sets the function for the texts of values. Returns `false` if the channel has one already, which it keeps.

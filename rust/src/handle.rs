@@ -158,8 +158,8 @@ impl<T, S> ChannelHandle<T, S> {
     /// in the source.
     pub(crate) fn drop_by(&self, call: Call) {
         let mut channel = self.lock_at(Word::Drop, None);
-        let wakers = channel.drop_handle(self.kind, self.slot, call);
-        let _event = channel.unlock_with_event();
+        let (wakers, _event) = channel.drop_handle(self.kind, self.slot, call);
+        channel.unlock();
         wakers.wake();
     }
 

@@ -6,6 +6,7 @@ mod events;
 pub(crate) mod files;
 mod for_test;
 mod handle;
+mod makers;
 mod named;
 mod panic_hook;
 mod replay_line;
@@ -63,7 +64,8 @@ use texts::Texts;
 /// - When a channel has created 65,536 senders, weak senders and receivers and is to create another one, its recording ends. The other
 ///   channels are still recorded.
 /// - When a channel has 1,048,576 entries, recording ends for all channels of the recorder.
-/// - A thread or named future after the 64th is recorded under the number of the 64th.
+/// - A thread or named future after the 64th is recorded under the number of the 64th. The number of one that is gone is given to another, once
+///   no call in the run is by it.
 ///
 /// Of tasks without a name ([`set_task_id`](crate::set_task_id)), 32 have a number of their own. Those that come later are recorded under the
 /// name of their thread, and no line reports it.

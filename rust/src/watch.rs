@@ -102,9 +102,11 @@ fn attempt_changed(
     channel: &mut LockedChannel<'_>,
     slot: Slot,
 ) -> Poll<Result<(), error::RecvError>> {
-    let reply = channel.call(CoreChannel::watch_changed);
-    channel.note_receive(slot, reply);
-    reply.changed()
+    let changed = channel.call(CoreChannel::watch_changed).changed();
+    if let Poll::Ready(Ok(())) = changed {
+        channel.note_receive(slot);
+    }
+    changed
 }
 
 impl<T> WatchHandle<T> {

@@ -5,8 +5,10 @@ use super::error::{RecvError, TryRecvError};
 use super::values::Value;
 use crate::block_on;
 use crate::channel::{CallSite, CoreChannel, LockedChannel};
+use crate::events::Event;
 use crate::handle::Kind;
 use crate::recorder::{Handle, RecordedHandle, TextOf};
+use crate::reply::Reply;
 use crate::wait::{Method, Pending, WaitFor};
 use crate::word::Word;
 use std::fmt;
@@ -161,15 +163,21 @@ impl<T> Receiver<T> {
         self.sender_strong_count() == 0
     }
 
-    fn attempt_recv(&self, channel: &mut LockedChannel<'_>) -> Poll<Result<Value<T>, RecvError>> {
+    fn attempt_recv(&self, channel: &mut LockedChannel<'_>) -> Poll<Received<T>> {
         let reply = channel.call(CoreChannel::broadcast_recv);
-        channel.note_receive(self.handle.slot, reply);
-        reply
-            .received()
-            .map_ok(|number| self.received_value(channel, number))
+        reply.received().map(|received| match received {
+            Ok(number) => {
+                channel.note_receive(self.handle.slot);
+                Ok(self.received_value(channel, number))
+            }
+            Err(RecvError::Lagged(lost)) => {
+                let event = channel.note_lag(self.handle.slot, lost);
+                Err((RecvError::Lagged(lost), event))
+            }
+            Err(error) => Err((error, Event::default())),
+        })
     }
 
-    /// Returns the value that this receiver has received, not yet cloned.
     #[inline(always)]
     fn received_value(&self, channel: &mut LockedChannel<'_>, number: u64) -> Value<T> {
         channel.guarded(&self.handle.channel.values).receive(number)
@@ -263,7 +271,7 @@ impl<T: Clone> Receiver<T> {
             .wait(WaitFor::Value, Word::Recv, method, |channel| {
                 self.attempt_recv(channel)
             });
-        received.await.map(Value::cloned)
+        received_by(received.await)
     }
 
     /// [`recv`](Receiver::recv) without a future. Between polls the caller holds the state of the call.
@@ -285,7 +293,7 @@ impl<T: Clone> Receiver<T> {
             context,
             |channel| self.attempt_recv(channel),
         );
-        received.map_ok(Value::cloned)
+        received.map(received_by)
     }
 
     /// Receives the next value if there is one, without waiting.
@@ -314,8 +322,14 @@ impl<T: Clone> Receiver<T> {
     pub fn try_recv(&mut self) -> Result<T, TryRecvError> {
         let mut channel = self.handle.lock(Word::TryRecv);
         let reply = channel.call(CoreChannel::broadcast_try_recv);
-        channel.note_receive(self.handle.slot, reply);
+        if let Reply::Lagged(lost) = reply {
+            let event = channel.note_lag(self.handle.slot, lost);
+            channel.unlock();
+            drop(event);
+            return Err(TryRecvError::Lagged(lost));
+        }
         let number = reply.received_at_once()?;
+        channel.note_receive(self.handle.slot);
         let value = self.received_value(&mut channel, number);
         channel.unlock();
         Ok(value.cloned())
@@ -347,6 +361,20 @@ impl<T: Clone> Receiver<T> {
     }
 }
 
+/// What a receive returns while the channel is locked. The event is dropped once it no longer is.
+type Received<T> = Result<Value<T>, (RecvError, Event)>;
+
+/// Returns what a receive returns to its caller, and tells of the event, if there is one.
+fn received_by<T: Clone>(received: Received<T>) -> Result<T, RecvError> {
+    match received {
+        Ok(value) => Ok(value.cloned()),
+        Err((error, event)) => {
+            drop(event);
+            Err(error)
+        }
+    }
+}
+
 impl<T> Drop for Receiver<T> {
     fn drop(&mut self) {
         let mut channel = self.handle.lock_at(Word::Drop, None);
@@ -356,7 +384,7 @@ impl<T> Drop for Receiver<T> {
             false => 0,
         };
         let slot = self.handle.slot;
-        let wakers = channel.drop_handle(Kind::Receiver, slot, CoreChannel::broadcast_drop);
+        let (wakers, _) = channel.drop_handle(Kind::Receiver, slot, CoreChannel::broadcast_drop);
         let unwanted = channel.guarded(values).drop_receiver(unread);
         drop(channel);
         wakers.wake();

@@ -31,8 +31,6 @@ pub(crate) struct LockedChannel<'a> {
     called_at: CallSite,
     // The stamp of the last call, if it is recorded.
     stamp: u64,
-    // What somebody asked to be told. It is the last field, so the channel is unlocked when it is dropped, and tells.
-    event: Event,
 }
 
 impl RecordedChannel {
@@ -62,18 +60,25 @@ impl RecordedChannel {
             handle,
             called_at,
             stamp: 0,
-            event: Event::default(),
         }
     }
 
-    /// Stores where the next call is made, if this recorder is to record it, and returns the clock's number for it.
+    /// Stores by whom and where the next call is made, if this recorder is to record it, and returns the clock's number for it.
     #[inline(always)]
-    fn tick(&self, recorder: &Shared, state: &mut ChannelState, called_at: CallSite) -> u64 {
+    fn tick(
+        &self,
+        recorder: &Shared,
+        state: &mut ChannelState,
+        (actor, called_at): (Actor, CallSite),
+    ) -> u64 {
         if state.is_recorded {
             match recorder.has_ended() {
                 true => self.end_recording(state),
                 // It is added before the call, so that nothing of the reply has to be stored meanwhile.
-                false => state.locations.of_calls.push(called_at),
+                false => {
+                    state.locations.of_calls.push(called_at);
+                    state.actors |= actor.bit();
+                }
             }
         }
         recorder.tick()
@@ -95,6 +100,30 @@ impl RecordedChannel {
         if let Some(recorder) = &self.recorder.0 {
             recorder.tell_of_too_many_handles();
         }
+    }
+
+    /// Notes that the receiver with this number, in this slot, was told here that it has lost values. Returns the event.
+    // What is cold gets what it needs, and not a `LockedChannel`, which would be stored in memory for it at each call.
+    #[cold]
+    #[inline(never)]
+    fn note_lag(
+        &self,
+        state: &mut ChannelState,
+        receiver: (u32, Slot),
+        received_at: CallSite,
+        lost: u64,
+    ) -> Event {
+        state.receivers.lose(receiver.1, lost);
+        Event::lag(&self.recorder, || {
+            Lag::new(state, receiver, received_at, lost)
+        })
+    }
+
+    /// Returns the event of the drop of the last sender.
+    #[cold]
+    #[inline(never)]
+    fn note_close(&self, state: &mut ChannelState) -> Event {
+        Event::close(&self.recorder, || Close::new(state))
     }
 
     /// Ends a call that has left no entry and replied so, and returns its reply. A call for which the journal had no room wasn't made: the
@@ -189,7 +218,10 @@ impl<'a> LockedChannel<'a> {
     ) -> Reply {
         let state = &mut *self.state;
         let clock = match &self.channel.recorder.0 {
-            Some(recorder) => self.channel.tick(recorder, state, self.called_at),
+            Some(recorder) => {
+                let caller = (self.actor, self.called_at);
+                self.channel.tick(recorder, state, caller)
+            }
             None => 0,
         };
         self.stamp = clock + 1;
@@ -211,52 +243,25 @@ impl<'a> LockedChannel<'a> {
     }
 
     /// Makes a call that waits, and for which a journal has the word of one that doesn't.
-    pub(crate) fn call_that_waits(&mut self, call: Call) -> Reply {
-        let reply = self.call(call);
+    pub(crate) fn call_that_waits(&mut self, call: Call) {
+        self.call(call);
         let entry = self.state.last_entry();
         self.state.waited.extend(entry);
-        reply
     }
 
-    /// Notes what the receiver in this slot was replied when it asked for a value.
+    /// Notes that the receiver in this slot has received a value.
     #[cfg_attr(debug_assertions, inline(never))]
     #[cfg_attr(not(debug_assertions), inline(always))]
-    pub(crate) fn note_receive(&mut self, slot: Slot, reply: Reply) {
-        match reply {
-            Reply::Value(_) | Reply::Done => {
-                let state = &mut *self.state;
-                let stamp = if state.is_recorded { self.stamp } else { 0 };
-                state.receivers.receive(slot, self.called_at, stamp);
-            }
-            Reply::Lagged(lost) => self.note_lag(slot, lost),
-            _ => (),
-        }
-    }
-
-    /// Notes that the receiver in this slot was told that it has lost values. Whoever asked for it is told once the channel is unlocked.
-    #[cold]
-    #[inline(never)]
-    fn note_lag(&mut self, slot: Slot, lost: u64) {
-        self.state.receivers.lose(slot, lost);
-        let (number, received_at) = (self.handle, self.called_at);
+    pub(crate) fn note_receive(&mut self, slot: Slot) {
         let state = &mut *self.state;
-        self.event = Event::lag(&self.channel.recorder, || {
-            Lag::new(state, (number, slot), received_at, lost)
-        });
+        let stamp = if state.is_recorded { self.stamp } else { 0 };
+        state.receivers.receive(slot, self.called_at, stamp);
     }
 
-    /// As [`note_lag`](LockedChannel::note_lag), of the drop of the last sender.
-    #[cold]
-    #[inline(never)]
-    fn note_close(&mut self) {
-        let state = &mut *self.state;
-        self.event = Event::close(&self.channel.recorder, || Close::new(state));
-    }
-
-    /// Unlocks the channel, and returns what is to be told.
-    #[inline]
-    pub(crate) fn unlock_with_event(self) -> Event {
-        self.event
+    /// Notes that the receiver in this slot was told that it has lost values. Returns the event, to be dropped once the channel is unlocked.
+    pub(crate) fn note_lag(&mut self, slot: Slot, lost: u64) -> Event {
+        let (state, receiver) = (&mut *self.state, (self.handle, slot));
+        self.channel.note_lag(state, receiver, self.called_at, lost)
     }
 
     /// Returns the greatest stamp that a recorded call can have so far.
@@ -323,10 +328,10 @@ impl<'a> LockedChannel<'a> {
     }
 
     /// Makes the call that drops the handle. Returns the futures that wait for it: those of receivers if it was the last sender, and those
-    /// of senders if it was the last receiver.
+    /// of senders if it was the last receiver. The event is to be dropped once they are woken.
     #[cfg_attr(debug_assertions, inline(never))]
     #[cfg_attr(not(debug_assertions), inline(always))]
-    pub(crate) fn drop_handle(&mut self, kind: Kind, slot: Slot, call: Call) -> Wakers {
+    pub(crate) fn drop_handle(&mut self, kind: Kind, slot: Slot, call: Call) -> (Wakers, Event) {
         self.call(call);
         self.state.remove_name(self.handle);
         if actors::is_dropping_future() {
@@ -335,17 +340,18 @@ impl<'a> LockedChannel<'a> {
         }
         match kind {
             Kind::Sender if self.core().senders() == 0 => {
-                self.note_close();
-                self.remove_wakers(WaitFor::Value)
+                let event = self.channel.note_close(&mut self.state);
+                (self.remove_wakers(WaitFor::Value), event)
             }
             Kind::Receiver => {
                 self.state.receivers.remove(slot);
-                match self.state.receivers.is_empty() {
+                let wakers = match self.state.receivers.is_empty() {
                     true => self.remove_wakers(WaitFor::NoReceiver),
                     false => Wakers::default(),
-                }
+                };
+                (wakers, Event::default())
             }
-            _ => Wakers::default(),
+            _ => (Wakers::default(), Event::default()),
         }
     }
 

@@ -22,6 +22,8 @@ pub(crate) struct ChannelState {
     // How many values the channel was opened with.
     opened_with: u64,
     pub(crate) made_at: CallSite,
+    // Which actors have made the calls that are stored: a bit for each number.
+    pub(super) actors: u64,
     // The receivers that are alive.
     pub(crate) receivers: Receivers,
     // Who has sent last, and where.
@@ -56,6 +58,7 @@ impl ChannelState {
             unsent_count: 0,
             opened_with: value_count,
             made_at,
+            actors: 0,
             receivers: Receivers::default(),
             last_send: LastCaller::default(),
             waiting_for_value: WakerQueue::default(),
@@ -163,6 +166,15 @@ impl ChannelState {
         if std::mem::take(&mut self.is_recorded) {
             self.core.end();
         }
+    }
+
+    /// Returns the numbers of actors that are needed: those of stored calls, of calls that wait, and of looks. Each is a bit.
+    pub(crate) fn stored_actors(&self) -> u64 {
+        let waits = self.waits.items().map(|wait| wait.actor);
+        let looks = self.looks.iter().map(|look| look.actor);
+        waits
+            .chain(looks)
+            .fold(self.actors, |all, actor| all | actor.bit())
     }
 
     /// Whether all senders, weak senders and receivers are dropped.

@@ -13,6 +13,7 @@ use crate::wait::Awaited;
 use std::collections::HashMap;
 use std::panic::Location;
 use std::path::Path;
+use std::sync::atomic::{AtomicUsize, Ordering};
 use std::sync::{Arc, Mutex};
 use std::time::Duration;
 use std::{fs, io, ptr};
@@ -31,21 +32,42 @@ pub(crate) struct Run<'a> {
     channels: Vec<Arc<Mutex<ChannelState>>>,
     // How many channels are left out, since they are locked.
     locked: u64,
+    _reading: Reading<'a>,
+}
+
+/// While this is alive, numbers of actors aren't given away: a channel of the run may leave its recorder, and its calls have names all the same.
+struct Reading<'a>(&'a AtomicUsize);
+
+impl<'a> Reading<'a> {
+    fn new(readers: &'a AtomicUsize) -> Reading<'a> {
+        readers.fetch_add(1, Ordering::SeqCst);
+        Reading(readers)
+    }
+}
+
+impl Drop for Reading<'_> {
+    fn drop(&mut self) {
+        self.0.fetch_sub(1, Ordering::SeqCst);
+    }
 }
 
 impl Shared {
     /// Returns the channels of the run so far.
     pub(crate) fn run(&self) -> Run<'_> {
+        // Before the channels are read.
+        let reading = Reading::new(&self.readers);
         Run {
             shared: self,
             channels: lock(&self.channels).clone(),
             locked: 0,
+            _reading: reading,
         }
     }
 
     /// Returns the run without the channels that this thread may have locked: those that aren't free for this time. Returns `None` if it can't be
     /// read at all.
     pub(super) fn readable_run(&self, patience: Duration) -> Option<Run<'_>> {
+        let reading = Reading::new(&self.readers);
         let mut channels = try_lock_for(&self.channels, patience)?.clone();
         drop(try_lock_for(&self.actors, patience)?);
         let all = channels.len();
@@ -54,6 +76,7 @@ impl Shared {
             shared: self,
             locked: (all - channels.len()) as u64,
             channels,
+            _reading: reading,
         })
     }
 }

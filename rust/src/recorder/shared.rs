@@ -1,14 +1,15 @@
 //! What the channels of a recorder share.
 
+use super::makers::Makers;
 use super::texts::Texts;
 use crate::actors::{self, Actors};
 use crate::atomic::AtomicU64;
 use crate::backend::Actor;
 use crate::channel::{CallSite, ChannelState};
+use crate::explore;
 use crate::lock::{lock, try_lock_for};
 use crate::names::{Maker, Unrecorded};
 use crate::replay::{self, Gate};
-use std::collections::HashMap;
 use std::io;
 use std::path::Path;
 use std::sync::atomic::{AtomicBool, AtomicUsize, Ordering};
@@ -44,10 +45,18 @@ pub(crate) struct Shared {
     pub(super) actors: Mutex<Actors>,
     // Of a replay.
     pub(crate) gate: Option<Arc<Gate>>,
-    // How many channels each caller has made, by the name of the caller.
-    makers: Mutex<HashMap<Option<String>, u64>>,
+    // How many runs of this recorder are being read.
+    pub(super) readers: AtomicUsize,
+    makers: Mutex<Makers>,
     // Held by the handles of the recorder alone. A channel, which holds this, may be held by a function there.
     texts: Mutex<Weak<Texts>>,
+}
+
+fn find_after(is_changed: bool, find: impl Fn() -> Option<Actor>) -> Option<Actor> {
+    match is_changed {
+        true => find(),
+        false => None,
+    }
 }
 
 /// How many channels were left out, by the reason.
@@ -80,6 +89,7 @@ impl Shared {
             channels: Mutex::default(),
             actors: Mutex::default(),
             gate: None,
+            readers: AtomicUsize::new(0),
             makers: Mutex::default(),
             texts: Mutex::default(),
         }
@@ -105,10 +115,16 @@ impl Shared {
         if let Some(gate) = &self.gate {
             gate.see_maker(&name);
         }
-        let mut makers = lock(&self.makers);
-        let count = makers.entry(name.clone()).or_default();
-        let nth = *count;
-        *count += 1;
+        if self.gate.is_none() && lock(&self.makers).are_many() {
+            let channels = lock(&self.channels).clone();
+            let in_run = channels.iter().filter_map(|channel| {
+                let state = lock(channel);
+                state.made_by.as_ref().map(|maker| maker.name.clone())
+            });
+            let in_run = in_run.collect();
+            lock(&self.makers).forget_others(&in_run);
+        }
+        let nth = lock(&self.makers).count(&name);
         Maker { name, nth }
     }
 
@@ -175,13 +191,39 @@ impl Shared {
 
     #[cold]
     fn find_actor(&self, task: Option<u64>, called_at: CallSite) -> Actor {
-        let (actor, is_first_to_share) = lock(&self.actors).find(task, called_at);
+        let find = || lock(&self.actors).find(task, called_at);
+        if let Some(actor) = find().or_else(|| find_after(self.give_numbers_away(), find)) {
+            return actor;
+        }
+        let (actor, is_first_to_share) = lock(&self.actors).share();
         if is_first_to_share {
             eprintln!(
                 "yovanelum: a journal names 64 actors; those who come later are recorded as the last one"
             );
         }
         actor
+    }
+
+    /// Gives away the numbers of actors that are gone and that no stored call has. Returns `false` if it isn't looked for any. In a replay numbers
+    /// are those of the journal, and in a run that is explored those of the runs before.
+    // Each lock is released before the next one. Whoever is gone makes no further call, so what is read of the channels stays so.
+    fn give_numbers_away(&self) -> bool {
+        let left = self.left_out.channels_that_left.load(Ordering::Relaxed);
+        let is_fixed = self.gate.is_some() || explore::current().is_some();
+        if is_fixed || !lock(&self.actors).looks_for_unused(left) {
+            return false;
+        }
+        let unused = lock(&self.actors).unused();
+        let channels = lock(&self.channels).clone();
+        let stored = channels.iter().map(|channel| lock(channel).stored_actors());
+        let stored = stored.fold(0, |all, of_one| all | of_one);
+        let mut actors = lock(&self.actors);
+        // A run that is being read may have a channel that has left since.
+        if self.readers.load(Ordering::SeqCst) == 0 {
+            actors.give_away(unused, stored);
+        }
+        drop(actors);
+        true
     }
 
     /// Returns the number of the current actor, if it has one and that can be read in this time.
@@ -270,6 +312,13 @@ impl RecordedBy {
     #[inline]
     pub(crate) fn is_quiet(&self) -> bool {
         self.0.as_ref().is_none_or(|recorder| recorder.is_quiet())
+    }
+
+    /// Whether there is a recorder, and its recording hasn't ended.
+    #[inline]
+    pub(crate) fn is_recording(&self) -> bool {
+        let recorder = self.0.as_ref();
+        recorder.is_some_and(|recorder| !recorder.has_ended())
     }
 
     /// Returns what the handles of the recorder hold, if there is a recorder and one is alive.

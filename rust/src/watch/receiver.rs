@@ -88,8 +88,8 @@ impl<T> Receiver<T> {
             called_at,
         };
         self.handle.borrow_by(permit, method, |channel| {
-            let reply = channel.call(CoreChannel::watch_update);
-            channel.note_receive(self.handle.slot, reply);
+            channel.call(CoreChannel::watch_update);
+            channel.note_receive(self.handle.slot);
         })
     }
 
@@ -283,8 +283,8 @@ impl<T> Receiver<T> {
                     let (word, called_at) = (Word::WaitFor, method.called_at);
                     let permit = self.handle.turn(word, called_at).await;
                     let value = self.handle.borrow_by(permit, method, |channel| {
-                        let reply = channel.call_that_waits(CoreChannel::watch_update);
-                        channel.note_receive(self.handle.slot, reply);
+                        channel.call_that_waits(CoreChannel::watch_update);
+                        channel.note_receive(self.handle.slot);
                     });
                     if self.handle.channel.values.run_reading(|| f(&value)) {
                         return Ok(value);

@@ -1,0 +1,105 @@
+//! Who has an actor's number: threads and named futures, as long as they are alive.
+
+use super::NAME;
+use std::collections::HashSet;
+use std::sync::{Arc, Weak};
+
+thread_local! {
+    // Dropped where the thread ends.
+    static ALIVE: Arc<()> = Arc::new(());
+}
+
+/// A thread or a named future that has got a number.
+pub(super) enum Holder {
+    Future(Weak<str>),
+    Thread(Weak<()>),
+    /// One whose end isn't known.
+    Forever,
+}
+
+impl Holder {
+    /// Returns the named future that this thread polls or drops, or else the thread.
+    pub(super) fn current() -> Holder {
+        let future = NAME.try_with(|name| name.borrow().as_ref().map(Arc::downgrade));
+        match future.ok().flatten() {
+            Some(future) => Holder::Future(future),
+            // At the end of a thread it may be gone already.
+            None => match ALIVE.try_with(Arc::downgrade) {
+                Ok(thread) => Holder::Thread(thread),
+                Err(_) => Holder::Forever,
+            },
+        }
+    }
+
+    fn is_alive(&self) -> bool {
+        match self {
+            Holder::Future(future) => future.strong_count() > 0,
+            Holder::Thread(thread) => thread.strong_count() > 0,
+            Holder::Forever => true,
+        }
+    }
+
+    /// Returns an address that no other holder has which is alive.
+    fn address(&self) -> usize {
+        match self {
+            Holder::Future(future) => future.as_ptr().addr(),
+            Holder::Thread(thread) => thread.as_ptr().addr(),
+            Holder::Forever => 0,
+        }
+    }
+}
+
+/// A number whose holders are gone, with how often it was got until then.
+pub(crate) struct Unused {
+    pub(super) number: usize,
+    pub(super) finds: u64,
+}
+
+/// Those who have a number. Several futures may have one name, and so one number.
+#[derive(Default)]
+pub(super) struct Holders {
+    /// How often the number was got.
+    pub(super) finds: u64,
+    all: Vec<Holder>,
+    // When there are as many, those that are gone or here twice are removed.
+    full_at: usize,
+    is_given_away: bool,
+}
+
+impl Holders {
+    /// Nobody, of a number that is to be given to somebody else.
+    pub(super) fn given_away() -> Holders {
+        Holders {
+            is_given_away: true,
+            ..Holders::default()
+        }
+    }
+
+    /// Says that the number is somebody's again.
+    pub(super) fn taken(&mut self) {
+        self.is_given_away = false;
+    }
+
+    /// Says that the end of who has it isn't known.
+    pub(super) fn never_end(&mut self) {
+        self.all.push(Holder::Forever);
+    }
+
+    /// Adds one who has got the number.
+    pub(super) fn add(&mut self, holder: Holder) {
+        self.finds += 1;
+        if self.all.len() >= self.full_at {
+            let mut seen = HashSet::new();
+            self.all
+                .retain(|holder| holder.is_alive() && seen.insert(holder.address()));
+            self.full_at = 2 * self.all.len() + 4;
+        }
+        self.all.push(holder);
+    }
+
+    /// Whether all of them are gone, and the number isn't given away.
+    pub(super) fn are_gone(&mut self) -> bool {
+        self.all.retain(Holder::is_alive);
+        !self.is_given_away && self.finds > 0 && self.all.is_empty()
+    }
+}
