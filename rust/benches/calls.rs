@@ -3,7 +3,7 @@
 use std::hint::black_box;
 use std::thread;
 use std::time::{Duration, Instant};
-use yovanelum::{Recorder, broadcast, watch};
+use yovanelum::{ChannelSnapshot, Recorder, broadcast, watch};
 
 type Timed = (u64, Duration);
 type Case = (&'static str, fn(u64) -> Timed);
@@ -105,6 +105,38 @@ fn ping(calls: u64) -> Timed {
     timed
 }
 
+/// Lags that a closure is told of: two sends and a receive each.
+fn lags_told(calls: u64) -> Timed {
+    if let Some(recorder) = Recorder::current() {
+        recorder.on_lag(|lag| {
+            black_box(lag.lost_in_all());
+        });
+    }
+    let (tx, mut rx) = broadcast::channel(1);
+    let rounds = calls / 4;
+    timed(rounds * 4, || {
+        for value in 0..rounds {
+            tx.send(value).unwrap();
+            tx.send(value).unwrap();
+            assert!(rx.try_recv().is_err());
+            black_box(rx.try_recv().unwrap());
+        }
+    })
+}
+
+/// Snapshots of a channel with eight receivers, none of which is a call.
+fn snapshots(calls: u64) -> Timed {
+    let (tx, _rx) = broadcast::channel(1024);
+    let _all: Vec<_> = (1..8).map(|_| tx.subscribe()).collect();
+    tx.send(0_u64).unwrap();
+    let times = calls / 100;
+    timed(times, || {
+        for _ in 0..times {
+            black_box(ChannelSnapshot::of(&tx));
+        }
+    })
+}
+
 fn resident() -> u64 {
     let status = std::fs::read_to_string("/proc/self/status").unwrap();
     let line = status
@@ -147,7 +179,7 @@ fn main() {
         .collect();
     let calls = numbers.first().copied().unwrap_or(1_000_000).min(1_048_000);
     let repeats = numbers.get(1).copied().unwrap_or(5);
-    let cases: [Case; 8] = [
+    let cases: [Case; 10] = [
         ("broadcast-1024-pairs-1rx", |calls| pairs(calls, 1)),
         ("broadcast-1024-pairs-8rx", |calls| pairs(calls, 8)),
         ("broadcast-2-overrun", overrun),
@@ -156,6 +188,8 @@ fn main() {
         ("watch-pairs-1rx", watch_pairs),
         ("2t-broadcast-16-ping", ping),
         ("2t-own-channels-pairs", two_threads),
+        ("broadcast-1-lags-told", lags_told),
+        ("snapshot-8rx", snapshots),
     ];
     println!(
         "{:30} {:>9} {:>9} {:>10} {:>13} {:>9}",

@@ -14,9 +14,11 @@ impl Slot {
     pub(crate) const FIRST: Slot = Slot(0);
 }
 
-/// What is known of a receiver, besides what the core knows.
+/// What is known of a receiver, besides what the core knows. It is written at each receive, so it shares no cache line with that of another channel,
+/// which another thread writes.
+#[repr(align(64))]
 pub(crate) struct LiveReceiver {
-    /// Its number as a handle.
+    /// Its number as a handle. A slot without a receiver has `NO_NUMBER`, and in `lost` the next such slot, or `NO_SLOT`.
     pub(crate) number: u32,
     pub(crate) made_at: CallSite,
     /// Where it last received a value.
@@ -27,38 +29,64 @@ pub(crate) struct LiveReceiver {
     pub(crate) lost: u64,
 }
 
+/// A number that no handle has, since a channel has no place for so many.
+const NO_NUMBER: u32 = u32::MAX;
+
 /// The receivers of a channel that are alive. A slot is used again once its receiver is dropped, so the list is as long as there were
 /// receivers at one time.
-#[derive(Default)]
 pub(crate) struct Receivers {
-    slots: Vec<Option<LiveReceiver>>,
-    free: Vec<u32>,
+    slots: Vec<LiveReceiver>,
+    // The slot that is used next, if one is free.
+    free: Slot,
+    alive: usize,
+}
+
+impl Default for Receivers {
+    fn default() -> Receivers {
+        Receivers {
+            slots: Vec::new(),
+            free: NO_SLOT,
+            alive: 0,
+        }
+    }
 }
 
 impl Receivers {
     /// Adds a receiver with this number that is made here, and returns its slot.
     pub(super) fn add(&mut self, number: u32, made_at: CallSite) -> Slot {
-        let receiver = Some(LiveReceiver {
+        let receiver = LiveReceiver {
             number,
             made_at,
             received_at: None,
             received_stamp: 0,
             lost: 0,
-        });
-        if let Some(slot) = self.free.pop() {
-            self.slots[slot as usize] = receiver;
-            return Slot(slot);
+        };
+        self.alive += 1;
+        let slot = self.free;
+        match self.slots.get_mut(slot.0 as usize) {
+            Some(free) => {
+                self.free = Slot(free.lost as u32);
+                *free = receiver;
+                slot
+            }
+            None => {
+                self.slots.push(receiver);
+                Slot(self.slots.len() as u32 - 1)
+            }
         }
-        self.slots.push(receiver);
-        Slot(self.slots.len() as u32 - 1)
     }
 
     /// Removes a receiver.
-    pub(super) fn remove(&mut self, Slot(slot): Slot) {
-        self.slots[slot as usize] = None;
-        self.free.push(slot);
+    pub(super) fn remove(&mut self, slot: Slot) {
+        let Some(receiver) = self.slots.get_mut(slot.0 as usize) else {
+            return;
+        };
+        receiver.number = NO_NUMBER;
+        receiver.lost = self.free.0.into();
+        self.free = slot;
+        self.alive -= 1;
         // Where few are left of many, none of them may be moved. Where none is left, the memory of all goes.
-        if self.free.len() == self.slots.len() && self.free.len() > 64 {
+        if self.alive == 0 && self.slots.len() > 64 {
             *self = Receivers::default();
         }
     }
@@ -66,13 +94,13 @@ impl Receivers {
     /// Whether no receiver is alive.
     #[inline]
     pub(super) fn is_empty(&self) -> bool {
-        self.free.len() == self.slots.len()
+        self.alive == 0
     }
 
     /// Notes that a receiver has received a value here, by a call with this stamp.
     #[inline(always)]
     pub(super) fn receive(&mut self, Slot(slot): Slot, received_at: CallSite, stamp: u64) {
-        if let Some(Some(receiver)) = self.slots.get_mut(slot as usize) {
+        if let Some(receiver) = self.slots.get_mut(slot as usize) {
             receiver.received_at = received_at;
             receiver.received_stamp = stamp;
         }
@@ -80,20 +108,20 @@ impl Receivers {
 
     /// Notes that a receiver was told that it has lost so many values.
     pub(super) fn lose(&mut self, Slot(slot): Slot, lost: u64) {
-        if let Some(Some(receiver)) = self.slots.get_mut(slot as usize) {
+        if let Some(receiver) = self.slots.get_mut(slot as usize) {
             receiver.lost += lost;
         }
     }
 
     /// Returns the receiver in this slot.
     pub(crate) fn get(&self, Slot(slot): Slot) -> &LiveReceiver {
-        let receiver = self.slots[slot as usize].as_ref();
-        receiver.expect("a receiver that is alive")
+        &self.slots[slot as usize]
     }
 
     /// Returns the receivers.
     pub(crate) fn iter(&self) -> impl Iterator<Item = &LiveReceiver> {
-        self.slots.iter().flatten()
+        let slots = self.slots.iter();
+        slots.filter(|receiver| receiver.number != NO_NUMBER)
     }
 }
 
@@ -108,11 +136,19 @@ mod tests {
         let second = receivers.add(2, None);
         receivers.lose(second, 5);
         receivers.receive(second, None, 9);
+        let last = receivers.add(7, None);
+        receivers.remove(last);
         receivers.remove(second);
+        assert_eq!(receivers.iter().count(), 1);
         assert_eq!(receivers.add(3, None), second);
         let third = receivers.get(second);
         assert_eq!((third.number, third.lost, third.received_stamp), (3, 0, 0));
-        assert_eq!(receivers.slots.len(), 2);
+        assert_eq!(
+            (receivers.add(4, None), receivers.add(5, None)),
+            (last, Slot(3))
+        );
+        let numbers: Vec<_> = receivers.iter().map(|receiver| receiver.number).collect();
+        assert_eq!(numbers, [1, 3, 4, 5]);
     }
 
     #[test]
@@ -123,6 +159,9 @@ mod tests {
             .collect();
         slots.into_iter().for_each(|slot| receivers.remove(slot));
         assert!(receivers.is_empty());
-        assert_eq!(receivers.slots.capacity() + receivers.free.capacity(), 0);
+        assert_eq!(
+            (receivers.slots.capacity(), receivers.iter().count()),
+            (0, 0)
+        );
     }
 }
