@@ -38,8 +38,8 @@ use std::time::Duration;
 ///
 /// let table = recorder.snapshot().to_string();
 /// assert!(table.starts_with("prices: broadcast, capacity 2, sent 3, retained 2, senders 1, last sent by "));
-/// let columns: Vec<_> = table.lines().nth(1).unwrap().split("  ").filter(|it| !it.is_empty()).collect();
-/// assert_eq!(columns[..4], ["receiver", "unread", " lag", "lost"]);
+/// assert!(table.contains("\n  receiver  unread  lag  lost  made at"));
+/// assert!(table.contains("\n  chart          1    0     1  "));
 /// ```
 #[derive(Clone, Debug, PartialEq, Eq)]
 pub struct Snapshot {

@@ -47,8 +47,7 @@ fn events_of(service: impl FnOnce()) -> Vec<Seen> {
     let kept = Keep::default();
     let subscriber = tracing_subscriber::registry().with(kept.clone());
     tracing::subscriber::with_default(subscriber, service);
-    let seen = kept.0.lock().unwrap().clone();
-    seen
+    kept.0.lock().unwrap().clone()
 }
 
 /// Returns a field that is a place of this file, as its line.
