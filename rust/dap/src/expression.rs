@@ -9,6 +9,9 @@ use std::cmp::Ordering;
 use std::fmt;
 use yovanelum::debugger::{Channel, Walk};
 
+/// How many bytes an expression has at most. A longer one could be nested deeper than the stack is.
+const LONGEST: usize = 4096;
+
 /// What a name stands for.
 #[derive(Clone, Copy, Debug, PartialEq, Eq)]
 pub(crate) enum Thing {
@@ -109,7 +112,10 @@ pub(crate) enum Expression {
 impl Expression {
     /// Reads an expression over the names of a run.
     pub(crate) fn read(text: &str, recording: &Recording) -> Answer<Expression> {
-        reading::read(text, recording)
+        match text.len() > LONGEST {
+            true => Err(Refusal::new("an expression has more than 4,096 bytes")),
+            false => reading::read(text, recording),
+        }
     }
 
     /// Returns the value at the walk's place, or `None` where it is of something that isn't alive there.

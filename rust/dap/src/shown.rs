@@ -9,8 +9,9 @@ use crate::{Answer, Refusal};
 use serde_json::{Value, json};
 use yovanelum::debugger::Channel;
 
-/// How many frames are returned where the client doesn't say.
-const FRAMES: u64 = 20;
+/// How many frames are returned where the client doesn't say, and at most. The total is always said.
+const FRAMES: u64 = 200;
+const MOST_FRAMES: u64 = 10_000;
 
 /// What a frame stands for.
 #[derive(Clone, Copy)]
@@ -34,10 +35,8 @@ impl Debuggee {
     pub(crate) fn stack_trace(&mut self, given: Arguments<'_>) -> Answer {
         let actor = self.actor_of(given.need_number("threadId")?)?;
         let start = given.number("startFrame")?.unwrap_or(0);
-        let levels = given
-            .number("levels")?
-            .filter(|levels| *levels > 0)
-            .unwrap_or(FRAMES);
+        let levels = given.number("levels")?.filter(|levels| *levels > 0);
+        let levels = levels.unwrap_or(FRAMES).min(MOST_FRAMES);
         let own = self.recording.places_of_actor(actor);
         let calls = own.partition_point(|place| *place <= self.place);
         let waits = self.waits_of(actor);

@@ -339,6 +339,14 @@ fn the_console_has_the_words_of_ttd_with_names() {
     ] {
         assert_eq!(client.console(expression), value, "{expression}");
     }
+    let long = json!({"expression": "1||".repeat(2_000_000) + "1", "context": "watch"});
+    let said = client.refusal("evaluate", long);
+    assert_eq!(said, "an expression has more than 4,096 bytes");
+    let nested = "(".repeat(2000) + "1";
+    let said = client.refusal("evaluate", json!({"expression": nested}));
+    assert_eq!(said, "it is nested too deep");
+    // As many as fit.
+    assert_eq!(client.console(&("1||".repeat(1300) + "1")), "true");
     let targets = client.ask(
         "gotoTargets",
         json!({"source": {"path": this_file()}, "line": lines.send}),
