@@ -379,19 +379,40 @@ fn a_reader_that_is_gone_is_a_write_fault() {
     );
 }
 
-/// Copies the command into a folder, where no other program is beside it.
-fn copied(folder: &Folder) -> PathBuf {
-    let name = format!("yovanelum{}", std::env::consts::EXE_SUFFIX);
-    let copy = folder.0.join(name);
-    fs::copy(env!("CARGO_BIN_EXE_yovanelum"), &copy).unwrap();
-    copy
+/// A folder with programs that are the command under other names. It is beside the command, so that they are links: a copy can't be started while
+/// another thread that starts a program has it open.
+struct Programs(PathBuf);
+
+impl Programs {
+    fn new(name: &str, programs: &[&str]) -> Programs {
+        let folder = format!("{name}-{}", std::process::id());
+        let folder = Path::new(env!("CARGO_TARGET_TMPDIR")).join(folder);
+        fs::create_dir_all(&folder).unwrap();
+        let programs_in = Programs(folder);
+        for program in programs {
+            fs::hard_link(env!("CARGO_BIN_EXE_yovanelum"), programs_in.path(program)).unwrap();
+        }
+        programs_in
+    }
+
+    fn path(&self, program: &str) -> PathBuf {
+        self.0
+            .join(format!("{program}{}", std::env::consts::EXE_SUFFIX))
+    }
+}
+
+impl Drop for Programs {
+    fn drop(&mut self) {
+        let _ = fs::remove_dir_all(&self.0);
+    }
 }
 
 #[test]
 fn dap_says_how_the_adapter_is_installed() {
-    let folder = Folder::new("dap_missing");
-    let mut command = Command::new(copied(&folder));
-    let ended = command.arg("dap").env("PATH", &folder.0).output().unwrap();
+    let programs = Programs::new("dap_missing", &["yovanelum"]);
+    let mut command = Command::new(programs.path("yovanelum"));
+    let command = command.arg("dap").env("PATH", &programs.0);
+    let ended = command.output().unwrap();
     let said = String::from_utf8(ended.stderr).unwrap();
     let wanted =
         "yovanelum: `dap` needs the program yovanelum-dap: cargo install --path rust/dap\n";
@@ -400,12 +421,9 @@ fn dap_says_how_the_adapter_is_installed() {
 
 #[test]
 fn dap_starts_the_adapter_beside_it_with_its_words() {
-    let folder = Folder::new("dap_beside");
-    let copy = copied(&folder);
     // Any program will do: this one refuses the words that it gets.
-    let adapter = format!("yovanelum-dap{}", std::env::consts::EXE_SUFFIX);
-    fs::copy(env!("CARGO_BIN_EXE_yovanelum"), folder.0.join(adapter)).unwrap();
-    let mut command = Command::new(copy);
+    let programs = Programs::new("dap_beside", &["yovanelum", "yovanelum-dap"]);
+    let mut command = Command::new(programs.path("yovanelum"));
     let ended = command.args(["dap", "sideways"]).output().unwrap();
     let said = String::from_utf8(ended.stderr).unwrap();
     assert!(
