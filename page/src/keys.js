@@ -38,15 +38,21 @@ function isTaken(target) {
   return byId("help").hasAttribute("open") || (target.tagName === "INPUT" && target.type !== "range");
 }
 
+// Not its first field has the focus, but all of it, so that it is seen from its top on and no key changes anything.
 export function showHelp() {
   /** @type {HTMLDialogElement} */ (byId("help")).showModal();
+  byId("help").focus();
 }
 
 // `page.walk` is the walk over the opened run, if there is one.
 export function listenToKeys(page) {
   document.addEventListener("keydown", event => {
     if (event.ctrlKey || event.metaKey || event.altKey || isTaken(event.target)) return;
-    if (event.key === "?") return showHelp();
+    if (event.key === "?") {
+      // Else the key would be a letter in the first field of the help.
+      event.preventDefault();
+      return showHelp();
+    }
     const found = KEYS.find(({ keys }) => keys.includes(event.key));
     if (!found || !page.walk) return;
     event.preventDefault();

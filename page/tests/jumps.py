@@ -171,6 +171,7 @@ def help_of_keys(tab, folder, journals):
     tab.wait("document.getElementById('help').open")
     rows = tab.run("[...document.querySelectorAll('#help dt')].map(it => it.textContent)")
     assert {"?", "L, with Shift back", "/", "0"} <= set(rows), rows
+    assert tab.run("[document.getElementById('editor').value, document.activeElement.id]") == ["vscode://file/{file}:{line}:{column}", "help"]
     tab.key("ArrowRight")
     tab.click("#help form button")
     tab.wait("!document.getElementById('help').open")
