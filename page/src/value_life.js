@@ -11,7 +11,7 @@ const LAGGED = MARK_NAMES.indexOf("lagged");
 const MOST_NAMED = 64;
 
 // What each receive of a channel received, by the places of the receives: the value's number. A receiver begins at the next value that is sent, and a
-// call that is told of a loss moves it past what it lost.
+// reply `lagged` moves it past what it lost.
 function receivesOn(run, channel) {
   const { channels, handles, marks } = run.columns;
   const { sends } = run.values.tables.get(channel);

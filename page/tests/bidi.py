@@ -83,7 +83,7 @@ def written_out(tab, folder, journals):
 
 
 def right_to_left(tab, folder, journals):
-    """A name in Hebrew is shown from right to left, and what stands before and behind it keeps its place. An emoji stays whole."""
+    """A name in Hebrew is shown from right to left, and the text before and behind it keeps its place. An emoji stays whole."""
     opening.load(tab, named(folder, "hebrew", "\u05d0\u05d1\u05d2"), 2)
     assert written("\u05d0") not in tab.text("sentence")
     tab.drop(opening.put(folder, "\u05d0\u05d1\u05d2", native.record(SCRIPT)))

@@ -105,7 +105,7 @@ fn ping(calls: u64) -> Timed {
     timed
 }
 
-/// Lags that a closure is told of: two sends and a receive each.
+/// Lags with a closure that is called: two sends and two receives each.
 fn lags_told(calls: u64) -> Timed {
     if let Some(recorder) = Recorder::current() {
         recorder.on_lag(|lag| {

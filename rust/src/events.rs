@@ -14,10 +14,10 @@ use std::panic::{self, AssertUnwindSafe};
 use std::sync::{Arc, Mutex};
 use std::thread;
 
-/// A closure that is told of an event.
+/// A closure that is called with an event.
 type Hook<E> = Arc<dyn Fn(&E) + Send + Sync>;
 
-/// The closures that are told of events: those of a recorder, or those of the process.
+/// The closures that are called with events: those of a recorder, or those of the process.
 pub(crate) struct Hooks {
     lag: Mutex<Option<Hook<Lag>>>,
     close: Mutex<Option<Hook<Close>>>,
@@ -99,7 +99,7 @@ pub fn on_close(told: impl Fn(&Close) + Send + Sync + 'static) {
     PROCESS.on_close(told);
 }
 
-/// An event with the closure that is told of it.
+/// An event with the closure that is called with it.
 enum Told {
     Lag(Hook<Lag>, Lag),
     Close(Hook<Close>, Close),

@@ -1,4 +1,4 @@
-//! Closures that are told of a lag or a closing, on the channels of a recorder.
+//! Closures that are called with a lag or a closing, on the channels of a recorder.
 
 #[path = "support/noted.rs"]
 mod noted;

@@ -1,4 +1,4 @@
-//! The closures of the process, which are told of events on channels that no recorder records. They are set for all tests of this program, so
+//! The closures of the process, which are called with events of channels that no recorder records. They are set for all tests of this program, so
 //! the tests run one after the other.
 
 #[path = "support/noted.rs"]

@@ -31,7 +31,7 @@ export class Naming {
   }
 
   // What a receiver is called: by its own name, else by the actor that reads by it and does nothing else, else by its number. In full, as where it
-  // is told of first, and short.
+  // is shown first, and short.
   receiver(channel, receiver) {
     const own = lookUp(lookUp(this.tables.handles, channel), receiver);
     if (own !== undefined) return called(nameOf(own));

@@ -13,7 +13,7 @@ const MOST_BYTES: u64 = 16_777_216;
 pub(crate) struct Sources {
     // In the order in which they are tried.
     roots: Vec<PathBuf>,
-    // Beginnings of paths, and what stands for them here.
+    // Beginnings of paths, and what is there in their place.
     replaced: Vec<(String, String)>,
     // By the path as the names have it.
     found: BTreeMap<String, Option<PathBuf>>,

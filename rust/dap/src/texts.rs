@@ -1,4 +1,4 @@
-//! Texts of a run: the lines of its report, and what stands for a source that isn't on this machine.
+//! Texts of a run: the lines of its report, and the text for a source that isn't on this machine.
 
 use crate::arguments::Arguments;
 use crate::moves::Debuggee;

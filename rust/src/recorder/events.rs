@@ -1,4 +1,4 @@
-//! The closures of a recorder that are told of events on its channels.
+//! The closures of a recorder that are called with events of its channels.
 
 use super::Recorder;
 use crate::events::{Close, Lag};

@@ -1,4 +1,4 @@
-//! The functions for the texts of values, and the closures that are told of events.
+//! The functions for the texts of values, and the closures that are called with events.
 //!
 //! A recorder holds them, and its channels know them weakly. A function may hold a sender or a receiver. If the channel held it, the channel
 //! would hold itself, and stay open forever.
@@ -56,7 +56,7 @@ impl Texts {
         }
     }
 
-    /// Returns the closures that are told of events.
+    /// Returns the closures that are called with events.
     pub(crate) fn hooks(&self) -> &Hooks {
         &self.hooks
     }

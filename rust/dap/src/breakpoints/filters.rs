@@ -1,4 +1,4 @@
-//! Exception breakpoints: where a loss begins, and where a receiver is told of one or of the close.
+//! Exception breakpoints: where a loss begins, and where a receive returns `Lagged` or `Closed`.
 
 use super::{Asked, Breakpoints};
 use crate::arguments::Arguments;
