@@ -214,8 +214,8 @@ def on_paper(tab, folder, journals):
     opening.load(tab, page, place)
     assert tab.run(ON_PAPER) != [True, False, True, True]
     tab.call("Emulation.setEmulatedMedia", media="print")
-    tab.wait("!document.getElementById('slider').checkVisibility()")
-    assert tab.run(ON_PAPER) == [True, False, True, True], tab.run(ON_PAPER)
+    # The picture is drawn again once it has another width.
+    tab.wait(f"JSON.stringify({ON_PAPER}) === '[true,false,true,true]'")
     tab.call("Emulation.setEmulatedMedia", media="")
 
 
