@@ -1,16 +1,16 @@
 // The page: opens what it is given, and shows it.
 
-import { readAddress, runInHistory, setRun } from "./address.js";
-import { Client } from "./client.js";
-import { byId, fieldOf } from "./dom.js";
-import { OWN, embeddedRun, exampleRun, hasEmbeddedRun, moduleBytes, workerText } from "./embedded.js";
-import { chosenIn, listenToHands } from "./hands.js";
-import { recall } from "./kept.js";
-import { keyRows, listenToKeys, showHelp } from "./keys.js";
-import { during, showPart, tell, tellFault } from "./notice.js";
-import { Opener } from "./opener.js";
-import { listenToSources } from "./source_links.js";
-import { WayIn } from "./way_in.js";
+import { byId, fieldOf } from "./base/dom.js";
+import { during, showPart, tell, tellFault } from "./base/notice.js";
+import { listenToSources } from "./findings/source_links.js";
+import { readAddress, runInHistory, setRun } from "./input/address.js";
+import { chosenIn, listenToHands } from "./input/controls.js";
+import { keyRows, listenToKeys, showHelp } from "./input/keys.js";
+import { OWN, embeddedRun, exampleRun, hasEmbeddedRun, moduleBytes, workerText } from "./open/embedded.js";
+import { WayIn } from "./open/file_choice.js";
+import { Opener } from "./open/opener.js";
+import { recall } from "./open/stored_runs.js";
+import { Client } from "./run/client.js";
 
 // A module that has only a memory with 64-bit addresses.
 const WIDE_MEMORY = Uint8Array.of(0, 97, 115, 109, 1, 0, 0, 0, 5, 3, 1, 4, 1);

@@ -180,16 +180,16 @@ interface Band {
  */
 interface Drawing {
   pen: CanvasRenderingContext2D;
-  run: import("./run.js").Run;
-  view: import("./view.js").View;
-  frame: import("./frame.js").Frame;
-  folds: import("./folds.js").Folds;
+  run: import("./run/run.js").Run;
+  view: import("./draw/view.js").View;
+  frame: import("./draw/frame.js").Frame;
+  folds: import("./draw/folds.js").Folds;
   palette: any;
   bands: Band[];
   band: Band;
   places: number[];
-  overview: import("./overview.js").Overview;
-  dots: import("./actor_dots.js").ActorDots;
+  overview: import("./draw/from_far.js").Overview;
+  dots: import("./draw/from_far.js").ActorDots;
   top: number;
   bottom: number;
 }

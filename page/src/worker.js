@@ -1,11 +1,11 @@
 // The debugger, in a thread beside the page's own: each request is a message, and gets one message as its reply.
 
-import { Debugger } from "./debugger.js";
-import { closingsIn, levelsIn, livesIn, salvagedFrom, totalsIn, valuesIn } from "./findings.js";
-import { accountOf } from "./found/account.js";
-import { inflated } from "./inflating.js";
-import { openRun } from "./opening.js";
-import { isJournal, questions } from "./source.js";
+import { inflated } from "./base/inflating.js";
+import { isJournal, questions } from "./run/opened_text.js";
+import { accountOf } from "./worker/account/account.js";
+import { Debugger } from "./worker/debugger.js";
+import { closingsIn, levelsIn, livesIn, salvagedFrom, totalsIn, valuesIn } from "./worker/exports.js";
+import { openRun } from "./worker/opening.js";
 
 // The debugger, once it is unpacked. Requests wait for it, and are answered in their order.
 let starting = null;

@@ -1,0 +1,66 @@
+// The name of a row: whose handle it is, and its kind and number. Whose it is, is cut first, and the number never.
+
+import { element, outside } from "../base/dom.js";
+import { isolated } from "../base/text.js";
+import { fitted } from "./canvas.js";
+
+const LEFT = 6;
+const RIGHT = 8;
+const BADGE_ROOM = 34;
+
+// How wide what a receiver has at the place is at the right of its name: of a broadcast, and of a watch with versions of one digit, and how
+// much wider that is with each digit more.
+const TO_READ = 62;
+const VERSIONS = 98;
+const DIGIT = 20;
+
+function standingWidth(run, channel) {
+  if (run.channels[channel].kind === "broadcast") return TO_READ;
+  return VERSIONS + DIGIT * (String(run.ending.channels[channel].version).length - 1);
+}
+
+// Returns where a row's name is, and its room: left of the row, or above it on a narrow screen.
+/** @param {Drawing} drawing */
+export function nameRoom({ run, frame, band }, row) {
+  const standing = row.kind === "receiver" ? standingWidth(run, band.channel) : 0;
+  return { x: LEFT, y: frame.left ? row.y + row.height / 2 : row.y + 8, room: (frame.left || frame.width) - LEFT - RIGHT - standing };
+}
+
+// Draws a name that has no badge.
+/** @param {Drawing} drawing */
+export function drawPlainName(drawing, row, text) {
+  const { x, y } = nameRoom(drawing, row);
+  drawing.pen.textAlign = "left";
+  drawing.pen.fillText(text, x + BADGE_ROOM, y);
+}
+
+// A handle's name, cut to a width.
+function cutName({ pen, run, band: { channel } }, life, width) {
+  const owner = run.ownerOf(channel, life);
+  const separator = owner ? " · " : "";
+  const isShort = pen.measureText(`${separator}${life.kind} ${life.handle}`).width > width * 0.7;
+  const tail = `${separator}${isShort ? "" : `${life.kind} `}${life.handle}`;
+  return (owner ? isolated(fitted(pen, owner, width - pen.measureText(tail).width)) : "") + tail;
+}
+
+// The names that were drawn last, by their rows, since measuring texts is slow. Rows are made anew when names or widths change.
+const cutNames = new WeakMap();
+
+// Draws the badge of the handle's user and the name, as far as the room allows.
+/** @param {Drawing} drawing */
+export function drawRowName(drawing, row, life) {
+  const { pen, run, palette } = drawing;
+  const { x, y, room } = nameRoom(drawing, row);
+  if (life.user !== null) run.actors.drawBadge(pen, palette, life.user, x, y - 8);
+  if (cutNames.get(row)?.life !== life) cutNames.set(row, { life, text: cutName(drawing, life, room - BADGE_ROOM) });
+  pen.textAlign = "left";
+  pen.fillText(cutNames.get(row).text, x + BADGE_ROOM, y);
+}
+
+// The same as elements.
+export function rowName(run, channel, life) {
+  const owner = run.ownerOf(channel, life);
+  const number = element("span", { "data-handle": life.handle }, `${life.kind} ${life.handle}`);
+  const badge = life.user === null ? [] : [run.actors.badge(life.user), " "];
+  return owner ? [...badge, outside(owner), " · ", number] : [number];
+}

@@ -1,0 +1,90 @@
+// The answer: the account of the run, in the order and in the words of the report. Each step that it tells of is a link that walks there, and each
+// place in the sources one into the editor.
+
+import { byId, element } from "../base/dom.js";
+import { countOf } from "../base/numbers.js";
+import { visible } from "../base/text.js";
+import { sourceLink } from "./source_links.js";
+
+// What a step's line begins with.
+const STEP = /^ {2}(step \d+|the panic|the error|the end)/;
+
+// A text with the place in the sources that stands in it as a link, after what is before it in its line.
+function withSource(run, text, place, before) {
+  if (!place) return [visible(text)];
+  const shown = visible(`${place[0]}:${place[1]}`);
+  const at = text.indexOf(before + shown);
+  if (at < 0) return [visible(text)];
+  const start = at + before.length;
+  return [visible(text.slice(0, start)), sourceLink(run, place, shown), visible(text.slice(start + shown.length))];
+}
+
+function toPlace(place, text, fact) {
+  const whose = fact.kind === "loss" ? { "data-receiver": `${fact.channel} ${fact.receiver}` } : {};
+  return element("button", { type: "button", "data-place": place, title: "go there", ...whose }, text);
+}
+
+// A line of a fact, with a link where it tells of a step.
+function lineOf(run, fact, text, index) {
+  const step = fact.places.find(it => it.line === index);
+  const name = step && STEP.exec(text)?.[1];
+  const parts = name ? ["  ", toPlace(step.place, name, fact), ...withSource(run, text.slice(2 + name.length), step.location, "  ")]
+    : [index === 0 ? element("b", {}, visible(text)) : visible(text)];
+  return element("bdi", { class: name ? "line step" : "line" }, ...parts);
+}
+
+function factPart(run, fact) {
+  return element("section", { class: "fact", "data-kind": fact.kind }, ...fact.text.map((text, index) => lineOf(run, fact, text, index)));
+}
+
+function paragraph(...children) {
+  return element("p", {}, ...children);
+}
+
+// The facts that the report tells in full, and behind its line that counts them the others.
+function factParts(run, { facts, rest }) {
+  const [told, others] = [facts.slice(0, rest.after), facts.slice(rest.after)].map(some => some.map(it => factPart(run, it)));
+  if (rest.text === null) return told;
+  return [...told, element("details", { class: "rest" }, element("summary", {}, rest.text), ...others)];
+}
+
+// A call that waits. What it waits in leads to where it began.
+function waitLine(run, { text, since, location }) {
+  const began = /^(.*? since (?:step \d+|the start))(.*)$/s.exec(text);
+  const [lead, rest] = began ? began.slice(1) : [text, ""];
+  const go = element("button", { type: "button", "data-place": since, title: "go to where it began to wait" }, visible(lead));
+  return element("bdi", { class: "line" }, "  ", go, ...withSource(run, rest, location, ", "));
+}
+
+function waitsPart(run, { waiting }) {
+  const waits = waiting.map(it => waitLine(run, it));
+  return waits.length > 0 ? [element("section", { class: "waits" }, element("b", {}, "still waiting:"), ...waits)] : [];
+}
+
+function summaryOf({ facts, unknown, waiting }) {
+  const counts = [...(unknown.length > 0 ? ["not all is known"] : []), countOf(facts.length, "fact"), ...(waiting.length > 0 ? [`${countOf(waiting.length, "call")} still waiting`] : [])];
+  return ["What was found: ", counts.join(", ")];
+}
+
+function accountParts(run, account) {
+  return [
+    ...(account.unknown.length > 0 ? [paragraph(element("b", {}, "not all is known: "), visible(account.unknown.join("; ")))] : []),
+    ...factParts(run, account),
+    ...(account.nothing === null ? [] : [paragraph(visible(account.nothing))]),
+    ...waitsPart(run, account),
+  ];
+}
+
+// Shows the account. Where it is still to be made it has its room, so that nothing moves when it comes.
+export function showAccount(run) {
+  const { account } = run;
+  byId("answer").classList.toggle("made", run.names.account === null);
+  byId("answer-line").replaceChildren(...(account === null ? [`What was found: ${run.isBeginning ? "it is said when all calls are read" : "it is being counted"}`] : summaryOf(account)));
+  byId("answer-box").replaceChildren(...(account === null ? [] : accountParts(run, account)));
+}
+
+// Opens it, as for another run.
+export function openAccount(run) {
+  byId("answer").setAttribute("open", "");
+  showAccount(run);
+}

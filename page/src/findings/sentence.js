@@ -1,0 +1,111 @@
+// The call that led to a place, in words.
+
+import { coloured, element, outside, quoted } from "../base/dom.js";
+import { grouped } from "../base/numbers.js";
+import { actorColour } from "../base/palette.js";
+import { visible } from "../base/text.js";
+import { rowName } from "../draw/row_names.js";
+import { sourceLink } from "./source_links.js";
+
+const FEW = 2;
+const MOST_NAMED = 2;
+
+// Asking whether a watch has changed fails once it is closed, even if the last change wasn't seen: then one receive still succeeds.
+function closedMeaning(entry) {
+  return entry.word === "has-changed" ? ", and one change that it hasn't seen may still come" : " and nothing more will come";
+}
+
+// The first texts of lost values, and how many more there are.
+function lostTexts(run, loss, count) {
+  const texts = run.losses.valuesOf(loss, Math.min(FEW, count)).flatMap(({ text }, i) => (i ? [", ", quoted(text)] : [quoted(text)]));
+  return count > FEW ? [...texts, ` and ${grouped(count - FEW)} more`] : texts;
+}
+
+function lag(...children) {
+  return element("strong", { class: "lag" }, ...children);
+}
+
+function readers(run, losses) {
+  const named = losses.slice(0, MOST_NAMED).flatMap((it, i) => [i ? ", " : "", ...rowName(run, it.channel, run.lifeOf(it.channel, it.receiver))]);
+  return losses.length > MOST_NAMED ? [...named, ` and ${grouped(losses.length - MOST_NAMED)} more`] : named;
+}
+
+// What receivers of the call's channel lost at it, or have lost by then. `here` has the losses at the place.
+function lossMeaning(entry, run, here) {
+  const those = here.filter(({ channel }) => channel === entry.channel);
+  const ended = those.find(({ receiver, to }) => receiver === entry.handle && to === entry.number);
+  if (ended?.end === "told") return [lag(": lost ", ...lostTexts(run, ended, ended.lost))];
+  if (ended && run.losses.isUnwound(ended)) return [lag(` after the test failed: it had lost ${grouped(ended.lost)}, `, ...lostTexts(run, ended, ended.lost))];
+  if (ended) return [lag(` and was never told that it lost ${grouped(ended.lost)}: `, ...lostTexts(run, ended, ended.lost))];
+  const lagging = those.filter(({ to }) => to > entry.number);
+  if (lagging.length === 0) return [];
+  const [loss] = lagging;
+  const now = run.losses.lostAt(loss, entry.number);
+  if (entry.reply !== "sent") return [lag(" · ", ...readers(run, [loss]), " has lost ", ...lostTexts(run, loss, now))];
+  const overwritten = run.values.text(loss.channel, run.losses.firstOf(loss) + now - 1);
+  return [lag(" overwrites ", quoted(overwritten), ", not read by ", ...readers(run, lagging))];
+}
+
+// The number of the value that a call sends or gets, or an empty text.
+function valueOf(entry) {
+  return (entry.reply === "value" ? entry.answer : entry.rest).split(" ")[0];
+}
+
+// The text of the value that a call sends or gets, or null if it has none but its number.
+export function textOf(entry, names) {
+  const number = valueOf(entry);
+  const text = number === "" ? "" : names.value(entry.channel, number);
+  return text === number ? null : text;
+}
+
+// The same with its lines below each other.
+export function linesOf(entry, names) {
+  return textOf(entry, names) === null ? null : names.valueLines(entry.channel, valueOf(entry));
+}
+
+function meaning(entry, run) {
+  if (entry.reply === "closed") return [element("span", { class: "unseen" }, ` (no sender is left${closedMeaning(entry)})`)];
+  const text = textOf(entry, run.names);
+  return text === null ? [] : [" ", quoted(text)];
+}
+
+export function callText(entry, run) {
+  return [run.methodOf(entry), entry.handle, entry.rest].filter(part => part !== "").join(" ");
+}
+
+export function replyText(entry) {
+  return [entry.reply, entry.answer].filter(part => part !== "").join(" ");
+}
+
+// `here` has the losses at the place, first the one that the sentence names.
+export function sentence(entry, run, here) {
+  const { actors, names } = run;
+  const source = run.sourceOf(entry.number);
+  const losses = lossMeaning(entry, run, here);
+  return [
+    actors.badge(entry.actor), " ", coloured(actorColour(entry.actor), outside(names.actor(entry.actor))),
+    " on ", outside(names.channel(entry.channel)), ": ",
+    element("b", {}, callText(entry, run)), " → ", element("b", { class: entry.reply }, replyText(entry)),
+    // Where it stands in the sources comes first, and what was lost before the call's own text, since what is last may be cut.
+    ...(source ? [element("span", { class: "mute" }, " at ", sourceLink(run, source))] : []),
+    ...losses, ...(losses.length > 0 ? [] : meaning(entry, run)),
+  ];
+}
+
+export function atTheStart(run) {
+  const hint = run.losses.all.length ? ". L goes to the first loss" : "";
+  return [element("span", { class: "mute" }, `the start: no call has been made${hint}`)];
+}
+
+// A call in one short line, for a list, and where it stands in the sources. A value that has a text is shown by it alone.
+export function shortLine(entry, run) {
+  const text = textOf(entry, run.names);
+  const source = run.sourceOf(entry.number);
+  const channel = run.channels.length > 1 ? `${entry.channel}: ` : "";
+  const whole = `${callText(entry, run)} → ${replyText(entry)}`;
+  const call = text === null ? [`${channel}${whole}`] : [`${channel}${run.methodOf(entry)} ${entry.handle} `, quoted(text)];
+  return [
+    element("span", { title: whole }, ...call),
+    ...(source ? [element("small", { title: visible(`${source[0]}:${source[1]}`) }, outside(`${source[0]}:${source[1]}`))] : []),
+  ];
+}

@@ -1,0 +1,79 @@
+// Moves by losses: to where the next begins or ends, to the cause and the end of one, and to the next receiver that lags at the place.
+
+import { byId } from "../base/dom.js";
+import { grouped } from "../base/numbers.js";
+
+// How much wider than a loss the view is that shows it, and how wide at least.
+const AROUND = 1.5;
+const LEAST = 90;
+const NARROW_LEAST = 40;
+
+export class LossWalk {
+  constructor(run, view) {
+    this.run = run;
+    this.view = view;
+    /** @type {Loss | null} */
+    this.chosen = null;
+    this.isAll = false;
+    // The losses at a place, once they are found.
+    this.known = null;
+  }
+
+  // The losses at the place: the chosen one first, then that of the call's receiver, those that begin there, and the largest.
+  get here() {
+    const { place } = this.view;
+    if (this.known?.place !== place || this.known.chosen !== this.chosen) this.known = { place, chosen: this.chosen, losses: this.lossesAt(place) };
+    return this.known.losses;
+  }
+
+  lossesAt(place) {
+    const { channels, handles } = this.run.columns;
+    const rank = loss => [loss === this.chosen, loss.channel === channels[place] && loss.receiver === handles[place],
+      loss.from === place || loss.to === place, loss.channel === channels[place]].reduce((sum, is) => 2 * sum + Number(is), 0);
+    return this.run.losses.at(place).sort((a, b) => rank(b) - rank(a) || b.lost - a.lost);
+  }
+
+  // Whether the values of the channels that lose some at the place are loaded.
+  get areNamed() {
+    return this.here.every(({ channel }) => this.run.values.has(channel));
+  }
+
+  // Loads them.
+  async name() {
+    await Promise.all(this.here.map(({ channel }) => this.run.values.load(channel)));
+  }
+
+  /** @returns {Loss | null} */
+  get current() {
+    return this.here[0] ?? null;
+  }
+
+  // Chooses the loss that begins or ends at the next place where one does, and returns that place, or null if there is none.
+  next(isBack) {
+    const place = this.run.losses.next(this.view.place, isBack);
+    const found = byId("found");
+    found.classList.toggle("lag", place === null);
+    found.textContent = place === null ? `no loss begins or ends ${isBack ? "before" : "after"} it` : "";
+    if (place === null) return null;
+    const those = this.run.losses.at(place).filter(({ from, to }) => from === place || to === place);
+    [this.chosen] = those.sort((a, b) => b.lost - a.lost);
+    const begins = those.filter(({ from }) => from === place).length;
+    found.textContent = [[begins, "begin"], [those.length - begins, "end"]].filter(([count]) => count > 0)
+      .map(([count, word]) => (count === 1 ? `a loss ${word}s` : `${grouped(count)} losses ${word}`)).join(", ");
+    return place;
+  }
+
+  // Chooses the next receiver that lags at the place, in the order of channels and receivers.
+  turn() {
+    const those = [...this.here].sort((a, b) => a.channel - b.channel || a.receiver - b.receiver);
+    const index = those.indexOf(this.current);
+    this.chosen = those[(index + 1) % those.length] ?? null;
+  }
+
+  // Brings a loss into view, with what is around it.
+  show(loss, isNarrow) {
+    const end = Math.min(loss.to, this.run.lastPlace);
+    const width = Math.max(Math.ceil((end - loss.from) * AROUND), isNarrow ? NARROW_LEAST : LEAST);
+    this.view.show(Math.round((loss.from + end - width) / 2), width);
+  }
+}

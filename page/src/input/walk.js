@@ -1,0 +1,411 @@
+// The walk over an opened run: its place, and the moves.
+
+import { byId, fieldOf } from "../base/dom.js";
+import { Latest } from "../base/latest.js";
+import { leaveAnswer } from "../base/tabs.js";
+import { showAccount } from "../findings/answer.js";
+import { firstPlace } from "../run/account.js";
+import { unseenConditions } from "../findings/conditions.js";
+import { Searching } from "../findings/searching.js";
+import { Telling } from "../findings/telling.js";
+import { conditionOf } from "../findings/text_search.js";
+import { wholeCall } from "../findings/whole_call.js";
+import { forgetAddress, pushAddress, putIntoAddress } from "./address.js";
+import { LossMoves } from "./loss_moves.js";
+import { LossWalk } from "./loss_walk.js";
+
+const NEIGHBOURS = 24;
+const LAG = "reply lagged";
+
+export class Walk {
+  constructor(run, view, screen, table, onFault) {
+    this.run = run;
+    this.view = view;
+    this.screen = screen;
+    this.table = table;
+    this.losses = new LossWalk(run, view);
+    this.lossMoves = new LossMoves(this);
+    this.telling = new Telling(run, view, screen, this.losses, table, onFault);
+    this.drawing = new Latest(() => this.draw(), onFault);
+    this.levelling = new Latest(() => this.drawLevels(), onFault);
+    this.onFault = onFault;
+    this.searching = new Searching(run, () => view.place, place => this.jump(() => this.go(place)), onFault);
+    this.isLeft = false;
+    // Whether the address names no place, and the account, which has the place to begin at, is still to come.
+    this.isStarting = false;
+    // Whether the account is shown.
+    this.hasAccount = false;
+  }
+
+  // Called when another run is opened. Replies that arrive after that are not shown.
+  leave() {
+    this.isLeft = true;
+    byId("losses").removeAttribute("aria-busy");
+    this.telling.turnWhole(false);
+    forgetAddress();
+    this.searching.stop();
+    this.drawing.stop();
+    this.levelling.stop();
+    this.telling.stop();
+  }
+
+  // Returns what the page's address has to keep.
+  /** @returns {Address} */
+  get address() {
+    const { place, from, to } = this.view;
+    const { folds } = this.screen;
+    const stop = fieldOf("condition").value.trim();
+    return {
+      place, view: [from, to], fold: folds.areFirst ? null : folds.text, filter: folds.filter || null, order: folds.isByNumber ? "number" : null,
+      stop: stop === LAG ? null : stop,
+    };
+  }
+
+  // Goes where an address leads, or without a place to where the account says. One with a place alone leaves folds and filter as they are.
+  /** @param {Address} address */
+  restore({ place, view, fold, filter, order, stop }) {
+    const { folds } = this.screen;
+    this.searching.stop();
+    this.isStarting = place === null && this.run.account === null;
+    if (stop !== null) fieldOf("condition").value = stop;
+    if (view !== null) {
+      folds.text = fold ?? folds.first;
+      fieldOf("filter").value = folds.filter = filter ?? "";
+      this.order(order === "number");
+    }
+    if (place === null) this.begin();
+    else this.view.restore(place, view);
+    this.chooseTold();
+    this.reveal();
+    this.show();
+  }
+
+  // Goes to the place that is worth looking at first, and what is around it.
+  begin() {
+    const { view } = this;
+    const place = firstPlace(this.run.account);
+    view.go(place);
+    if (place > 0) view.centre(place);
+    this.chooseTold();
+  }
+
+  // Chooses the loss that the account tells of first, where that begins.
+  chooseTold() {
+    const { run, view } = this;
+    const [fact] = run.account?.facts ?? [];
+    if (fact?.kind !== "loss" || this.losses.chosen !== null) return;
+    this.losses.chosen = run.losses.at(view.place).find(it => it.channel === fact.channel && it.receiver === fact.receiver && it.from === view.place) ?? null;
+  }
+
+  // Shows the account once it is made, and returns whether it is new. Where nobody has moved yet, it leads to where the run begins.
+  showAccount() {
+    if (this.run.account === null || this.hasAccount) return false;
+    this.hasAccount = true;
+    showAccount(this.run);
+    if (!this.isStarting) return true;
+    this.isStarting = false;
+    this.begin();
+    this.reveal();
+    this.show();
+    return true;
+  }
+
+  // Gives the run other names.
+  rename(names) {
+    this.run.rename(names);
+    this.searching.forget();
+    this.hasAccount = false;
+    this.run.findAccount().then(() => this.isLeft || this.showFindings()).catch(this.onFault);
+    this.view.lastColumn = this.run.lastColumn;
+    this.view.show(this.view.from, this.view.width);
+    this.table.fill();
+    this.loadWhole();
+  }
+
+  // Shows all texts anew, such as for another editor.
+  renew() {
+    showAccount(this.run);
+    this.show();
+  }
+
+  // Goes to a place, without a step of the browser's history, and without scrolling the rows.
+  go(place) {
+    this.losses.isAll = false;
+    this.view.go(place);
+    this.show();
+  }
+
+  // The same by hand. It discards earlier searches.
+  to(place) {
+    this.isStarting = false;
+    this.searching.stop();
+    this.go(place);
+  }
+
+  // Scrolls before anything is changed, since the browser lays out the page for it.
+  by(places) {
+    this.isStarting = false;
+    this.searching.stop();
+    this.losses.isAll = false;
+    this.view.go(this.view.place + places);
+    this.reveal();
+    this.show();
+  }
+
+  // Scrolls in the row of the call that led to the place. Drawing it is left to what follows.
+  reveal() {
+    const { channels, handles } = this.run.columns;
+    const { place } = this.view;
+    if (place > 0) this.screen.reveal(channels[place], handles[place]);
+  }
+
+  // Jumps, and scrolls in where that led. Each jump is a step of the browser's history.
+  jump(move) {
+    leaveAnswer(this);
+    this.step(move);
+    this.reveal();
+    this.redraw();
+  }
+
+  // Makes a step of the browser's history of a move.
+  step(move) {
+    const from = this.address;
+    move();
+    pushAddress(from, this.address);
+  }
+
+  jumpTo(place) {
+    this.jump(() => this.to(place));
+  }
+
+  toEnd() {
+    this.jump(() => {
+      this.view.show(this.view.lastColumn - this.view.width, this.view.width);
+      this.to(this.run.lastPlace);
+    });
+  }
+
+  turn(pages) {
+    this.view.scroll(pages * this.view.width);
+    this.by(pages * this.view.width);
+  }
+
+  // A press on a band's head folds or unfolds it, and one on a receiver's name goes to its worst loss. Elsewhere it goes to the nearest call
+  // in the row, or to the place, with the loss there.
+  pressPicture(x, y) {
+    const key = this.screen.headAt(x, y);
+    if (key !== null) return this.refold(folds => folds.turn(key));
+    const { row, channel, isName } = this.screen.rowAt(x, y);
+    if (isName && row.kind === "receiver" && row.lives.length === 1) return this.lossMoves.toReceiver(channel, row.lives[0].handle);
+    const place = this.screen.callAt(x, y) ?? this.screen.placeInPicture(x);
+    this.losses.chosen = this.run.losses.at(place).find(it => it.channel === channel && row?.lives.some(life => life.handle === it.receiver)) ?? null;
+    this.step(() => this.to(place));
+  }
+
+  // Shows the call near a point of the picture in whole, beside it, or none.
+  tip(x, y) {
+    const place = x === null ? null : this.screen.callAt(x, y);
+    byId("tip").hidden = place === null;
+    if (place === null) return;
+    byId("tip").replaceChildren(...wholeCall(this.run.entry(place), this.run));
+    this.screen.standTip(place, y);
+  }
+
+  toPointInPicture(x) {
+    this.to(this.screen.placeInPicture(x));
+  }
+
+  // Changes what is folded or filtered.
+  refold(change) {
+    change(this.screen.folds);
+    byId("fold-all").textContent = this.screen.folds.areAll ? "unfold all" : "fold all";
+    this.screen.arrange();
+    this.show();
+  }
+
+  // Changes the order of the channels, in strip, picture and panel.
+  reorder() {
+    this.order(!this.screen.folds.isByNumber);
+    this.reveal();
+    this.show();
+  }
+
+  order(isByNumber) {
+    this.screen.folds.isByNumber = isByNumber;
+    byId("order").textContent = isByNumber ? "by number" : "lossy first";
+    this.screen.resize();
+  }
+
+  pressStrip(x) {
+    this.jump(() => this.toPointInStrip(x));
+  }
+
+  // Brings the place into view, with what is around it.
+  toPointInStrip(x) {
+    const place = this.screen.placeInStrip(x);
+    this.view.centre(place);
+    this.to(place);
+  }
+
+  scroll(columns) {
+    if (columns === 0) return;
+    this.view.scroll(columns);
+    this.show();
+  }
+
+  // Moves what is in view from one point of the picture to another, by whole columns. Returns how far that is.
+  pan(x, last) {
+    const { column } = this.screen.frame;
+    const columns = Math.trunc((last - x) / column);
+    this.scroll(columns);
+    return -columns * column;
+  }
+
+  // Scrolls by a share of what is in view.
+  scrollShare(share) {
+    this.scroll(Math.sign(share) * Math.max(1, Math.round(this.view.width * Math.abs(share))));
+  }
+
+  zoom(factor) {
+    this.view.zoom(factor);
+    this.show();
+  }
+
+  // Zooms so that the place under a point of the picture stays there.
+  zoomAtPoint(factor, x) {
+    this.view.zoomAt(factor, this.screen.frame.shareAt(x));
+    this.show();
+  }
+
+  whole() {
+    this.view.whole();
+    this.show();
+  }
+
+  ask() {
+    byId("stops").classList.add("is-open");
+    fieldOf("condition").select();
+  }
+
+  // Searches for a condition, by numbers or names, or for a text, and jumps to where it holds or stands.
+  seek(word, text) {
+    const condition = conditionOf(this.run, text);
+    if (condition === null) return this.searching.askText(word, text);
+    this.forgetHits();
+    this.searching.ask(word, condition);
+  }
+
+  // Takes the marks of the last text from the strip.
+  forgetHits() {
+    this.searching.forget();
+    this.redraw();
+  }
+
+  // Shows the life of a value beside the picture, or no more.
+  async showLife(value) {
+    if (value) await this.run.values.load(value.channel);
+    if (this.isLeft) return;
+    this.telling.life = value;
+    this.telling.describe();
+  }
+
+  // Searches for the nearest place where a receiver of a watch begins to have a value that it hasn't seen.
+  toUnseen(isBack) {
+    const conditions = unseenConditions(this.run);
+    if (conditions.length > 0) this.searching.ask(isBack ? "rback" : "rforward", ...conditions);
+  }
+
+  // The commands that lead a console to this place, as the last search did if it led here.
+  commands() {
+    return [...(this.searching.wayTo(this.view.place) ?? [`goto ${this.view.place}`]), "step", "state", ""].join("\n");
+  }
+
+  // The texts change at once, and the picture when its states are loaded.
+  show() {
+    this.telling.show();
+    if (!this.isStarting) putIntoAddress(this.address);
+    this.drawing.ask();
+  }
+
+  // Returns the places whose states are needed. If the state of the current place isn't loaded, its neighbours are included.
+  neededPlaces() {
+    const { run, view } = this;
+    const places = new Set(view.drawnPlaces());
+    const reach = run.state(view.place) ? 0 : NEIGHBOURS;
+    const last = Math.min(run.lastPlace, view.place + reach);
+    for (let place = Math.max(0, view.place - reach); place <= last; place++) places.add(place);
+    return [...places];
+  }
+
+  // The state at the place is shown before the levels from far are loaded, which takes longer.
+  async draw() {
+    const places = this.neededPlaces();
+    if (this.run.missing(places).length > 0) await this.run.load(places);
+    if (this.isLeft) return;
+    this.redraw();
+    if (!this.losses.areNamed) await this.nameLost();
+    if (this.isLeft) return;
+    this.telling.describe();
+    this.levelling.ask();
+  }
+
+  // Loads the values that are lost at the place, and tells the call with them.
+  async nameLost() {
+    await this.losses.name();
+    if (!this.isLeft && this.losses.areNamed) this.telling.show();
+  }
+
+  async drawLevels() {
+    if (this.screen.missingLevels.length === 0) return;
+    await this.screen.loadLevels();
+    if (!this.isLeft) this.redraw();
+  }
+
+  // Loads what is counted in the whole run, and shows it: closings, the table, and the sends that overwrote values.
+  async loadFindings() {
+    byId("losses").setAttribute("aria-busy", "true");
+    try {
+      for await (const _ of this.run.findings()) {
+        if (this.isLeft) return;
+        this.showFindings();
+      }
+    } catch (fault) {
+      this.onFault(fault);
+    }
+    byId("losses").removeAttribute("aria-busy");
+  }
+
+  showFindings() {
+    const { table, screen, run } = this;
+    if (this.showAccount() || (run.totals !== null && table.receivers.length === 0)) table.fill();
+    screen.drawStrip();
+    screen.drawn = null;
+    this.redraw();
+  }
+
+  // Loads what the strip shows of the whole run. It is needed last.
+  async loadWhole() {
+    try {
+      await this.screen.loadWhole();
+    } catch (fault) {
+      this.onFault(fault);
+    }
+    if (!this.isLeft) this.redraw();
+  }
+
+  // Draws after the rows were scrolled, or have another height, unless that was drawn when they were scrolled from here.
+  scrolled() {
+    this.tip(null, null);
+    if (!this.screen.measure()) return;
+    this.redraw();
+    this.levelling.ask();
+  }
+
+  // Draws what is loaded.
+  redraw() {
+    this.screen.loss = this.losses.current;
+    this.screen.hits = this.searching.hits.places;
+    this.screen.drawView();
+    this.screen.drawPlace();
+  }
+}

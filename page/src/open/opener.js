@@ -1,0 +1,269 @@
+// Opens a run: reads it with the debugger, and shows it, or why it is refused.
+
+import { byId, outside } from "../base/dom.js";
+import { Latest } from "../base/latest.js";
+import { during, showPart, tell, tellFault } from "../base/notice.js";
+import { countOf, grouped, sizeOf } from "../base/numbers.js";
+import { showTab } from "../base/tabs.js";
+import { isolated, visible } from "../base/text.js";
+import { legend } from "../draw/legend.js";
+import { Screen } from "../draw/screen.js";
+import { View, columnsThatFit, placesAtFirst } from "../draw/view.js";
+import { openAccount } from "../findings/answer.js";
+import { firstPlace } from "../run/account.js";
+import { LossTable } from "../findings/loss_table.js";
+import { pushRun, readAddress } from "../input/address.js";
+import { Walk } from "../input/walk.js";
+import { bindingsOf } from "../run/bindings.js";
+import { Names, readNames } from "../run/names.js";
+import { isJournal } from "../run/opened_text.js";
+import { Run } from "../run/run.js";
+import { waitingCall } from "../run/waiting.js";
+import { OWN } from "./embedded.js";
+import { faultPanel, misfit } from "./refusals.js";
+import { keep, newKey } from "./stored_runs.js";
+import { unpacked } from "./unpacked.js";
+
+// The first calls of a long journal text are shown while all of it is read. In bytes: from which length on a text is long, and how much of it is its
+// beginning.
+const LONG = 8 << 20;
+const BEGINNING = 64 << 10;
+const LINE_END = 10;
+const END = new TextEncoder().encode("end\n");
+
+// Returns the whole lines at the beginning of a long journal text as a journal text, or null if the text isn't long.
+function beginningOf(text) {
+  if (text.length < LONG) return null;
+  const size = text.lastIndexOf(LINE_END, BEGINNING) + 1;
+  const made = new Uint8Array(size + END.length);
+  made.set(text.subarray(0, size));
+  made.set(END, size);
+  return made;
+}
+
+// How many entries a journal text has with so many heads, by its lines.
+function entriesIn(text, heads) {
+  let lines = 0;
+  for (let i = 0; i < text.length; i++) if (text[i] === LINE_END) lines++;
+  const isWhole = END.every((byte, i) => text[text.length - END.length + i] === byte);
+  return lines - heads - 2 - Number(isWhole);
+}
+
+// Returns what was opened of a beginning as that of a run of which no more is known: handles that are alive at its end live on, and losses that are
+// open there are left out, since it isn't known whether they will be told.
+function asBeginning(opened, text) {
+  const lastPlace = entriesIn(text, opened.opening.channels.length);
+  const lives = opened.lives.map(those => those.map(life => (life.to > opened.lastPlace ? { ...life, to: lastPlace + 1 } : life)));
+  return { ...opened, isBeginning: true, lastPlace, lives, losses: opened.losses.filter(({ end }) => end !== "open") };
+}
+
+function factsOf(source, run) {
+  const counts = [countOf(run.lastPlace, "call"), countOf(run.channels.length, "channel"), countOf(run.actorCount, "actor")];
+  const facts = [outside(source.name), ` · ${counts.join(" · ")}`];
+  if (source.notes.length > 0) facts.push(` · read from ${source.notes.join(", ")}`);
+  if (run.waiting) facts.push(` · line ${run.waiting.line} would wait: `, outside(run.waiting.text));
+  else if (run.waits.length > 0) facts.push(` · ${countOf(run.waits.length, "call")} ${run.waits.length === 1 ? "waits" : "wait"}: `, outside(run.waits.map(it => it.text).join("; ")));
+  if (run.names.core !== "") facts.push(" · ", outside(run.names.core));
+  return facts;
+}
+
+// The place in the address, or else the one that the account in the file of names says is worth looking at first, or the start.
+function placeWanted({ names }) {
+  const { place } = readAddress(location.href);
+  if (place !== null || !names) return place ?? 0;
+  try {
+    return firstPlace(readNames(new TextDecoder().decode(names)).account);
+  } catch {
+    // What is wrong with them is said once the run is read.
+    return 0;
+  }
+}
+
+// Reads a file of names for a run. If that fails, or the names are those of another run, the notice says why, and the result is null. Whether they
+// are isn't known at the beginning of a run.
+function namesFor(run, bytes, file, isBeginning = false) {
+  const what = file === undefined ? "The file of names" : outside(file);
+  try {
+    const names = readNames(new TextDecoder().decode(bytes));
+    const why = isBeginning ? null : misfit(names, run);
+    if (why === null) return names;
+    tell(what, ` isn't of this run: ${why}.`);
+  } catch (fault) {
+    tell(what, " isn't read: ", outside(fault.message), ".");
+  }
+  return null;
+}
+
+// Says above a run that its journal was cut off.
+function tellCut({ kept, bytes }, run) {
+  byId("cut").hidden = !run.isCut;
+  if (!run.isCut) return;
+  const sizes = `${grouped(kept)} of ${countOf(bytes.length, "byte")}`;
+  byId("cut").textContent = `This journal was cut off. Its whole lines are shown: ${sizes}, with ${countOf(run.lastPlace, "call")}. What came after them isn't known.`;
+}
+
+// `page.walk` is the walk over the opened run, and `page.source` what was opened.
+export class Opener {
+  constructor(client, page) {
+    this.client = client;
+    this.page = page;
+    this.next = null;
+    // The walk over the beginning of a run, while all of it is read.
+    this.beginning = null;
+    this.opening = new Latest(() => this.openOrTell(this.next), tellFault);
+  }
+
+  // Opens sources one after the other. Of those that wait, only the last is opened.
+  ask(source) {
+    this.next = source;
+    return this.opening.ask();
+  }
+
+  async openOrTell(source) {
+    try {
+      await this.open(source);
+    } catch (fault) {
+      this.leave();
+      showPart("welcome");
+      if (source.notes) tellFault(fault);
+      else tell(outside(source.name), ` can't be read: ${fault.message}.`);
+    }
+  }
+
+  // Leaves the opened run, so that none of it is shown under the name of the next one.
+  leave() {
+    this.page.walk?.leave();
+    this.page.walk = null;
+    this.leaveBeginning();
+    byId("cut").hidden = true;
+    showPart(null);
+  }
+
+  leaveBeginning() {
+    this.beginning?.leave();
+    this.beginning = null;
+    byId("walk").removeAttribute("aria-busy");
+  }
+
+  // Opens a run at the place in the address. A run that is dropped or chosen gets an address of its own, without a place.
+  async open(source) {
+    tell(...(source.notice ?? []));
+    source.notice = [];
+    this.leave();
+    this.page.source = source;
+    byId("facts").replaceChildren(outside(source.name));
+    document.title = `${isolated(visible(source.name))} · Yovanelum`;
+    this.remember(source);
+    if (!source.notes) Object.assign(source, await unpacked(source.bytes));
+    const what = ["opening ", outside(source.name), `, ${sizeOf(source.bytes.length)}`];
+    const opened = await during(what, async () => {
+      await this.showBeginning(source);
+      return this.read(source);
+    });
+    this.leaveBeginning();
+    if (opened.fault === undefined) return this.show(opened, source);
+    byId("refusal").replaceChildren(...faultPanel(opened.fault, source.bytes));
+    showPart("refusal");
+  }
+
+  // Reads a run with the debugger. Of a journal that was cut off, what is left of it is read.
+  async read(source) {
+    const places = placesAtFirst(placeWanted(source));
+    const opened = await this.openText(source.bytes, places);
+    if (opened.fault?.text !== "truncated") return opened;
+    const left = await this.client.request("salvage", source.bytes);
+    const again = left && await this.openText(left.bytes, places);
+    if (again === null || again.fault !== undefined) return opened;
+    source.kept = left.kept;
+    return again;
+  }
+
+  // Shows the first calls of a long journal, if the address leads there. They can be walked once all of it is read.
+  async showBeginning(source) {
+    const text = isJournal(source.bytes) ? beginningOf(source.bytes) : null;
+    if (text === null) return;
+    const address = readAddress(location.href);
+    const places = placesAtFirst(placeWanted(source));
+    const opened = await this.openText(text, places);
+    if (opened.fault || Math.max(...places, ...(address.view ?? [])) > opened.lastPlace) return;
+    const run = new Run(this.client, asBeginning(opened, source.bytes), new Names());
+    const names = source.names && namesFor(run, source.names, source.namesFile, true);
+    await run.findBeginning();
+    // The calls that wait do so after the last call.
+    if (names) run.rename(Object.assign(names, { waiting: [] }));
+    byId("walk").setAttribute("aria-busy", "true");
+    this.beginning = this.walkOver(run);
+  }
+
+  async openText(bytes, places) {
+    const opened = await this.client.request("open", bytes, places);
+    opened.journal ??= bytes;
+    return opened;
+  }
+
+  show(opened, source) {
+    const run = new Run(this.client, opened, new Names());
+    run.isCut = source.kept !== undefined;
+    run.isWholeJournal = isJournal(source.bytes) && !run.isCut;
+    tellCut(source, run);
+    if (!isJournal(source.bytes)) run.bindings = bindingsOf(source.bytes, run);
+    if (opened.waitingLine) run.waiting = waitingCall(source.bytes, opened.waitingLine, run);
+    run.rename(run.names);
+    if (source.names) run.rename(namesFor(run, source.names, source.namesFile) ?? run.names);
+    byId("facts").replaceChildren(...factsOf(source, run));
+    this.page.walk = this.walkOver(run);
+    this.page.walk.loadFindings();
+    this.page.walk.loadWhole();
+  }
+
+  // Shows a run, or its beginning, at the place in the address.
+  walkOver(run) {
+    showPart("walk");
+    const view = new View(run.lastPlace, run.lastColumn, columnsThatFit(byId("picture-box").clientWidth || innerWidth));
+    openAccount(run);
+    showTab("answer", null);
+    const table = new LossTable(run);
+    const screen = new Screen(run, view);
+    byId("legend").replaceChildren(...legend(run, screen.palette));
+    const walk = new Walk(run, view, screen, table, tellFault);
+    walk.restore(readAddress(location.href));
+    return walk;
+  }
+
+  // Gives the opened run the names in a file, unless they are those of another run.
+  rename({ name, bytes }) {
+    const { walk, source } = this.page;
+    const names = namesFor(walk.run, bytes, name);
+    if (names === null) return;
+    tell();
+    walk.rename(names);
+    openAccount(walk.run);
+    byId("facts").replaceChildren(...factsOf(source, walk.run));
+    source.names = bytes;
+    source.namesFile = name;
+    if (source.key !== OWN) this.keep(source);
+    this.redraw();
+  }
+
+  // Draws all anew, such as after a change of the window's size.
+  redraw() {
+    const { walk } = this.page;
+    if (!walk) return;
+    walk.screen.resize();
+    byId("legend").replaceChildren(...legend(walk.run, walk.screen.palette));
+    walk.show();
+  }
+
+  // Keeps a new run for a reload, and for the steps back to it.
+  remember(source) {
+    if (source.key !== undefined) return;
+    source.key = newKey();
+    pushRun(source.key);
+    this.keep(source);
+  }
+
+  keep({ key, name, bytes, names, namesFile }) {
+    const onFault = fault => tell("This run won't survive a reload, since the browser doesn't keep it: ", fault.message);
+    keep(key, { name, bytes, names, namesFile }).catch(onFault);
+  }
+}

@@ -1,0 +1,54 @@
+// The account of a run: what was found in it. The file of names may have it, else it is made of what is found in the run.
+
+const VERSION = 1;
+
+function isObject(value) {
+  return typeof value === "object" && value !== null && !Array.isArray(value);
+}
+
+function isTextOrNull(value) {
+  return value === null || typeof value === "string";
+}
+
+function areTexts(value) {
+  return Array.isArray(value) && value.every(it => typeof it === "string");
+}
+
+function isLocationOrNone(value) {
+  return value === undefined || value === null || (Array.isArray(value) && value.length === 3 && typeof value[0] === "string");
+}
+
+function arePlaces(value) {
+  return Array.isArray(value) && value.every(it => isObject(it) && Number.isSafeInteger(it.place) && Number.isSafeInteger(it.line) && isLocationOrNone(it.location));
+}
+
+function isFact(value) {
+  return isObject(value) && typeof value.kind === "string" && areTexts(value.text) && arePlaces(value.places);
+}
+
+function isWait(value) {
+  return isObject(value) && typeof value.text === "string" && Number.isSafeInteger(value.since) && isLocationOrNone(value.location);
+}
+
+// Whether this is an account that the page can show, or one of another version.
+export function isAccount(value) {
+  if (!isObject(value)) return false;
+  if (value.version !== VERSION) return Number.isSafeInteger(value.version);
+  const hasLists = areTexts(value.unknown) && Array.isArray(value.facts) && value.facts.every(isFact) && Array.isArray(value.waiting) && value.waiting.every(isWait);
+  return hasLists && isObject(value.rest) && Number.isSafeInteger(value.rest.after) && isTextOrNull(value.rest.text) && isTextOrNull(value.nothing);
+}
+
+// The place at which a run is opened: the one that is worth looking at first, or the start where nothing was found.
+/** @param {Account | null} account */
+export function firstPlace(account) {
+  if (account === null) return 0;
+  const { facts, failure, waiting, look } = account;
+  return facts.length > 0 || waiting.length > 0 || Number.isSafeInteger(failure) ? look : 0;
+}
+
+// Returns an account, or null if it has a version that the page doesn't know.
+/** @returns {Account | null} */
+export function known(account) {
+  if (account?.version !== VERSION) return null;
+  return { ...account, look: Number.isSafeInteger(account.look) ? account.look : 0 };
+}

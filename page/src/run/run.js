@@ -1,0 +1,250 @@
+// An opened run: its entries, and the states that are loaded.
+
+import { isolated } from "../base/text.js";
+import { Actors } from "./actors.js";
+import { readEntry } from "./entries.js";
+import { Losses } from "./losses.js";
+import { Scanner } from "./scanner.js";
+import { commandsFor, readStates } from "./states.js";
+import { Values } from "./values.js";
+import { waitsOf } from "./waiting.js";
+
+const SPACE = 32;
+const LINE_END = 10;
+
+// The debugger's list of a run's handles: a line for each, by channel, and then by number. It is read here and not in the worker, since very many
+// handles would take long to be copied as objects.
+class Listed {
+  // Takes over what the list says of each of these handles. Those that were never dropped live to the place past the last.
+  /** @param {Life[][]} lives */
+  constructor(bytes, lives, past) {
+    this.bytes = bytes;
+    const scanner = new Scanner(bytes);
+    while (scanner.at < bytes.length) {
+      scanner.skipBehind(SPACE);
+      const life = lives[scanner.number()][scanner.number()];
+      life.kind = scanner.word().replace("-", " ");
+      life.from = scanner.number();
+      life.maker = scanner.numberOrNone();
+      life.to = scanner.numberOrNone() ?? past;
+      life.callersAt = scanner.at;
+      scanner.goBehind(LINE_END);
+    }
+  }
+
+  // How many calls each actor made with a handle.
+  callersOf({ callersAt }) {
+    const scanner = new Scanner(this.bytes);
+    const callers = [];
+    for (scanner.at = callersAt; this.bytes[scanner.at - 1] !== LINE_END;) callers.push({ actor: scanner.number(), calls: scanner.number() });
+    return callers;
+  }
+}
+
+// In characters: the output of one request, the states that are kept, and as a first guess a state without values, and a value in it.
+const MOST_ASKED = 8 << 20;
+const MOST_KEPT = 16 << 20;
+const SHORT_STATE = 1000;
+const VALUE = 8;
+
+const decoder = new TextDecoder();
+
+function longestState(channels) {
+  return channels.reduce((length, channel) => length + VALUE * (channel.capacity ?? 1), SHORT_STATE);
+}
+
+// How many entries of its channel come before each entry.
+function ordersOf(channels, count) {
+  const counts = new Uint32Array(count);
+  const orders = new Uint32Array(channels.length);
+  for (let number = 1; number < channels.length; number++) orders[number] = counts[channels[number]]++;
+  return orders;
+}
+
+export class Run {
+  constructor(client, opened, names) {
+    this.client = client;
+    this.lastPlace = opened.lastPlace;
+    /** @type {Uint8Array} the journal text, whose lines are the entries */
+    this.journal = opened.journal;
+    this.columns = opened.columns;
+    /** @type {Life[][]} by channel, and then by the handle's number */
+    this.lives = opened.lives;
+    /** @type {ChannelState[]} */
+    this.channels = opened.opening.channels;
+    // The call of a script that would wait, with its line, or null.
+    this.waiting = null;
+    this.waits = [];
+    this.isCut = false;
+    // Whether `journal` is the text that was opened, and not that of a script's run or of what is left of one.
+    this.isWholeJournal = false;
+    // Whether only the first calls are read so far, so that nothing can be counted.
+    this.isBeginning = opened.isBeginning ?? false;
+    this.orders = null;
+    /** @type {number[][] | null} the places of each channel's calls that are drawn from far too, once they are needed */
+    this.rareCalls = null;
+    this.values = new Values(this);
+    this.losses = new Losses(this, opened.losses);
+    /** @type {RunState} */
+    this.ending = opened.ending;
+    // What is counted in the whole run, once it is loaded.
+    /** @type {Closings} */
+    this.closings = { places: this.channels.map(() => null), told: this.channels.map(() => new Map()), readOn: [] };
+    /** @type {Totals[] | null} */
+    this.totals = null;
+    /** @type {Listed | null} */
+    this.listed = null;
+    this.receiverCounts = this.lives.map(lives => lives.filter(life => life.kind === "receiver").length);
+    this.bindings = {};
+    this.actorCount = this.columns.actorCount;
+    this.rename(names);
+    this.states = new Map(opened.states.map(state => [state.place, state]));
+    this.states.set(0, opened.opening);
+    this.states.set(this.lastPlace, opened.ending);
+    this.stateLength = longestState(this.channels);
+  }
+
+  rename(names) {
+    this.names = names;
+    /** @type {Account | null} what was found in the run, in words: of the names, or else made once it is needed */
+    this.account = names.account;
+    this.actors = new Actors(this.actorCount, names);
+    names.bindings = this.bindings;
+    this.waits = this.waiting ? [this.waiting] : waitsOf(this);
+  }
+
+  // The last column that is drawn. Where calls wait at the end, there is one after the last place.
+  get lastColumn() {
+    return this.lastPlace + (this.waits.length > 0 ? 1 : 0);
+  }
+
+  // Returns whose a handle is: its own name where it has one, else that of the actor that used it last, if one did.
+  ownerOf(channel, life) {
+    return this.names.handle(channel, life.handle) ?? (life.user === null ? undefined : this.names.actor(life.user));
+  }
+
+  // A handle's name in a text: whose it is, its kind and number.
+  titleOf(channel, handle) {
+    const life = this.lifeOf(channel, handle);
+    const owner = this.ownerOf(channel, life);
+    return `${owner === undefined ? "" : `${isolated(owner)} · `}${life.kind} ${handle}`;
+  }
+
+  /** @returns {Life} */
+  lifeOf(channel, handle) {
+    return this.lives[channel][handle];
+  }
+
+  /** @returns {Entry} */
+  entry(number) {
+    return readEntry(this.line(number));
+  }
+
+  // The name of an entry's call, as users write it where it is one that waits.
+  methodOf({ number, channel, word }) {
+    return this.names.waited.has(channel) ? this.names.method(channel, this.orderOf(number), word) : word;
+  }
+
+  // Where the call of an entry stands in the sources, as file, line and column, if the names say so: they have one item for each of a channel's
+  // entries.
+  sourceOf(number) {
+    return this.names.hasCalls ? this.names.calledAt(this.columns.channels[number], this.orderOf(number)) : undefined;
+  }
+
+  // How many entries of its channel come before an entry.
+  orderOf(number) {
+    this.orders ??= ordersOf(this.columns.channels, this.channels.length);
+    return this.orders[number];
+  }
+
+  // The last place up to a stamp. Entries are in the order of their stamps.
+  placeOf(stamp) {
+    let least = 0;
+    let most = this.lastPlace;
+    while (least < most) {
+      const middle = Math.ceil((least + most) / 2);
+      if (Number(this.entry(middle).stamp) <= stamp) least = middle;
+      else most = middle - 1;
+    }
+    return least;
+  }
+
+  // The text of the value that was sent at a place.
+  valueSent(place) {
+    const { channel, rest } = this.entry(place);
+    return this.names.value(channel, rest.split(" ")[0]);
+  }
+
+  // An entry's line, as the console writes it.
+  line(number) {
+    const { starts } = this.columns;
+    return `#${number} ${decoder.decode(this.journal.subarray(starts[number], starts[number + 1] - 1))}`;
+  }
+
+  // Returns the state at a place, if it is loaded.
+  /** @returns {RunState | undefined} */
+  state(place) {
+    return this.states.get(place);
+  }
+
+  missing(places) {
+    return places.filter(place => !this.states.has(place));
+  }
+
+  // Loads the states at these places that aren't loaded yet.
+  async load(places) {
+    for (const state of await this.statesAt(this.missing(places))) this.states.set(state.place, state);
+    this.forget(new Set(places));
+  }
+
+  // Removes states that aren't needed, the oldest first, while there are too many.
+  forget(needed) {
+    for (const place of this.states.keys()) {
+      if (this.states.size * this.stateLength <= MOST_KEPT) return;
+      if (!needed.has(place)) this.states.delete(place);
+    }
+  }
+
+  // Loads what is counted in the whole run, once, and goes on after each part of it. Each is asked for when the one before is there, so that a step
+  // waits for one of them at most. The values of channels where none was lost aren't needed.
+  async *findings() {
+    yield this.closings = await this.client.request("closings");
+    yield this.totals = await this.client.request("totals");
+    yield await this.findAccount();
+    yield this.listed = new Listed(await this.client.request("lives"), this.lives, this.lastPlace + 1);
+    for (const channel of this.losses.channels) yield this.values.load(channel);
+  }
+
+  // Makes the account of a run whose names have none.
+  async findAccount() {
+    const { names } = this;
+    if (this.account !== null) return;
+    const made = await this.client.request("account", names.parts);
+    if (this.waiting) made.waiting.push({ text: `${names.actor(this.waiting.actor)} would wait in line ${this.waiting.line}: ${this.waiting.text}`, since: this.lastPlace });
+    if (this.names === names) this.account = made;
+  }
+
+  // Loads what is found in the beginning of a run. Losses that are open at its end are left out, so their channels aren't known.
+  async findBeginning() {
+    this.closings = await this.client.request("closings");
+    const channels = [...this.channels.keys()].filter(channel => this.channels[channel].kind === "broadcast");
+    await Promise.all(channels.map(channel => this.values.load(channel)));
+  }
+
+  async statesAt(places) {
+    const states = [];
+    for (let done = 0; done < places.length;) {
+      const some = places.slice(done, done + Math.ceil(MOST_ASKED / this.stateLength));
+      const text = await this.ask(commandsFor(some));
+      this.stateLength = Math.max(this.stateLength, text.length / some.length);
+      states.push(...readStates(text));
+      done += some.length;
+    }
+    return states;
+  }
+
+  // Returns what these commands write, as in the console.
+  ask(commands) {
+    return this.client.request("ask", commands);
+  }
+}

@@ -1,0 +1,46 @@
+// The calls that wait at the end: of a script the one that would wait, and of a recorded run those that its file of names has. Each
+// has a mark after the last place.
+
+import { grouped } from "../base/numbers.js";
+import { isolated, visible } from "../base/text.js";
+import { stepsOf } from "./bindings.js";
+
+const CALL = /^(\d+) (\d+) ([a-z-]+) (\S+)/;
+
+// Returns the handle that a step names: by its number, or by the name that an earlier step gave to the handle that it made. Each of
+// the earlier steps is an entry.
+function handleOf(word, steps, run) {
+  const binding = steps.findIndex(step => step.endsWith(` as ${word}`));
+  return Number(binding < 0 ? word : run.entry(binding + 1).answer);
+}
+
+// Parses the call in this line of the script. The first line is 1.
+export function waitingCall(bytes, lineNumber, run) {
+  const steps = stepsOf(bytes, lineNumber);
+  const text = steps.pop();
+  const [, actor, channel, word, handle] = CALL.exec(text);
+  return { line: lineNumber, text, actor: Number(actor), channel: Number(channel), word, handle: handleOf(handle, steps, run), isTried: true };
+}
+
+// Returns the calls that waited when the names were written, unless they are of channels that this run doesn't have.
+export function waitsOf(run) {
+  return run.names.waiting.filter(({ channel }) => channel < run.channels.length).map(it => ({
+    actor: it.actor, channel: it.channel, handle: it.handle, word: it.call, text: waitText(it, run),
+  }));
+}
+
+// Whose look holds the lock of a watch's value that a call waits for, as far as the names say it.
+function holderText(holder, run) {
+  if (!holder) return "";
+  if (!Number.isSafeInteger(holder.actor)) return ", for the lock of the value";
+  const place = run.names.location(holder.location);
+  return `, for a look taken${place ? ` at ${place}` : ""} by ${isolated(run.names.actor(holder.actor))}`;
+}
+
+function waitText({ actor, channel, handle, call, since, location, held_by: holder }, run) {
+  const place = run.names.location(location);
+  const whose = run.lifeOf(channel, handle) ? run.titleOf(channel, handle) : `handle ${handle}`;
+  const who = isolated(run.names.actor(actor));
+  const where = isolated(run.names.channel(channel));
+  return `${who} waits in ${visible(call)} of ${whose} on ${where} since place ${grouped(run.placeOf(since))}${place ? `, at ${place}` : ""}${holderText(holder, run)}`;
+}

@@ -1,0 +1,177 @@
+// What happened to the handles of a run, and which actors used them, for its account. It passes over the entries of a journal text once.
+
+import { readEntry } from "../../run/entries.js";
+import { Scanner } from "../../run/scanner.js";
+import { countUpTo } from "../../run/values.js";
+
+const SPACE = 32;
+const EQUALS = 61;
+const LINE_END = 10;
+
+// The calls by which a receiver is told something, and of these the ones by which one of a watch asks for a new version.
+const RECEIVES = new Set(["recv", "try-recv", "changed", "update", "wait_for", "borrow", "has-changed"]);
+const AWAITS = new Set(["changed", "has-changed", "wait_for"]);
+
+const MAKES_RECEIVER = new Set(["subscribe", "resubscribe", "clone-receiver"]);
+
+// The replies to the sends of a broadcast that reached a receiver, and to the calls that change a watch and notify its receivers.
+const SENDS = new Set(["sent", "stored", "old", "told yes"]);
+
+function newHandle(isReceiver, sentBefore) {
+  return { isReceiver, sentBefore, sentUntil: null, lastUser: null, lastValue: 0, awaits: false };
+}
+
+function newActor() {
+  return { readsWith: null, readsWithSeveral: false, sendsOn: new Set(), lastCall: 0, told: [] };
+}
+
+export class History {
+  // `channels` are the run's at its start, `losses` its losses in the order in which they begin, and `waited` says by channel which entries are
+  // of calls that wait.
+  constructor(journal, channels, count, losses, waited) {
+    this.journal = journal;
+    this.starts = new Uint32Array(count + 2);
+    this.indexes = new Uint32Array(count + 1);
+    this.channels = channels.map(({ kind, capacity }) => ({
+      // A broadcast retains its capacity in the state. The head of the journal has the one that was given.
+      kind, given: 0, retained: kind === "broadcast" ? capacity : 0, entries: 0, sends: [],
+      handles: [newHandle(false, 0), newHandle(true, 0)],
+    }));
+    this.actors = [];
+    // Of each loss the place at which its receiver received last before it, or 0.
+    this.received = [];
+    this.read(count, losses, waited);
+  }
+
+  get length() {
+    return this.starts.length - 2;
+  }
+
+  read(count, losses, waited) {
+    const scanner = new Scanner(this.journal);
+    scanner.skipBehind(LINE_END);
+    for (const channel of this.channels) {
+      scanner.word();
+      channel.given = scanner.number();
+    }
+    // The line `steps`.
+    scanner.skipBehind(LINE_END);
+    for (let place = 1; place <= count; place++) {
+      this.starts[place] = scanner.at;
+      this.note(place, scanner, waited);
+      this.beginLosses(place, losses);
+      scanner.goBehind(LINE_END);
+    }
+    this.starts[count + 1] = scanner.at;
+  }
+
+  note(place, scanner, waited) {
+    scanner.skipBehind(SPACE);
+    const actor = scanner.number();
+    const number = scanner.number();
+    const channel = this.channels[number];
+    const written = scanner.word();
+    const handle = scanner.number();
+    scanner.goBehind(EQUALS);
+    scanner.skipBehind(SPACE);
+    const word = scanner.word();
+    const reply = word === "told" ? `told ${scanner.word()}` : word;
+    this.indexes[place] = channel.entries;
+    const call = written === "update" && waited.get(number)?.has(channel.entries) ? "wait_for" : written;
+    channel.entries++;
+    this.noteOnChannel(channel, place, { actor, call, handle, reply });
+    this.noteOfActor(place, { actor, number, call, handle, reply });
+  }
+
+  noteOnChannel(channel, place, { actor, call, handle, reply }) {
+    const sent = channel.sends.length;
+    if (SENDS.has(reply)) channel.sends.push(place);
+    if (reply === "new") channel.handles.push(newHandle(MAKES_RECEIVER.has(call), sent));
+    const used = channel.handles[handle];
+    if (!used) return;
+    if (used.isReceiver && RECEIVES.has(call)) {
+      used.lastUser = actor;
+      used.awaits ||= AWAITS.has(call);
+    }
+    if (reply === "value") used.lastValue = place;
+    if (reply === "dropped") used.sentUntil = sent;
+  }
+
+  noteOfActor(place, { actor, number, call, handle, reply }) {
+    const made = this.actors[actor] ??= newActor();
+    const used = this.channels[number].handles[handle];
+    if (call !== "drop") made.lastCall = place;
+    if (reply === "lagged") made.told.push(place);
+    if (used?.isReceiver && RECEIVES.has(call)) {
+      const receiver = `${number} ${handle}`;
+      made.readsWith ??= receiver;
+      made.readsWithSeveral ||= made.readsWith !== receiver;
+    } else if (used && !used.isReceiver && call !== "drop") {
+      made.sendsOn.add(number);
+    }
+  }
+
+  beginLosses(place, losses) {
+    for (let next = losses[this.received.length]; next !== undefined && next.from <= place; next = losses[this.received.length]) {
+      this.received.push(this.handle(next.channel, next.receiver)?.lastValue ?? 0);
+    }
+  }
+
+  handle(channel, handle) {
+    return this.channels[channel].handles[handle];
+  }
+
+  /** @returns {Entry} */
+  entry(place) {
+    const line = new TextDecoder().decode(this.journal.subarray(this.starts[place], this.starts[place + 1] - 1));
+    return readEntry(`#${place} ${line}`);
+  }
+
+  // The last place up to a stamp. Entries are in the order of their stamps.
+  placeOf(stamp) {
+    let least = 0;
+    let most = this.length;
+    while (least < most) {
+      const middle = Math.ceil((least + most) / 2);
+      if (Number(this.entry(middle).stamp) <= stamp) least = middle;
+      else most = middle - 1;
+    }
+    return least;
+  }
+
+  // The actor that received by a receiver last, if it received by no other one and sent nothing on that channel.
+  reader(channel, receiver) {
+    const user = this.handle(channel, receiver)?.lastUser ?? null;
+    if (user === null) return null;
+    const { readsWithSeveral, sendsOn } = this.actors[user];
+    return readsWithSeveral || sendsOn.has(channel) ? null : user;
+  }
+
+  // How many values were sent while a handle was alive.
+  sentTo(channel, handle) {
+    const { sentBefore, sentUntil } = this.handle(channel, handle);
+    return (sentUntil ?? this.channels[channel].sends.length) - sentBefore;
+  }
+
+  // The place of the last change of a watch that came while a handle was alive, or 0.
+  lastSentTo(channel, handle) {
+    const { sends } = this.channels[channel];
+    return sends[(this.handle(channel, handle).sentUntil ?? sends.length) - 1] ?? 0;
+  }
+
+  // The places of the sends of the values that were lost, if a send at this place overwrote the first of them.
+  lost(channel, from, count) {
+    const { sends, retained } = this.channels[channel];
+    const first = Math.max(0, countUpTo(sends, from - 1) - retained);
+    return sends.slice(first, first + count);
+  }
+
+  // The place up to this one of the last call that told an actor of a loss, or undefined.
+  lastTold(actor, upTo) {
+    return this.actors[actor]?.told.filter(place => place <= upTo).at(-1);
+  }
+
+  lastCall(actor) {
+    return this.actors[actor]?.lastCall ?? 0;
+  }
+}
