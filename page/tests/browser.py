@@ -114,7 +114,7 @@ class Tab:
     def load(self, path, place=None):
         self.call("Page.navigate", url="about:blank")
         self.browser.event("Page.loadEventFired", self.session)
-        self.call("Page.navigate", url=f"file://{path}" + ("" if place is None else f"#place={place}"))
+        self.call("Page.navigate", url=f"file://{path}" + ("" if place is None else f"#call={place}"))
         self.browser.event("Page.loadEventFired", self.session)
 
     def run(self, script):

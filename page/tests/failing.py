@@ -33,7 +33,7 @@ PATIENCE = 600
 HANGS = "the_state_is_ready"
 # Its journal has as many calls as a journal takes, too many to walk through.
 FULL = "the_last_tick_arrives"
-LOOK = re.compile(r"^look: file://(\S+)#place=(\d+)$", re.M)
+LOOK = re.compile(r"^look: file://(\S+)#call=(\d+)$", re.M)
 
 
 @dataclass
@@ -71,8 +71,8 @@ FORTY = "forty_screens_are_up_to_date"
 def screen_untold(number):
     """The fact of a screen that was not told."""
     return [f"`screen {number}` lost 2 of 5 values of `prices` (capacity 2)",
-            f' step 157 prices.send("4 EUR") {FORTY} {{forty screens get a price}} overwrote "2 EUR", which screen {number} had not read',
-            f' the panic not told {FORTY} {{the fourth screen is told}} its last receive: step {43 + number}, "1 EUR"', ' lost: "2 EUR", "3 EUR"']
+            f' call 157 prices.send("4 EUR") {FORTY} {{forty screens get a price}} overwrote "2 EUR", which screen {number} had not read',
+            f' the panic not told {FORTY} {{the fourth screen is told}} its last receive: call {43 + number}, "1 EUR"', ' lost: "2 EUR", "3 EUR"']
 
 
 # By the name of a test. What is lost is by receiver: how many values, and how many of them it was told of.
@@ -82,19 +82,19 @@ WANTED = {
         [("ticker on prices: send 0 2 → sent 1", "101 EUR, not read by auditor · receiver 1", "a price is sent"),
          ("no_price_is_missing on prices: try-recv 1 → lagged 3", "lost 101 EUR, 102 EUR and 1 more", "the auditor is told")],
         [["`auditor` lost 3 of 5 values of `prices` (capacity 2)",
-          ' step 3 prices.send("103 EUR") ticker {a price is sent} overwrote "101 EUR", which auditor had not read',
-          " step 7 told: lagged 3 no_price_is_missing {the auditor is told} its last receive: none before", ' lost: "101 EUR", "102 EUR", "103 EUR"'],
-         ["`prices` closed, and its receiver was not told", " step 6 dropped the last sender ticker", " not told: `auditor`"]],
+          ' call 3 prices.send("103 EUR") ticker {a price is sent} overwrote "101 EUR", which auditor had not read',
+          " call 7 told: lagged 3 no_price_is_missing {the auditor is told} its last receive: none before", ' lost: "101 EUR", "102 EUR", "103 EUR"'],
+         ["`prices` closed, and its receiver was not told", " call 6 dropped the last sender ticker", " not told: `auditor`"]],
         {"0 1": (3, 3)}),
     "the_log_is_read": Wanted(
         {"the_log_is_read"}, ["jobs"], {"0 1": "log · receiver 1", "0 2": "idle · receiver 2"}, {f"job {number}" for number in range(1, 5)},
         [("the_log_is_read on jobs: send 0 2 → sent 2", "job 2, not read by", "a job is sent"),
          ("the_log_is_read on jobs: drop 1", "was never told that it lost 2: job 2, job 3", None)],
         [["`log` lost 2 of 4 values of `jobs` (capacity 1)",
-          ' step 5 jobs.send("job 3") the_log_is_read {a job is sent} overwrote "job 2", which log had not read',
-          ' step 7 dropped: never told the_log_is_read its last receive: step 3, "job 1"', ' lost: "job 2", "job 3"'],
+          ' call 5 jobs.send("job 3") the_log_is_read {a job is sent} overwrote "job 2", which log had not read',
+          ' call 7 dropped: never told the_log_is_read its last receive: call 3, "job 1"', ' lost: "job 2", "job 3"'],
          ["`idle` lost 3 of 4 values of `jobs` (capacity 1)",
-          ' step 4 jobs.send("job 2") the_log_is_read {a job is sent} overwrote "job 1", which idle had not read',
+          ' call 4 jobs.send("job 2") the_log_is_read {a job is sent} overwrote "job 1", which idle had not read',
           " the panic held, never read the_log_is_read {the jobs are counted}", ' lost: "job 1", "job 2", "job 3"']],
         {"0 1": (2, 0), "0 2": (3, 0)}),
     "the_orders_are_whole": Wanted(
@@ -103,18 +103,18 @@ WANTED = {
         [("the_orders_are_whole on orders: send 0 2 → sent 1", "order 71, not read by desk · receiver 1", "an order is sent"),
          ("the_orders_are_whole on orders: try-recv 1 → lagged 1", "lost order 71", "the desk is told")],
         [["`desk` lost 1 of 3 values of `orders` (capacity 2)",
-          ' step 18 orders.send("order 73") the_orders_are_whole {an order is sent} overwrote "order 71", which desk had not read',
-          " step 19 told: lagged 1 the_orders_are_whole {the desk is told} its last receive: none before", ' lost: "order 71"'],
+          ' call 18 orders.send("order 73") the_orders_are_whole {an order is sent} overwrote "order 71", which desk had not read',
+          " call 19 told: lagged 1 the_orders_are_whole {the desk is told} its last receive: none before", ' lost: "order 71"'],
          ["`held` lost 11 of 15 values of `metrics` (capacity 4)",
-          " step 5 metrics.send(value 4) the_orders_are_whole {a metric is sent} overwrote value 0, which held had not read",
+          " call 5 metrics.send(value 4) the_orders_are_whole {a metric is sent} overwrote value 0, which held had not read",
           " the panic held, never read the_orders_are_whole {the desk is told}", " lost: value 0, value 1, value 2, .. value 10"]],
         {"0 1": (11, 0), "1 1": (1, 1)}),
     "each_state_is_seen": Wanted(
         {"each_state_is_seen", "screen"}, ["state"], {"0 1": "reader · receiver 1"}, {"loading!", "ready!", "busy!", "full!"},
         [("each_state_is_seen on state: send 0 2", "busy!", "a state is sent"),
          ("screen on state: borrow 1 → value 3", "full!", "the state is looked at")],
-        [["`reader` never looked at 2 of 3 changes of `state`", ' step 3 state.send("full!") each_state_is_seen {a state is sent} the last change',
-          ' step 4 state.borrow() screen {the state is looked at} its last look: "full!"']],
+        [["`reader` never looked at 2 of 3 changes of `state`", ' call 3 state.send("full!") each_state_is_seen {a state is sent} the last change',
+          ' call 4 state.borrow() screen {the state is looked at} its last look: "full!"']],
         nothing="no value was lost in 6 calls on 1 channel"),
     "the_sum_is_right": Wanted(
         {"the_sum_is_right"}, ["bus"], {"0 1": "reader · receiver 1"}, {"number 2"},
@@ -125,7 +125,7 @@ WANTED = {
     HANGS: Wanted(
         {HANGS, "worker"}, ["state"], {"0 1": "reader · receiver 1"}, {"loading!", "busy!"},
         [(f"{HANGS} on state: send 0 1", "busy!", "the state is busy"), ("worker on state: wait_for 1 → value 1", "busy!", "the worker waits")],
-        [], nothing="no value was lost in 2 calls on 1 channel", waiting=["worker in `state.wait_for` since step 2, {the worker waits}"]),
+        [], nothing="no value was lost in 2 calls on 1 channel", waiting=["worker in `state.wait_for` since call 2, {the worker waits}"]),
     "the_second_task_gets_the_first_order": Wanted(
         {"the_second_task_gets_the_first_order", "runtime", "task 7", "reader", "till", "audit"}, ["orders"],
         {"0 1": "first · receiver 1", "0 2": "second · receiver 2"}, {"order 71", "order 72", "order 73"},
@@ -133,12 +133,12 @@ WANTED = {
          ("till on orders: recv 1 → lagged 1", "lost order 71", "an order is received"),
          ("audit on orders: recv 2 → lagged 1", "lost order 71", "an order is received")],
         [["`second` lost 1 of 3 values of `orders` (capacity 2)",
-          ' step 4 orders.send("order 73") task 7 {a task sends} overwrote "order 71", which second had not read',
-          " step 8 told: lagged 1 audit {an order is received} its last receive: none before", ' lost: "order 71"'],
+          ' call 4 orders.send("order 73") task 7 {a task sends} overwrote "order 71", which second had not read',
+          " call 8 told: lagged 1 audit {an order is received} its last receive: none before", ' lost: "order 71"'],
          ["`first` lost 1 of 3 values of `orders` (capacity 2)",
-          ' step 4 orders.send("order 73") task 7 {a task sends} overwrote "order 71", which first had not read',
-          " step 6 told: lagged 1 till {an order is received} its last receive: none before", ' lost: "order 71"'],
-         ["`orders` closed, and 0 of 2 receivers were told", " step 5 dropped the last sender runtime", " not told: `first`, `second`"]],
+          ' call 4 orders.send("order 73") task 7 {a task sends} overwrote "order 71", which first had not read',
+          " call 6 told: lagged 1 till {an order is received} its last receive: none before", ' lost: "order 71"'],
+         ["`orders` closed, and 0 of 2 receivers were told", " call 5 dropped the last sender runtime", " not told: `first`, `second`"]],
         {"0 1": (1, 1), "0 2": (1, 1)}),
     "both_clerks_get_the_first_order": Wanted(
         {"both_clerks_get_the_first_order", "shop", "till", "audit"}, ["orders"], {"0 1": "till · receiver 1", "0 2": "audit · receiver 2"},
@@ -147,21 +147,21 @@ WANTED = {
          ("till on orders: recv 1 → lagged 1", "lost order 71", "the till is told"),
          ("audit on orders: recv 2 → lagged 1", "lost order 71", "the audit is told")],
         [["`audit` lost 1 of 3 values of `orders` (capacity 2)",
-          ' step 4 orders.send("order 73") shop {the shop sends} overwrote "order 71", which audit had not read',
-          " step 8 told: lagged 1 audit {the audit is told} its last receive: none before", ' lost: "order 71"'],
+          ' call 4 orders.send("order 73") shop {the shop sends} overwrote "order 71", which audit had not read',
+          " call 8 told: lagged 1 audit {the audit is told} its last receive: none before", ' lost: "order 71"'],
          ["`till` lost 1 of 3 values of `orders` (capacity 2)",
-          ' step 4 orders.send("order 73") shop {the shop sends} overwrote "order 71", which till had not read',
-          " step 6 told: lagged 1 till {the till is told} its last receive: none before", ' lost: "order 71"'],
-         ["`orders` closed, and 0 of 2 receivers were told", " step 5 dropped the last sender shop", " not told: `till`, `audit`"]],
+          ' call 4 orders.send("order 73") shop {the shop sends} overwrote "order 71", which till had not read',
+          " call 6 told: lagged 1 till {the till is told} its last receive: none before", ' lost: "order 71"'],
+         ["`orders` closed, and 0 of 2 receivers were told", " call 5 dropped the last sender shop", " not told: `till`, `audit`"]],
         {"0 1": (1, 1), "0 2": (1, 1)}),
     "the_notes_are_whole": Wanted(
         {"the_notes_are_whole"}, ["👩‍🚀 orders 🦀"], {"0 1": '<b>desk</b> &amp; "co" · receiver 1'}, {note(1), note(2), note(3)},
         [("the_notes_are_whole on 👩‍🚀 orders 🦀: send 0 1 → sent 1", note(1), "a note is sent"),
          ("the_notes_are_whole on 👩‍🚀 orders 🦀: try-recv 1 → lagged 2", "lost Order {↵ id: 1", "the note is missing")],
         [[r'`<b>desk</b> &amp; "co"` lost 2 of 3 values of `👩\u{200d}🚀 orders 🦀` (capacity 1)',
-          r" step 2 👩\u{200d}🚀 orders 🦀.send(" + SHORT_NOTES[2] + ") the_notes_are_whole {a note is sent} overwrote " + SHORT_NOTES[1]
+          r" call 2 👩\u{200d}🚀 orders 🦀.send(" + SHORT_NOTES[2] + ") the_notes_are_whole {a note is sent} overwrote " + SHORT_NOTES[1]
           + ', which <b>desk</b> &amp; "co" had not read',
-          " step 4 told: lagged 2 the_notes_are_whole {the note is missing} its last receive: none before",
+          " call 4 told: lagged 2 the_notes_are_whole {the note is missing} its last receive: none before",
           f" lost: {SHORT_NOTES[1]}, {SHORT_NOTES[2]}"]],
         {"0 1": (2, 2)}),
     # Entry 1 drops the first receiver, the next 40 make the screens. Then come a send and 40 receives, and after that a send and 36 receives each.
@@ -172,8 +172,8 @@ WANTED = {
          (f"{FORTY} on prices: try-recv 5 → lagged 2", "lost 2 EUR, 3 EUR", "the fourth screen is told"),
          (f"{FORTY} on prices: drop 2", "after the test failed: it had lost 2, 2 EUR, 3 EUR", None)],
         [["`screen 3` lost 2 of 5 values of `prices` (capacity 2)",
-          f' step 157 prices.send("4 EUR") {FORTY} {{forty screens get a price}} overwrote "2 EUR", which screen 3 had not read',
-          f' step 231 told: lagged 2 {FORTY} {{the fourth screen is told}} its last receive: step 46, "1 EUR"', ' lost: "2 EUR", "3 EUR"'],
+          f' call 157 prices.send("4 EUR") {FORTY} {{forty screens get a price}} overwrote "2 EUR", which screen 3 had not read',
+          f' call 231 told: lagged 2 {FORTY} {{the fourth screen is told}} its last receive: call 46, "1 EUR"', ' lost: "2 EUR", "3 EUR"'],
          *map(screen_untold, range(3))],
         {f"0 {2 + number}": (2, 2 if number == 3 else 0) for number in range(4)}, rest="and 1 more receiver lost 2 values"),
     FULL: Wanted(

@@ -69,7 +69,7 @@ class Firefox:
 
     def load(self, path, place=None):
         self.call("WebDriver:Navigate", url="about:blank")
-        self.call("WebDriver:Navigate", url=f"file://{path}" + ("" if place is None else f"#place={place}"))
+        self.call("WebDriver:Navigate", url=f"file://{path}" + ("" if place is None else f"#call={place}"))
 
     def run(self, script, *given):
         return self.call("WebDriver:ExecuteScript", script=script, args=list(given))["value"]

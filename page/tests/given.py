@@ -77,11 +77,11 @@ def places_of_two_runs(tab, folder, journals):
     """The place in the address is one of the run in the page's own file. A run that is dropped on the page is opened where its account says, or at its start."""
     opening.load(tab, opening.page_of(folder, "first.journal", journals[63]), 3)
     tab.key("ArrowLeft")
-    tab.wait("location.hash.startsWith('#place=2&')")
+    tab.wait("location.hash.startsWith('#call=2&')")
     tab.drop(opening.put(folder, "second.ttd", SCRIPT))
     told(tab, "facts", "second.ttd · 4 calls")
     check_place(tab, script_asker(SCRIPT), CAUSE)
-    tab.wait(f"location.hash.startsWith('#place={CAUSE}&')")
+    tab.wait(f"location.hash.startsWith('#call={CAUSE}&')")
 
 
 def failed_opening(tab, folder, journals):

@@ -280,11 +280,12 @@ def files_that_are_not_there(tab, folder, journals):
 
 
 def addresses(tab, folder, journals):
-    """The page goes to the place in the address, and walking updates it."""
+    """The page goes to the call in the address, and walking updates it. An address of an earlier page has `place` in its place."""
     path, ask = opening.page_of(folder, "address.journal", journals[63]), opening.asker(journals[63])
     opening.load(tab, path, 42)
     check_place(tab, ask, 42)
     tab.key("ArrowRight")
-    tab.wait("location.hash.startsWith('#place=43&')")
-    tab.run("void (location.hash = '#place=7')")
-    check_place(tab, ask, 7)
+    tab.wait("location.hash.startsWith('#call=43&')")
+    for address, place in (("#call=9", 9), ("#place=7", 7)):
+        tab.run(f"void (location.hash = '{address}')")
+        check_place(tab, ask, place)

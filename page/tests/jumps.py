@@ -90,12 +90,12 @@ def address_keeps(tab, folder, journals):
     tab.key("+")
     tab.wait("new URLSearchParams(location.hash.slice(1)).get('view').split('-').map(Number).reduce((from, to) => to - from) === 32")
     address, view = tab.run("location.hash"), places_in_view(tab)
-    assert address == f"#place={place}&view={view[0]}-{view[1]}&stop=lagging+0+6", address
+    assert address == f"#call={place}&view={view[0]}-{view[1]}&stop=lagging+0+6", address
     tab.load(f"{path}{address}")
     opening.settle(tab, place)
     assert places_in_view(tab) == view
     assert tab.run("document.getElementById('condition').value") == "lagging 0 6"
-    for wrong in ("#place=x&view=9-", "#view=99999-9999999999", "#place=99999&view=5-1", "#stop=%00"):
+    for wrong in ("#call=x&view=9-", "#place=x&view=9-", "#view=99999-9999999999", "#call=99999&view=5-1", "#stop=%00"):
         tab.load(f"{path}{wrong}")
         # Without a place, it is opened where its account says.
         opening.settle(tab, 648 if "99999&" in wrong else None if "stop" in wrong else 0)

@@ -428,7 +428,7 @@ def struck_out(tab, folder, journals):
     opening.load(tab, path)
     seen = set()
     for place in (100, 200, 300, 400, 500, 640):
-        tab.run(f"void (location.hash = '#place={place}')")
+        tab.run(f"void (location.hash = '#call={place}')")
         opening.settle(tab, place)
         channel = json.loads(ask(f"goto {place}\nstate json\n").split("\n")[-2])["channels"][0]
         oldest = channel["sent"] - len(channel["window"])

@@ -100,7 +100,7 @@ def versions(tab, folder, journals):
     ends = tab.run("Object.fromEntries([...document.querySelectorAll('#table-rows tr[data-receiver]')].map(it => [it.dataset.receiver, it.lastChild.textContent]))")
     assert ends["1 1"] == "has 0 of 4, never looked at 4 changes" and ends["1 2"].endswith(", never looked at 3 changes"), ends
     for place, ending in ((10, "one change that it hasn't seen may still come)"), (12, "nothing more will come)")):
-        tab.run(f"void (location.hash = '#place={place}')")
+        tab.run(f"void (location.hash = '#call={place}')")
         opening.settle(tab, place)
         assert tab.text("sentence").endswith(ending), tab.text("sentence")
 

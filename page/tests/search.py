@@ -135,7 +135,7 @@ def life_of_a_value(tab, folder, journals):
     opening.load(tab, path)
     seen = set()
     for place in (90, 200, 330, 460, 600):
-        tab.run(f"void (location.hash = '#place={place}')")
+        tab.run(f"void (location.hash = '#call={place}')")
         opening.settle(tab, place)
         for number in tab.run("[...document.querySelectorAll('#state .values [data-value^=\"0 \"]')].map(it => Number(it.dataset.value.split(' ')[1]))")[::5]:
             tab.run(f"document.querySelector('#state [data-value=\"0 {number}\"]').click()")

@@ -163,7 +163,7 @@ def large_runs(tab, folder, journals):
         ask = opening.asker(journals[calls])
         for _ in range(4):
             place = chance.randrange(calls)
-            tab.run(f"void (location.hash = '#place={place}')")
+            tab.run(f"void (location.hash = '#call={place}')")
             check_place(tab, ask, place)
             answer = ask(f"goto {place}\nrforward reply lagged\n").rstrip("\n").split("\n")[-1]
             tab.click("#stops [value=rforward]")

@@ -51,7 +51,7 @@ struct Context<'a> {
 }
 
 impl Context<'_> {
-    /// Returns the step that led to a place, with what was called and what there is to say of it.
+    /// Returns the call with this number as a step of a fact, with what was called and what there is to say of it.
     fn step(&self, place: u64, role: Role, what: String, said: String) -> Step {
         let entry = self.run.entry(place);
         let location = self.naming.call_source(entry.channel, place);
@@ -61,7 +61,7 @@ impl Context<'_> {
             actor: Some(entry.actor.into()),
             location: location.cloned(),
             cells: [
-                format!("step {place}"),
+                visible::call(place),
                 what,
                 self.naming.actor(entry.actor.into()),
                 location.map_or(String::new(), visible::line_of),
@@ -70,7 +70,7 @@ impl Context<'_> {
         }
     }
 
-    /// Returns what ended the test as a step.
+    /// Returns what ended the test as a step of a fact.
     fn failure_step(&self, failure: FailureAt, what: String, said: String) -> Step {
         let location = self.naming.source(failure.location.unwrap_or(usize::MAX));
         let actor = failure.actor.map(|actor| self.naming.actor(actor));
@@ -89,7 +89,7 @@ impl Context<'_> {
         }
     }
 
-    /// Returns the end of the run as a step.
+    /// Returns the end of the run as a step of a fact.
     fn end_step(&self, what: String, said: String) -> Step {
         let nothing = String::new;
         Step {
@@ -120,7 +120,7 @@ pub(crate) struct Account {
     losses: Vec<Loss>,
     // The place of what ended the test.
     failure: Option<u64>,
-    /// The first place that is worth looking at.
+    /// The call that is worth looking at first, or 0 for the start.
     pub(crate) look: u64,
     /// The folder that the paths of sources are relative to.
     pub(crate) root: Option<String>,

@@ -3,7 +3,7 @@
 //! It is in the library since it uses parts of it that no other program may.
 
 use crate::names::Names;
-use crate::report::{self, Report, page};
+use crate::report::{self, Report, at_call, page};
 use crate::run::{self, TextFault};
 use std::ffi::OsString;
 use std::fs::{self, File};
@@ -213,12 +213,13 @@ fn why(
         Form::Json => return write_to(out, &format!("{}\n", report.account().to_json())),
         Form::Sarif => return write_to(out, &report::sarif(report.account())),
     }
-    let (page, place) = (journal.page(), report.place());
+    let (page, call) = (journal.page(), report.call());
     let look = match page.is_file() {
-        true => page::address(&absolute(&page), place),
+        true => page::address(&absolute(&page), call),
         false => format!(
-            "`yovanelum open {}`, at place {place}",
-            journal.path.display()
+            "`yovanelum open {}`, {}",
+            journal.path.display(),
+            at_call(call)
         ),
     };
     let has_colours = report::has_colours(out);
@@ -243,13 +244,13 @@ fn open(
                 &journal.text,
                 names.as_bytes(),
             )
-            .ok_or_else(|| "the page has no place for a run".to_string())
+            .ok_or_else(|| "the page has no element for a run".to_string())
         })
         .and_then(|page| fs::write(&path, page).map_err(|error| error.to_string()));
     written.map_err(|fault| Fault::Write(format!("{}: {fault}", path.display())))?;
     write_to(out, &format!("{}\n", path.display()))?;
     // Beside the name, which a script may read.
-    let address = page::address(&absolute(&path), report.place());
+    let address = page::address(&absolute(&path), report.call());
     let _ = writeln!(told, "look: {address}");
     Ok(())
 }

@@ -1,6 +1,7 @@
 //! A recorded run as a debugger holds it: it is at a place, goes to others, and is asked what the channels were there.
 //!
-//! Place n is the run after its first n calls. At each place the channels are what tokio documents after these calls, whatever moves led there.
+//! Place n is the run after call n, and place 0 is its start. At each place the channels are what tokio documents after these calls, however you
+//! got there.
 //! That is proved of the core, which `ttd` walks by too. A step by one place takes the time of one call, and allocates nothing.
 //!
 //! ```
@@ -67,12 +68,12 @@ impl Walk {
         Walk::over(&Run::read(text).map_err(Fault)?)
     }
 
-    /// Opens the run of a journal text that may have been cut off, as it is where a program was killed: the calls of its whole lines.
+    /// Opens the run of a journal text that may be truncated, as it is where a program was killed: the calls of its whole lines.
     /// Returns also how many bytes these lines have.
     ///
     /// # Errors
     ///
-    /// Returns the first fault of the text, if it isn't only cut off, or that there is no memory.
+    /// Returns the first fault of the text, if it isn't only truncated, or that there is no memory.
     ///
     /// ```
     /// use yovanelum::debugger::Walk;

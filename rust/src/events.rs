@@ -45,14 +45,14 @@ impl Hooks {
     }
 }
 
-/// Calls a closure each time a receiver is told that it has lost values, on any channel that no recorder records.
+/// Calls a closure each time a receiver lags, on any channel that no recorder records.
 ///
 /// It is for a service: a receive that returns `Lagged(17)` says neither which receiver it was, nor who sent what it lost. The [`Lag`] says so.
 /// The closure is called by the receive that returns `Lagged`, before it returns. It is called for a recorded channel too, if the recorder has no
 /// closure of its own ([`Recorder::on_lag`](crate::Recorder::on_lag)).
 ///
 /// It is set for the process. A closure that is set later replaces it. There is no lock of this crate while it runs, so it may use any channel,
-/// also this one. A panic in it is one of the receive, which has then counted the lost values as told.
+/// also this one. A panic in it is one of the receive, which has then counted the values as lost.
 ///
 /// # Examples
 ///

@@ -76,12 +76,12 @@
 //!  right: Ok(71)
 //! error: `audit` lost 1 of 3 values of `orders` (capacity 2)
 //!   --> tests/shop.rs:17:18
-//! note: step 6, the send that overwrote the first of them
+//! note: call 6, the send that overwrote the first of them
 //!   --> tests/shop.rs:14:12
-//!   step 6   orders.send("order 73")   slow_audit  tests/shop.rs:14   overwrote "order 71", which audit had not read
-//!   step 8   told: lagged 1            slow_audit  tests/shop.rs:17   its last receive: none before
+//!   call 6   orders.send("order 73")   slow_audit  tests/shop.rs:14   overwrote "order 71", which audit had not read
+//!   call 8   told: lagged 1            slow_audit  tests/shop.rs:17   its last receive: none before
 //!   lost: "order 71"
-//! look: file:///shop/target/yovanelum/shop/test-shop/slow_audit.html#place=6
+//! look: file:///shop/target/yovanelum/shop/test-shop/slow_audit.html#call=6
 //! replay: YOVANELUM_REPLAY=/shop/target/yovanelum/shop/test-shop/slow_audit.journal cargo test -p shop --test shop -- slow_audit --exact
 //! ```
 //!
@@ -92,7 +92,7 @@
 //! The address is that of a page with this run inside, which is opened at that call. It draws the run in a browser. The key `L` goes to the
 //! next place where a loss begins or ends.
 //!
-//! # Finding the step
+//! # Finding the call
 //!
 //! `cargo install --path ../yovanelum/rust` installs two commands. `yovanelum why JOURNAL` prints the report again, and with `--json` the
 //! same for a program. `ttd` reads a journal, and commands from its standard input. Numbers count from 0 in the order of creation, and
@@ -162,9 +162,9 @@
 //!
 //! # In a service
 //!
-//! A service is told `Lagged(17)` at night, and nothing says which receiver it was. Without any recording, the crate knows:
+//! A service gets `Lagged(17)` at night, and nothing says which receiver it was. Without any recording, the crate knows:
 //!
-//! - [`on_lag`] sets a closure that is called with a [`Lag`]: the channel, the receiver, where both were made, how much was lost, and who sent
+//! - [`on_lag`] sets a closure that is called with a [`Lag`]: the channel, the receiver, where both were created, how much was lost, and who sent
 //!   last. [`on_close`] does so where the last sender of a channel is dropped. The package `yovanelum-tracing`, beside the source of this one,
 //!   makes events of `tracing` of them.
 //! - [`snapshot`] returns how far each receiver of each channel is, and who waits: as a table for a health page, and as numbers for metrics.

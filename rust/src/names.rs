@@ -75,7 +75,7 @@ pub(crate) struct Names {
     /// The names of senders and receivers, by channel.
     pub(crate) handles: BTreeMap<u64, BTreeMap<u64, String>>,
     pub(crate) locations: Vec<SourceLocation>,
-    /// Where each sender and receiver was made, by channel.
+    /// Where each sender and receiver was created, by channel.
     pub(crate) made: BTreeMap<u64, BTreeMap<u64, usize>>,
     /// Where each call of a channel was made, in the order of its entries.
     pub(crate) calls: BTreeMap<u64, Vec<Option<usize>>>,

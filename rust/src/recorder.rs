@@ -50,7 +50,7 @@ use texts::Texts;
 ///
 /// The journal has an entry for each call: which channel, who called, what the call was and what it returned. The drop of a sender or a
 /// receiver is a call too. The caller is a thread, or a future that was wrapped by [`named`](crate::named). A call that waits is recorded
-/// when it completes, and not at all if its future is dropped before. On one channel, entries are in the order of the calls. On several
+/// when it completes. A cancelled call isn't recorded. On one channel, entries are in the order of the calls. On several
 /// channels they are if one call returned before the other began.
 ///
 /// A recorder is a handle: its clones record the same run.
@@ -249,7 +249,7 @@ impl Recorder {
     /// `handles` those of senders and receivers by channel. `values` has the texts of each channel's values. What has no name is left out.
     ///
     /// `locations` has locations in the source, as file, line and column. The other keys have indexes into it: `made` where each sender and
-    /// receiver was made, `calls` where each call of a channel was made, in the order of its entries, `tasks` where each task without a name
+    /// receiver was created, `calls` where each call of a channel was made, in the order of its entries, `tasks` where each task without a name
     /// has made its first call, and `waiting` where the calls that wait were made. The drop of a sender or a receiver is called by the
     /// compiler, so its location is `null`.
     ///

@@ -2,14 +2,14 @@
 //!
 //! A recorder knows the whole order of the calls on its channels. In a replay each call waits before the [`Gate`], until all calls that the
 //! journal has before it are made. `plan.rs` has the journal's calls and which of them a call can be, `state.rs` where the replay stands,
-//! `gate.rs` how threads and futures wait, `helper.rs` the thread that wakes futures, `rest.rs` whether all threads wait, `parting.rs` how it leaves the
+//! `gate.rs` how threads and futures wait, `helper.rs` the thread that wakes futures, `rest.rs` whether all threads wait, `divergence.rs` how it leaves the
 //! journal, and `outcome.rs` how it went, in words.
 
+mod divergence;
 mod gate;
 mod helper;
 mod opening;
 mod outcome;
-mod parting;
 mod permit;
 mod plan;
 mod rest;

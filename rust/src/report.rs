@@ -9,7 +9,7 @@ mod workflow;
 
 pub(crate) use sarif::sarif;
 
-use crate::account::visible::{first, path};
+use crate::account::visible::{self, first, path};
 use crate::account::{Account, Fact, MOST_TOLD};
 use crate::names::{Names, SourceLocation};
 use crate::run::{Run, TextFault};
@@ -57,8 +57,8 @@ impl Report {
         &self.0
     }
 
-    /// The first place that is worth looking at.
-    pub(crate) fn place(&self) -> u64 {
+    /// The call that is worth looking at first, or 0 for the start.
+    pub(crate) fn call(&self) -> u64 {
         self.0.look
     }
 
@@ -133,6 +133,14 @@ fn push_fact(lines: &mut Vec<String>, fact: &Fact, level: &str, colours: Colours
         Some(lost) => format!("  {}{lost}", colours.lost("lost:")),
         None => line,
     }));
+}
+
+/// Says which call to look at where there is no address for it.
+pub(crate) fn at_call(call: u64) -> String {
+    match call {
+        0 => "before the first call".to_string(),
+        call => format!("at {}", visible::call(call)),
+    }
 }
 
 /// Returns a place in the sources as rustc writes it.

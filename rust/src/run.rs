@@ -85,11 +85,11 @@ impl Run {
         rw_text::read(Global, text).map(Run)
     }
 
-    /// Reads the run of a journal text that may have been cut off. Returns also how many bytes its whole lines have.
+    /// Reads the run of a journal text that may be truncated. Returns also how many bytes its whole lines have.
     ///
     /// # Errors
     ///
-    /// Returns the first fault of the text, if it isn't only cut off.
+    /// Returns the first fault of the text, if it isn't only truncated.
     pub(crate) fn salvage(text: &[u8]) -> Result<(Run, usize), TextFault> {
         let (run, bytes) = rw_text::salvage(Global, text)?;
         Ok((Run(run), bytes as usize))

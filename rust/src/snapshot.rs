@@ -38,7 +38,7 @@ use std::time::Duration;
 ///
 /// let table = recorder.snapshot().to_string();
 /// assert!(table.starts_with("prices: broadcast, capacity 2, sent 3, retained 2, senders 1, last sent by "));
-/// assert!(table.contains("\n  receiver  unread  lag  lost  made at"));
+/// assert!(table.contains("\n  receiver  unread  lag  lost  created at"));
 /// assert!(table.contains("\n  chart          1    0     1  "));
 /// ```
 #[derive(Clone, Debug, PartialEq, Eq)]
@@ -331,7 +331,7 @@ impl ReceiverSnapshot {
         self.lag
     }
 
-    /// Returns how many values the receiver was told that it has lost, since it was created.
+    /// Returns how many values the receiver has lost since it was created: the sum of what its `Lagged` said.
     pub fn lost(&self) -> u64 {
         self.lost
     }

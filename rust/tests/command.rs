@@ -56,18 +56,18 @@ fn why_prints_the_report() {
     fs::write(path.with_extension("names"), NAMES).unwrap();
     let wanted = "\
 error: `audit` lost 2 of 3 values of `orders` (capacity 1) in 2 losses; the one told last, of 1:
-  step 4   orders.send(value 6)   actor 0  overwrote \"first\", which audit had not read
-  step 5   told: lagged 1         audit    its last receive: none before
+  call 4   orders.send(value 6)   actor 0  overwrote \"first\", which audit had not read
+  call 5   told: lagged 1         audit    its last receive: none before
   lost: \"first\"
 warning: receiver 1 lost 2 of 3 values of `orders` (capacity 1)
-  step 4    orders.send(value 6)   actor 0  overwrote \"first\", which receiver 1 had not read
+  call 4    orders.send(value 6)   actor 0  overwrote \"first\", which receiver 1 had not read
   the end   held, never read
   lost: \"first\", value 6
 warning: receiver 3 lost 1 of 2 values of `orders` (capacity 1)
-  step 4   orders.send(value 6)   actor 0  overwrote \"first\", which receiver 3 had not read
-  step 6   held, never read       audit
+  call 4   orders.send(value 6)   actor 0  overwrote \"first\", which receiver 3 had not read
+  call 6   held, never read       audit
   lost: \"first\"
-look: `yovanelum open orders.journal`, at place 4
+look: `yovanelum open orders.journal`, at call 4
 ";
     let said = run(&folder.0, &["why", "orders.journal"]);
     assert_eq!(said, (0, wanted.to_string(), String::new()));
@@ -80,14 +80,14 @@ const ACCOUNT: &str = r#"{
   "channels": 2,
   "unknown": [],
   "facts": [
-    {"kind": "loss", "order": 2, "channel": 1, "receiver": 2, "name": "audit", "lost": 2, "of": 3, "losses": 2, "end": "told", "places": [{"place": 4, "role": "cause", "line": 1, "actor": 0, "location": ["a.rs", 9, 5]}, {"place": 5, "role": "told", "line": 2, "actor": 1, "location": null}], "text": ["`audit` lost 2 of 3 values of `orders` (capacity 1) in 2 losses; the one told last, of 1:", "  step 4   orders.send(value 6)   actor 0  a.rs:9   overwrote \"first\", which audit had not read", "  step 5   told: lagged 1         audit             its last receive: none before", "  lost: \"first\""]},
-    {"kind": "loss", "order": 4, "channel": 1, "receiver": 1, "name": "receiver 1", "lost": 2, "of": 3, "losses": 1, "end": "open", "places": [{"place": 4, "role": "cause", "line": 1, "actor": 0, "location": ["a.rs", 9, 5]}, {"place": 7, "role": "end", "line": 2, "actor": null, "location": null}], "text": ["receiver 1 lost 2 of 3 values of `orders` (capacity 1)", "  step 4    orders.send(value 6)   actor 0  a.rs:9   overwrote \"first\", which receiver 1 had not read", "  the end   held, never read", "  lost: \"first\", value 6"]},
-    {"kind": "loss", "order": 4, "channel": 1, "receiver": 3, "name": "receiver 3", "lost": 1, "of": 2, "losses": 1, "end": "dropped", "places": [{"place": 4, "role": "cause", "line": 1, "actor": 0, "location": ["a.rs", 9, 5]}, {"place": 6, "role": "dropped", "line": 2, "actor": 1, "location": null}], "text": ["receiver 3 lost 1 of 2 values of `orders` (capacity 1)", "  step 4   orders.send(value 6)   actor 0  a.rs:9   overwrote \"first\", which receiver 3 had not read", "  step 6   held, never read       audit", "  lost: \"first\""]}
+    {"kind": "loss", "order": 2, "channel": 1, "receiver": 2, "name": "audit", "lost": 2, "of": 3, "losses": 2, "end": "told", "places": [{"place": 4, "role": "cause", "line": 1, "actor": 0, "location": ["a.rs", 9, 5]}, {"place": 5, "role": "told", "line": 2, "actor": 1, "location": null}], "text": ["`audit` lost 2 of 3 values of `orders` (capacity 1) in 2 losses; the one told last, of 1:", "  call 4   orders.send(value 6)   actor 0  a.rs:9   overwrote \"first\", which audit had not read", "  call 5   told: lagged 1         audit             its last receive: none before", "  lost: \"first\""]},
+    {"kind": "loss", "order": 4, "channel": 1, "receiver": 1, "name": "receiver 1", "lost": 2, "of": 3, "losses": 1, "end": "open", "places": [{"place": 4, "role": "cause", "line": 1, "actor": 0, "location": ["a.rs", 9, 5]}, {"place": 7, "role": "end", "line": 2, "actor": null, "location": null}], "text": ["receiver 1 lost 2 of 3 values of `orders` (capacity 1)", "  call 4    orders.send(value 6)   actor 0  a.rs:9   overwrote \"first\", which receiver 1 had not read", "  the end   held, never read", "  lost: \"first\", value 6"]},
+    {"kind": "loss", "order": 4, "channel": 1, "receiver": 3, "name": "receiver 3", "lost": 1, "of": 2, "losses": 1, "end": "dropped", "places": [{"place": 4, "role": "cause", "line": 1, "actor": 0, "location": ["a.rs", 9, 5]}, {"place": 6, "role": "dropped", "line": 2, "actor": 1, "location": null}], "text": ["receiver 3 lost 1 of 2 values of `orders` (capacity 1)", "  call 4   orders.send(value 6)   actor 0  a.rs:9   overwrote \"first\", which receiver 3 had not read", "  call 6   held, never read       audit", "  lost: \"first\""]}
   ],
   "rest": {"after": 3, "losses": {"receivers": 0, "values": 0}, "unlooked": {"receivers": 0, "changes": 0}, "unmarked": {"receivers": 0, "changes": 0}, "closings": 0, "text": null},
   "nothing": null,
   "waiting": [
-    {"actor": 0, "channel": 0, "handle": 0, "call": "closed", "since": 3, "location": ["a.rs", 9, 5], "text": "actor 0 in `channel 0: closed` since step 3, a.rs:9"}
+    {"actor": 0, "channel": 0, "handle": 0, "call": "closed", "since": 3, "location": ["a.rs", 9, 5], "text": "actor 0 in `channel 0: closed` since call 3, a.rs:9"}
   ],
   "losses": [
     {"channel": 1, "receiver": 1, "from": 4, "to": null, "lost": 2, "end": "open"},
@@ -138,7 +138,7 @@ fn why_prints_the_account_as_json() {
     assert_eq!(said, (0, wanted.to_string(), String::new()));
 }
 
-/// Names with the place of the send at step 4, in a package of a repository.
+/// Names with the place of call 4, a send, in a package of a repository.
 fn names_with_places() -> String {
     let more = r#", "locations": [["src/a b.rs", 9, 5]], "calls": {"1": [null, null, null, 0]}, "root": "/repo/bus"}"#;
     NAMES.strip_suffix('}').unwrap().to_string() + more
@@ -161,9 +161,9 @@ fn in_a_workflow_the_lines_have_commands() {
     };
     let plain = said(&[]);
     assert!(!plain.contains("::error") && plain.contains("  --> src/a b.rs:9:5\n"));
-    let wanted = r#"::error file=bus/src/a b.rs,line=9,col=5,title=`audit` lost 2 of 3 values of `orders` (capacity 1) in 2 losses; the one told last%2C of 1%3A::`audit` lost 2 of 3 values of `orders` (capacity 1) in 2 losses; the one told last, of 1:%0A  step 4   orders.send(value 6)   actor 0  src/a b.rs:9   overwrote "first", which audit had not read%0A  step 5   told: lagged 1         audit                   its last receive: none before%0A  lost: "first"
-::warning file=bus/src/a b.rs,line=9,col=5,title=receiver 1 lost 2 of 3 values of `orders` (capacity 1)::receiver 1 lost 2 of 3 values of `orders` (capacity 1)%0A  step 4    orders.send(value 6)   actor 0  src/a b.rs:9   overwrote "first", which receiver 1 had not read%0A  the end   held, never read%0A  lost: "first", value 6
-::warning file=bus/src/a b.rs,line=9,col=5,title=receiver 3 lost 1 of 2 values of `orders` (capacity 1)::receiver 3 lost 1 of 2 values of `orders` (capacity 1)%0A  step 4   orders.send(value 6)   actor 0  src/a b.rs:9   overwrote "first", which receiver 3 had not read%0A  step 6   held, never read       audit%0A  lost: "first"
+    let wanted = r#"::error file=bus/src/a b.rs,line=9,col=5,title=`audit` lost 2 of 3 values of `orders` (capacity 1) in 2 losses; the one told last%2C of 1%3A::`audit` lost 2 of 3 values of `orders` (capacity 1) in 2 losses; the one told last, of 1:%0A  call 4   orders.send(value 6)   actor 0  src/a b.rs:9   overwrote "first", which audit had not read%0A  call 5   told: lagged 1         audit                   its last receive: none before%0A  lost: "first"
+::warning file=bus/src/a b.rs,line=9,col=5,title=receiver 1 lost 2 of 3 values of `orders` (capacity 1)::receiver 1 lost 2 of 3 values of `orders` (capacity 1)%0A  call 4    orders.send(value 6)   actor 0  src/a b.rs:9   overwrote "first", which receiver 1 had not read%0A  the end   held, never read%0A  lost: "first", value 6
+::warning file=bus/src/a b.rs,line=9,col=5,title=receiver 3 lost 1 of 2 values of `orders` (capacity 1)::receiver 3 lost 1 of 2 values of `orders` (capacity 1)%0A  call 4   orders.send(value 6)   actor 0  src/a b.rs:9   overwrote "first", which receiver 3 had not read%0A  call 6   held, never read       audit%0A  lost: "first"
 "#;
     let look = "look: ";
     let beside = plain.replace(look, &format!("{wanted}{look}"));
@@ -175,7 +175,7 @@ fn in_a_workflow_the_lines_have_commands() {
 }
 
 /// What `why --sarif` prints of a run with one loss, with the properties that SARIF 2.1.0 requires.
-const SARIF: &str = r#"{"$schema": "https://docs.oasis-open.org/sarif/sarif/v2.1.0/errata01/os/schemas/sarif-schema-2.1.0.json", "version": "2.1.0", "runs": [{"tool": {"driver": {"name": "yovanelum", "version": "0.1.0", "rules": [{"id": "loss", "shortDescription": {"text": "A receiver lost values of a broadcast channel."}}, {"id": "unlooked", "shortDescription": {"text": "A receiver never looked at changes of a watch channel."}}, {"id": "unmarked", "shortDescription": {"text": "A receiver never marked changes of a watch channel as seen."}}, {"id": "closing", "shortDescription": {"text": "A channel closed while it had receivers."}}]}}, "columnKind": "unicodeCodePoints", "originalUriBaseIds": {"SRCROOT": {"uri": "file:///repo/bus/"}}, "invocations": [{"executionSuccessful": true, "toolExecutionNotifications": [{"level": "warning", "message": {"text": "not all is known: 1 channel left the run for later ones"}}]}], "results": [{"ruleId": "loss", "ruleIndex": 0, "level": "error", "message": {"text": "`audit` lost 1 of 2 values of `orders` (capacity 1)\n  step 2   orders.send(value 1)   actor 0  src/a b.rs:9   overwrote value 0, which audit had not read\n  step 3   told: lagged 1         audit                   its last receive: none before\n  lost: value 0"}, "locations": [{"physicalLocation": {"artifactLocation": {"uri": "src/a%20b.rs", "uriBaseId": "SRCROOT"}, "region": {"startLine": 9, "startColumn": 5}}}], "codeFlows": [{"threadFlows": [{"locations": [{"executionOrder": 1, "location": {"physicalLocation": {"artifactLocation": {"uri": "src/a%20b.rs", "uriBaseId": "SRCROOT"}, "region": {"startLine": 9, "startColumn": 5}}, "message": {"text": "step 2   orders.send(value 1)   actor 0  src/a b.rs:9   overwrote value 0, which audit had not read"}}}, {"executionOrder": 2, "location": {"message": {"text": "step 3   told: lagged 1         audit                   its last receive: none before"}}}]}]}]}]}]}
+const SARIF: &str = r#"{"$schema": "https://docs.oasis-open.org/sarif/sarif/v2.1.0/errata01/os/schemas/sarif-schema-2.1.0.json", "version": "2.1.0", "runs": [{"tool": {"driver": {"name": "yovanelum", "version": "0.1.0", "rules": [{"id": "loss", "shortDescription": {"text": "A receiver lost values of a broadcast channel."}}, {"id": "unlooked", "shortDescription": {"text": "A receiver never looked at changes of a watch channel."}}, {"id": "unmarked", "shortDescription": {"text": "A receiver never marked changes of a watch channel as seen."}}, {"id": "closing", "shortDescription": {"text": "A channel closed while it had receivers."}}]}}, "columnKind": "unicodeCodePoints", "originalUriBaseIds": {"SRCROOT": {"uri": "file:///repo/bus/"}}, "invocations": [{"executionSuccessful": true, "toolExecutionNotifications": [{"level": "warning", "message": {"text": "not all is known: 1 channel left the run for later ones"}}]}], "results": [{"ruleId": "loss", "ruleIndex": 0, "level": "error", "message": {"text": "`audit` lost 1 of 2 values of `orders` (capacity 1)\n  call 2   orders.send(value 1)   actor 0  src/a b.rs:9   overwrote value 0, which audit had not read\n  call 3   told: lagged 1         audit                   its last receive: none before\n  lost: value 0"}, "locations": [{"physicalLocation": {"artifactLocation": {"uri": "src/a%20b.rs", "uriBaseId": "SRCROOT"}, "region": {"startLine": 9, "startColumn": 5}}}], "codeFlows": [{"threadFlows": [{"locations": [{"executionOrder": 1, "location": {"physicalLocation": {"artifactLocation": {"uri": "src/a%20b.rs", "uriBaseId": "SRCROOT"}, "region": {"startLine": 9, "startColumn": 5}}, "message": {"text": "call 2   orders.send(value 1)   actor 0  src/a b.rs:9   overwrote value 0, which audit had not read"}}}, {"executionOrder": 2, "location": {"message": {"text": "call 3   told: lagged 1         audit                   its last receive: none before"}}}]}]}]}]}]}
 "#;
 
 #[test]
@@ -196,7 +196,7 @@ fn open_writes_the_page_and_why_then_leads_to_it() {
     let folder = Folder::new("open #1");
     let path = journal_in(&folder);
     let page = path.with_extension("html");
-    let address = format!("{}#place=4", address(&page));
+    let address = format!("{}#call=4", address(&page));
     let address = address.replace("open #1", "open%20%231");
     let (status, out, told) = run(&folder.0, &["open", "orders.journal"]);
     assert_eq!((status, out.as_str()), (0, "orders.html\n"));

@@ -77,15 +77,15 @@ error: `worker` lost 1 of 4 values of `jobs` (capacity 2)
   --> tests/failing.rs:NN:35
 note: the panic, it had not been told by then
   --> tests/failing.rs:NN:9
-  step 7      jobs.send(value 3)   desk                            tests/failing.rs:NN   overwrote value 1, which worker had not read
-  the panic   not told             a_loss_that_nobody_was_told_of  tests/failing.rs:NN   its last receive: step 3, value 0
+  call 7      jobs.send(value 3)   desk                            tests/failing.rs:NN   overwrote value 1, which worker had not read
+  the panic   not told             a_loss_that_nobody_was_told_of  tests/failing.rs:NN   its last receive: call 3, value 0
   lost: value 1
 warning: `log` lost 1 of 4 values of `jobs` (capacity 2)
   --> tests/failing.rs:NN:35
-  step 7   jobs.send(value 3)    desk                            tests/failing.rs:NN   overwrote value 1, which log had not read
-  step 8   dropped: never told   a_loss_that_nobody_was_told_of                        its last receive: step 4, value 0
+  call 7   jobs.send(value 3)    desk                            tests/failing.rs:NN   overwrote value 1, which log had not read
+  call 8   dropped: never told   a_loss_that_nobody_was_told_of                        its last receive: call 4, value 0
   lost: value 1
-look: file://DIR/untold.html#place=7
+look: file://DIR/untold.html#call=7
 ";
     let source = include_str!("failing.rs");
     let failed = line_after(source, "// The test fails here.");
@@ -109,25 +109,25 @@ fn three_receivers_of_a_hundred_are_told_of() {
         panic!("the test fails");
     }
     let wanted = "\
-error: receiver 1 (made at tests/failing.rs:NN) lost 1 of 2 values of `orders` (capacity 1)
+error: receiver 1 (created at tests/failing.rs:NN) lost 1 of 2 values of `orders` (capacity 1)
   --> tests/failing.rs:NN:35
 note: the panic, it had not been told by then
   --> tests/failing.rs:NN:9
-  step 101    orders.send(value 1)   desk                                      tests/failing.rs:NN    overwrote value 0, which receiver 1 had not read
+  call 101    orders.send(value 1)   desk                                      tests/failing.rs:NN    overwrote value 0, which receiver 1 had not read
   the panic   held, never read       three_receivers_of_a_hundred_are_told_of  tests/failing.rs:NN
   lost: value 0
-warning: receiver 2 (made at tests/failing.rs:NN) lost 1 of 2 values of `orders` (capacity 1)
+warning: receiver 2 (created at tests/failing.rs:NN) lost 1 of 2 values of `orders` (capacity 1)
   --> tests/failing.rs:NN:35
-  step 101    orders.send(value 1)   desk                                      tests/failing.rs:NN    overwrote value 0, which receiver 2 had not read
+  call 101    orders.send(value 1)   desk                                      tests/failing.rs:NN    overwrote value 0, which receiver 2 had not read
   the panic   held, never read       three_receivers_of_a_hundred_are_told_of  tests/failing.rs:NN
   lost: value 0
-warning: receiver 3 (made at tests/failing.rs:NN) lost 1 of 2 values of `orders` (capacity 1)
+warning: receiver 3 (created at tests/failing.rs:NN) lost 1 of 2 values of `orders` (capacity 1)
   --> tests/failing.rs:NN:35
-  step 101    orders.send(value 1)   desk                                      tests/failing.rs:NN    overwrote value 0, which receiver 3 had not read
+  call 101    orders.send(value 1)   desk                                      tests/failing.rs:NN    overwrote value 0, which receiver 3 had not read
   the panic   held, never read       three_receivers_of_a_hundred_are_told_of  tests/failing.rs:NN
   lost: value 0
 and 97 more receivers lost 97 values
-look: file://DIR/hundred.html#place=101
+look: file://DIR/hundred.html#call=101
 ";
     let source = include_str!("failing.rs");
     let first = line_after(source, "// The first receiver is made here.");
@@ -155,11 +155,11 @@ fn a_close_that_a_receiver_missed() {
     let wanted = "\
 error: `orders` closed, and 1 of 2 receivers were told
   --> tests/failing.rs:NN:35
-  step 3   dropped the last sender   desk
-  step 5   told: closed              audit  tests/failing.rs:NN   after 1 more value
+  call 3   dropped the last sender   desk
+  call 5   told: closed              audit  tests/failing.rs:NN   after 1 more value
   not told: `screen`
 yovanelum: no value was lost in 6 calls on 1 channel
-look: file://DIR/closed.html#place=3
+look: file://DIR/closed.html#call=3
 ";
     assert_said("a_close_that_a_receiver_missed", &[RECEIVE; 2], wanted);
 }
@@ -181,9 +181,9 @@ fn a_watch_whose_changes_were_never_looked_at() {
     let wanted = "\
 error: `worker` never looked at 2 of 2 changes of `state`
   --> tests/failing.rs:NN:50
-  step 2   state.send(\"closed\")   desk  tests/failing.rs:NN   the last change
+  call 2   state.send(\"closed\")   desk  tests/failing.rs:NN   the last change
 yovanelum: no value was lost in 2 calls on 1 channel
-look: file://DIR/unseen.html#place=2
+look: file://DIR/unseen.html#call=2
 ";
     let at = line_after(include_str!("failing.rs"), "// The state is sent here.");
     assert_said(
@@ -255,7 +255,7 @@ fn a_test_that_returns_an_error_is_told_of() {
     let folder = Folder::new(test);
     let wanted = [
         "yovanelum: no value was lost in 3 calls on 1 channel",
-        "look: file://DIR/result.html#place=1",
+        "look: file://DIR/result.html#call=1",
     ];
     assert_eq!(
         played(test, &folder),
@@ -306,7 +306,7 @@ fn a_second_panic_while_one_unwinds_writes_nothing() {
     let (succeeds, said) = played(test, &folder);
     let wanted = [
         "yovanelum: no value was lost in 2 calls on 1 channel",
-        "look: file://DIR/first.html#place=2",
+        "look: file://DIR/first.html#call=2",
     ];
     assert_eq!((succeeds, said), (false, wanted.map(String::from).into()));
     let files = fs::read_dir(files(&folder.0)).unwrap();
@@ -331,7 +331,7 @@ fn the_page_is_the_one_that_page_open_writes() {
     let folder = Folder::new(test);
     let (succeeds, said) = played(test, &folder);
     assert!(
-        !succeeds && said[1] == "look: file://DIR/a%252Fb.html#place=1",
+        !succeeds && said[1] == "look: file://DIR/a%252Fb.html#call=1",
         "{said:#?}"
     );
     let journal = files(&folder.0).join("a%2Fb.journal");

@@ -231,15 +231,15 @@ fn a_test_that_was_edited_parts_and_says_where() {
     let (succeeds, said) = part.replay(|part| {
         part.env(EDITED, "looks first");
     });
-    let parted = format!(
-        "parted at #8 of 9: expected `try-recv 1` on `bids` by `{test}` at tests/replayed.rs:{}, \
+    let diverges = format!(
+        "diverges at call 8 of 9: expected `try-recv 1` on `bids` by `{test}` at tests/replayed.rs:{}, \
          came `receiver-len 1` on `bids` by `{test}` at tests/replayed.rs:{}",
         LOOK + 2,
         LOOK
     );
     let wanted = [
-        format!("yovanelum: the replay {parted}; from here on, calls are in no order"),
-        format!("{LINE}{parted}; the test passed"),
+        format!("yovanelum: the replay {diverges}; from here on, calls are in no order"),
+        format!("{LINE}{diverges}; the test passed"),
     ];
     // Out of order, either is the first.
     assert_eq!(&said[..1], &wanted[..1]);
@@ -348,7 +348,7 @@ fn that_no_recorder_follows_is_said_once() {
         part.env("YOVANELUM_REPLAY", "built/any.journal");
     });
     let line = format!(
-        "yovanelum: YOVANELUM_REPLAY is set, and no recorder follows it for the channel that is made at \
+        "yovanelum: YOVANELUM_REPLAY is set, and no recorder follows it for the channel that is created at \
          tests/replayed.rs:{MADE}: its calls are in no order"
     );
     assert_eq!(said, (true, vec![line]));

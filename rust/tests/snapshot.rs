@@ -289,7 +289,7 @@ fn a_person_reads_a_table() {
         let width = at(made).len();
         let wanted = format!(
             "  receiver     unread  lag  lost  {:width$}  {:width$}  call  waits",
-            "made at", "received at"
+            "created at", "received at"
         );
         assert_eq!(lines[1], wanted);
         let wanted = format!(

@@ -14,7 +14,7 @@ fn played(test: &str, folder: &Path, keep: Option<&str>) -> (bool, Vec<String>) 
 }
 
 /// Returns the lines about a run of one send. Asserts that the journal, its names and the page with both exist.
-fn kept(name: &str, test: &str, folder: &Path, place: u64) -> Vec<String> {
+fn kept(name: &str, test: &str, folder: &Path, call: u64) -> Vec<String> {
     let path = parts::files(folder).join(format!("{name}.journal"));
     let journal = fs::read_to_string(&path).unwrap();
     assert!(journal.contains(" send 0 0 = sent 1\n"), "{journal}");
@@ -24,7 +24,7 @@ fn kept(name: &str, test: &str, folder: &Path, place: u64) -> Vec<String> {
     // The entries are the send and two drops, the receiver's first.
     vec![
         "yovanelum: no value was lost in 3 calls on 1 channel".to_string(),
-        format!("look: {}#place={place}", parts::address(&page)),
+        format!("look: {}#call={call}", parts::address(&page)),
         replay_line(&path, test),
     ]
 }

@@ -75,7 +75,7 @@ fn a_test_that_hangs_says_who_waits_and_goes_on() {
                 "yovanelum: still waiting: worker in `state.wait_for`, {}:{WORKER_WAITS_AT}",
                 file!()
             ),
-            format!("look: {}#place=1", address(&path.with_extension("html"))),
+            format!("look: {}#call=1", address(&path.with_extension("html"))),
         ];
         assert_eq!(said, wanted);
         let journal = fs::read_to_string(&path).unwrap();

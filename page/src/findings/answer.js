@@ -6,8 +6,8 @@ import { countOf } from "../base/numbers.js";
 import { visible } from "../base/text.js";
 import { sourceLink } from "./source_links.js";
 
-// What a step's line begins with.
-const STEP = /^ {2}(step \d+|the panic|the error|the end)/;
+// What the line of a call begins with. Accounts of earlier versions say `step 3`.
+const STEP = /^ {2}((?:call|step) \d+|the panic|the error|the end)/;
 
 // A text with the place in the sources that stands in it as a link, after what is before it in its line.
 function withSource(run, text, place, before) {
@@ -50,7 +50,7 @@ function factParts(run, { facts, rest }) {
 
 // A call that waits. What it waits in leads to where it began.
 function waitLine(run, { text, since, location }) {
-  const began = /^(.*? since (?:step \d+|the start))(.*)$/s.exec(text);
+  const began = /^(.*? since (?:(?:call|step) \d+|the start))(.*)$/s.exec(text);
   const [lead, rest] = began ? began.slice(1) : [text, ""];
   const go = element("button", { type: "button", "data-place": since, title: "go to where it began to wait" }, visible(lead));
   return element("bdi", { class: "line" }, "  ", go, ...withSource(run, rest, location, ", "));

@@ -1,4 +1,4 @@
-// The page's address, as `#place=42&view=10-74&fold=0.3&filter=jobs&order=number&stop=lagging+0+2`, so that a link leads to a place and to what is in
+// The page's address, as `#call=42&view=10-74&fold=0.3&filter=jobs&order=number&stop=lagging+0+2`, so that a link leads to a call and to what is in
 // view there; and the steps of the browser's history. Each step belongs to a run, by its key.
 
 const QUIET = 250;
@@ -12,7 +12,8 @@ let timer = 0;
 /** @returns {Address} */
 export function readAddress(address) {
   const parts = new URLSearchParams(new URL(address).hash.slice(1));
-  const place = parts.get("place");
+  // Addresses of earlier pages have `place`.
+  const place = parts.get("call") ?? parts.get("place");
   const view = VIEW.exec(parts.get("view") ?? "");
   return {
     place: place === null && !parts.has("view") ? null : NUMBER.test(place ?? "") ? Number(place) : 0,
@@ -26,7 +27,7 @@ export function readAddress(address) {
 
 /** @param {Address} address */
 function hashOf({ place, view, fold, filter, order, stop }) {
-  const parts = new URLSearchParams({ place: String(place), view: view.join("-") });
+  const parts = new URLSearchParams({ call: String(place), view: view.join("-") });
   for (const [name, text] of Object.entries({ fold, filter, order, stop })) if (text !== null) parts.set(name, text);
   return `#${parts}`;
 }

@@ -3,7 +3,7 @@
 use crate::arguments::Arguments;
 use crate::expression::{Expression, Thing, thing_of};
 use crate::moves::Debuggee;
-use crate::shown::text_of;
+use crate::shown::{after, text_of};
 use crate::variables::Group;
 use crate::{Answer, Refusal};
 use serde_json::{Value, json};
@@ -20,11 +20,11 @@ const WORDS: [&str; 23] = [
 const MOST_LISTED: u32 = 10_000;
 
 const HELP: &str = "\
-back [N], forward [N], goto N, start, end   go to another step
-rback CONDITION, rforward CONDITION         go to the nearest step that meets it
+back [N], forward [N], goto N, start, end   go to another call
+rback CONDITION, rforward CONDITION         go to the nearest call that meets it
 hits CONDITION                              count these up to here
 step, state, list, why                      print the call, the channels, all calls, the report
-An expression prints its value: audit, audit.lag, orders.queued, reply, call, actor, step
+An expression prints its value: audit, audit.lag, orders.queued, reply, call, actor, number
 Conditions: lagging R, unread R N, unseen R, closed C, queue C N, version C N, actor A, channel C, reply WORD";
 
 impl Debuggee {
@@ -49,7 +49,7 @@ impl Debuggee {
     fn value_of(&self, text: &str, at: u32) -> Answer {
         let expression = Expression::read(text, &self.recording)?;
         let value = expression.value(&self.recording);
-        let value = value.ok_or_else(|| Refusal(format!("there is no `{text}` at step {at}")))?;
+        let value = value.ok_or_else(|| Refusal(format!("there is no `{text}` {}", after(at))))?;
         Ok(json!({"result": value.to_string(), "variablesReference": 0}))
     }
 
@@ -89,7 +89,7 @@ impl Debuggee {
             ("hits", _) => {
                 let condition = self.condition(rest)?;
                 let hits = self.recording.at(self.place).hits_so_far(&condition);
-                format!("{hits} of `{condition}` up to place {}", self.place)
+                format!("{hits} of `{condition}` up to call {}", self.place)
             }
             ("why", "") => self.recording.names.report().trim_end().to_string(),
             ("help", "") => HELP.to_string(),

@@ -77,7 +77,7 @@ impl Field {
 #[derive(Clone, Debug)]
 pub(crate) enum Operand {
     Known(Value),
-    Step,
+    Number,
     Actor,
     Call,
     Reply,
@@ -167,7 +167,7 @@ impl Operand {
         let entry = || walk.entry(place);
         Some(match self {
             Operand::Known(value) => value.clone(),
-            Operand::Step => Value::Number(place),
+            Operand::Number => Value::Number(place),
             Operand::Actor => Value::Text(names.actor(entry()?.actor())),
             Operand::Call => Value::Text(names.call(place, &entry()?)),
             Operand::Reply => Value::Text(names.reply(&entry()?)),

@@ -36,7 +36,7 @@ pub(crate) enum StopAt {
     Cause,
     Start,
     End,
-    Step(u32),
+    Call(u32),
 }
 
 impl Launch {
@@ -144,15 +144,15 @@ impl Launch {
 }
 
 fn stop_at(given: Arguments<'_>) -> Answer<StopAt> {
-    if let Ok(Some(step)) = given.number("stopAt") {
-        return Ok(StopAt::Step(u32::try_from(step).unwrap_or(u32::MAX)));
+    if let Ok(Some(call)) = given.number("stopAt") {
+        return Ok(StopAt::Call(u32::try_from(call).unwrap_or(u32::MAX)));
     }
     match given.text("stopAt")? {
         None | Some("cause") => Ok(StopAt::Cause),
         Some("start") => Ok(StopAt::Start),
         Some("end") => Ok(StopAt::End),
         Some(_) => Err(Refusal::new(
-            "`stopAt` is `cause`, `start`, `end` or a step",
+            "`stopAt` is `cause`, `start`, `end` or the number of a call",
         )),
     }
 }

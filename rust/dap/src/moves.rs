@@ -285,7 +285,7 @@ impl Debuggee {
         places.truncate(20);
         places.sort_unstable();
         let targets = places.into_iter().map(|place| {
-            let label = format!("step {place}: {}", self.call_text(place));
+            let label = format!("call {place}: {}", self.call_text(place));
             json!({"id": place, "label": label, "line": self.bases.shown_line(line.into())})
         });
         Ok(json!({"targets": targets.collect::<Vec<_>>()}))

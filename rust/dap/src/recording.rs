@@ -49,7 +49,7 @@ pub(crate) struct Recording {
     pub(crate) facts: Vec<Fact>,
     pub(crate) losses: Vec<Loss>,
     pub(crate) waits: Vec<Wait>,
-    /// Each receiver that was made, as channel and handle.
+    /// Each receiver that was created, as channel and handle.
     pub(crate) receivers: BTreeSet<(u32, u32)>,
     /// What the names of receivers, channels and actors stand for.
     pub(crate) things: BTreeMap<String, Thing>,
@@ -75,7 +75,7 @@ impl Recording {
         let mut warnings = journal.warnings.clone();
         warnings.extend(opened.cut_off.map(|_| {
             let calls = opened.walk.len();
-            format!("{path} was cut off; the {calls} calls of its whole lines are here")
+            format!("{path} is truncated; the {calls} calls of its whole lines are here")
         }));
         let fault = opened.names_fault.as_ref();
         let names = journal.names_path.display();
@@ -234,7 +234,7 @@ impl Recording {
     }
 }
 
-/// Returns the handle that a call made, if it made one.
+/// Returns the handle that a call created, if it created one.
 fn new_handle(entry: &Entry) -> Option<u32> {
     let made = entry.returned().filter(|_| entry.reply() == "new")?;
     u32::try_from(made).ok()

@@ -216,7 +216,7 @@ impl<W: Write> Session<W> {
             StopAt::Cause => recording.names.look() as u32,
             StopAt::Start => 0,
             StopAt::End => last,
-            StopAt::Step(step) => step,
+            StopAt::Call(call) => call,
         };
         let debuggee = Debuggee::new(recording, self.bases, place.min(last));
         for line in debuggee.report_lines() {

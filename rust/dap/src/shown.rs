@@ -75,7 +75,7 @@ impl Debuggee {
         let call = self.call_text(place);
         let (name, at) = match is_top {
             true => (call, self.place),
-            false => (format!("step {place}: {call}"), place),
+            false => (format!("call {place}: {call}"), place),
         };
         let mut frame = self.numbered(
             Frame {
@@ -96,7 +96,7 @@ impl Debuggee {
         frame
     }
 
-    /// The compiler calls a drop, so that has the line at which its handle was made.
+    /// The compiler calls a drop, so that has the line at which its handle was created.
     fn made_at(&self, place: u32) -> Option<usize> {
         let entry = self.recording.entry(place)?;
         self.recording.names.made(entry.channel(), entry.handle())
@@ -183,12 +183,12 @@ impl Debuggee {
         let mut scopes = vec![];
         if let Some(call) = call {
             let group = self.numbered_group(Group::Call(call));
-            scopes.push(json!({"name": format!("Call (step {call})"), "presentationHint": "arguments", "variablesReference": group, "expensive": false}));
+            scopes.push(json!({"name": format!("Call {call}"), "presentationHint": "arguments", "variablesReference": group, "expensive": false}));
         }
         let others = (0..self.recording.walk().channels()).filter(|channel| Some(*channel) != own);
         for channel in own.into_iter().chain(others) {
             let group = self.numbered_group(Group::Channel(channel, at));
-            let name = format!("{} at step {at}", self.recording.names.channel(channel));
+            let name = format!("{} {}", self.recording.names.channel(channel), after(at));
             scopes.push(json!({"name": name, "presentationHint": "locals", "variablesReference": group, "expensive": false}));
         }
         if at == self.recording.len() && !self.recording.waits.is_empty() {
@@ -215,7 +215,7 @@ impl Debuggee {
             let receiver = names.receiver(loss.channel, loss.receiver);
             let (lost, channel) = (loss.lost, names.channel(loss.channel));
             return Some(format!(
-                "`{receiver}` lost {lost} of the values of `{channel}`; the first was overwritten at step {}",
+                "`{receiver}` lost {lost} of the values of `{channel}`; the first was overwritten by call {}",
                 loss.from
             ));
         }
@@ -227,7 +227,7 @@ impl Debuggee {
     pub(crate) fn exception_info(&self) -> Answer {
         let text = self
             .exception()
-            .ok_or_else(|| Refusal::new("nothing was found at this step"))?;
+            .ok_or_else(|| Refusal::new("nothing was found at this call"))?;
         let entry = self.recording.entry(self.place);
         let told = entry.map(|entry| entry.reply());
         let told = told.filter(|reply| matches!(*reply, "lagged" | "closed"));
@@ -238,6 +238,14 @@ impl Debuggee {
             "breakMode": "always",
             "details": {"message": text, "typeName": id, "stackTrace": self.recording.names.report()},
         }))
+    }
+}
+
+/// Says at which place something is shown: after the call that leads to it.
+pub(crate) fn after(place: u32) -> String {
+    match place {
+        0 => "before the first call".to_string(),
+        call => format!("after call {call}"),
     }
 }
 

@@ -51,7 +51,7 @@ impl Debuggee {
         };
         let targets = found.into_iter().map(|(place, what)| Target {
             place,
-            label: format!("step {place}: {what}, {}", self.call_text(place)),
+            label: format!("call {place}: {what}, {}", self.call_text(place)),
         });
         targets.collect()
     }

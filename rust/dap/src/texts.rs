@@ -10,17 +10,17 @@ use std::collections::BTreeSet;
 const LAST_LINE: u32 = 100_000;
 
 impl Debuggee {
-    /// Returns the lines of the report, as events that the client prints. Those of steps can be followed to their places.
+    /// Returns the lines of the report, as events that the client prints. Those of calls can be followed to their places in the sources.
     pub(crate) fn report_lines(&self) -> Vec<Value> {
         let lines = self.recording.names.report().lines();
         let lines = lines.map(|line| {
             let mut body = json!({"category": "console", "output": format!("{line}\n")});
-            let step = line
-                .strip_prefix("  step ")
+            let call = line
+                .strip_prefix("  call ")
                 .and_then(|rest| rest.split(' ').next()?.parse().ok());
             self.put_location(
                 &mut body,
-                step.and_then(|step| self.recording.location(step)),
+                call.and_then(|call| self.recording.location(call)),
             );
             body
         });

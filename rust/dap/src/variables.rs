@@ -91,7 +91,7 @@ impl Debuggee {
             variable("reply", names.reply(&entry)),
             variable("actor", names.actor(entry.actor())),
             variable("by", by),
-            variable("step", format!("{call} of {}", self.recording.len())),
+            variable("number", format!("{call} of {}", self.recording.len())),
         ];
         let value = entry
             .value()
@@ -273,7 +273,7 @@ impl Debuggee {
             .made(channel, handle)
             .and_then(|made| self.recording.names.locations().get(made))
         {
-            variables.push(variable("made at", format!("{}:{}", at.file, at.line)));
+            variables.push(variable("created at", format!("{}:{}", at.file, at.line)));
         }
         variables
     }

@@ -50,7 +50,7 @@ fn journals_that_are_no_runs_are_refused_and_cut_off_ones_salvaged() {
     fs::write(cut_off.with_extension("names"), &names).unwrap();
     let said = warned_of_all(json!({"journal": cut_off}));
     assert!(
-        said.contains("cut.journal was cut off; the 8 calls of its whole lines are here\n"),
+        said.contains("cut.journal is truncated; the 8 calls of its whole lines are here\n"),
         "{said}"
     );
 }

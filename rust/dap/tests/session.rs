@@ -42,8 +42,8 @@ fn a_loss_is_followed_to_its_cause_and_back() {
         names(&Value::from(frames.clone())),
         [
             "prices.send(\"103 EUR\") = sent 1",
-            "step 2: prices.send(\"102 EUR\") = sent 1",
-            "step 1: prices.send(\"101 EUR\") = sent 1",
+            "call 2: prices.send(\"102 EUR\") = sent 1",
+            "call 1: prices.send(\"101 EUR\") = sent 1",
         ]
     );
     assert_eq!(frames[0]["line"], lines.send);
@@ -81,7 +81,7 @@ fn a_loss_is_followed_to_its_cause_and_back() {
         client.frames(TICKER)[0]["name"],
         "prices.send(\"103 EUR\") = sent 1"
     );
-    // The price that was sent here is received at step 7.
+    // The price that was sent here is received by call 7.
     client.go("stepIn", json!({"threadId": TICKER}));
     assert_eq!(
         client.frames(AUDITOR)[0]["name"],
@@ -127,7 +127,7 @@ fn variables_are_those_of_the_frame_that_is_looked_at() {
     let scopes = client.ask("scopes", json!({"frameId": frames[0]["id"]}));
     assert_eq!(
         names(&scopes["scopes"]),
-        ["Call (step 3)", "prices at step 3", "What was found"]
+        ["Call 3", "prices after call 3", "What was found"]
     );
     let of = |scopes: &Value, index: usize| json!({"variablesReference": scopes["scopes"][index]["variablesReference"]});
     let call = client.ask("variables", of(&scopes, 0));
@@ -186,7 +186,7 @@ fn breakpoints_of_each_kind_stop_in_both_directions() {
             {"line": lines.send - 1, "condition": "auditor.unread >= 2", "hitCondition": "2"},
             {"line": 1_000_000},
             {"line": lines.recv, "condition": "auditor.unread >"},
-            {"line": lines.recv, "logMessage": "{{{step}}: {call} -> {reply}, {auditor}"},
+            {"line": lines.recv, "logMessage": "{{{number}}: {call} -> {reply}, {auditor}"},
         ]}),
     );
     let set = &set["breakpoints"];
@@ -202,7 +202,7 @@ fn breakpoints_of_each_kind_stop_in_both_directions() {
     let place = |client: &mut Client| {
         client.ask(
             "evaluate",
-            json!({"expression": "step", "context": "watch"}),
+            json!({"expression": "number", "context": "watch"}),
         )["result"]
             .clone()
     };
@@ -223,7 +223,7 @@ fn breakpoints_of_each_kind_stop_in_both_directions() {
         set["breakpoints"][2]["message"],
         "the run has no call of `auditor.recv`"
     );
-    // The ticker drops its sender at step 4.
+    // The ticker drops its sender in call 4.
     let stop = client.go("continue", json!({"threadId": TICKER}));
     assert_eq!(
         (&stop["reason"], place(&mut client)),
@@ -258,6 +258,9 @@ fn breakpoints_of_each_kind_stop_in_both_directions() {
     );
     client.go("reverseContinue", json!({"threadId": AUDITOR}));
     assert_eq!(place(&mut client), "2");
+    // The older word for the number of the call.
+    let older = json!({"expression": "step", "context": "watch"});
+    assert_eq!(client.ask("evaluate", older)["result"], "2");
 }
 
 #[test]
@@ -269,7 +272,7 @@ fn log_points_print_in_both_directions() {
     client.ask(
         "setBreakpoints",
         json!({"source": {"path": this_file()}, "breakpoints": [
-            {"line": lines.send, "logMessage": "{{{step}}}: {call} -> {reply}, {auditor}"},
+            {"line": lines.send, "logMessage": "{{{number}}}: {call} -> {reply}, {auditor}"},
         ]}),
     );
     let mut printed = |command: &str, wanted: [u64; 3]| {
@@ -309,7 +312,7 @@ fn the_console_has_the_words_of_ttd_with_names() {
     assert_eq!(client.console("rforward reply lagged"), "hit 5 of 9");
     assert_eq!(
         client.console("hits actor ticker"),
-        "4 of `actor 0` up to place 5"
+        "4 of `actor 0` up to call 5"
     );
     assert_eq!(client.console("rback unread auditor 2"), "hit 2 of 9");
     assert_eq!(client.console("goto 10"), "out of range, place 2 of 9");
@@ -353,7 +356,7 @@ fn the_console_has_the_words_of_ttd_with_names() {
     );
     assert_eq!(
         targets["targets"][2]["label"],
-        "step 3: prices.send(\"103 EUR\") = sent 1"
+        "call 3: prices.send(\"103 EUR\") = sent 1"
     );
     client.go("goto", json!({"threadId": TICKER, "targetId": 3}));
     assert_eq!(client.console("prices.queued"), "2");

@@ -145,9 +145,9 @@ pub struct Replayed {
 }
 
 impl Replayed {
-    /// Whether it has failed: by a panic, or where it is to hang, by that. One that is ended may be one that is slow, so it must not have parted.
+    /// Whether it has failed: by a panic, or where it is to hang, by that. One that is ended may be one that is slow, so it must not have diverged.
     pub fn fails(&self, hangs: bool) -> bool {
-        let is_ended = hangs && self.code == Some(124) && !self.said.contains("parted");
+        let is_ended = hangs && self.code == Some(124) && !self.said.contains("diverges");
         is_ended || self.code == Some(101)
     }
 }

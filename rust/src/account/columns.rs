@@ -39,16 +39,16 @@ mod tests {
     #[test]
     fn the_columns_are_aligned() {
         let steps = [
-            ["step 3", "é.send(1)", "ticker", "a.rs:15", "b"],
-            ["step 17", "told", "auditor", "", ""],
+            ["call 3", "é.send(1)", "ticker", "a.rs:15", "b"],
+            ["call 17", "told", "auditor", "", ""],
         ];
         let steps = steps.map(|cells| cells.map(String::from));
         let wanted = [
-            "  step 3    é.send(1)   ticker   a.rs:15   b",
-            "  step 17   told        auditor",
+            "  call 3    é.send(1)   ticker   a.rs:15   b",
+            "  call 17   told        auditor",
         ];
         assert_eq!(aligned(steps.iter()), wanted);
-        let step = ["step 1", "told", "x", "", "d"].map(String::from);
-        assert_eq!(aligned([step].iter()), ["  step 1   told   x  d"]);
+        let step = ["call 1", "told", "x", "", "d"].map(String::from);
+        assert_eq!(aligned([step].iter()), ["  call 1   told   x  d"]);
     }
 }

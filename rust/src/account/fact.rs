@@ -39,7 +39,7 @@ impl Role {
         }
     }
 
-    /// What it is in a sentence that tells of its place in the sources alone.
+    /// What it is in a sentence with nothing but its place in the sources.
     pub(crate) fn sentence(self) -> &'static str {
         match self {
             Role::Cause => "the send that overwrote the first of them",
@@ -54,7 +54,7 @@ impl Role {
     }
 }
 
-/// A step of the run that a fact tells of.
+/// A step of the run that a fact tells of: a call, or what ended the test or the run.
 #[derive(Debug)]
 pub(crate) struct Step {
     pub(crate) place: u64,
@@ -66,7 +66,7 @@ pub(crate) struct Step {
 }
 
 impl Step {
-    /// Which step it is, as `step 3` or `the panic`.
+    /// Which step it is, as `call 3` or `the panic`.
     pub(crate) fn name(&self) -> &str {
         &self.cells[0]
     }
@@ -86,7 +86,7 @@ pub(crate) struct Fact {
     pub(crate) last: Option<String>,
     /// The steps whose places in the sources are worth looking at, the one that is worth most first.
     pub(crate) sights: Vec<usize>,
-    /// The place that is worth looking at.
+    /// The call that is worth looking at.
     pub(crate) look: u64,
 }
 

@@ -241,7 +241,7 @@ impl ChannelHistory {
         }
     }
 
-    /// Returns a handle that was made.
+    /// Returns a handle that was created.
     pub(super) fn handle(&self, handle: u32) -> Option<&HandleHistory> {
         self.handles.get(handle as usize)
     }

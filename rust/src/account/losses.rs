@@ -256,5 +256,5 @@ fn last_receive(context: &Context<'_>, lost: &Lost) -> String {
         return "its last receive: none before".to_string();
     }
     let value = context.naming.returned(&context.run.entry(place));
-    format!("its last receive: step {place}, {value}")
+    format!("its last receive: {}, {value}", visible::call(place))
 }

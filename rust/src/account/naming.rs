@@ -17,7 +17,7 @@ pub(super) struct Naming<'a> {
 pub(super) struct Called {
     /// As `auditor`, or `receiver 2`.
     pub(super) short: String,
-    /// The same where it is first told of, as `auditor` between backquotes, or `receiver 2 (made at tests/bus.rs:9)`.
+    /// The same where it is first told of, as `auditor` between backquotes, or `receiver 2 (created at tests/bus.rs:9)`.
     pub(super) full: String,
 }
 
@@ -80,14 +80,14 @@ impl<'a> Naming<'a> {
             return Called::named(self.actor(actor), first_call);
         }
         let short = format!("receiver {receiver}");
-        let full = match self.made_at(channel, receiver) {
-            Some(location) => format!("{short} (made at {location})"),
+        let full = match self.created_at(channel, receiver) {
+            Some(location) => format!("{short} (created at {location})"),
             None => short.clone(),
         };
         Called { short, full }
     }
 
-    fn made_at(&self, channel: u32, handle: u32) -> Option<String> {
+    fn created_at(&self, channel: u32, handle: u32) -> Option<String> {
         let made = self.names.made.get(&channel.into())?;
         self.location(*made.get(&handle.into())?)
     }

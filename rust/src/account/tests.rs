@@ -92,8 +92,8 @@ fn a_drop_after_the_panic_is_no_end_of_a_loss() {
     let found = account(&["broadcast 1"], &FOUR, &format!("{FOUR_NAMES}{panics}"));
     let wanted = [
         "`a` lost 1 of 3 values of `bus` (capacity 1)",
-        "  step 7      bus.send(value 2)   main  overwrote value 1, which a had not read",
-        "  the panic   not told            main  a.rs:5   its last receive: step 5, value 0",
+        "  call 7      bus.send(value 2)   main  overwrote value 1, which a had not read",
+        "  the panic   not told            main  a.rs:5   its last receive: call 5, value 0",
         "  lost: value 1",
     ];
     let text = found.facts.last().unwrap().text();
@@ -103,7 +103,7 @@ fn a_drop_after_the_panic_is_no_end_of_a_loss() {
         .map(|line| line.replace("main           overwrote", "main  overwrote"))
         .collect();
     assert_eq!(text, wanted);
-    // The close at step 12 isn't told, since the drop of the sender is of the unwinding.
+    // The close at call 12 isn't told, since the drop of the sender is of the unwinding.
     assert!(found.facts.iter().all(|fact| fact.kind == "loss"));
 }
 
@@ -115,7 +115,7 @@ fn a_panic_that_was_caught_is_not_the_end() {
     let found = account(&["broadcast 1"], &FOUR, &format!("{FOUR_NAMES}{panics}"));
     let text = found.facts.last().unwrap().text();
     assert!(
-        text[2].contains("step 11   dropped: never told"),
+        text[2].contains("call 11   dropped: never told"),
         "{text:#?}"
     );
 }
@@ -153,7 +153,7 @@ fn a_receiver_that_was_never_used_is_last_of_those_that_lost() {
     assert_eq!(orders(&found), [3, 4, 5]);
     let wanted = [
         "`held` lost 2 of 3 values of `metrics` (capacity 1)",
-        "  step 2    metrics.send(value 1)   actor 0  overwrote value 0, which held had not read",
+        "  call 2    metrics.send(value 1)   actor 0  overwrote value 0, which held had not read",
         "  the end   held, never read",
         "  lost: value 0, value 1",
     ];
@@ -237,8 +237,8 @@ fn a_look_and_a_mark_are_two_facts() {
     assert_eq!(heads(&found), wanted);
     let wanted = [
         wanted[0],
-        "  step 7    state.send(value 2)   actor 0  the last change",
-        "  step 12   state.wait_for()      actor 0  its last look: value 2",
+        "  call 7    state.send(value 2)   actor 0  the last change",
+        "  call 12   state.wait_for()      actor 0  its last look: value 2",
     ];
     assert_eq!(found.facts[0].text(), wanted);
 }

@@ -48,6 +48,11 @@ pub(super) fn quoted(text: &str) -> String {
     quoted
 }
 
+/// Returns what a call is called by its number in the run, as `call 3`.
+pub(crate) fn call(number: u64) -> String {
+    format!("call {number}")
+}
+
 /// Returns a number of things, as `1 call` or `2 calls`.
 pub(super) fn counted(count: u64, thing: &str) -> String {
     match count {

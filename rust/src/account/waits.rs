@@ -10,7 +10,7 @@ pub(crate) struct Wait {
     pub(super) channel: u64,
     pub(super) handle: u64,
     pub(super) call: String,
-    /// The place at which it began to wait.
+    /// How many calls had been made when it began to wait.
     pub(super) since: u64,
     pub(super) location: Option<SourceLocation>,
     /// Who waits, in which call, since when and where.
@@ -48,7 +48,7 @@ fn text(
     let naming = context.naming;
     let since = match since {
         0 => "the start".to_string(),
-        place => format!("step {place}"),
+        place => visible::call(place),
     };
     let at = location.map_or(String::new(), |location| {
         format!(", {}", visible::line_of(location))

@@ -51,7 +51,7 @@ impl<'a> Channel<'a> {
         }
     }
 
-    /// How many handles have been made. They have the numbers from 0 on: sender 0 and receiver 1 came with the channel.
+    /// How many handles have been created. They have the numbers from 0 on: sender 0 and receiver 1 came with the channel.
     ///
     /// ```
     /// # use yovanelum::debugger::Walk;
@@ -136,14 +136,14 @@ impl<'a> Channel<'a> {
 }
 
 impl<'a> Broadcast<'a> {
-    /// How many values it retains: the least power of two that is at least the capacity that it was made with.
+    /// How many values it retains: the least power of two that is at least the capacity that it was created with.
     ///
     /// ```
     /// # use yovanelum::debugger::{Channel, Walk};
     /// # let journal = "ttd-journal 2\nbroadcast 3\nsteps\nend\n";
     /// # let walk = Walk::open(journal.as_bytes())?;
     /// # let Some(Channel::Broadcast(orders)) = walk.channel(0) else { unreachable!() };
-    /// // It was made with capacity 3.
+    /// // It was created with capacity 3.
     /// assert_eq!(orders.capacity(), 4);
     /// # Ok::<(), yovanelum::debugger::Fault>(())
     /// ```

@@ -16,7 +16,7 @@ use std::fmt;
 pub struct Fault(pub(super) TextFault);
 
 impl Fault {
-    /// The line that is at fault, counted from 1. A text that was cut off has none, and neither has missing memory.
+    /// The line that is at fault, counted from 1. A truncated text has none, and neither has missing memory.
     ///
     /// ```
     /// # use yovanelum::debugger::Walk;

@@ -23,7 +23,7 @@ pub struct Opened {
     /// The walk, at the last place.
     pub walk: Walk,
     pub recorded: Recorded,
-    /// How many bytes of the text are of whole lines, if it was cut off.
+    /// How many bytes of the text are of whole lines, if it is truncated.
     pub cut_off: Option<usize>,
     /// Why the names were left out, if they were.
     pub names_fault: Option<String>,
@@ -38,7 +38,7 @@ pub struct Test<'a> {
 }
 
 impl Opened {
-    /// Opens a journal text with the text of its names, if there is one. One that was cut off is salvaged.
+    /// Opens a journal text with the text of its names, if there is one. One that is truncated is salvaged.
     ///
     /// # Errors
     ///
@@ -54,7 +54,7 @@ impl Opened {
         let read = names.map(|names| {
             let names = Names::read(&names)?;
             let of = names.ending.journal;
-            // The names of a journal that was cut off since can't be told from those of another one.
+            // The names of a journal that was truncated since can't be told from those of another one.
             match cut_off.is_none() && of.is_some_and(|sum| sum != checksum(text)) {
                 true => Err("it has the names of another journal".to_string()),
                 false => Ok(names),
@@ -148,7 +148,7 @@ impl Recorded {
         self.saying.locations()
     }
 
-    /// Where a handle was made, as an index into the locations.
+    /// Where a handle was created, as an index into the locations.
     pub fn made(&self, channel: u32, handle: u32) -> Option<usize> {
         let made = self.saying.names().made.get(&channel.into())?;
         made.get(&handle.into()).copied()

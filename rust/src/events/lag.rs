@@ -5,7 +5,7 @@ use crate::channel::{CallSite, ChannelState, Slot};
 use std::fmt;
 use std::panic::Location;
 
-/// A receiver of a broadcast channel that was told it has lost values, as [`on_lag`](crate::on_lag) and
+/// A receiver of a broadcast channel that lagged, as [`on_lag`](crate::on_lag) and
 /// [`Recorder::on_lag`](crate::Recorder::on_lag) pass it to their closure.
 ///
 /// It says how the channel was when the receive returned `Lagged`. With `Display` it is one line.
@@ -44,7 +44,7 @@ pub struct Lag {
 }
 
 impl Lag {
-    /// Describes the receiver with this number and this slot, which was told here that it has lost so many values.
+    /// Describes the receiver with this number and this slot, which lagged by so many values, as a receive here returned.
     pub(crate) fn new(
         state: &mut ChannelState,
         (number, slot): (u32, Slot),

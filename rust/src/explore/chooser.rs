@@ -70,9 +70,9 @@ impl Chooser {
     }
 
     /// Returns the first step that isn't that of the schedule which is followed.
-    pub(super) fn parted(&self) -> Option<u32> {
+    pub(super) fn diverged(&self) -> Option<u32> {
         match self {
-            Chooser::Follow(follow) => follow.parted,
+            Chooser::Follow(follow) => follow.diverged,
             _ => None,
         }
     }
@@ -150,14 +150,14 @@ impl Pct {
     }
 }
 
-/// Lets those go that a schedule has, as far as they come.
+/// Lets those go that a schedule has, as far as they stand.
 pub(super) struct Follow {
     steps: Vec<Step>,
     is_made: Vec<bool>,
     /// All before it are made.
     front: usize,
     count: u32,
-    parted: Option<u32>,
+    diverged: Option<u32>,
 }
 
 /// How far ahead of the first step that is yet to be made others are looked for.
@@ -170,7 +170,7 @@ impl Follow {
             steps,
             front: 0,
             count: 0,
-            parted: None,
+            diverged: None,
         }
     }
 
@@ -179,8 +179,8 @@ impl Follow {
         let is_exact = found.is_some_and(|(step, candidate)| {
             step == self.front && self.steps[step].what == candidates[candidate].what
         });
-        if !is_exact && self.parted.is_none() {
-            self.parted = Some(self.count);
+        if !is_exact && self.diverged.is_none() {
+            self.diverged = Some(self.count);
         }
         self.count += 1;
         let Some((step, candidate)) = found else {
@@ -276,10 +276,10 @@ mod tests {
         };
         let mut follow = Follow::new(steps(&["b", "a", "b"]));
         assert_eq!(follow.choose(&standing(&["a", "b"])), 1);
-        assert_eq!(follow.parted, None);
+        assert_eq!(follow.diverged, None);
         // `a` doesn't stand yet, so its step is made later.
         assert_eq!(follow.choose(&standing(&["b", "c"])), 0);
-        assert_eq!(follow.parted, Some(1));
+        assert_eq!(follow.diverged, Some(1));
         assert_eq!(follow.choose(&standing(&["b", "c", "a"])), 2);
         assert_eq!(follow.choose(&standing(&["b", "c"])), 0);
     }

@@ -236,7 +236,7 @@ impl Explorer {
         let mut state = lock(&self.state);
         self.open(&mut state);
         state.schedule.end = end;
-        state.schedule.parted = state.chooser.parted();
+        state.schedule.diverged = state.chooser.diverged();
         state.schedule.clone()
     }
 }

@@ -24,7 +24,7 @@ pub(super) enum Kind {
     Pct { depth: u32, seed: u64, steps: u32 },
     /// Partial-order sampling: each call has a priority of its own.
     Pos(u64),
-    /// Those of a schedule's file, as far as they come.
+    /// Those of a schedule's file, as far as they can be made.
     File(PathBuf),
 }
 

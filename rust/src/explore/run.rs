@@ -173,15 +173,18 @@ fn said(followed: &Schedule, steps: usize) -> String {
         End::Failed => "the test failed",
         End::Hung => "the test hangs",
     };
-    match followed.parted.map(|at| at as usize) {
-        Some(at) if at < steps => format!("parted at step {} of {steps}; {end}", at + 1),
+    match followed.diverged.map(|at| at as usize) {
+        Some(at) if at < steps => format!(
+            "diverges at step {} of the schedule's {steps}; {end}",
+            at + 1
+        ),
         _ if followed.steps.len() < steps => {
             format!(
-                "ended after {} of {steps} steps; {end}",
+                "ended after {} of the schedule's {steps} steps; {end}",
                 followed.steps.len()
             )
         }
-        _ => format!("all {steps} steps in the recorded order; {end}"),
+        _ => format!("all {steps} steps of the schedule in their order; {end}"),
     }
 }
 

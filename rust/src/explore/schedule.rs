@@ -73,7 +73,7 @@ pub(crate) struct Schedule {
     /// Whether threads were taken to sleep by a clock.
     pub(super) by_clock: bool,
     /// The number of the first step that isn't that of the schedule which was followed.
-    pub(super) parted: Option<u32>,
+    pub(super) diverged: Option<u32>,
     /// The hash of the journal beside it.
     pub(super) journal: Option<u64>,
     /// The names of channels by number.
@@ -91,7 +91,7 @@ impl Schedule {
             unnamed: 0,
             was_too_long: false,
             by_clock: false,
-            parted: None,
+            diverged: None,
             journal: None,
             channels: Vec::new(),
             steps: Vec::new(),
@@ -139,8 +139,8 @@ impl Schedule {
             "restless {}\nunnamed {}\n",
             self.restless, self.unnamed
         );
-        if let Some(parted) = self.parted {
-            let _ = writeln!(text, "parted {parted}");
+        if let Some(diverged) = self.diverged {
+            let _ = writeln!(text, "parted {diverged}");
         }
         if let Some(journal) = self.journal {
             let _ = writeln!(text, "journal {journal:016x}");
@@ -207,7 +207,7 @@ impl Schedule {
             "by-clock" => self.by_clock = true,
             "restless" => self.restless = rest.parse().ok()?,
             "unnamed" => self.unnamed = rest.parse().ok()?,
-            "parted" => self.parted = Some(rest.parse().ok()?),
+            "parted" => self.diverged = Some(rest.parse().ok()?),
             "journal" => self.journal = Some(u64::from_str_radix(rest, 16).ok()?),
             "channel" => {
                 let (number, name) = rest.split_once(' ')?;
@@ -333,7 +333,7 @@ mod tests {
         let mut schedule = Schedule::new("s1.1".to_string());
         schedule.has_timers = true;
         schedule.end = End::Hung;
-        schedule.parted = Some(4);
+        schedule.diverged = Some(4);
         schedule.journal = Some(0xab);
         schedule.channels = vec![(3, "prices of today".to_string())];
         schedule.steps = vec![

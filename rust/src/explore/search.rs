@@ -125,7 +125,7 @@ impl Search {
         self.has_begun = true;
         let finds_timers = schedule.has_timers && !self.has_timers;
         if finds_timers {
-            // Time is a choice from here on, so the search begins anew.
+            // Time is a choice from here on, so the search begins again.
             self.has_timers = true;
             self.passed = [0; SWITCHES + 1];
             self.waiting = [VecDeque::from([Vec::new()]), VecDeque::new()];

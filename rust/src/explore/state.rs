@@ -12,7 +12,7 @@ use std::task::Waker;
 use std::thread;
 use std::time::{Duration, Instant};
 
-/// How many are let go in a run before all go on as they come.
+/// How many are let go in a run before all go on in any order.
 const MOST_STEPS: usize = 50_000;
 
 /// How often what is held comes round before its runtime is taken to have nothing else to do. A runtime of tokio looks at its timers, and at the
@@ -130,7 +130,7 @@ impl State {
         &mut self.stands[last]
     }
 
-    /// Begins to count rounds anew, since something else happened on this thread.
+    /// Begins to count rounds again, since something else happened on this thread.
     pub(super) fn new_round(&mut self, thread: ThreadId) {
         let here = self.stands.iter_mut();
         here.filter(|stand| stand.thread == thread)

@@ -8,7 +8,7 @@ use super::{Shared, replay_line};
 use crate::explore;
 use crate::lock::{lock, try_lock_for};
 use crate::names::Names;
-use crate::report::{self, Report, page};
+use crate::report::{self, Report, at_call, page};
 use crate::run::said;
 use std::fs;
 use std::io;
@@ -68,7 +68,7 @@ impl TestRun {
             }
         };
         names.account = Some(report.account().to_json());
-        let (look, more) = match write(&path, &journal, &names, report.place()) {
+        let (look, more) = match write(&path, &journal, &names, report.call()) {
             Ok((path, look)) => (Some(look), replay_line::of(&path, self)),
             Err(error) => (None, not_written(&path, &error)),
         };
@@ -102,7 +102,7 @@ pub(super) fn write(
     path: &Path,
     journal: &str,
     names: &Names,
-    place: u64,
+    call: u64,
 ) -> io::Result<(PathBuf, String)> {
     let names = names.to_json();
     let page = page_of(path, journal, &names);
@@ -115,8 +115,8 @@ pub(super) fn write(
         ],
     )?;
     let look = match page {
-        Ok(_) => page::address(&path.with_extension("html"), place),
-        Err(fault) => format!("{}, at place {place} (no page: {fault})", path.display()),
+        Ok(_) => page::address(&path.with_extension("html"), call),
+        Err(error) => format!("{}, {} (no page: {error})", path.display(), at_call(call)),
     };
     Ok((path, look))
 }
@@ -126,5 +126,5 @@ fn page_of(path: &Path, journal: &str, names: &str) -> Result<Vec<u8>, String> {
     let name = path.file_name().unwrap_or_default().to_string_lossy();
     let page = fs::read(PAGE).map_err(|error| format!("{PAGE}: {error}"))?;
     page::with_run(&page, &name, journal.as_bytes(), names.as_bytes())
-        .ok_or_else(|| format!("{PAGE} has no place for a run"))
+        .ok_or_else(|| format!("{PAGE} has no element for a run"))
 }

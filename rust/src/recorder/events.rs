@@ -4,7 +4,7 @@ use super::Recorder;
 use crate::events::{Close, Lag};
 
 impl Recorder {
-    /// Calls a closure each time a receiver of this recorder's channels is told that it has lost values. Returns the recorder, for the next call.
+    /// Calls a closure each time a receiver of this recorder's channels lags. Returns the recorder, for the next call.
     ///
     /// The closure is called by the receive that returns `Lagged`, before it returns. It replaces one that was set before. While it runs there is
     /// no lock of this crate, so it may use any channel, also this one. A panic in it is one of the receive, which has then counted the lost

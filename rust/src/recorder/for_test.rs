@@ -19,7 +19,7 @@ impl Recorder {
     /// The last lines of the report are the page's address and the command that replays the run. If a file cannot be written, all three are as
     /// before, and one line says why. What can't be in the name of a file is written as `%` and hexadecimal digits.
     ///
-    /// A hook for panics, which the first recorder of a process sets and which calls the one from before, notes the text and the place of each
+    /// A hook for panics, which the first recorder of a process sets and which calls the previous hook, notes the text and the place of each
     /// panic of the test. If the process ends with a panic, as after a second one in a drop or with `panic = "abort"`, the hook writes the files
     /// and the report.
     ///

@@ -26,11 +26,11 @@ impl Recorder {
     /// pending. So a test that failed by the order of its calls fails again. Give each task a name by [`named`](crate::named), also the one
     /// that runs the test: callers without a name can't be told apart where they use the same sender or receiver.
     ///
-    /// The replay leaves the journal's order where another call comes than the recorded one, or none for two seconds, or for as many
+    /// The replay diverges from the journal where another call comes than the recorded one, or none for two seconds, or for as many
     /// milliseconds as the environment variable `YOVANELUM_REPLAY_TIMEOUT_MS` says. One line on standard error then says where, and from there
     /// on calls are in no order. [`replayed`](Recorder::replayed) returns how the replay went.
     ///
-    /// The names of actors, and who has made each channel, are read from the file `.names` beside the journal. Without it, channels aren't
+    /// The names of actors, and who has created each channel, are read from the file `.names` beside the journal. Without it, channels aren't
     /// found again, and nothing is ordered.
     ///
     /// Timers, random numbers, other channels and all else that the journal does not have are not brought back.
@@ -123,7 +123,7 @@ impl Recorder {
     pub(super) fn say_if_not_replayed(&self, name: &str) {
         if self.0.gate.is_none() && Named::by_variable().is_some_and(|named| named.is_of(name)) {
             replay::say(&format!(
-                "{name} isn't replayed, though {REPLAY} names its journal: `Recorder::for_test` and `Recorder::replay` make recorders that do"
+                "{name} isn't replayed, though {REPLAY} names its journal: recorders of `Recorder::for_test` and `Recorder::replay` do"
             ));
         }
     }
@@ -152,7 +152,7 @@ pub(crate) fn say_that_none_replays(made_at: CallSite) {
     if !IS_SAID.swap(true, Ordering::Relaxed) {
         let at = made_at.map_or_else(String::new, |at| format!(" at {}:{}", at.file(), at.line()));
         replay::say(&format!(
-            "{REPLAY} is set, and no recorder follows it for the channel that is made{at}: its calls are in no order"
+            "{REPLAY} is set, and no recorder follows it for the channel that is created{at}: its calls are in no order"
         ));
     }
 }

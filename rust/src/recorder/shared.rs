@@ -264,7 +264,7 @@ impl Shared {
     pub(crate) fn tell_of_too_many_handles(&self) {
         count_and_tell(
             &self.left_out.too_many_handles,
-            "a channel has made as many handles as a journal names (65536); its recording ended there, and its calls go on unrecorded",
+            "a channel has created as many handles as a journal names (65536); its recording ended there, and its calls go on unrecorded",
         );
     }
 

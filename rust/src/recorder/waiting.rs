@@ -168,7 +168,7 @@ impl Waiting {
 
     /// Returns where the method was called.
     ///
-    /// It is `None` if that is not known. For a stream, it is where the stream was made.
+    /// It is `None` if that is not known. For a stream, it is where the stream was created.
     pub fn location(&self) -> Option<&'static Location<'static>> {
         self.location
     }

@@ -83,9 +83,9 @@ impl TestRun {
                 mut names,
             } = saved;
             let report = Report::on(&run, &names);
-            let place = report.as_ref().map_or(0, Report::place);
+            let call = report.as_ref().map_or(0, Report::call);
             names.account = report.ok().map(|report| report.account().to_json());
-            ending::write(&path, &journal, &names, place)
+            ending::write(&path, &journal, &names, call)
         });
         let name = &self.name;
         let mut lines = match &saved {
@@ -125,7 +125,7 @@ impl ForTest {
     ///
     /// The journal, the names and the page are then written as if the test had failed. Lines on standard error say where they are, and which calls on
     /// the recorder's channels wait: who, in which method, and where. They appear at once, also where the output of tests is captured. So a
-    /// test that waits for ever has said why before a runner ends it.
+    /// test that waits forever has said why before a runner ends it.
     ///
     /// A test that ends before is not affected: nothing is written, and it waits for no thread. A second call replaces the time.
     ///
@@ -147,7 +147,7 @@ impl ForTest {
     /// ```text
     /// yovanelum: the_state_is_ready has not ended after 10s; its calls so far are in /shop/target/yovanelum/shop/lib/the_state_is_ready.journal
     /// yovanelum: still waiting: worker in `state.wait_for`, src/worker.rs:30
-    /// look: file:///shop/target/yovanelum/shop/lib/the_state_is_ready.html#place=1
+    /// look: file:///shop/target/yovanelum/shop/lib/the_state_is_ready.html#call=1
     /// ```
     #[must_use = "dropped at once, it records nothing"]
     pub fn watchdog(mut self, after: Duration) -> ForTest {

@@ -1,7 +1,7 @@
 //! The gate, before which each call waits for its turn.
 
+use super::divergence::{self, Came};
 use super::outcome::{self, Replayed, TestEnd};
-use super::parting::{self, Came};
 use super::permit::Permit;
 use super::plan::Plan;
 use super::state::{Held, Standing, State, Ticket, Waiter, Wakes};
@@ -31,7 +31,7 @@ const PATIENCE_OF_FUTURES: u32 = 5;
 /// The gate of a replay. A call passes it before it acquires a lock, and gets a permit when its turn comes.
 ///
 /// Nothing panics in it, and nobody waits in it forever: when no call was made for a while, or one comes that isn't in the journal's order, the
-/// replay parts from the journal, and all calls pass.
+/// replay diverges from the journal, and all calls pass.
 pub(crate) struct Gate {
     /// The journal.
     path: PathBuf,
@@ -83,7 +83,7 @@ impl Gate {
         }
     }
 
-    /// Whether all calls pass: the journal's end was reached, or the run parted from it.
+    /// Whether all calls pass: the journal's end was reached, or the run diverged from it.
     #[inline]
     pub(super) fn is_over(&self) -> bool {
         self.is_over.load(Ordering::Acquire)
@@ -181,7 +181,7 @@ impl Gate {
             match standing {
                 Standing::Turn => return (state, true),
                 Standing::Other(_) => {
-                    self.part(&mut state, Came::Other, Some(coming));
+                    self.diverge(&mut state, Came::Other, Some(coming));
                     break;
                 }
                 Standing::Later | Standing::Unknown => (),
@@ -192,7 +192,7 @@ impl Gate {
                     true => Came::Other,
                     false => Came::Nothing(limit),
                 };
-                self.part(&mut state, came, Some(coming));
+                self.diverge(&mut state, came, Some(coming));
                 break;
             }
             state = self.sleep(state, lane.filter(|_| standing == Standing::Later), wait);
@@ -378,11 +378,11 @@ impl Gate {
         self.notify(&wakes);
     }
 
-    /// Parts from the journal, since the call whose turn it was would wait.
+    /// Diverges from the journal, since the call whose turn it was would wait.
     pub(super) fn would_wait(&self) {
         let mut state = self.enter();
         if !state.is_over {
-            self.part(&mut state, Came::ToWait, None);
+            self.diverge(&mut state, Came::ToWait, None);
         }
     }
 
@@ -411,16 +411,16 @@ impl Gate {
     }
 
     /// Leaves the journal's order, and says so. What came is of this call.
-    fn part(&self, state: &mut State, came: Came, coming: Option<&Coming>) {
-        let line = parting::in_words(&self.plan, state, came, coming);
+    fn diverge(&self, state: &mut State, came: Came, coming: Option<&Coming>) {
+        let line = divergence::in_words(&self.plan, state, came, coming);
         outcome::say(&format!(
             "the replay {line}; from here on, calls are in no order"
         ));
-        state.parted = Some(line);
+        state.divergence = Some(line);
         self.end(state);
     }
 
-    /// Parts from the journal if a future has waited too long, and lets polls go that were held back long enough, or where all threads sleep.
+    /// Diverges from the journal if a future has waited too long, and lets polls go that were held back long enough, or where all threads sleep.
     /// Where a thread is blocked and nothing was called for a while, all futures are polled.
     pub(super) fn look_after_futures(&self, state: &mut State, is_at_rest: bool) {
         let turned_at = state.turned_at;
@@ -429,7 +429,7 @@ impl Gate {
         let mut waiters = state.waiters.values();
         if let Some(late) = waiters.find(|waiter| idle(waiter.since) >= limit) {
             let coming = late.coming;
-            return self.part(state, Came::Nothing(limit), Some(&coming));
+            return self.diverge(state, Came::Nothing(limit), Some(&coming));
         }
         for actor in 0..Actor::MOST {
             let of = &mut state.actors[actor];

@@ -11,7 +11,7 @@ use std::io::{self, Write as _};
 
 /// How a replay has gone so far, returned by [`Recorder::replayed`](crate::Recorder::replayed).
 ///
-/// Its text is one line: that all calls were made in the journal's order, where the run left that order, or which call it ended before.
+/// Its text is one line: that all calls were made in the journal's order, at which call the replay diverges from it, or which call it ended before.
 ///
 /// # Examples
 ///
@@ -44,7 +44,7 @@ use std::io::{self, Write as _};
 pub struct Replayed {
     calls: usize,
     made: usize,
-    parted: Option<String>,
+    divergence: Option<String>,
     next: String,
     shared: Option<String>,
     other_text: Option<String>,
@@ -82,7 +82,7 @@ impl Replayed {
     /// # Ok::<(), std::io::Error>(())
     /// ```
     pub fn is_in_order(&self) -> bool {
-        self.made == self.calls && self.parted.is_none() && self.shared.is_none()
+        self.made == self.calls && self.divergence.is_none() && self.shared.is_none()
     }
 
     /// Returns how many calls were made in the journal's order.
@@ -159,8 +159,8 @@ impl Replayed {
 
 impl fmt::Display for Replayed {
     fn fmt(&self, f: &mut fmt::Formatter<'_>) -> fmt::Result {
-        match &self.parted {
-            Some(parted) => f.write_str(parted)?,
+        match &self.divergence {
+            Some(divergence) => f.write_str(divergence)?,
             None if self.made < self.calls => f.write_str(&self.next)?,
             None => write!(f, "all {} calls in the recorded order", self.calls)?,
         }
@@ -188,11 +188,11 @@ pub(super) fn replayed(plan: &Plan, state: &State) -> Replayed {
     Replayed {
         calls: plan.steps.len(),
         made: state.position,
-        parted: state.parted.clone(),
+        divergence: state.divergence.clone(),
         next: next.map_or_else(String::new, |step| {
             format!(
                 "ended before {}: {}",
-                place(plan, state.position),
+                call_of(plan, state.position),
                 step_in_words(plan, step)
             )
         }),
@@ -243,13 +243,13 @@ pub(super) fn other_text(plan: &Plan, position: usize, text: &str) -> Option<Str
     (before != text).then(|| {
         format!(
             "{} sent `{text}`, where it had sent `{before}`",
-            place(plan, position)
+            call_of(plan, position)
         )
     })
 }
 
-pub(super) fn place(plan: &Plan, position: usize) -> String {
-    format!("#{} of {}", position + 1, plan.steps.len())
+pub(super) fn call_of(plan: &Plan, position: usize) -> String {
+    format!("call {} of {}", position + 1, plan.steps.len())
 }
 
 pub(super) fn step_in_words(plan: &Plan, step: &Step) -> String {
@@ -272,11 +272,11 @@ pub(super) fn shared_handle(plan: &Plan, coming: &Coming) -> String {
     words
 }
 
-/// Says that several callers with this name, or with none, make channels.
+/// Says that several callers with this name, or with none, create channels.
 pub(super) fn shared_making(name: Option<&str>) -> String {
     match name {
-        Some(name) => format!("named `{name}` make channels"),
-        None => "without a name make channels".to_string(),
+        Some(name) => format!("named `{name}` create channels"),
+        None => "without a name create channels".to_string(),
     }
 }
 

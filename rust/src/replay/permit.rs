@@ -39,7 +39,7 @@ impl<'a> Permit<'a> {
         }
     }
 
-    /// Parts from the journal: the call would wait, which was answered there.
+    /// Leaves the order of the journal: the call would wait, which was answered there.
     #[inline]
     pub(crate) fn would_wait(&mut self) {
         if let Some(gate) = self.0.take() {

@@ -108,7 +108,7 @@ pub(super) struct State {
     pub(super) is_told: bool,
     pub(super) is_asked: bool,
     /// Why the run left the journal's order.
-    pub(super) parted: Option<String>,
+    pub(super) divergence: Option<String>,
     /// What several callers share first who can't be told apart.
     pub(super) shared: Option<String>,
     /// Who has made channels, by their names.
@@ -159,7 +159,7 @@ impl State {
             is_over: plan.steps.is_empty(),
             is_told: false,
             is_asked: false,
-            parted: None,
+            divergence: None,
             shared: None,
             makers: HashMap::new(),
             other_text: None,

@@ -1,7 +1,7 @@
 //! Gates driven by hand: each call is passed and made here, without a channel.
 
+mod divergence;
 mod futures;
-mod parting;
 #[cfg(all(
     target_os = "linux",
     any(target_arch = "x86_64", target_arch = "aarch64"),
@@ -286,7 +286,7 @@ fn a_value_with_another_text_is_told() {
     assert!(replayed.is_in_order());
     assert_eq!(
         replayed.to_string(),
-        "all 6 calls in the recorded order; #4 of 6 sent `order 73`, where it had sent `order 72`"
+        "all 6 calls in the recorded order; call 4 of 6 sent `order 73`, where it had sent `order 72`"
     );
 }
 
@@ -326,7 +326,7 @@ fn the_line_at_the_end_says_how_the_test_ended() {
     let gate = gate();
     make_first(&gate, 2);
     let at_end = |end| gate.outcome().at_end(end);
-    let before = "ended before #3 of 6: `modify 0` on channel 1 by `clerk` at src/shop.rs:15";
+    let before = "ended before call 3 of 6: `modify 0` on channel 1 by `clerk` at src/shop.rs:15";
     assert_eq!(
         at_end(TestEnd::Failed(&[])),
         format!("{before}; the test failed")

@@ -66,15 +66,15 @@ fn digits_of([a, b, c]: [u8; 3]) -> [u8; 4] {
     ]
 }
 
-/// Returns the address of a file on this machine, with the place to look at.
-pub(crate) fn address(path: &Path, place: u64) -> String {
+/// Returns the address of a file on this machine, with the call to look at. 0 is the start of the run.
+pub(crate) fn address(path: &Path, call: u64) -> String {
     let path = path.to_string_lossy();
     let mut address = String::from("file://");
     if !path.starts_with(['/', std::path::MAIN_SEPARATOR]) {
         address.push('/');
     }
     push_path(&mut address, &path);
-    let _ = write!(address, "#place={place}");
+    let _ = write!(address, "#call={call}");
     address
 }
 
@@ -108,7 +108,7 @@ mod tests {
     #[test]
     fn an_address_has_no_character_of_its_own_meaning() {
         let address = address(Path::new("/bus/tests::it ends #1 100%/é.html"), 3);
-        let wanted = "file:///bus/tests::it%20ends%20%231%20100%25/%C3%A9.html#place=3";
+        let wanted = "file:///bus/tests::it%20ends%20%231%20100%25/%C3%A9.html#call=3";
         assert_eq!(address, wanted);
     }
 }

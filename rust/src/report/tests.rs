@@ -11,7 +11,7 @@ fn said(channels: &[&str], entries: &[&str], names: &str) -> String {
 fn said_of(journal: &str, names: &str) -> String {
     let names = Names::read(names).unwrap();
     let report = Report::new(journal.as_bytes(), &names).unwrap();
-    let look = format!("place {}", report.place());
+    let look = super::at_call(report.call());
     report.text(Some(look), false)
 }
 
@@ -48,13 +48,13 @@ const ALL_NAMES: &str = r#"{"version": 2, "actors": {"0": "ticker", "1": "audito
 fn a_loss_that_was_told() {
     let wanted = r#"error: `auditor` lost 3 of 5 values of `prices` (capacity 2)
   --> tests/bus.rs:22:25
-note: step 3, the send that overwrote the first of them
+note: call 3, the send that overwrote the first of them
   --> tests/bus.rs:15:9
-  step 3   prices.send("103 EUR")   ticker   tests/bus.rs:15   overwrote "101 EUR", which auditor had not read
-  step 7   told: lagged 3           auditor  tests/bus.rs:22   its last receive: none before
+  call 3   prices.send("103 EUR")   ticker   tests/bus.rs:15   overwrote "101 EUR", which auditor had not read
+  call 7   told: lagged 3           auditor  tests/bus.rs:22   its last receive: none before
   lost: "101 EUR", "102 EUR", "103 EUR"
 and 1 channel closed
-look: place 3
+look: at call 3
 "#;
     assert_eq!(said(&["broadcast 2"], &LATE, ALL_NAMES), wanted);
 }
@@ -63,11 +63,11 @@ look: place 3
 fn without_names_there_are_numbers() {
     let wanted = "\
 error: receiver 1 lost 3 of 5 values of channel 0 (capacity 2)
-  step 3   channel 0: send(value 2)   actor 0  overwrote value 0, which receiver 1 had not read
-  step 7   told: lagged 3             actor 1  its last receive: none before
+  call 3   channel 0: send(value 2)   actor 0  overwrote value 0, which receiver 1 had not read
+  call 7   told: lagged 3             actor 1  its last receive: none before
   lost: value 0, value 1, value 2
 and 1 channel closed
-look: place 3
+look: at call 3
 ";
     assert_eq!(said(&["broadcast 2"], &LATE, "{}"), wanted);
 }
@@ -78,11 +78,11 @@ fn names_of_the_first_version_have_no_locations() {
         r#"{"actors": {"0": "ticker", "1": "auditor"}, "channels": {"0": "prices"}, "values": {}}"#;
     let wanted = "\
 error: `auditor` lost 3 of 5 values of `prices` (capacity 2)
-  step 3   prices.send(value 2)   ticker   overwrote value 0, which auditor had not read
-  step 7   told: lagged 3         auditor  its last receive: none before
+  call 3   prices.send(value 2)   ticker   overwrote value 0, which auditor had not read
+  call 7   told: lagged 3         auditor  its last receive: none before
   lost: value 0, value 1, value 2
 and 1 channel closed
-look: place 3
+look: at call 3
 ";
     assert_eq!(said(&["broadcast 2"], &LATE, names), wanted);
 }
@@ -111,17 +111,17 @@ fn a_loss_that_nobody_was_told_of() {
         "locations": [["src/lib.rs", 4, 1], ["src/lib.rs", 5, 1], ["src/lib.rs", 9, 1]],
         "made": {"0": {"0": 0, "1": 0, "2": 1}}, "calls": {"0": [1, 2, 2, 2, 2, 2, 2, 2, 2, 2, null, 2, 2]}}"#;
     let wanted = "\
-error: receiver 1 (made at src/lib.rs:4) lost 3 of 8 values of `jobs` (capacity 3, which retains 4)
+error: receiver 1 (created at src/lib.rs:4) lost 3 of 8 values of `jobs` (capacity 3, which retains 4)
   --> src/lib.rs:9:1
-  step 9    jobs.send(value 5)   main  src/lib.rs:9   overwrote value 1, which receiver 1 had not read
-  the end   not told                                  its last receive: step 3, value 0
+  call 9    jobs.send(value 5)   main  src/lib.rs:9   overwrote value 1, which receiver 1 had not read
+  the end   not told                                  its last receive: call 3, value 0
   lost: value 1, value 2, value 3
 warning: `log` lost 2 of 7 values of `jobs` (capacity 3, which retains 4)
   --> src/lib.rs:9:1
-  step 9    jobs.send(value 5)    main  src/lib.rs:9   overwrote value 1, which log had not read
-  step 11   dropped: never told   main                 its last receive: step 4, value 0
+  call 9    jobs.send(value 5)    main  src/lib.rs:9   overwrote value 1, which log had not read
+  call 11   dropped: never told   main                 its last receive: call 4, value 0
   lost: value 1, value 2
-look: place 9
+look: at call 9
 ";
     assert_eq!(said(&["broadcast 3"], &UNTOLD, names), wanted);
 }
@@ -144,10 +144,10 @@ const SEVERAL: [&str; 10] = [
 fn of_several_losses_of_one_receiver_the_one_that_was_told_last_is_told() {
     let wanted = "\
 error: `reader` lost 3 of 6 values of channel 0 (capacity 1) in 2 losses; the one told last, of 1:
-  step 7   channel 0: send(value 4)   actor 0  overwrote value 3, which reader had not read
-  step 8   told: lagged 1             reader   its last receive: step 5, value 2
+  call 7   channel 0: send(value 4)   actor 0  overwrote value 3, which reader had not read
+  call 8   told: lagged 1             reader   its last receive: call 5, value 2
   lost: value 3
-look: place 7
+look: at call 7
 ";
     let names = r#"{"actors": {"1": "reader"}}"#;
     assert_eq!(said(&["broadcast 1"], &SEVERAL, names), wanted);
@@ -171,10 +171,10 @@ fn a_loss_of_a_receiver_that_lags_at_the_end() {
     ];
     let wanted = "\
 error: receiver 1 lost 2 of 4 values of channel 0 (capacity 1)
-  step 4    channel 0: send(value 2)   actor 0  overwrote value 1, which receiver 1 had not read
-  the end   not told                            its last receive: step 2, value 0
+  call 4    channel 0: send(value 2)   actor 0  overwrote value 1, which receiver 1 had not read
+  the end   not told                            its last receive: call 2, value 0
   lost: value 1, value 2
-look: place 4
+look: at call 4
 ";
     assert_eq!(said(&["broadcast 1"], &entries, "{}"), wanted);
 }
@@ -227,20 +227,20 @@ fn of_a_hundred_receivers_three_are_told_and_the_others_counted() {
     // The entries are 99 subscribes, and three for each value. Receivers 2 to 97 lost 1 to 96 values.
     let wanted = "\
 error: receiver 100 lost 99 of 100 values of channel 0 (capacity 1)
-  step 103   channel 0: send(value 1)   actor 0  overwrote value 0, which receiver 100 had not read
-  step 398   told: lagged 99            actor 0  its last receive: none before
+  call 103   channel 0: send(value 1)   actor 0  overwrote value 0, which receiver 100 had not read
+  call 398   told: lagged 99            actor 0  its last receive: none before
   lost: value 0, value 1, value 2, .. value 98
 warning: receiver 99 lost 98 of 99 values of channel 0 (capacity 1)
-  step 103   channel 0: send(value 1)   actor 0  overwrote value 0, which receiver 99 had not read
-  step 395   told: lagged 98            actor 0  its last receive: none before
+  call 103   channel 0: send(value 1)   actor 0  overwrote value 0, which receiver 99 had not read
+  call 395   told: lagged 98            actor 0  its last receive: none before
   lost: value 0, value 1, value 2, .. value 97
 warning: receiver 98 lost 97 of 98 values of channel 0 (capacity 1)
-  step 103   channel 0: send(value 1)   actor 0  overwrote value 0, which receiver 98 had not read
-  step 392   told: lagged 97            actor 0  its last receive: none before
+  call 103   channel 0: send(value 1)   actor 0  overwrote value 0, which receiver 98 had not read
+  call 392   told: lagged 97            actor 0  its last receive: none before
   lost: value 0, value 1, value 2, .. value 96
 and 96 more receivers lost 4656 values
-still waiting: actor 7 in `channel 0: closed` since the start; actor 8 in `channel 0: recv` since step 2, a.rs:3; actor 9 in `channel 0: recv` since step 399; and 1 more
-look: place 103
+still waiting: actor 7 in `channel 0: closed` since the start; actor 8 in `channel 0: recv` since call 2, a.rs:3; actor 9 in `channel 0: recv` since call 399; and 1 more
+look: at call 103
 ";
     let names = r#"{"locations": [["a.rs", 3, 1]], "waiting": [
         {"actor": 7, "channel": 0, "handle": 0, "call": "closed", "since": 0, "location": null},
@@ -271,17 +271,17 @@ fn a_close_that_was_told_and_one_that_a_receiver_missed() {
         "locations": [["a.rs", 7, 1], ["a.rs", 9, 1]], "calls": {"0": [0, 0, 0, 1, null, 1, 1, 1], "1": [null]}}"#;
     let wanted = "\
 error: receiver 1 never looked at 1 of 1 change of `stop`
-  step 9   stop.send(value 1)   main  the last change
+  call 9   stop.send(value 1)   main  the last change
 warning: `orders` closed, and 2 of 3 receivers were told
   --> a.rs:9:1
-  step 5   dropped the last sender   main
-  step 7   told: closed              screen  a.rs:9   after 1 more value
+  call 5   dropped the last sender   main
+  call 7   told: closed              screen  a.rs:9   after 1 more value
   not told: receiver 3
 warning: `stop` closed, and its receiver was not told
-  step 10   dropped the last sender   main
+  call 10   dropped the last sender   main
   not told: receiver 1 (after 1 more change)
 yovanelum: no value was lost in 11 calls on 2 channels
-look: place 9
+look: at call 9
 ";
     let channels = ["broadcast 4", "watch 0"];
     assert_eq!(said(&channels, &entries, names), wanted);
@@ -303,13 +303,13 @@ fn changes_of_a_watch_that_a_receiver_never_looked_at() {
         "waiting": [{"actor": 1, "channel": 0, "handle": 1, "call": "wait_for", "since": 3, "location": 1}]}"#;
     let wanted = r#"error: `worker` never looked at 2 of 3 changes of `state`
   --> a.rs:7:1
-note: step 3, its last look
+note: call 3, its last look
   --> a.rs:9:1
-  step 3   state.borrow_and_update()      worker  a.rs:9   its last look: "open"
-  step 6   state.send_modify("closing")   main    a.rs:7   the last change
+  call 3   state.borrow_and_update()      worker  a.rs:9   its last look: "open"
+  call 6   state.send_modify("closing")   main    a.rs:7   the last change
 yovanelum: no value was lost in 6 calls on 1 channel
-still waiting: worker in `state.wait_for` since step 3, a.rs:9
-look: place 6
+still waiting: worker in `state.wait_for` since call 3, a.rs:9
+look: at call 6
 "#;
     assert_eq!(said(&["watch 0"], &entries, names), wanted);
 }
@@ -317,7 +317,7 @@ look: place 6
 #[test]
 fn where_nothing_is_found_the_text_says_so() {
     let entries = ["0 0 send 0 0 = sent 1", "0 0 try-recv 1 = value 0"];
-    let wanted = "yovanelum: no value was lost in 2 calls on 2 channels\nlook: place 2\n";
+    let wanted = "yovanelum: no value was lost in 2 calls on 2 channels\nlook: at call 2\n";
     let channels = ["broadcast 1", "watch 5"];
     assert_eq!(said(&channels, &entries, "{}"), wanted);
 }

@@ -10,7 +10,7 @@ const HEADS: [&str; 8] = [
     "unread",
     "lag",
     "lost",
-    "made at",
+    "created at",
     "received at",
     "call",
     "waits",

@@ -5,7 +5,7 @@ use std::fmt;
 
 /// Error returned by [`Sender::send`](super::Sender::send) when the channel has no receiver.
 ///
-/// It contains the value that was not sent. As in tokio, the value that the channel holds is then the one from before.
+/// It contains the value that was not sent. As in tokio, the value that the channel holds is then the previous one.
 ///
 /// # Examples
 ///

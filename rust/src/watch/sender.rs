@@ -70,7 +70,7 @@ impl<T> Sender<T> {
     /// # Errors
     ///
     /// Returns [`SendError`] with the new value if the channel has no receiver. As in tokio, receivers that are created later do not see
-    /// that value: the one from before stays. [`send_replace`](Sender::send_replace), [`send_modify`](Sender::send_modify) and
+    /// that value: the previous one stays. [`send_replace`](Sender::send_replace), [`send_modify`](Sender::send_modify) and
     /// [`send_if_modified`](Sender::send_if_modified) change the value also without receivers.
     ///
     /// # Examples

@@ -38,7 +38,7 @@ impl Recorded {
             let is_same = result == self.result;
             match replayed.is_in_order() {
                 true => count.in_order += 1,
-                false => count.parted += 1,
+                false => count.diverged += 1,
             }
             count.same += u64::from(is_same);
             if !is_same || !replayed.is_in_order() {
@@ -58,7 +58,7 @@ struct Count {
     /// Said that all calls came in the order of the journal.
     in_order: u64,
     /// Said that they didn't.
-    parted: u64,
+    diverged: u64,
     /// Said that they did, with another result.
     wrong: u64,
 }
@@ -85,7 +85,7 @@ pub fn tells_the_truth(name: &str, program: Program) {
     let times = count("YOVANELUM_REPLAYS", 10);
     for (count, other) in failed_and_passed(name, program, times) {
         assert_eq!(
-            (count.wrong, count.in_order + count.parted),
+            (count.wrong, count.in_order + count.diverged),
             (0, times),
             "{other:?}"
         );

@@ -50,7 +50,7 @@ pub fn in_time<R: Send + 'static>(act: impl FnOnce() -> R + Send + 'static) -> R
         act()
     });
     let waited = is_over.recv_timeout(Duration::from_secs(30));
-    assert_ne!(waited, Err(RecvTimeoutError::Timeout), "it waits for ever");
+    assert_ne!(waited, Err(RecvTimeoutError::Timeout), "it waits forever");
     thread
         .join()
         .unwrap_or_else(|panicked| panic::resume_unwind(panicked))

@@ -1,7 +1,7 @@
 //! Events of the channels of [`yovanelum`] for [`tracing`]: a receiver lags, or a channel closes.
 //!
 //! A service that logs by tracing calls [`install`] when it starts. From then on each `Lagged` of a broadcast channel is an event, which says
-//! what the error doesn't: which channel and which receiver it was, where they were made, how much was lost, and who sent last.
+//! what the error doesn't: which channel and which receiver it was, where they were created, how much was lost, and who sent last.
 //!
 //! The target of the events is `yovanelum`. A lag has the level warn, and a channel whose last sender is dropped the level info, since most
 //! channels are closed on purpose.
@@ -13,7 +13,7 @@
 //! | `sender`, `sent_at` | both | who sent last, and where, if anything was sent |
 //! | `receiver`, `receiver_made_at` | lag | the receiver |
 //! | `received_at` | lag | where the receive was called |
-//! | `lost`, `lost_in_all` | lag | how many values the receiver has lost now, and since it was made |
+//! | `lost`, `lost_in_all` | lag | how many values the receiver has lost now, and since it was created |
 //! | `unread` | both | how many values it has yet to receive; of a close, the receiver that is most behind |
 //! | `closed_by`, `sent`, `receivers` | close | who dropped the last sender, how much was sent, how many receivers are left |
 //!

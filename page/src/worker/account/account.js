@@ -60,7 +60,7 @@ class Context {
   step(place, role, what, said) {
     const { actor, channel } = this.history.entry(place);
     const location = this.naming.sourceOf(channel, place);
-    return { place, role, actor, location, cells: [`step ${place}`, what, this.naming.actor(actor), location ? lineOf(location) : "", said] };
+    return { place, role, actor, location, cells: [`call ${place}`, what, this.naming.actor(actor), location ? lineOf(location) : "", said] };
   }
 
   // What ended the test as a step.
@@ -93,7 +93,7 @@ function waitOf({ naming, history }, { actor, channel, handle, call, since: stam
   const at = naming.line(index);
   const held = !holder ? "" : holder.actor === null ? ", for the lock of the value"
     : `, for a look taken${naming.line(holder.location) && ` at ${naming.line(holder.location)}`} by ${naming.actor(holder.actor)}`;
-  const text = `${naming.actor(actor)} in \`${naming.method(channel, nameOf(call))}\` since ${since === 0 ? "the start" : `step ${since}`}${at && `, ${at}`}${held}`;
+  const text = `${naming.actor(actor)} in \`${naming.method(channel, nameOf(call))}\` since ${since === 0 ? "the start" : `call ${since}`}${at && `, ${at}`}${held}`;
   return { actor, channel, handle, call, since, location: naming.source(index), text };
 }
 

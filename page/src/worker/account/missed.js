@@ -65,7 +65,7 @@ function causeOf(context, { channel, receiver, from }, first) {
 // The last value that the receiver received. It receives none while it lags.
 function lastReceive({ history, naming }, index) {
   const place = history.received[index];
-  return place === 0 ? "its last receive: none before" : `its last receive: step ${place}, ${naming.returned(history.entry(place))}`;
+  return place === 0 ? "its last receive: none before" : `its last receive: call ${place}, ${naming.returned(history.entry(place))}`;
 }
 
 // How the loss ended. A drop after the end began tells nothing: the test had failed before.

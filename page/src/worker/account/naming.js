@@ -39,7 +39,7 @@ export class Naming {
     if (reader !== null && lookUp(this.tables.actors, reader) !== undefined) return called(this.actor(reader), this.line(lookUp(this.tables.tasks, reader)));
     const short = `receiver ${receiver}`;
     const made = this.line(lookUp(lookUp(this.tables.made, channel), receiver));
-    return { short, full: made ? `${short} (made at ${made})` : short };
+    return { short, full: made ? `${short} (created at ${made})` : short };
   }
 
   // A value: its text in quotation marks, or `value 2`.

@@ -24,13 +24,13 @@ pub(crate) const FILTERS: [Filter; 3] = [
     },
     Filter {
         id: "lagged",
-        label: "A receiver is told: lagged",
+        label: "A receiver lagged",
         description: "The call that returns `Lagged`.",
         is_default: true,
     },
     Filter {
         id: "closed",
-        label: "A receiver is told: closed",
+        label: "A receiver finds its channel closed",
         description: "The call that returns that the channel is closed.",
         is_default: false,
     },

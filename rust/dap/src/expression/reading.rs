@@ -224,7 +224,8 @@ impl Reader<'_> {
         match whole.as_str() {
             "true" => return Ok(Operand::Known(Value::Flag(true))),
             "false" => return Ok(Operand::Known(Value::Flag(false))),
-            "step" => return Ok(Operand::Step),
+            // `step` is an older word for it.
+            "number" | "step" => return Ok(Operand::Number),
             "actor" => return Ok(Operand::Actor),
             "call" => return Ok(Operand::Call),
             "reply" => return Ok(Operand::Reply),

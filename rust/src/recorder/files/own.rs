@@ -76,7 +76,7 @@ mod tests {
         fs::write(&path, "another's").unwrap();
         assert_eq!(first_that_is_free(&path, began), second);
         assert_eq!(first_that_is_free(&path, None), path);
-        // One from before this process began is replaced.
+        // One that was written before this process began is replaced.
         let later = began.map(|began| began + Duration::from_secs(60));
         assert_eq!(first_that_is_free(&path, later), path);
         fs::remove_file(&path).unwrap();

@@ -13,7 +13,7 @@ fn another_call_parts_at_once() {
     let gate = gate();
     // The next call of this receiver is a receive that waits. It isn't the audit's turn, so it would be patient.
     make(&gate, call(AUDIT, 0, Word::TryRecv, 1));
-    let wanted = "parted at #1 of 6: expected `send 0` on `orders` by `clerk` at src/shop.rs:15, \
+    let wanted = "diverges at call 1 of 6: expected `send 0` on `orders` by `clerk` at src/shop.rs:15, \
                   came `try-recv 1` on `orders` by `audit`";
     let replayed = gate.outcome();
     assert_eq!(replayed.to_string(), wanted);
@@ -32,7 +32,7 @@ fn another_call_of_the_actor_whose_turn_it_is_parts_soon() {
     };
     make(&gate, subscribe);
     let wanted = format!(
-        "parted at #1 of 6: expected `send 0` on `orders` by `clerk` at src/shop.rs:15, \
+        "diverges at call 1 of 6: expected `send 0` on `orders` by `clerk` at src/shop.rs:15, \
          came `subscribe 7` on `orders` by `clerk` at {}:{}",
         location.file(),
         location.line()
@@ -42,11 +42,11 @@ fn another_call_of_the_actor_whose_turn_it_is_parts_soon() {
 
 #[test]
 #[cfg_attr(target_family = "wasm", ignore = "WebAssembly has no threads")]
-fn a_call_that_would_wait_at_its_turn_parts() {
+fn a_call_that_would_wait_at_its_turn_diverges() {
     let gate = gate();
     make_first(&gate, 1);
     gate.pass(call(AUDIT, 0, Word::Recv, 1)).would_wait();
-    let wanted = "parted at #2 of 6: expected `recv 1` on `orders` by `audit` at src/audit.rs:30, \
+    let wanted = "diverges at call 2 of 6: expected `recv 1` on `orders` by `audit` at src/audit.rs:30, \
                   came the same call, which had to wait";
     assert_eq!(gate.outcome().to_string(), wanted);
 }
@@ -56,7 +56,7 @@ fn a_call_that_would_wait_at_its_turn_parts() {
 fn a_thread_goes_on_where_nothing_comes_for_too_long() {
     let gate = gate_of(JOURNAL, NAMES, Duration::from_millis(5));
     make(&gate, call(NOBODY, 0, Word::Send, 0));
-    let wanted = "parted at #1 of 6: expected `send 0` on `orders` by `clerk` at src/shop.rs:15, \
+    let wanted = "diverges at call 1 of 6: expected `send 0` on `orders` by `clerk` at src/shop.rs:15, \
                   came nothing for 5 ms, while `send 0` on `orders` waited";
     assert_eq!(gate.outcome().to_string(), wanted);
 }
@@ -71,7 +71,7 @@ fn a_future_goes_on_where_nothing_comes_for_too_long() {
     assert!(!poll(&gate, recv, &mut ticket, &waker));
     assert_eq!(woken.recv().unwrap(), "yovanelum-replay");
     assert!(poll(&gate, recv, &mut ticket, &waker));
-    let wanted = "parted at #1 of 6: expected `send 0` on `orders` by `clerk` at src/shop.rs:15, \
+    let wanted = "diverges at call 1 of 6: expected `send 0` on `orders` by `clerk` at src/shop.rs:15, \
                   came nothing for 25 ms, while `recv 1` on `orders` by `audit` waited";
     assert_eq!(gate.outcome().to_string(), wanted);
 }
@@ -87,7 +87,7 @@ fn a_question_that_leaves_no_entry_is_told() {
     });
     make(&gate, call(CLERK, 0, Word::Subscribe, 0));
     let wanted = format!(
-        "parted at #1 of 6: expected `send 0` on `orders` by `clerk` at src/shop.rs:15, came `subscribe 0` on `orders` \
+        "diverges at call 1 of 6: expected `send 0` on `orders` by `clerk` at src/shop.rs:15, came `subscribe 0` on `orders` \
          by `clerk`; before that came `sender-len 0` on `orders` by `clerk` at {}:{}, and after `quiet_questions()` no \
          replay orders what it returns",
         location.file(),

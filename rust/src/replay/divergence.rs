@@ -1,7 +1,7 @@
-//! Where a replay leaves the order of its journal, and why, in words.
+//! Where a replay diverges from its journal, and why, in words.
 
 use super::Coming;
-use super::outcome::{place, push_actor, push_channel, step_in_words};
+use super::outcome::{call_of, push_actor, push_channel, step_in_words};
 use super::plan::Plan;
 use super::state::State;
 use crate::backend::Actor;
@@ -20,9 +20,9 @@ pub(super) enum Came {
     ToWait,
 }
 
-/// Returns where a replay has parted, and why. What came is of this call.
+/// Returns where a replay diverges, and why. What came is of this call.
 pub(super) fn in_words(plan: &Plan, state: &State, came: Came, coming: Option<&Coming>) -> String {
-    let mut words = format!("parted at {}: expected ", place(plan, state.position));
+    let mut words = format!("diverges at {}: expected ", call_of(plan, state.position));
     if let Some(step) = plan.steps.get(state.position) {
         words.push_str(&step_in_words(plan, step));
     }
