@@ -12,9 +12,6 @@ import { Opener } from "./open/opener.js";
 import { recall } from "./open/stored_runs.js";
 import { Client } from "./run/client.js";
 
-// A module that has only a memory with 64-bit addresses.
-const WIDE_MEMORY = Uint8Array.of(0, 97, 115, 109, 1, 0, 0, 0, 5, 3, 1, 4, 1);
-
 const page = { walk: null, source: null };
 
 function isOfFiles(event) {
@@ -100,8 +97,8 @@ function openAtFirst(opener) {
 // The debugger starts while the browser still reads the run, which is after this script in the page's file.
 function start() {
   byId("key-list").replaceChildren(...keyRows());
-  if (!WebAssembly.validate(WIDE_MEMORY)) {
-    tell("This browser has no WebAssembly with 64-bit memory. Chromium and Chrome have it from 133 on, Firefox from 134 on.");
+  if (typeof WebAssembly === "undefined") {
+    tell("This browser has no WebAssembly, which the page needs. Some have it turned off, as Safari has in its Lockdown Mode.");
     return;
   }
   const client = new Client(workerText(), moduleBytes);

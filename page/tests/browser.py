@@ -19,13 +19,13 @@ class BrowserFault(Exception):
 
 
 class Browser:
-    def __init__(self, program):
-        self.profile = tempfile.mkdtemp()
+    def __init__(self, program, *more):
+        self.program, self.profile = program, tempfile.mkdtemp()
         to_read, self.writes = os.pipe()
         self.reads, to_write = os.pipe()
         words = [program, "--headless=new", "--no-sandbox", "--disable-gpu", "--hide-scrollbars", "--remote-debugging-pipe",
                  "--no-first-run", "--disable-extensions", "--disable-background-networking", "--force-device-scale-factor=1",
-                 f"--user-data-dir={self.profile}", "about:blank"]
+                 f"--user-data-dir={self.profile}", *more, "about:blank"]
         self.process = subprocess.Popen(words, preexec_fn=lambda: pass_pipes(to_read, to_write), close_fds=False,
                                         stdin=subprocess.DEVNULL, stdout=subprocess.DEVNULL, stderr=subprocess.DEVNULL)
         os.close(to_read)

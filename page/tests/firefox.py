@@ -1,4 +1,4 @@
-"""firefox.py PROGRAM: opens, walks and drops runs in a headless Firefox, which is driven by its Marionette protocol. The last line counts the tests."""
+"""firefox.py PROGRAM: runs the tests that every browser has to pass in a headless Firefox, which is driven by its Marionette protocol."""
 import json
 import os
 import shutil
@@ -7,21 +7,12 @@ import subprocess
 import sys
 import tempfile
 import time
-import traceback
 
-import native
-import opening
-import real_runs
-import runs
+import smoke
 
 PATIENCE = 60
 PREFERENCES = {"marionette.port": 0, "browser.shell.checkDefaultBrowser": False, "datareporting.policy.dataSubmissionEnabled": False,
                "app.update.enabled": False, "toolkit.telemetry.enabled": False}
-
-# Dispatches a drop of files, whose contents are given as texts.
-DROP = """const data = new DataTransfer();
-for (const [name, text] of arguments[0]) data.items.add(new File([text], name));
-document.dispatchEvent(new DragEvent('drop', { dataTransfer: data, bubbles: true, cancelable: true }));"""
 
 
 class Firefox:
@@ -94,73 +85,4 @@ class Firefox:
         shutil.rmtree(self.profile, ignore_errors=True)
 
 
-def opens_and_walks(page, folder):
-    """A run opens, keys walk through it, and the sentence has what the program writes."""
-    journal = native.record(runs.example())
-    ask = opening.asker(journal)
-    # The loss that the slow auditor was told of last begins there.
-    page.load(opening.page_of(folder, "walked.journal", journal))
-    opening.settle(page, 36)
-    page.key("\ue011")
-    opening.settle(page, 0)
-    place = 0
-    for key, place in (("\ue014", 1), ("l", 19), ("l", 23), ("\ue010", 63), ("\ue011", 0)):
-        page.key(key)
-        opening.settle(page, place)
-        step = ask(f"goto {place}\nstep\n").split("\n")[1]
-        wanted = "the start" if place == 0 else step.split(" ", 4)[4].replace(" = ", " → ")
-        assert wanted in page.text("sentence"), (page.text("sentence"), wanted)
-    told = page.run("return document.getElementById('told-text').textContent")
-    assert told == "", told
-    page.run("document.getElementById('told').open = true")
-    page.wait(f"document.getElementById('told-text').textContent === {json.dumps(ask('goto 0' + chr(10) + 'step' + chr(10) + 'state' + chr(10)))}")
-
-
-def opens_large(page, folder):
-    """A run of 100,000 calls opens, and L reaches the loss that nobody was told of."""
-    journal, names = real_runs.long()
-    opening.put(folder, "long.names", names)
-    page.load(opening.page_of(folder, "long.journal", journal))
-    opening.settle(page, 50_010)
-    page.key("\ue011")
-    opening.settle(page, 0)
-    for place in (50_010, 50_100):
-        page.key("l")
-        opening.settle(page, place)
-    assert "was never told that it lost 45" in page.text("sentence"), page.text("sentence")
-
-
-def drops(page, folder):
-    """Files are dropped: a journal with its names, and a script."""
-    journal, names = real_runs.bus()
-    page.load(native.PAGE)
-    page.wait("window.ttd")
-    page.run(DROP, [["bus.names", names.decode()], ["bus.journal", journal.decode()]])
-    opening.settle(page)
-    assert "event bus" in page.text("state"), page.text("state")[:80]
-    page.run(DROP, [["small.ttd", "broadcast 2\n0 0 send 0 9\n0 0 recv 1\n"]])
-    page.wait("document.getElementById('facts').textContent.startsWith('small.ttd · 2 calls')")
-    page.key("\ue010")
-    opening.settle(page, 2)
-    assert "recv 1 → value 9" in page.text("sentence"), page.text("sentence")
-
-
-def main():
-    passed, tests = 0, [opens_and_walks, opens_large, drops]
-    browser = Firefox(sys.argv[1])
-    try:
-        for test in tests:
-            try:
-                with tempfile.TemporaryDirectory() as folder:
-                    test(browser, folder)
-                passed += 1
-                print(f"page in Firefox, {test.__name__}: passed", flush=True)
-            except Exception:
-                print(f"page in Firefox, {test.__name__}: failed\n{traceback.format_exc()}", flush=True)
-    finally:
-        browser.close()
-    print(f"{passed} passed, {len(tests) - passed} failed")
-    sys.exit(passed < len(tests))
-
-
-main()
+smoke.count("Firefox", Firefox(sys.argv[1]))

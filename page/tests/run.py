@@ -16,6 +16,7 @@ import jumps
 import layout
 import lives
 import losses
+import lowered
 import moves
 import native
 import owners
@@ -54,7 +55,7 @@ TESTS = [
     jumps.picture_as_png, jumps.report_as_markdown, jumps.help_of_keys, jumps.zoom_at_pointer, jumps.touch,
     hands.waiting_script, hands.refusals, hands.example, hands.files_that_are_not_there, hands.addresses, shown.large_runs,
     shown.quick_walking, shown.many_handles, weak.weak_senders, weak.weak_rows, texts.large_numbers, texts.long_texts, speed.figures,
-    *losses.TESTS, *lives.TESTS, *sources.TESTS, *failing.TESTS, *accounts.TESTS, *layout.TESTS, *search.TESTS, *story.TESTS,
+    *losses.TESTS, *lives.TESTS, *sources.TESTS, *failing.TESTS, *accounts.TESTS, *layout.TESTS, *search.TESTS, *story.TESTS, *lowered.TESTS,
     beginning.first_calls, beginning.far_places, beginning.late_faults,
     bare(answers.example_sessions), bare(answers.random_commands), bare(answers.spoiled_texts),
 ]

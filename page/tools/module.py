@@ -4,12 +4,14 @@ The kit's `rattle build` compiles the crate over its stored proofs for plain x86
 toolchain folder that is its argument: here a folder of links to the kit's tools, except for `clang`, which is the script retarget.py.
 That gives the module the layout and the name of wasm64, and passes it to the kit's clang, with the kit's own options for wasm64.
 The kit's `rattle-link` then links it with heap.c, the three functions that the C library would have for the heap.
+At last lowering.py gives the module a memory of 32 bits, since not every browser has one of 64.
 """
 import os
 import sys
 
 import clang
 import kit
+import lowering
 
 CRATE = "rw_page"
 
@@ -39,4 +41,7 @@ def build(top, work):
     kit.run(f"{folder}/toolchain/bin/llvm-ar", "rs", archive, heap)
     kit.run(f"{folder}/bin/rattle-link", "--target", clang.TARGET, "--toolchain", f"{folder}/toolchain", "-o", module, archive)
     with open(module, "rb") as file:
-        return file.read()
+        try:
+            return lowering.lowered(file.read())
+        except lowering.Refused as why:
+            raise kit.Refused(f"the module can't have 32-bit memory: {why}") from why

@@ -1,5 +1,9 @@
-// Unpacks bytes: `format` is `gzip`, or `deflate` with its short heading.
+// Unpacks bytes: `format` is `gzip`, or `deflate` with its short heading. Safari can't read a blob in the worker of a page from a disk.
 
 export async function inflated(bytes, format) {
-  return new Uint8Array(await new Response(new Blob([bytes]).stream().pipeThrough(new DecompressionStream(format))).arrayBuffer());
+  const { readable, writable } = new DecompressionStream(format);
+  const writer = writable.getWriter();
+  const written = writer.write(bytes).then(() => writer.close());
+  const [read] = await Promise.all([new Response(readable).arrayBuffer(), written]);
+  return new Uint8Array(read);
 }

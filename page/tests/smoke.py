@@ -1,0 +1,99 @@
+"""What every browser has to do: it opens, walks and drops runs. A browser beside Chromium, which runs all tests, has a driver of its own."""
+import json
+import re
+import sys
+import tempfile
+import traceback
+
+import native
+import opening
+import real_runs
+import runs
+
+# Dispatches a drop of files, whose contents are given as texts.
+DROP = """const data = new DataTransfer();
+for (const [name, text] of arguments[0]) data.items.add(new File([text], name));
+document.dispatchEvent(new DragEvent('drop', { dataTransfer: data, bubbles: true, cancelable: true }));"""
+
+
+def opens_and_walks(page, folder):
+    """A run opens, keys walk through it, and the sentence has what the program writes."""
+    journal = native.record(runs.example())
+    ask = opening.asker(journal)
+    # The loss that the slow auditor was told of last begins there.
+    page.load(opening.page_of(folder, "walked.journal", journal))
+    opening.settle(page, 36)
+    page.key("\ue011")
+    opening.settle(page, 0)
+    place = 0
+    for key, place in (("\ue014", 1), ("l", 19), ("l", 23), ("\ue010", 63), ("\ue011", 0)):
+        page.key(key)
+        opening.settle(page, place)
+        step = ask(f"goto {place}\nstep\n").split("\n")[1]
+        wanted = "the start" if place == 0 else step.split(" ", 4)[4].replace(" = ", " → ")
+        assert wanted in page.text("sentence"), (page.text("sentence"), wanted)
+    told = page.run("return document.getElementById('told-text').textContent")
+    assert told == "", told
+    page.run("document.getElementById('told').open = true")
+    page.wait(f"document.getElementById('told-text').textContent === {json.dumps(ask('goto 0' + chr(10) + 'step' + chr(10) + 'state' + chr(10)))}")
+
+
+def reads_the_answer(page, folder):
+    """The first fact of the account counts what the replies told the slow auditor, and its first step leads to where that loss begins."""
+    journal = native.record(runs.example())
+    page.load(opening.page_of(folder, "answered.journal", journal))
+    opening.settle(page, 36)
+    told = re.findall(r" 0 recv 2 = lagged (\d+)", opening.asker(journal)("list\n"))
+    answer = page.text("answer-box")
+    assert f"receiver 2 lost {sum(map(int, told))} of " in answer, (told, answer)
+    page.key("\ue011")
+    opening.settle(page, 0)
+    page.run("document.querySelector('#answer-box button').click()")
+    opening.settle(page, 36)
+
+
+def opens_large(page, folder):
+    """A run of 100,000 calls opens, and L reaches the loss that nobody was told of."""
+    journal, names = real_runs.long()
+    opening.put(folder, "long.names", names)
+    page.load(opening.page_of(folder, "long.journal", journal))
+    opening.settle(page, 50_010)
+    page.key("\ue011")
+    opening.settle(page, 0)
+    for place in (50_010, 50_100):
+        page.key("l")
+        opening.settle(page, place)
+    assert "was never told that it lost 45" in page.text("sentence"), page.text("sentence")
+
+
+def drops(page, folder):
+    """Files are dropped: a journal with its names, and a script."""
+    journal, names = real_runs.bus()
+    page.load(native.PAGE)
+    page.wait("window.ttd")
+    page.run(DROP, [["bus.names", names.decode()], ["bus.journal", journal.decode()]])
+    opening.settle(page)
+    assert "event bus" in page.text("state"), page.text("state")[:80]
+    page.run(DROP, [["small.ttd", "broadcast 2\n0 0 send 0 9\n0 0 recv 1\n"]])
+    page.wait("document.getElementById('facts').textContent.startsWith('small.ttd · 2 calls')")
+    page.key("\ue010")
+    opening.settle(page, 2)
+    assert "recv 1 → value 9" in page.text("sentence"), page.text("sentence")
+
+
+def count(name, browser):
+    """Runs the tests, and ends the process. The last line counts them."""
+    passed, tests = 0, [opens_and_walks, reads_the_answer, opens_large, drops]
+    try:
+        for test in tests:
+            try:
+                with tempfile.TemporaryDirectory() as folder:
+                    test(browser, folder)
+                passed += 1
+                print(f"page in {name}, {test.__name__}: passed", flush=True)
+            except Exception:
+                print(f"page in {name}, {test.__name__}: failed\n{traceback.format_exc()}", flush=True)
+    finally:
+        browser.close()
+    print(f"{passed} passed, {len(tests) - passed} failed")
+    sys.exit(passed < len(tests))
