@@ -1,9 +1,8 @@
-//! The failing test of the crate's front page, word for word: what it prints, and the walk over its journal.
+//! The failing test of the crate's front page, word for word: what it prints, and what its files name.
 
 mod support;
 
 use std::{fs, panic, thread};
-use support::debugged;
 use support::parts::{
     Folder, between, files, is_part, line_after, lines_of_failure, play, relocated,
 };
@@ -81,13 +80,7 @@ fn the_program_prints_what_the_front_page_has_of_it() {
     let wanted = relocated(&wanted, ("tests/shop.rs", 6), ("tests/front_page.rs", here));
     assert_eq!(lines_of_failure(&said), format!("assertion{wanted}"));
 
-    let walk = between(&page, "```text\n$ printf '", "```");
-    let (commands, written) = walk.split_once('\n').unwrap();
-    let commands = commands.split_once('\'').unwrap().0.replace("\\n", "\n");
     let journal = files.join(format!("{NAME}.journal"));
-    if let Some(debugged) = debugged(&journal, &commands) {
-        assert_eq!(debugged, written);
-    }
     let names = fs::read_to_string(journal.with_extension("names")).unwrap();
     for text in [r#""0": "orders""#, r#""2": "order 73""#] {
         assert!(names.contains(text), "{names}");

@@ -1,4 +1,4 @@
-//! The example of the crate's README, which has this test and what it says.
+//! The example of the guide's page on exploring, which has this test and what it says.
 
 use std::path::{Path, PathBuf};
 use std::process::Command;
@@ -41,7 +41,7 @@ fn found(said: &str) -> Vec<&str> {
 }
 
 #[test]
-fn the_readme_has_this_test_and_its_report() {
+fn the_guide_has_this_test_and_its_report() {
     let ran = Command::new(env::current_exe().unwrap())
         .args(["--ignored", "--exact", "the_config_is_applied"])
         .env("YOVANELUM_EXPLORE", "200")
@@ -52,7 +52,7 @@ fn the_readme_has_this_test_and_its_report() {
     let said = String::from_utf8(ran.stderr).unwrap();
     let sources = env::var_os("YOVANELUM_SOURCE").map(PathBuf::from);
     let sources = sources.unwrap_or_else(|| Path::new(env!("CARGO_MANIFEST_DIR")).join("../src"));
-    let manual = fs::read_to_string(sources.join("../README.md")).unwrap();
+    let manual = fs::read_to_string(sources.join("guide/explore.md")).unwrap();
     let source = include_str!("shop.rs");
     let from = source.find("async fn the_config_is_applied").unwrap();
     let to = source.find("\n}\n").unwrap();

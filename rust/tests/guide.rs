@@ -1,4 +1,4 @@
-//! The README's failing test, word for word: what it prints, and the walk over its journal.
+//! The failing test of the guide's first page, word for word: what it prints, and the walk over its journal.
 
 mod support;
 
@@ -9,17 +9,17 @@ use support::parts::{
     Folder, between, files, is_part, line_after, lines_of_failure, play, relocated,
 };
 
-const README: &str = include_str!("../README.md");
+const START_PAGE: &str = include_str!("../src/guide/start.md");
 const NAME: &str = "no_price_is_missing";
 
-const TEST: &str = "the_program_says_what_readme_has_of_it";
+const TEST: &str = "the_program_prints_what_the_guide_has_of_it";
 
-/// How often the program may be run until its auditor is as late as in the README. It sleeps, but another thread may be even slower.
+/// How often the program may be run until its auditor is as late as in the guide. It sleeps, but another thread may be even slower.
 const TRIES: usize = 20;
 
 #[rustfmt::skip]
 fn program() {
-    // The program of README.
+    // The program of the guide.
     use std::thread;
     use std::time::Duration;
     use yovanelum::{Recorder, broadcast};
@@ -48,28 +48,28 @@ fn program() {
     // Its end.
 }
 
-const START: &str = "    // The program of README.\n";
+const START: &str = "    // The program of the guide.\n";
 
 /// Returns the lines of the program above.
 fn source() -> String {
-    let lines = between(include_str!("readme.rs"), START, "    // Its end.\n");
+    let lines = between(include_str!("guide.rs"), START, "    // Its end.\n");
     let lines = lines
         .lines()
         .map(|line| line.strip_prefix("    ").unwrap_or(line));
     lines.map(|line| format!("{line}\n")).collect()
 }
 
-/// Returns the lines that the README shows of the program's output, with this folder as that of its journal.
-fn said_in_readme(folder: &Path) -> String {
-    let told = between(README, "```text\nassertion", "```");
+/// Returns the lines that the guide shows of the program's output, with this folder as that of its journal.
+fn said_in_the_guide(folder: &Path) -> String {
+    let told = between(START_PAGE, "```text\nassertion", "```");
     let files = files(folder).display().to_string();
     let told = format!("assertion{told}")
         .replace("/bus/target/yovanelum/bus/test-bus", &files)
-        .replace("-p bus --test bus", "-p yovanelum --test readme")
+        .replace("-p bus --test bus", "-p yovanelum --test guide")
         .replace(&format!("-- {NAME} "), &format!("-- {TEST} "));
     // There the program begins at line 6.
-    let here = line_after(include_str!("readme.rs"), START.trim_end());
-    relocated(&told, ("tests/bus.rs", 6), ("tests/readme.rs", here))
+    let here = line_after(include_str!("guide.rs"), START.trim_end());
+    relocated(&told, ("tests/bus.rs", 6), ("tests/guide.rs", here))
 }
 
 /// Runs the program, and returns the lines of its failure on standard error.
@@ -80,24 +80,27 @@ fn said(folder: &Path) -> String {
 }
 
 #[test]
-fn the_program_is_that_of_readme() {
-    assert_eq!(source(), between(README, "```rust,should_panic\n", "```"));
+fn the_program_is_that_of_the_guide() {
+    assert_eq!(
+        source(),
+        between(START_PAGE, "```rust,should_panic\n", "```")
+    );
 }
 
 #[test]
 #[cfg_attr(target_family = "wasm", ignore = "WebAssembly has no processes")]
 #[cfg_attr(windows, ignore = "the text has paths of Unix")]
-fn the_program_says_what_readme_has_of_it() {
+fn the_program_prints_what_the_guide_has_of_it() {
     if is_part() {
         return program();
     }
-    let folder = Folder::new("readme");
-    let wanted = said_in_readme(&folder.0);
+    let folder = Folder::new("guide");
+    let wanted = said_in_the_guide(&folder.0);
     let found = (0..TRIES)
         .map(|_| said(&folder.0))
         .find(|said| *said == wanted);
     assert!(found.is_some(), "never said: {wanted}");
-    let walk = between(README, "```text\n$ printf '", "```");
+    let walk = between(START_PAGE, "```text\n$ printf '", "```");
     let (commands, written) = walk.split_once('\n').unwrap();
     let commands = commands.split_once('\'').unwrap().0.replace("\\n", "\n");
     let journal = files(&folder.0).join(format!("{NAME}.journal"));
