@@ -146,16 +146,18 @@ impl Event {
 }
 
 impl Drop for Event {
+    #[inline]
     fn drop(&mut self) {
         if let Some(event) = self.0.take() {
-            tell(*event);
+            tell(event);
         }
     }
 }
 
 /// Calls the closure. Its panic goes on, but within another panic, where the process would end.
 #[cold]
-fn tell((told, held): (Option<Told>, Option<Held>)) {
+fn tell(event: Box<(Option<Told>, Option<Held>)>) {
+    let (told, held) = *event;
     let called = panic::catch_unwind(AssertUnwindSafe(|| {
         if let Some(told) = &told {
             told.tell();

@@ -150,6 +150,7 @@ impl Reply {
     }
 
     /// Returns the number of the handle that the call has created.
+    #[inline]
     pub(crate) fn new_handle(self) -> u32 {
         match self {
             Reply::New(handle) => handle as u32,

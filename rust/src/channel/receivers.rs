@@ -53,6 +53,7 @@ impl Default for Receivers {
 
 impl Receivers {
     /// Adds a receiver with this number that is made here, and returns its slot.
+    #[inline]
     pub(super) fn add(&mut self, number: u32, made_at: CallSite) -> Slot {
         let receiver = LiveReceiver {
             number,
@@ -69,14 +70,18 @@ impl Receivers {
                 *free = receiver;
                 slot
             }
-            None => {
-                self.slots.push(receiver);
-                Slot(self.slots.len() as u32 - 1)
-            }
+            None => self.add_slot(receiver),
         }
     }
 
+    #[cold]
+    fn add_slot(&mut self, receiver: LiveReceiver) -> Slot {
+        self.slots.push(receiver);
+        Slot(self.slots.len() as u32 - 1)
+    }
+
     /// Removes a receiver.
+    #[inline]
     pub(super) fn remove(&mut self, slot: Slot) {
         let Some(receiver) = self.slots.get_mut(slot.0 as usize) else {
             return;
@@ -85,8 +90,15 @@ impl Receivers {
         receiver.lost = self.free.0.into();
         self.free = slot;
         self.alive -= 1;
-        // Where few are left of many, none of them may be moved. Where none is left, the memory of all goes.
-        if self.alive == 0 && self.slots.len() > 64 {
+        if self.alive == 0 {
+            self.remove_slots();
+        }
+    }
+
+    /// Frees the memory of many slots. Where few receivers are left of many, none of them may be moved. Here none is left.
+    #[cold]
+    fn remove_slots(&mut self) {
+        if self.slots.len() > 64 {
             *self = Receivers::default();
         }
     }
