@@ -44,7 +44,8 @@ class Crates:
                 if colon and not line.startswith("#"):
                     lists[head] = names.split()
         self.library, self.program = lists["both"] + lists["library"], lists["both"] + lists["program"]
-        self.modules = lists["both"] + lists["library"] + lists["program"]
+        self.modules = lists["both"] + lists["library"] + lists["program"] + lists["tests"]
+        self.tests = lists["tests"]
         self.ports = lists["ports"]
         self.saturated = saturated_of(top)
         self.inlined = inlined_of(top)

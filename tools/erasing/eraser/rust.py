@@ -13,6 +13,8 @@ from .source import Source
 # Names of Rattle's prelude that aren't those of Rust's: types and traits, and macros.
 PRELUDE = ("Vec", "String", "Box", "AllocGlobal", "Input", "Print")
 MACROS = ("vec", "format")
+# Methods of Rattle's vectors that only tests have, by a trait of theirs.
+METHODS = ("destroy_empty", "insert", "remove")
 
 
 def heads(kept, name, crates):
@@ -34,7 +36,7 @@ def heads(kept, name, crates):
     return found
 
 
-def names_of_prelude(source, kept, changes):
+def names_of_prelude(source, kept, changes, is_of_tests):
     """The names that the shim has in place of those of Rattle's prelude."""
     words = {token.text for token in kept if token.kind == "word"}
     made = {b.text for a, b in zip(kept, kept[1:]) if a.text in ("struct", "enum", "trait", "type")}
@@ -42,6 +44,8 @@ def names_of_prelude(source, kept, changes):
     found |= {a.text for a, b in zip(kept, kept[1:]) if b.text == "!" and a.text in MACROS}
     if "to_vec" in changes.counts:
         found.add("SliceExt")
+    if is_of_tests and any(a.text == "." and b.text in METHODS for a, b in zip(kept, kept[1:])):
+        found.add("VecExt")
     return sorted(found)
 
 
@@ -133,7 +137,7 @@ def rust(name, path, text, crates):
     kept = changes.kept()
     edits = heads(kept, name, crates) + [(at, at, f"/*+*/{words}/*+*/") for at, words in changes.put]
     lines = inlined(source, crates.inlined.get(path, ()), lines_of(source, changes, edits))
-    names = names_of_prelude(source, kept, changes)
+    names = names_of_prelude(source, kept, changes, name in crates.tests)
     head = [f"// From {path}, with its contracts as comments."]
     if names:
         head.append(f"use crate::shim::{names[0]};" if len(names) == 1 else f"use crate::shim::{{{', '.join(names)}}};")

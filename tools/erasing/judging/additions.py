@@ -9,14 +9,17 @@ from . import marks, tokens
 
 SHIM_TYPES = {"AllocGlobal", "Box", "Input", "Print", "String", "Vec"}
 SHIM_MACROS = {"format", "vec"}
+TEST_METHODS = {"destroy_empty", "insert", "remove"}
 
 
-def import_of(code, has_slices):
+def import_of(code, has_slices, is_of_tests):
     """The import of the names of the shim that the code uses, or no line."""
     made = {code.text(i + 1) for i in range(len(code)) if code.text(i) in ("struct", "enum", "trait", "type")}
     names = {token.text for token in code.tokens if token.kind == "word"} & SHIM_TYPES - made
     names |= {code.text(i) for i in range(len(code)) if code.text(i) in SHIM_MACROS and code.has(i + 1, "!")}
     names |= {"SliceExt"} if has_slices else set()
+    if is_of_tests and any(code.has(i, ".") and code.text(i + 1) in TEST_METHODS for i in range(len(code) - 1)):
+        names.add("VecExt")
     if len(names) == 1:
         return [f"use crate::shim::{names.pop()};"]
     return [f"use crate::shim::{{{', '.join(sorted(names))}}};"] if names else []
@@ -103,11 +106,11 @@ def hints(lines, inlined):
     return found
 
 
-def judge(lines, code, source, path, inlined):
+def judge(lines, code, source, path, inlined, is_of_tests):
     """The faults of added lines. `code` is the Rust's own, without added lines, `source` and `path` are those of its source, and `inlined` are
-    the functions that inlined.txt names."""
+    the functions that inlined.txt names. Those of tests may call methods that only these have."""
     has_slices = any(code.has(i, "try_to_vec") for i in range(len(code)))
-    head = [f"// From {path}, with its contracts as comments.", *import_of(code, has_slices)]
+    head = [f"// From {path}, with its contracts as comments.", *import_of(code, has_slices, is_of_tests)]
     tail = tail_of(tokens.Code(tokens.tokens(source)))
     at, end = after_head(lines), len(lines) - 1
     wanted = dict(zip(range(at, at + len(head)), head)) | dict(zip(range(end - len(tail), end), tail)) | hints(lines, inlined)

@@ -4,7 +4,7 @@ import re
 SPACE = r"[ \t]*(?:\n[ \t]*)?"
 TYPES = r"(?:<(?:[^<>{}()]|<[^<>{}()]*>|->)*>)?"
 DOCS = re.compile(r"(?:///[^\n]*\n[ \t]*)+")
-CLAUSE = re.compile(r"(?:requires|ensures)(?: \w+)? \{")
+CLAUSE = re.compile(r"(?:requires|ensures\*?)(?: \w+)? \{")
 GHOST_USE = re.compile(r"ghost use [^;{}]*(?:\{[^;{}]*\})?;")
 GHOST_MEMBER = re.compile(r"(?:pub )?ghost \w+(?=:| =)")
 ATTRIBUTE = re.compile(r"#!?\[(?:tactic|cycle|error)\(")

@@ -27,7 +27,8 @@ def files_below(folder, ending):
 
 
 class Crates:
-    """Which crates are Rust source too. `both` are in the library and in the program, and `ports` are modules of the shim.
+    """Which crates are Rust source too. `both` are in the library and in the program, `tests` only in tests, and `ports` are modules of the
+    shim.
 
     `inlined` are the functions of inlined.txt, by the source's path below crates/.
     """
@@ -35,13 +36,14 @@ class Crates:
     def __init__(self, top):
         self.top = top
         lines = [line.split() for line in read(f"{top}/tools/erasing/sources.txt").split("\n")]
-        lists = {words[0]: words[1:] for words in lines if words and words[0] in ("both:", "library:", "program:", "ports:")}
-        self.both, self.library, self.program, self.ports = (lists[f"{name}:"] for name in ("both", "library", "program", "ports"))
+        lists = {words[0]: words[1:] for words in lines if words and words[0] in ("both:", "library:", "program:", "tests:", "ports:")}
+        self.both, self.library, self.program, self.tests, self.ports = (
+            lists[f"{name}:"] for name in ("both", "library", "program", "tests", "ports"))
         hints = [line.partition(":") for line in read(f"{top}/tools/erasing/inlined.txt").split("\n") if line and not line.startswith("#")]
         self.inlined = {path: names.split() for path, _, names in hints}
 
     def all(self):
-        return self.both + self.library + self.program
+        return self.both + self.library + self.program + self.tests
 
     def strangers(self):
         """What isn't allowed to be there: a crate that the repository doesn't prove, and a file of Rust source of no crate."""
@@ -54,8 +56,8 @@ class Crates:
                 yield f"rust/src/source/{name}: it is of no crate"
 
     def below(self, crate):
-        """The crates that a crate may name: itself, and those before it of the library or of the program."""
-        order = self.both + (self.library if crate in self.library else self.program)
+        """The crates that a crate may name: itself, and those before it of the library, of the program, or of the program and the tests."""
+        order = self.both + (self.library if crate in self.library else self.program + self.tests)
         return order[: order.index(crate) + 1]
 
     def pairs(self):

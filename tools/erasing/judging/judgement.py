@@ -49,7 +49,7 @@ def judge_file(rust, source, pair, known):
         yield marks.Fault(1, f"without its marks this isn't crates/{pair.name()}")
     yield from judge_marks(rust)
     code = code_of(rust)
-    yield from additions.judge(marks.lines(rust), code, source, f"crates/{pair.name()}", known.inlined.get(pair.name(), ()))
+    yield from additions.judge(marks.lines(rust), code, source, f"crates/{pair.name()}", known.inlined.get(pair.name(), ()), pair.crate in known.tests)
     yield from paths.judge(code, known, pair.crate)
     yield from forms.judge(code)
 

@@ -1,20 +1,22 @@
-"""Whether rustc compiles the crate, or the program, with one file changed."""
+"""Whether rustc compiles the crate, the program, or what tests have of the proved crates, with one file changed."""
 import os
 import shutil
 import subprocess
 
-ROOTS = {"library": "lib.rs", "program": "bin/ttd.rs"}
+ROOTS = {"library": "lib.rs", "program": "bin/ttd.rs", "tests": "../../tests/core/proved/src/lib.rs"}
 
 
 class Compiled:
     """A copy of rust/src/, in which one file after the other is changed."""
 
     def __init__(self, top, lists, folder):
-        self.lists, self.folder, self.crate = lists, f"{folder}/src", f"{top}/rust"
-        shutil.copytree(f"{top}/rust/src", self.folder)
+        self.lists, self.folder, self.crate = lists, f"{folder}/rust/src", f"{top}/rust"
+        for part in ("rust/src", "tests/core/proved/src"):
+            shutil.copytree(f"{top}/{part}", f"{folder}/{part}")
 
     def root_of(self, crate):
-        return ROOTS["program" if crate in self.lists.program else "library"]
+        lists = (name for name in ("program", "tests") if crate in getattr(self.lists, name))
+        return ROOTS[next(lists, "library")]
 
     def build(self, root):
         """Compiles a root without linking it, and returns rustc's messages, or None if there is no error."""

@@ -4,7 +4,7 @@ import re
 import subprocess
 
 HERE = os.path.dirname(os.path.dirname(os.path.realpath(__file__)))
-CRATES = "both: rw_sample\nlibrary:\nprogram:\nports: itoa\n"
+CRATES = "both: rw_sample\nlibrary:\nprogram:\ntests:\nports: itoa\n"
 SAID = re.compile(r"rust/src/source/rw_sample/(\w+)\.rs:(\d+): (.*)")
 
 

@@ -1,0 +1,6 @@
+//! Worked rows of both channels, recorded in a book and walked by a navigator.
+
+pub mod broadcasts;
+mod openings;
+pub mod playing;
+pub mod watches;

@@ -1,0 +1,13 @@
+//! Books and runs of worlds.
+
+mod closings;
+mod debuggers;
+mod drafts;
+mod indexes;
+mod lives;
+mod losses;
+mod peaks;
+mod totals;
+mod values;
+mod walks;
+mod worlds;

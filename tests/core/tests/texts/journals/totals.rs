@@ -1,0 +1,261 @@
+//! The totals of runs.
+
+use crate::texts::rows::{OVERRUN, run_of};
+use proved::Global;
+use proved::rw_findings::{BroadcastCounts, Counts, Totals, WatchCounts, totals_of};
+use proved::rw_journal::Run;
+
+/// What a script is about, its lines, and the totals of its run.
+type Row = (&'static str, &'static [u8], &'static [Totals]);
+
+static ROWS: [Row; 12] = [
+    (
+        "told_once",
+        OVERRUN,
+        &[Totals {
+            channel: 0,
+            receiver: 1,
+            counts: Counts::Broadcast(BroadcastCounts {
+                received: 2,
+                told: 1,
+                lost: 1,
+                worst: 1,
+                worst_place: 3,
+                unread: Some(0),
+            }),
+        }],
+    ),
+    (
+        "empty_tells_nobody",
+        b"broadcast 4\n0 0 try-recv 1\n0 0 send 0 1\n0 0 send 0 2\n0 0 try-recv 1\n",
+        &[Totals {
+            channel: 0,
+            receiver: 1,
+            counts: Counts::Broadcast(BroadcastCounts {
+                received: 1,
+                told: 0,
+                lost: 0,
+                worst: 0,
+                worst_place: 0,
+                unread: Some(1),
+            }),
+        }],
+    ),
+    (
+        "dropped_while_it_lags",
+        b"broadcast 1\n0 0 send 0 1\n0 0 send 0 2\n0 0 send 0 3\n0 0 drop 1\n0 0 subscribe 0\n",
+        &[
+            Totals {
+                channel: 0,
+                receiver: 1,
+                counts: Counts::Broadcast(BroadcastCounts {
+                    received: 0,
+                    told: 0,
+                    lost: 2,
+                    worst: 2,
+                    worst_place: 3,
+                    unread: None,
+                }),
+            },
+            Totals {
+                channel: 0,
+                receiver: 2,
+                counts: Counts::Broadcast(BroadcastCounts {
+                    received: 0,
+                    told: 0,
+                    lost: 0,
+                    worst: 0,
+                    worst_place: 0,
+                    unread: Some(0),
+                }),
+            },
+        ],
+    ),
+    (
+        "the_first_of_two_equal_lags",
+        b"broadcast 1\n0 0 send 0 1\n0 0 send 0 2\n0 0 try-recv 1\n0 0 send 0 3\n0 0 try-recv 1\n0 0 try-recv 1\n",
+        &[Totals {
+            channel: 0,
+            receiver: 1,
+            counts: Counts::Broadcast(BroadcastCounts {
+                received: 1,
+                told: 2,
+                lost: 2,
+                worst: 1,
+                worst_place: 2,
+                unread: Some(0),
+            }),
+        }],
+    ),
+    (
+        "lags_at_the_end",
+        b"broadcast 2\n0 0 send 0 1\n0 0 send 0 2\n0 0 send 0 3\n0 0 send 0 4\n0 0 send 0 5\n0 0 receiver-len 1\n",
+        &[Totals {
+            channel: 0,
+            receiver: 1,
+            counts: Counts::Broadcast(BroadcastCounts {
+                received: 0,
+                told: 0,
+                lost: 3,
+                worst: 3,
+                worst_place: 5,
+                unread: Some(5),
+            }),
+        }],
+    ),
+    (
+        "changes_between_looks",
+        b"watch 4\n0 0 send 0 5\n0 0 send 0 6\n0 0 changed 1\n0 0 send 0 7\n0 0 update 1\n0 0 send 0 8\n0 0 send 0 9\n",
+        &[Totals {
+            channel: 0,
+            receiver: 1,
+            counts: Counts::Watch(WatchCounts {
+                changes: 1,
+                missed: 3,
+                unlooked: 4,
+            }),
+        }],
+    ),
+    (
+        "told_twice",
+        b"watch 4\n0 0 send 0 5\n0 0 changed 1\n0 0 mark-changed 1\n0 0 changed 1\n0 0 send 0 6\n0 0 clone-receiver 1\n0 0 drop 1\n0 0 send 0 7\n0 0 send 0 8\n",
+        &[
+            Totals {
+                channel: 0,
+                receiver: 1,
+                counts: Counts::Watch(WatchCounts {
+                    changes: 2,
+                    missed: 1,
+                    unlooked: 2,
+                }),
+            },
+            Totals {
+                channel: 0,
+                receiver: 2,
+                counts: Counts::Watch(WatchCounts {
+                    changes: 0,
+                    missed: 2,
+                    unlooked: 2,
+                }),
+            },
+        ],
+    ),
+    (
+        "looks_by_borrow",
+        b"watch 4\n0 0 send 0 5\n0 0 borrow 1\n0 0 send 0 6\n0 0 borrow 1\n0 0 borrow 1\n0 0 send 0 7\n0 0 borrow 1\n",
+        &[Totals {
+            channel: 0,
+            receiver: 1,
+            counts: Counts::Watch(WatchCounts {
+                changes: 0,
+                missed: 3,
+                unlooked: 0,
+            }),
+        }],
+    ),
+    (
+        "told_without_a_look",
+        b"watch 4\n0 0 send 0 5\n0 0 changed 1\n0 0 send 0 6\n0 0 changed 1\n",
+        &[Totals {
+            channel: 0,
+            receiver: 1,
+            counts: Counts::Watch(WatchCounts {
+                changes: 2,
+                missed: 0,
+                unlooked: 2,
+            }),
+        }],
+    ),
+    (
+        "looks_and_marks",
+        b"watch 4\n0 0 send 0 5\n0 0 update 1\n0 0 send 0 6\n0 0 borrow 1\n0 0 send 0 7\n0 0 changed 1\n0 0 send 0 8\n0 0 mark-unchanged 1\n0 0 update 1\n0 0 send 0 9\n0 0 borrow 0\n0 0 send 0 10\n0 0 borrow 1\n",
+        &[Totals {
+            channel: 0,
+            receiver: 1,
+            counts: Counts::Watch(WatchCounts {
+                changes: 1,
+                missed: 3,
+                unlooked: 2,
+            }),
+        }],
+    ),
+    (
+        "looks_of_late_receivers",
+        b"watch 4\n0 0 send 0 5\n0 0 subscribe 0\n0 0 borrow 2\n0 0 send 0 6\n0 0 clone-receiver 2\n0 0 send 0 7\n0 0 borrow 3\n0 0 drop 2\n0 0 borrow 2\n0 0 send 0 8\n0 0 drop 3\n",
+        &[
+            Totals {
+                channel: 0,
+                receiver: 1,
+                counts: Counts::Watch(WatchCounts {
+                    changes: 0,
+                    missed: 4,
+                    unlooked: 4,
+                }),
+            },
+            Totals {
+                channel: 0,
+                receiver: 2,
+                counts: Counts::Watch(WatchCounts {
+                    changes: 0,
+                    missed: 2,
+                    unlooked: 2,
+                }),
+            },
+            Totals {
+                channel: 0,
+                receiver: 3,
+                counts: Counts::Watch(WatchCounts {
+                    changes: 0,
+                    missed: 2,
+                    unlooked: 1,
+                }),
+            },
+        ],
+    ),
+    (
+        "two_channels",
+        b"broadcast 1\nwatch 4\n0 1 send 0 5\n0 0 send 0 1\n0 0 send 0 2\n0 1 changed 1\n",
+        &[
+            Totals {
+                channel: 0,
+                receiver: 1,
+                counts: Counts::Broadcast(BroadcastCounts {
+                    received: 0,
+                    told: 0,
+                    lost: 1,
+                    worst: 1,
+                    worst_place: 3,
+                    unread: Some(2),
+                }),
+            },
+            Totals {
+                channel: 1,
+                receiver: 1,
+                counts: Counts::Watch(WatchCounts {
+                    changes: 1,
+                    missed: 0,
+                    unlooked: 1,
+                }),
+            },
+        ],
+    ),
+];
+
+/// Returns the totals of a run.
+fn totals_in<V: Copy>(run: Run<V>) -> proved::Vec<Totals> {
+    let totals = totals_of(Global, &run);
+    totals.unwrap()
+}
+
+/// Asserts that the run of a script has these totals.
+fn are_counted((name, script, told): &Row) {
+    let totals = totals_in(run_of(script));
+    assert_eq!(totals.as_slice(), *told, "{name}");
+}
+
+#[test]
+fn totals_are_counted() {
+    for row in &ROWS {
+        are_counted(row);
+    }
+}

@@ -1,0 +1,4 @@
+//! Sessions: devices that fail, and input without end.
+
+mod devices;
+mod limits;
