@@ -76,13 +76,13 @@ pub fn command(
         Verb::Open => open(&Journal::read(&path)?, page, out, told),
     });
     let Err(fault) = done else { return 0 };
-    // A fault of a writer leaves no better way to say so than the status.
+    // Where this can't be written, there is no better way to say so than the status.
     let _ = match &fault {
         Fault::Refused(TextFault::NoMemory) => writeln!(told, "no memory"),
         Fault::Refused(fault) => writeln!(out, "{}", run::said(*fault)),
         Fault::Usage(line) => write!(told, "yovanelum: {line}\n\n{USAGE}"),
-        Fault::Read(line) => writeln!(told, "read fault: {line}"),
-        Fault::Write(line) => writeln!(told, "write fault: {line}"),
+        Fault::Read(line) => writeln!(told, "read error: {line}"),
+        Fault::Write(line) => writeln!(told, "write error: {line}"),
     };
     fault.status()
 }

@@ -1,8 +1,7 @@
 //! A recorded run as a debugger holds it: it is at a place, goes to others, and is asked what the channels were there.
 //!
 //! Place n is the run after call n, and place 0 is its start. At each place the channels are what tokio documents after these calls, however you
-//! got there.
-//! That is proved of the core, which `ttd` walks by too. A step by one place takes the time of one call, and allocates nothing.
+//! got there. That is proved of the core, which `ttd` walks by too. A move by one place takes the time of one call, and allocates nothing.
 //!
 //! ```
 //! use yovanelum::debugger::{Channel, Condition, Walk};
@@ -18,13 +17,13 @@
 //! };
 //! assert_eq!(prices.window().collect::<Vec<_>>(), [1, 2]);
 //! assert_eq!(prices.receiver(1).unwrap().lag, 1);
-//! # Ok::<(), yovanelum::debugger::Fault>(())
+//! # Ok::<(), yovanelum::debugger::JournalError>(())
 //! ```
 
 mod channel;
 mod condition;
 mod entry;
-mod fault;
+mod journal_error;
 #[doc(hidden)]
 pub mod recorded;
 mod state;
@@ -34,7 +33,7 @@ mod tests;
 pub use channel::{Broadcast, BroadcastReceiver, Channel, Watch, WatchReceiver};
 pub use condition::{Condition, NoCondition};
 pub use entry::Entry;
-pub use fault::Fault;
+pub use journal_error::JournalError;
 pub use state::State;
 
 use crate::run::Run;
@@ -51,7 +50,7 @@ impl Walk {
     ///
     /// # Errors
     ///
-    /// Returns the first fault of the text, as `ttd check` does, or that there is no memory.
+    /// Returns the first error in the text, as `ttd check` does, or that there is no memory.
     ///
     /// ```
     /// use yovanelum::debugger::Walk;
@@ -59,13 +58,13 @@ impl Walk {
     /// let journal = "ttd-journal 2\nbroadcast 2\nsteps\n1 0 0 send 0 0 = sent 1\nend\n";
     /// assert_eq!(Walk::open(journal.as_bytes())?.place(), 1);
     /// let wrong = journal.replace("sent 1", "sent 2");
-    /// let fault = Walk::open(wrong.as_bytes()).unwrap_err();
-    /// assert_eq!(fault.to_string(), "journal fault wrong-reply 4");
-    /// assert_eq!(fault.line(), Some(4));
-    /// # Ok::<(), yovanelum::debugger::Fault>(())
+    /// let error = Walk::open(wrong.as_bytes()).unwrap_err();
+    /// assert_eq!(error.to_string(), "journal fault wrong-reply 4");
+    /// assert_eq!(error.line(), Some(4));
+    /// # Ok::<(), yovanelum::debugger::JournalError>(())
     /// ```
-    pub fn open(text: &[u8]) -> Result<Walk, Fault> {
-        Walk::over(&Run::read(text).map_err(Fault)?)
+    pub fn open(text: &[u8]) -> Result<Walk, JournalError> {
+        Walk::over(&Run::read(text).map_err(JournalError)?)
     }
 
     /// Opens the run of a journal text that may be truncated, as it is where a program was killed: the calls of its whole lines.
@@ -73,25 +72,25 @@ impl Walk {
     ///
     /// # Errors
     ///
-    /// Returns the first fault of the text, if it isn't only truncated, or that there is no memory.
+    /// Returns the first error in the text, if it isn't only truncated, or that there is no memory.
     ///
     /// ```
     /// use yovanelum::debugger::Walk;
     ///
-    /// let cut_off = "ttd-journal 2\nbroadcast 2\nsteps\n1 0 0 send 0 0 = sent 1\n2 0 0 se";
-    /// assert!(Walk::open(cut_off.as_bytes()).unwrap_err().is_cut_off());
-    /// let (walk, bytes) = Walk::salvage(cut_off.as_bytes())?;
-    /// assert_eq!((walk.len(), bytes), (1, cut_off.len() - "2 0 0 se".len()));
-    /// # Ok::<(), yovanelum::debugger::Fault>(())
+    /// let truncated = "ttd-journal 2\nbroadcast 2\nsteps\n1 0 0 send 0 0 = sent 1\n2 0 0 se";
+    /// assert!(Walk::open(truncated.as_bytes()).unwrap_err().is_truncated());
+    /// let (walk, bytes) = Walk::salvage(truncated.as_bytes())?;
+    /// assert_eq!((walk.len(), bytes), (1, truncated.len() - "2 0 0 se".len()));
+    /// # Ok::<(), yovanelum::debugger::JournalError>(())
     /// ```
-    pub fn salvage(text: &[u8]) -> Result<(Walk, usize), Fault> {
-        let (run, bytes) = Run::salvage(text).map_err(Fault)?;
+    pub fn salvage(text: &[u8]) -> Result<(Walk, usize), JournalError> {
+        let (run, bytes) = Run::salvage(text).map_err(JournalError)?;
         Ok((Walk::over(&run)?, bytes))
     }
 
     /// Opens a run at its last place, with a copy of it.
-    fn over(run: &Run) -> Result<Walk, Fault> {
-        let mut debugger = run.debugger().map_err(Fault)?;
+    fn over(run: &Run) -> Result<Walk, JournalError> {
+        let mut debugger = run.debugger().map_err(JournalError)?;
         let _ = debugger.step(Move::End);
         Ok(Walk { debugger })
     }
@@ -103,7 +102,7 @@ impl Walk {
     /// # let journal = "ttd-journal 2\nbroadcast 2\nsteps\n1 0 0 send 0 0 = sent 1\nend\n";
     /// # let walk = Walk::open(journal.as_bytes())?;
     /// assert_eq!(walk.len(), 1);
-    /// # Ok::<(), yovanelum::debugger::Fault>(())
+    /// # Ok::<(), yovanelum::debugger::JournalError>(())
     /// ```
     pub fn len(&self) -> u64 {
         self.debugger.len()
@@ -115,7 +114,7 @@ impl Walk {
     /// # use yovanelum::debugger::Walk;
     /// let journal = "ttd-journal 2\nbroadcast 2\nsteps\nend\n";
     /// assert!(Walk::open(journal.as_bytes())?.is_empty());
-    /// # Ok::<(), yovanelum::debugger::Fault>(())
+    /// # Ok::<(), yovanelum::debugger::JournalError>(())
     /// ```
     pub fn is_empty(&self) -> bool {
         self.debugger.is_empty()
@@ -129,7 +128,7 @@ impl Walk {
     /// let mut walk = Walk::open(journal.as_bytes())?;
     /// walk.back();
     /// assert_eq!(walk.place(), 0);
-    /// # Ok::<(), yovanelum::debugger::Fault>(())
+    /// # Ok::<(), yovanelum::debugger::JournalError>(())
     /// ```
     pub fn place(&self) -> u64 {
         self.debugger.place()
@@ -146,7 +145,7 @@ impl Walk {
     /// assert!(walk.go_to(0));
     /// assert!(!walk.go_to(2));
     /// assert_eq!(walk.place(), 0);
-    /// # Ok::<(), yovanelum::debugger::Fault>(())
+    /// # Ok::<(), yovanelum::debugger::JournalError>(())
     /// ```
     pub fn go_to(&mut self, place: u64) -> bool {
         self.debugger.step(Move::Goto(place)).is_ok()
@@ -160,7 +159,7 @@ impl Walk {
     /// let mut walk = Walk::open(journal.as_bytes())?;
     /// assert!(walk.back());
     /// assert!(!walk.back());
-    /// # Ok::<(), yovanelum::debugger::Fault>(())
+    /// # Ok::<(), yovanelum::debugger::JournalError>(())
     /// ```
     pub fn back(&mut self) -> bool {
         self.debugger.step(Move::Back(1)).is_ok()
@@ -175,7 +174,7 @@ impl Walk {
     /// walk.go_to(0);
     /// assert!(walk.forward());
     /// assert!(!walk.forward());
-    /// # Ok::<(), yovanelum::debugger::Fault>(())
+    /// # Ok::<(), yovanelum::debugger::JournalError>(())
     /// ```
     pub fn forward(&mut self) -> bool {
         self.debugger.step(Move::Forward(1)).is_ok()
@@ -190,7 +189,7 @@ impl Walk {
     /// assert_eq!(walk.entry(1).unwrap().call(), "send");
     /// assert!(walk.entry(0).is_none());
     /// assert!(walk.entry(2).is_none());
-    /// # Ok::<(), yovanelum::debugger::Fault>(())
+    /// # Ok::<(), yovanelum::debugger::JournalError>(())
     /// ```
     pub fn entry(&self, place: u64) -> Option<Entry> {
         self.debugger.entry(place.checked_sub(1)?).map(Entry::of)
@@ -205,7 +204,7 @@ impl Walk {
     /// assert_eq!(walk.find_back(&Condition::unread(0, 1, 1)), Some(1));
     /// assert_eq!(walk.find_back(&Condition::unread(0, 1, 1)), None);
     /// assert_eq!(walk.place(), 1);
-    /// # Ok::<(), yovanelum::debugger::Fault>(())
+    /// # Ok::<(), yovanelum::debugger::JournalError>(())
     /// ```
     pub fn find_back(&mut self, condition: &Condition) -> Option<u64> {
         self.debugger.back_to(&condition.0)
@@ -221,7 +220,7 @@ impl Walk {
     /// assert_eq!(walk.find_forward(&Condition::actor(0)), Some(1));
     /// assert_eq!(walk.find_forward(&Condition::actor(0)), Some(2));
     /// assert_eq!(walk.find_forward(&Condition::actor(0)), None);
-    /// # Ok::<(), yovanelum::debugger::Fault>(())
+    /// # Ok::<(), yovanelum::debugger::JournalError>(())
     /// ```
     pub fn find_forward(&mut self, condition: &Condition) -> Option<u64> {
         self.debugger.forward_to(&condition.0)
@@ -238,7 +237,7 @@ impl Walk {
     /// assert_eq!(walk.hits_so_far(&Condition::actor(0)), 2);
     /// walk.back();
     /// assert_eq!(walk.hits_so_far(&Condition::actor(0)), 1);
-    /// # Ok::<(), yovanelum::debugger::Fault>(())
+    /// # Ok::<(), yovanelum::debugger::JournalError>(())
     /// ```
     pub fn hits_so_far(&mut self, condition: &Condition) -> u64 {
         let here = self.place();
@@ -257,7 +256,7 @@ impl Walk {
     /// # use yovanelum::debugger::Walk;
     /// let journal = "ttd-journal 2\nbroadcast 2\nwatch 0\nsteps\nend\n";
     /// assert_eq!(Walk::open(journal.as_bytes())?.channels(), 2);
-    /// # Ok::<(), yovanelum::debugger::Fault>(())
+    /// # Ok::<(), yovanelum::debugger::JournalError>(())
     /// ```
     pub fn channels(&self) -> u32 {
         self.debugger.specs().len() as u32
@@ -273,7 +272,7 @@ impl Walk {
     ///     unreachable!()
     /// };
     /// assert_eq!(level.value(), 1);
-    /// # Ok::<(), yovanelum::debugger::Fault>(())
+    /// # Ok::<(), yovanelum::debugger::JournalError>(())
     /// ```
     #[inline]
     pub fn channel(&self, channel: u32) -> Option<Channel<'_>> {
@@ -290,7 +289,7 @@ impl Walk {
     /// let wanted = "place 1 of 1\nchannel 0 broadcast capacity 2 sent 1 queued 1 made 2 open\n\
     ///     window 0\nsenders 0\nreceiver 1 position 0 unread 1 lag 0\n";
     /// assert_eq!(walk.state().to_string(), wanted);
-    /// # Ok::<(), yovanelum::debugger::Fault>(())
+    /// # Ok::<(), yovanelum::debugger::JournalError>(())
     /// ```
     pub fn state(&self) -> State<'_> {
         State(self)

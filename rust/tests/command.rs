@@ -347,12 +347,12 @@ fn a_file_that_cannot_be_read_or_written_is_a_fault() {
     let folder = Folder::new("faults");
     let (status, out, told) = run(&folder.0, &["why", "none.journal"]);
     assert_eq!((status, out.as_str()), (4, ""));
-    assert!(told.starts_with("read fault: none.journal: "), "{told}");
+    assert!(told.starts_with("read error: none.journal: "), "{told}");
     journal_in(&folder);
     fs::create_dir(folder.0.join("orders.html")).unwrap();
     let (status, out, told) = run(&folder.0, &["open", "orders.journal"]);
     assert_eq!((status, out.as_str()), (4, ""));
-    assert!(told.starts_with("write fault: orders.html: "), "{told}");
+    assert!(told.starts_with("write error: orders.html: "), "{told}");
 }
 
 #[test]

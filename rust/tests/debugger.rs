@@ -85,15 +85,15 @@ fn a_journal_that_is_refused_says_its_first_fault_and_line() {
     let wrong = journal.replace("= lagged 2", "= lagged 1");
     let fault = Walk::open(wrong.as_bytes()).unwrap_err();
     assert_eq!(fault.to_string(), "journal fault wrong-reply 13");
-    assert_eq!((fault.line(), fault.is_cut_off()), (Some(13), false));
+    assert_eq!((fault.line(), fault.is_truncated()), (Some(13), false));
     assert_eq!(Walk::salvage(wrong.as_bytes()).unwrap_err(), fault);
     // Half of the last entry and the line `end` are lost.
-    let cut_off = &journal.as_bytes()[..journal.len() - 10];
-    let fault = Walk::open(cut_off).unwrap_err();
-    assert_eq!((fault.line(), fault.is_cut_off()), (None, true));
-    let (walk, bytes) = Walk::salvage(cut_off).unwrap();
+    let truncated = &journal.as_bytes()[..journal.len() - 10];
+    let fault = Walk::open(truncated).unwrap_err();
+    assert_eq!((fault.line(), fault.is_truncated()), (None, true));
+    let (walk, bytes) = Walk::salvage(truncated).unwrap();
     assert_eq!(walk.len(), 8);
-    assert_eq!(cut_off[bytes - 1], b'\n');
+    assert_eq!(truncated[bytes - 1], b'\n');
     let (whole, bytes) = Walk::salvage(journal.as_bytes()).unwrap();
     assert_eq!((whole.len(), bytes), (9, journal.len()));
 }

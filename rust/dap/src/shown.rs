@@ -221,7 +221,7 @@ impl Debuggee {
         }
         let entry = self.recording.entry(self.place)?;
         let channel = names.channel(entry.channel());
-        (entry.reply() == "closed").then(|| format!("told: `{channel}` is closed"))
+        (entry.reply() == "closed").then(|| format!("`{channel}` is closed"))
     }
 
     pub(crate) fn exception_info(&self) -> Answer {

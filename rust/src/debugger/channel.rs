@@ -58,7 +58,7 @@ impl<'a> Channel<'a> {
     /// let journal = "ttd-journal 2\nbroadcast 2\nsteps\n1 0 0 subscribe 0 = new 2\nend\n";
     /// let walk = Walk::open(journal.as_bytes())?;
     /// assert_eq!(walk.channel(0).unwrap().made(), 3);
-    /// # Ok::<(), yovanelum::debugger::Fault>(())
+    /// # Ok::<(), yovanelum::debugger::JournalError>(())
     /// ```
     pub fn made(&self) -> u32 {
         match self {
@@ -74,7 +74,7 @@ impl<'a> Channel<'a> {
     /// let journal = "ttd-journal 2\nbroadcast 2\nsteps\n1 0 0 drop 0 = dropped\nend\n";
     /// let walk = Walk::open(journal.as_bytes())?;
     /// assert!(walk.channel(0).unwrap().is_closed());
-    /// # Ok::<(), yovanelum::debugger::Fault>(())
+    /// # Ok::<(), yovanelum::debugger::JournalError>(())
     /// ```
     pub fn is_closed(&self) -> bool {
         match self {
@@ -90,7 +90,7 @@ impl<'a> Channel<'a> {
     /// let journal = "ttd-journal 2\nbroadcast 2\nsteps\n1 0 0 clone-sender 0 = new 2\nend\n";
     /// let walk = Walk::open(journal.as_bytes())?;
     /// assert!(walk.channel(0).unwrap().senders().eq([0, 2]));
-    /// # Ok::<(), yovanelum::debugger::Fault>(())
+    /// # Ok::<(), yovanelum::debugger::JournalError>(())
     /// ```
     pub fn senders(&self) -> impl Iterator<Item = u32> + use<'a> {
         self.alive(Kind::Sender)
@@ -103,7 +103,7 @@ impl<'a> Channel<'a> {
     /// let journal = "ttd-journal 2\nbroadcast 2\nsteps\n1 0 0 downgrade 0 = new 2\nend\n";
     /// let walk = Walk::open(journal.as_bytes())?;
     /// assert!(walk.channel(0).unwrap().weak_senders().eq([2]));
-    /// # Ok::<(), yovanelum::debugger::Fault>(())
+    /// # Ok::<(), yovanelum::debugger::JournalError>(())
     /// ```
     pub fn weak_senders(&self) -> impl Iterator<Item = u32> + use<'a> {
         self.alive(Kind::Weak)
@@ -116,7 +116,7 @@ impl<'a> Channel<'a> {
     /// let journal = "ttd-journal 2\nwatch 0\nsteps\n1 0 0 clone-receiver 1 = new 2\nend\n";
     /// let walk = Walk::open(journal.as_bytes())?;
     /// assert!(walk.channel(0).unwrap().receivers().eq([1, 2]));
-    /// # Ok::<(), yovanelum::debugger::Fault>(())
+    /// # Ok::<(), yovanelum::debugger::JournalError>(())
     /// ```
     pub fn receivers(&self) -> impl Iterator<Item = u32> + use<'a> {
         self.alive(Kind::Receiver)
@@ -145,7 +145,7 @@ impl<'a> Broadcast<'a> {
     /// # let Some(Channel::Broadcast(orders)) = walk.channel(0) else { unreachable!() };
     /// // It was created with capacity 3.
     /// assert_eq!(orders.capacity(), 4);
-    /// # Ok::<(), yovanelum::debugger::Fault>(())
+    /// # Ok::<(), yovanelum::debugger::JournalError>(())
     /// ```
     pub fn capacity(&self) -> u64 {
         self.0.capacity()
@@ -159,7 +159,7 @@ impl<'a> Broadcast<'a> {
     /// # let walk = Walk::open(journal.as_bytes())?;
     /// # let Some(Channel::Broadcast(orders)) = walk.channel(0) else { unreachable!() };
     /// assert_eq!(orders.sent(), 1);
-    /// # Ok::<(), yovanelum::debugger::Fault>(())
+    /// # Ok::<(), yovanelum::debugger::JournalError>(())
     /// ```
     pub fn sent(&self) -> u64 {
         self.0.sent()
@@ -173,7 +173,7 @@ impl<'a> Broadcast<'a> {
     /// # let walk = Walk::open(journal.as_bytes())?;
     /// # let Some(Channel::Broadcast(orders)) = walk.channel(0) else { unreachable!() };
     /// assert_eq!(orders.queued(), 0);
-    /// # Ok::<(), yovanelum::debugger::Fault>(())
+    /// # Ok::<(), yovanelum::debugger::JournalError>(())
     /// ```
     pub fn queued(&self) -> u64 {
         self.0.queued()
@@ -187,7 +187,7 @@ impl<'a> Broadcast<'a> {
     /// # let walk = Walk::open(journal.as_bytes())?;
     /// # let Some(Channel::Broadcast(orders)) = walk.channel(0) else { unreachable!() };
     /// assert!(orders.window().eq([1]));
-    /// # Ok::<(), yovanelum::debugger::Fault>(())
+    /// # Ok::<(), yovanelum::debugger::JournalError>(())
     /// ```
     pub fn window(&self) -> impl Iterator<Item = u64> + use<'a> {
         let channel = self.0;
@@ -202,7 +202,7 @@ impl<'a> Broadcast<'a> {
     /// # let walk = Walk::open(journal.as_bytes())?;
     /// # let Some(Channel::Broadcast(orders)) = walk.channel(0) else { unreachable!() };
     /// assert_eq!((orders.value(0), orders.value(1)), (Some(7), None));
-    /// # Ok::<(), yovanelum::debugger::Fault>(())
+    /// # Ok::<(), yovanelum::debugger::JournalError>(())
     /// ```
     pub fn value(&self, index: u64) -> Option<u64> {
         self.0.window(index)
@@ -218,7 +218,7 @@ impl<'a> Broadcast<'a> {
     /// let receiver = BroadcastReceiver { position: 0, unread: 2, lag: 1 };
     /// assert_eq!(orders.receiver(1), Some(receiver));
     /// assert_eq!(orders.receiver(0), None);
-    /// # Ok::<(), yovanelum::debugger::Fault>(())
+    /// # Ok::<(), yovanelum::debugger::JournalError>(())
     /// ```
     #[inline]
     pub fn receiver(&self, handle: u32) -> Option<BroadcastReceiver> {
@@ -239,7 +239,7 @@ impl Watch<'_> {
     /// # let walk = Walk::open(journal.as_bytes())?;
     /// # let Some(Channel::Watch(level)) = walk.channel(0) else { unreachable!() };
     /// assert_eq!(level.value(), 5);
-    /// # Ok::<(), yovanelum::debugger::Fault>(())
+    /// # Ok::<(), yovanelum::debugger::JournalError>(())
     /// ```
     pub fn value(&self) -> u64 {
         self.0.value()
@@ -253,7 +253,7 @@ impl Watch<'_> {
     /// # let walk = Walk::open(journal.as_bytes())?;
     /// # let Some(Channel::Watch(level)) = walk.channel(0) else { unreachable!() };
     /// assert_eq!(level.version(), 1);
-    /// # Ok::<(), yovanelum::debugger::Fault>(())
+    /// # Ok::<(), yovanelum::debugger::JournalError>(())
     /// ```
     pub fn version(&self) -> u64 {
         self.0.version()
@@ -268,7 +268,7 @@ impl Watch<'_> {
     /// # let Some(Channel::Watch(level)) = walk.channel(0) else { unreachable!() };
     /// assert!(!level.receiver(1).unwrap().is_seen);
     /// assert_eq!(level.receiver(0), None);
-    /// # Ok::<(), yovanelum::debugger::Fault>(())
+    /// # Ok::<(), yovanelum::debugger::JournalError>(())
     /// ```
     #[inline]
     pub fn receiver(&self, handle: u32) -> Option<WatchReceiver> {

@@ -17,7 +17,7 @@ use std::fmt;
 /// assert_eq!((entry.call(), entry.value()), ("send", Some(5)));
 /// assert_eq!((entry.reply(), entry.returned()), ("sent", Some(1)));
 /// assert_eq!(entry.to_string(), "7 3 0 send 0 5 = sent 1");
-/// # Ok::<(), yovanelum::debugger::Fault>(())
+/// # Ok::<(), yovanelum::debugger::JournalError>(())
 /// ```
 pub struct Entry(CoreEntry<World<u64>>);
 

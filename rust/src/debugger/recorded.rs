@@ -2,7 +2,7 @@
 //!
 //! It is for that program alone, and changes with it.
 
-use super::{Entry, Fault, Walk};
+use super::{Entry, JournalError, Walk};
 use crate::account::Saying;
 use crate::names::{Names, checksum};
 use crate::report::Report;
@@ -42,14 +42,14 @@ impl Opened {
     ///
     /// # Errors
     ///
-    /// Returns the first fault of the text, or that there is no memory.
-    pub fn read(text: &[u8], names: Option<String>) -> Result<Opened, Fault> {
+    /// Returns the first error in the text, or that there is no memory.
+    pub fn read(text: &[u8], names: Option<String>) -> Result<Opened, JournalError> {
         let (run, cut_off) = match Run::read(text) {
             Err(TextFault::Truncated) => {
-                let (run, bytes) = Run::salvage(text).map_err(Fault)?;
+                let (run, bytes) = Run::salvage(text).map_err(JournalError)?;
                 (run, Some(bytes))
             }
-            read => (read.map_err(Fault)?, None),
+            read => (read.map_err(JournalError)?, None),
         };
         let read = names.map(|names| {
             let names = Names::read(&names)?;
@@ -66,7 +66,7 @@ impl Opened {
             None => (Names::default(), None),
         };
         let walk = Walk::over(&run)?;
-        let recorded = Recorded::of(run, names).map_err(Fault)?;
+        let recorded = Recorded::of(run, names).map_err(JournalError)?;
         Ok(Opened {
             walk,
             recorded,
