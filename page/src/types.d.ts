@@ -147,7 +147,7 @@ interface Source {
   key?: string;
   /** What is reported when it is opened. */
   notice?: (string | Node)[];
-  /** Of a journal that was cut off: how many of its bytes are in whole lines. */
+  /** Of a truncated journal: how many of its bytes are in whole lines. */
   kept?: number;
   size?: number;
 }

@@ -43,7 +43,7 @@ const requests = {
   lives: () => livesIn(engine, journal),
   values: channel => valuesIn(engine, journal, channel),
   levels: (wanted, from, each, count) => levelsIn(engine, journal, channels, wanted, from, each, count),
-  // What is left of a journal text that was cut off, or null.
+  // What is left of a truncated journal text, or null.
   salvage: bytes => salvagedFrom(engine, bytes),
   ask: commands => text(ask(commands)).slice(heading.length),
   debug: (journal, commands) => text(engine.debug(journal, commands)),

@@ -459,7 +459,7 @@ def page_of_test(name):
         check_page(tab, name)
         check_losses(tab, WANTED[name], account["losses"])
         if name == HANGS:
-            waits = f"1 call waits: worker waits in wait_for of reader · receiver 1 on state since place 2, at {line_of('the worker waits')}"
+            waits = f"1 call waits: worker waits in wait_for of reader · receiver 1 on state since call 2, at {line_of('the worker waits')}"
             assert tab.text("facts").endswith(waits), tab.text("facts")
     test.__name__ = f"page_of_{name}"
     return test

@@ -153,7 +153,8 @@ def buttons(tab, folder, journals):
 def places_in_view(tab):
     """The first and the last place of the picture, by its label."""
     label = tab.run("document.getElementById('picture').getAttribute('aria-label')")
-    return [int(it) for it in re.fullmatch(r"The calls from place (\d+) to (\d+), drawn\.", label).groups()]
+    start, first, last = re.fullmatch(r"(The start and c|C)alls (\d+) to (\d+), drawn\.", label).groups()
+    return [0 if start != "C" else int(first), int(last)]
 
 
 def mouse(tab, folder, journals):
@@ -168,7 +169,7 @@ def mouse(tab, folder, journals):
     tab.drag(x, top + 60, column_x(tab, "#picture-box", 44, 64)[0], top + 60)
     check_place(tab, ask, 44)
     tab.key("+")
-    tab.wait("document.getElementById('picture').getAttribute('aria-label').includes('from place')")
+    tab.wait("document.getElementById('picture').getAttribute('aria-label').includes('alls ')")
     x, top = column_x(tab, "#strip-box", 20, 64)
     tab.click_at(x, top + 20)
     check_place(tab, ask, 20)

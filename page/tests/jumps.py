@@ -71,7 +71,7 @@ def history_of_jumps(tab, folder, journals):
 def check_names(tab, ask, place):
     """The place that is shown, and the entry that the program writes for it."""
     step = ask(f"goto {place}\nstep\n").split("\n")[1]
-    assert tab.text("place") == f"place {place} of 648" and step.split(" = ")[1].split(" ")[0] in tab.text("sentence"), tab.text("sentence")
+    assert tab.text("place") == f"after call {place} of 648" and step.split(" = ")[1].split(" ")[0] in tab.text("sentence"), tab.text("sentence")
 
 
 def address_keeps(tab, folder, journals):
@@ -141,7 +141,7 @@ def picture_as_png(tab, folder, journals):
         while tab.browser.event("Browser.downloadProgress", None)["state"] != "completed":
             pass
     tab.prefer("light")
-    with open(os.path.join(downloads, "bus.journal.place-30.png"), "rb") as file:
+    with open(os.path.join(downloads, "bus.journal.call-30.png"), "rb") as file:
         assert file.read(8) == b"\x89PNG\r\n\x1a\n"
 
 
@@ -159,7 +159,7 @@ def report_as_markdown(tab, folder, journals):
     head, found_, here, link = re.fullmatch(r"(### .*)\n\n(```+)text\n(.*?)\n\2\n\n```+text\n(.*?)\n```+\n\n(.*)\n", copied, re.S).group(1, 3, 4, 5)
     assert head == "### no\\_price\\_is\\_missing.journal" and found_ == "\n".join(line for fact in facts for line in fact["text"]), copied
     lines = here.split("\n")
-    assert lines[0].startswith("place 3 of 8: ticker on prices: send 0 2 → sent 1 at src/lib.rs:") and lines[1].startswith("auditor · receiver 1 lost 1 of 3"), lines
+    assert lines[0].startswith("after call 3 of 8: ticker on prices: send 0 2 → sent 1 at src/lib.rs:") and lines[1].startswith("auditor · receiver 1 lost 1 of 3"), lines
     assert link == f"The page: <{tab.run('location.href')}>", link
 
 
@@ -202,7 +202,7 @@ def zoom_at_pointer(tab, folder, journals):
         for turned in (-120, -120, 120, 120, 120, -120):
             before = places_in_view(tab)
             tab.mouse("mouseWheel", x, top + 90, deltaX=0, deltaY=turned, modifiers=2)
-            tab.wait(f"!document.getElementById('picture').getAttribute('aria-label').includes({json.dumps('from place %d to %d,' % tuple(before))})")
+            tab.wait(f"!document.getElementById('picture').getAttribute('aria-label').includes({json.dumps(f'alls {max(1, before[0])} to {before[1]},')})")
             assert place_under(tab, x) == under, (share, turned, before, places_in_view(tab))
     opening.settle(tab, 300)
 
@@ -223,7 +223,7 @@ def touch(tab, folder, journals):
     for step in range(1, 11):
         touched(tab, "touchMove", (x - (step + 0.2) * pitch, top + 90))
     touched(tab, "touchEnd")
-    tab.wait(f"document.getElementById('picture').getAttribute('aria-label').includes('from place {before[0] + 10} to')")
+    tab.wait(f"document.getElementById('picture').getAttribute('aria-label').startsWith('Calls {before[0] + 10} to ')")
     opening.settle(tab, 300)
     touched(tab, "touchStart", (x, top + 90))
     touched(tab, "touchEnd")

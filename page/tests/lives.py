@@ -153,10 +153,10 @@ def owners_in_whole(tab, folder, journals):
     path, _ = page_of(folder, "handed", (native.record(HANDED_ON), names))
     opening.load(tab, path, 3)
     tab.key("i")
-    assert tab.text("whole-call").endswith("main · sender 0there when its channel was opened; 2 calls by main"), tab.text("whole-call")
+    assert tab.text("whole-call").endswith("main · sender 0created with its channel; 2 calls by main"), tab.text("whole-call")
     tab.key("ArrowRight")
     opening.settle(tab, 4)
-    wanted = "first · receiver 2made at place 1 by main, dropped at 6; 2 calls by first, 1 call by main, 1 call by second"
+    wanted = "first · receiver 2created at call 1 by main, dropped at call 6; 2 calls by first, 1 call by main, 1 call by second"
     assert tab.text("whole-call").endswith(wanted), tab.text("whole-call")
 
 

@@ -58,7 +58,7 @@ def silent_loss(tab, folder, journals):
 
 def check_silent(tab, ask, place):
     opening.settle(tab, place)
-    assert tab.text("place") == f"place {place:,} of {real_runs.LONG_MADE:,}"
+    assert tab.text("place") == f"after call {place:,} of {real_runs.LONG_MADE:,}"
     assert ask(f"goto {place}\nstep\n").split("\n")[1].split(" ", 4)[4].replace(" = ", " → ").split(" → ")[1] in tab.text("sentence")
     label = {SILENT.start: "1 of 45 values so far", SILENT.to: "45 values"}[place]
     assert f"late joiner · receiver 2 lost {label} dropped untold" in tab.text("state"), tab.text("state")[:300]
@@ -223,7 +223,7 @@ def room_for_the_table(tab, folder, journals):
     assert top == tab.run("document.getElementById('picture-box').getBoundingClientRect().top"), top
 
 
-# The sender's last call is at place 3. Receiver 3 is made after it.
+# The sender's last call is call 3. Receiver 3 is created after it.
 CLOSING = (b"broadcast 4\n0 0 subscribe 0\n0 0 send 0 5\n0 0 drop 0\n0 0 resubscribe 1\n0 0 try-recv 1\n0 0 try-recv 1\n0 0 drop 1\n0 0 try-recv 2\n"
            b"0 0 try-recv 2\n0 0 try-recv 2\n")
 
@@ -235,7 +235,7 @@ def closed_for_receivers(tab, folder, journals):
     """The table says what each receiver received, what it can still read, and where it was first told that its channel is closed; the head of the channel's
     band says that it is closed only from there on."""
     opening.load(tab, opening.page_of(folder, "closing.journal", native.record(CLOSING)))
-    assert tab.run(ENDS) == {"0 1": ["1", "–", "dropped at 7"], "0 2": ["1", "0", "told closed at 9"], "0 3": ["0", "0", "made after the closing"]}, tab.run(ENDS)
+    assert tab.run(ENDS) == {"0 1": ["1", "–", "dropped at call 7"], "0 2": ["1", "0", "found closed at call 9"], "0 3": ["0", "0", "created after the close"]}, tab.run(ENDS)
     (at,) = [x for text, x, _, _ in drawn(tab) if text == "closed"]
     before, closing = [column_x(tab, "#picture-box", place, 11)[0] for place in (2, 3)]
     assert before < at < closing, (before, at, closing)

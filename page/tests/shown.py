@@ -32,7 +32,7 @@ def pictures(tab, folder, journals):
         tab.run("void (document.getElementById('told').open = false)")
         tab.picture(os.path.join(out, f"run_of_{calls}.png"))
         tab.key("0")
-        tab.wait(f"document.getElementById('picture').getAttribute('aria-label').includes('from place 0 to {calls}')")
+        tab.wait(f"document.getElementById('picture').getAttribute('aria-label').includes('The start and calls 1 to {calls},')")
         tab.picture(os.path.join(out, f"run_of_{calls}_whole.png"))
     lagging_picture(tab, folder, os.path.join(out, "lagging.png"))
     opening.load(tab, opening.page_of(folder, "dark.journal", journals[63]), 33)
@@ -112,7 +112,7 @@ def spoken(tab, folder, journals):
     """What a screen reader gets: the place with its call on the slider, and the state as texts under headings."""
     opening.load(tab, opening.page_of(folder, "spoken.journal", journals[63]), 22)
     value = tab.run("document.getElementById('slider').getAttribute('aria-valuetext')")
-    assert value == "place 22 of 63: actor 1 on channel 0: recv 1 → value 107 · actor 2 · receiver 2 has lost 102, 103", value
+    assert value == "after call 22 of 63: actor 1 on channel 0: recv 1 → value 107 · actor 2 · receiver 2 has lost 102, 103", value
     nodes = tab.call("Accessibility.getFullAXTree")["nodes"]
     told = [(it["role"]["value"], it.get("name", {}).get("value", "")) for it in nodes if not it["ignored"]]
     headings = [name for role, name in told if role == "heading"]

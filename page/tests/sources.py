@@ -29,17 +29,17 @@ def source_lines(tab, folder, journals):
         assert (f"called at {source}" in tab.text("whole-call")) == (source is not None), tab.text("whole-call")
         row = tab.run(f"document.querySelector('#calls [data-place=\"{place}\"] small')?.textContent ?? null")
         assert row == source, (place, row)
-    assert "receiver 2, made at src/worker.rs:30" in tab.text("whole-call"), tab.text("whole-call")
+    assert "receiver 2, created at src/worker.rs:30" in tab.text("whole-call"), tab.text("whole-call")
     assert tab.text("sentence").startswith("a1 actor 1, src/worker.rs:30 on channel 0: recv 2"), tab.text("sentence")
 
 
 def waiting_calls(tab, folder, journals):
     """The calls that waited when the names were written are above the run, in the table, and drawn after the last place."""
     opening.load(tab, named_page(folder, "waiting", NAMES))
-    told = "1 call waits: actor 1, src/worker.rs:30 waits in recv of actor 1, src/worker.rs:30 · receiver 2 on channel 0 since place 3, at src/bus.rs:15"
+    told = "1 call waits: actor 1, src/worker.rs:30 waits in recv of actor 1, src/worker.rs:30 · receiver 2 on channel 0 since call 3, at src/bus.rs:15"
     assert tab.text("facts").endswith(told), tab.text("facts")
     assert "recv waits" in drawn_texts(tab)
-    assert "waits in recv since 3" in tab.text("table-rows")
+    assert "waits in recv since call 3" in tab.text("table-rows")
     holders = {
         ", for a look taken at src/worker.rs:30 by main": {"actor": 0, "location": 1}, ", for a look taken by main": {"actor": 0, "location": None},
         ", for the lock of the value": {"actor": None, "location": None},

@@ -91,7 +91,7 @@ def figures(tab, folder, journals):
         idle = idle_share()
         open_time, near = opened(tab, path, factor(idle) * most_open), mean_step(tab)
         tab.key("0")
-        tab.wait(f"document.getElementById('picture').getAttribute('aria-label').includes('from place 0 to {calls}')")
+        tab.wait(f"document.getElementById('picture').getAttribute('aria-label').includes('The start and calls 1 to {calls},')")
         far = mean_step(tab)
         print(f"  {calls:,} calls: open {open_time:.2f} s, a step {1000 * near:.1f} ms, in the whole run {1000 * far:.1f} ms; "
               f"{100 * idle:.0f} % of the machine were idle")

@@ -177,7 +177,7 @@ def cut_journals(tab, folder, journals):
         tab.drop(path)
         opening.settle(tab)
         count = "1 call" if calls == 1 else f"{calls} calls"
-        told = f"This journal was cut off. Its whole lines are shown: {kept:,} of {end:,} bytes, with {count}. What came after them isn't known."
+        told = f"This journal is truncated. Its whole lines are shown: {kept:,} of {end:,} bytes, with {count}. What came after them isn't known."
         assert tab.text("cut") == told, (tab.text("cut"), told)
         tab.key("End")
         check_place(tab, opening.asker(left), calls)

@@ -15,3 +15,8 @@ export function sizeOf(bytes) {
 export function countOf(number, one, many = `${one}s`) {
   return `${grouped(number)} ${number === 1 ? one : many}`;
 }
+
+// Since when a call waits, by how many calls had been made.
+export function sinceText(place) {
+  return place === 0 ? "the start" : `call ${grouped(place)}`;
+}

@@ -53,7 +53,7 @@ export class Folds {
     return this.all.filter(key => this.keys.has(key)).join(".");
   }
 
-  // Whether the bands are folded as at first.
+  // Whether the bands are folded as in a run that was just opened.
   get areFirst() {
     return this.text === this.first;
   }

@@ -8,8 +8,8 @@ import { SHAPES } from "./shapes.js";
 const SIZE = 14;
 
 const SHAPE_MEANINGS = {
-  sent: "sent", unsent: "nobody to send to", received: "received or seen", asked: "nothing there, or only asked", made: "a handle made",
-  dropped: "dropped", lagged: "told: lagged", closed: "told: closed", refused: "refused",
+  sent: "sent", unsent: "nobody to send to", received: "received or seen", asked: "nothing there, or only asked", made: "a handle created",
+  dropped: "dropped", lagged: "lagged", closed: "found closed", refused: "refused",
 };
 
 function swatch(draw) {

@@ -43,7 +43,7 @@ function cutName({ pen, run, band: { channel } }, life, width) {
   return (owner ? isolated(fitted(pen, owner, width - pen.measureText(tail).width)) : "") + tail;
 }
 
-// The names that were drawn last, by their rows, since measuring texts is slow. Rows are made anew when names or widths change.
+// The names that were drawn last, by their rows, since measuring texts is slow. Rows are made again when names or widths change.
 const cutNames = new WeakMap();
 
 // Draws the badge of the handle's user and the name, as far as the room allows.

@@ -28,8 +28,8 @@ export function unseenConditions(run) {
 export function conditionsAt(state, run) {
   const { names } = run;
   const offers = [
-    ["reply lagged", "a receiver is told that it has lost values"],
-    ["reply closed", "a receiver is told that the channel is closed"],
+    ["reply lagged", "a receiver lagged"],
+    ["reply closed", "a receiver finds its channel closed"],
   ];
   state.channels.forEach((channel, index) => {
     const name = isolated(names.channel(index));

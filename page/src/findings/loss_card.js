@@ -20,8 +20,8 @@ function who(run, actor) {
   return [run.actors.badge(actor), " ", outside(run.actors.names[actor])];
 }
 
-function toPlace(word, place, key = "") {
-  return element("button", { type: "button", "data-place": place, title: `go there${key && ` (${key})`}` }, `${word} ${grouped(place)}`.trim());
+function toPlace(place, key = "") {
+  return element("button", { type: "button", "data-place": place, title: `go there${key && ` (${key})`}` }, `call ${grouped(place)}`);
 }
 
 function part(head, ...children) {
@@ -37,15 +37,15 @@ function sourceOf(run, place) {
 function cause(run, loss) {
   const { capacity } = run.channels[loss.channel];
   const { actor } = run.entry(loss.from);
-  return part("cause", toPlace("cause", loss.from, "C"), " ", ...who(run, actor), ...sourceOf(run, loss.from), " sent ", quoted(run.valueSent(loss.from)),
+  return part("cause", toPlace(loss.from, "C"), " ", ...who(run, actor), ...sourceOf(run, loss.from), " sent ", quoted(run.valueSent(loss.from)),
     `, one more than the ${grouped(capacity)} that are kept`);
 }
 
-// The values, with the places where they were overwritten. Those that are overwritten only after the place are pale.
+// The values, with the calls that overwrote them. Those that are overwritten only after the place are pale.
 function values(run, loss, place, isAll) {
   const shown = run.losses.valuesOf(loss, isAll ? MOST : FEW).map(({ text, sent, overwritten }) =>
     element("li", { class: overwritten > place ? "mute" : "" }, element("span", { class: "box", title: text }, outside(text)),
-      element("button", { type: "button", "data-place": overwritten, title: `sent at ${grouped(sent)}, overwritten at ${grouped(overwritten)}` },
+      element("button", { type: "button", "data-place": overwritten, title: `sent by call ${grouped(sent)}, overwritten by call ${grouped(overwritten)}` },
         `✕ ${grouped(overwritten)}`)));
   const left = loss.lost - shown.length;
   if (left > 0 && !isAll) shown.push(element("li", {}, element("button", { type: "button", "data-loss": "all" }, `all ${grouped(loss.lost)}`)));
@@ -58,7 +58,7 @@ function reader(run, loss) {
   const others = run.losses.sharing(loss);
   const named = others.slice(0, MOST_NAMED).flatMap(it => ["; ", ...rowName(run, it.channel, run.lifeOf(it.channel, it.receiver))]);
   const more = others.length > MOST_NAMED ? ` and ${grouped(others.length - MOST_NAMED)} more` : "";
-  return part("reader", ...(received ? ["last received at ", toPlace("", received)] : ["had received nothing yet"]),
+  return part("reader", ...(received ? ["last received by ", toPlace(received)] : ["had received nothing yet"]),
     ...(others.length ? [element("span", { class: "lag" }, ...named, more), " lost some of them too"] : []));
 }
 
@@ -66,9 +66,9 @@ function end(run, loss) {
   if (loss.end === "open") return part("end", "the run ends, and nobody was told");
   const { actor } = run.entry(loss.to);
   const next = run.losses.firstOf(loss) + loss.lost;
-  const told = loss.end === "told" ? [` was told “lagged ${loss.lost}”, and goes on with `, quoted(run.values.text(loss.channel, next))]
+  const told = loss.end === "told" ? [` lagged by ${loss.lost}, and goes on with `, quoted(run.values.text(loss.channel, next))]
     : [run.losses.isUnwound(loss) ? " dropped it after the test failed" : " dropped it: nobody was ever told"];
-  return part("end", toPlace("end", loss.to, "E"), " ", ...who(run, actor), ...sourceOf(run, loss.to), ...told);
+  return part("end", toPlace(loss.to, "E"), " ", ...who(run, actor), ...sourceOf(run, loss.to), ...told);
 }
 
 // `here` has the losses at the place, the one that is shown first.
@@ -82,7 +82,7 @@ export function lossCard(run, here, place, isAll) {
   const head = element("h3", {}, ...rowName(run, loss.channel, run.lifeOf(loss.channel, loss.receiver)), ` lost ${count} `,
     element("span", { class: `pill ${loss.end}` }, word(run, loss)));
   const story = element("p", { class: "story" }, element("button", { type: "button", "data-loss": "story", title: "the cause in the picture, or no more (P)" }, "draw the cause"));
-  return [element("section", { class: `loss ${loss.end}`, "aria-label": "the loss at the place" }, ...turn, head,
+  return [element("section", { class: `loss ${loss.end}`, "aria-label": "the loss here" }, ...turn, head,
     element("dl", {}, cause(run, loss), values(run, loss, place, isAll), reader(run, loss), end(run, loss)), story)];
 }
 

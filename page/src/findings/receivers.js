@@ -1,24 +1,24 @@
 // What became of each receiver over the whole run: what it received, what it lost, and how it stands at the end.
 
-import { countOf, grouped } from "../base/numbers.js";
+import { countOf, grouped, sinceText } from "../base/numbers.js";
 import { visible } from "../base/text.js";
 import { versionOf } from "../run/versions.js";
 
-// Where a receiver was told that its channel is closed, or that it was made after the closing, or null.
+// Where a receiver was told that its channel is closed, or that it was created after that, or null.
 function closedFor(run, channel, life) {
   const closing = run.closings.places[channel];
   if (closing === null) return null;
-  if (life.from > closing) return "made after the closing";
+  if (life.from > closing) return "created after the close";
   const told = run.closings.told[channel].get(life.handle);
-  return told === null ? null : `told closed at ${grouped(told)}`;
+  return told === null ? null : `found closed at call ${grouped(told)}`;
 }
 
 // How a receiver stands at the end, in few words. `state` is its state there, unless it was dropped.
 function endingOf(run, channel, life, state) {
   const { waiting } = run.names;
   const waits = waiting.find(it => it.channel === channel && it.handle === life.handle);
-  if (life.to <= run.lastPlace) return `dropped at ${grouped(life.to)}`;
-  if (waits) return `waits in ${visible(waits.call)} since ${grouped(run.placeOf(waits.since))}`;
+  if (life.to <= run.lastPlace) return `dropped at call ${grouped(life.to)}`;
+  if (waits) return `waits in ${visible(waits.call)} since ${sinceText(run.placeOf(waits.since))}`;
   const closed = closedFor(run, channel, life);
   if (closed !== null) return closed;
   if (state.seen !== undefined) return versionOf(run.ending.channels[channel], state);
@@ -47,7 +47,7 @@ function receiverOf(run, { channel, receiver, counts, unlooked }, state) {
       return run.titleOf(channel, receiver);
     },
     ...(counts ? numbersOf(run.losses.of(channel, receiver), counts) : NONE),
-    // Where it was made and dropped is loaded later than its counts.
+    // Where it was created and dropped is loaded later than its counts.
     get ending() {
       return endingOf(run, channel, life, state) + (unlooked ? `, never looked at ${countOf(unlooked, "change")}` : "");
     },

@@ -35,8 +35,9 @@ const FEW_CALLS = { shown: 4, before: 1 };
 // How wide a letter of the place is, in widths of a digit.
 const LETTER = 0.95;
 
+// A place is between two calls: what is shown there is the state after the one and before the other.
 function placeText(place, last) {
-  return `place ${grouped(place)} of ${grouped(last)}`;
+  return `${place === 0 ? "before call 1" : `after call ${grouped(place)}`} of ${grouped(last)}`;
 }
 
 // A text as it is read out, without the codes of actors.
@@ -63,7 +64,8 @@ export class Telling {
     this.turned = new Set();
     fieldOf("slider").max = run.lastPlace;
     // As wide as the longest place, so that nothing moves while the place changes.
-    byId("place").style.minWidth = `${placeText(run.lastPlace, run.lastPlace).length * LETTER}ch`;
+    const longest = Math.max(...[0, run.lastPlace].map(place => placeText(place, run.lastPlace).length));
+    byId("place").style.minWidth = `${longest * LETTER}ch`;
   }
 
   // The channels in the order of the panel: first that of the call that led to the place.
@@ -93,7 +95,7 @@ export class Telling {
     const { here, areNamed } = this.losses;
     byId("sentence").replaceChildren(...(place === 0 ? atTheStart(run) : sentence(run.entry(place), run, areNamed ? here : [])));
     fieldOf("slider").valueAsNumber = place;
-    byId("slider").setAttribute("aria-valuetext", `place ${place} of ${run.lastPlace}: ${spokenText(byId("sentence"))}`);
+    byId("slider").setAttribute("aria-valuetext", `${placeText(place, run.lastPlace)}: ${spokenText(byId("sentence"))}`);
     byId("place").textContent = placeText(place, run.lastPlace);
     byId("calls").replaceChildren(...callsAround(run, place, this.screen.isNarrow ? FEW_CALLS : CALLS));
     byId("copied").textContent = "";
@@ -130,7 +132,7 @@ export class Telling {
     byId("state").replaceChildren(...statePanel(state, run, this.channels, this.turned, calls, card));
     byId("state").dataset.place = String(view.place);
     this.offer(conditionsAt(state, run));
-    byId("picture").setAttribute("aria-label", `The calls from place ${view.from} to ${Math.min(view.to, run.lastPlace)}, drawn.`);
+    byId("picture").setAttribute("aria-label", `${view.from === 0 ? "The start and calls 1" : `Calls ${view.from}`} to ${Math.min(view.to, run.lastPlace)}, drawn.`);
   }
 
   // Offers conditions to choose from, unless they are those of the place before, as they mostly are.
@@ -147,7 +149,7 @@ export class Telling {
     if (byId("told").hasAttribute("open")) this.console.ask();
   }
 
-  // Shows the step and the state as the console writes them.
+  // Shows the call and the state as the console writes them.
   async askConsole() {
     const told = await this.run.ask(`goto ${this.view.place}\nstep\nstate\n`);
     if (!this.isLeft) byId("told-text").textContent = told;

@@ -50,7 +50,7 @@ export function lifeOfValue(run, channel, number) {
 }
 
 function toPlace(place) {
-  return element("button", { type: "button", "data-place": place, title: "go there" }, grouped(place));
+  return element("button", { type: "button", "data-place": place, title: "go there" }, `call ${grouped(place)}`);
 }
 
 // A call with who made it, and where it stands in the sources.
@@ -65,7 +65,7 @@ function receiver(run, channel, handle) {
 }
 
 function lossRow(run, loss) {
-  const end = loss.end === "told" ? ["told at ", toPlace(loss.to)] : [run.losses.isUnwound(loss) ? "not told when the test failed" : "not told"];
+  const end = loss.end === "told" ? ["lagged at ", toPlace(loss.to)] : [run.losses.isUnwound(loss) ? "not told when the test failed" : "not told"];
   return element("li", {}, ...receiver(run, loss.channel, loss.receiver), ", ", ...end);
 }
 

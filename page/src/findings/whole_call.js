@@ -15,10 +15,10 @@ function who(run, actor) {
   return outside(run.actors.names[actor]);
 }
 
-// Where and by whom a handle was made, and where it was dropped.
+// Where and by whom a handle was created, and where it was dropped.
 function madeAndDropped(run, { from, to, maker }) {
-  const made = maker === null ? ["there when its channel was opened"] : ["made at place ", grouped(from), " by ", who(run, maker)];
-  return to > run.lastPlace ? made : [...made, ", dropped at ", grouped(to)];
+  const made = maker === null ? ["created with its channel"] : ["created at call ", grouped(from), " by ", who(run, maker)];
+  return to > run.lastPlace ? made : [...made, ", dropped at call ", grouped(to)];
 }
 
 // How many calls each actor made with a handle, those that made most first.
@@ -40,10 +40,10 @@ export function wholeCall(entry, run) {
   const called = run.sourceOf(number);
   const made = run.names.madeAt(channel, handle);
   return [
-    line(element("b", {}, grouped(number)), " ", run.actors.badge(actor), " ", outside(run.actors.names[actor]), " on ", outside(run.names.channel(channel))),
+    line(element("b", {}, `call ${grouped(number)}`), " ", run.actors.badge(actor), " ", outside(run.actors.names[actor]), " on ", outside(run.names.channel(channel))),
     line(element("code", {}, `${callText(entry, run)} → `, element("b", { class: entry.reply }, replyText(entry)))),
     ...(text === null ? [] : [line(element("code", { class: "text" }, element("bdi", {}, text)))]),
     ...(called ? [line("called at ", sourceLink(run, called))] : []),
-    ...(life ? [line(outside(run.titleOf(channel, handle)), ...(made ? [", made at ", sourceLink(run, made)] : [])), ...ownersOf(run, life)] : []),
+    ...(life ? [line(outside(run.titleOf(channel, handle)), ...(made ? [", created at ", sourceLink(run, made)] : [])), ...ownersOf(run, life)] : []),
   ];
 }

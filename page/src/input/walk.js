@@ -122,7 +122,7 @@ export class Walk {
     this.loadWhole();
   }
 
-  // Shows all texts anew, such as for another editor.
+  // Shows all texts again, such as for another editor.
   renew() {
     showAccount(this.run);
     this.show();

@@ -94,12 +94,12 @@ function namesFor(run, bytes, file, isBeginning = false) {
   return null;
 }
 
-// Says above a run that its journal was cut off.
+// Says above a run that its journal is truncated.
 function tellCut({ kept, bytes }, run) {
   byId("cut").hidden = !run.isCut;
   if (!run.isCut) return;
   const sizes = `${grouped(kept)} of ${countOf(bytes.length, "byte")}`;
-  byId("cut").textContent = `This journal was cut off. Its whole lines are shown: ${sizes}, with ${countOf(run.lastPlace, "call")}. What came after them isn't known.`;
+  byId("cut").textContent = `This journal is truncated. Its whole lines are shown: ${sizes}, with ${countOf(run.lastPlace, "call")}. What came after them isn't known.`;
 }
 
 // `page.walk` is the walk over the opened run, and `page.source` what was opened.
@@ -166,7 +166,7 @@ export class Opener {
     showPart("refusal");
   }
 
-  // Reads a run with the debugger. Of a journal that was cut off, what is left of it is read.
+  // Reads a run with the debugger. Of a truncated journal, what is left of it is read.
   async read(source) {
     const places = placesAtFirst(placeWanted(source));
     const opened = await this.openText(source.bytes, places);
@@ -245,7 +245,7 @@ export class Opener {
     this.redraw();
   }
 
-  // Draws all anew, such as after a change of the window's size.
+  // Draws all again, such as after a change of the window's size.
   redraw() {
     const { walk } = this.page;
     if (!walk) return;

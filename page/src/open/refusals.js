@@ -44,7 +44,7 @@ export function misfit(names, run) {
   return misfitOfCalls(names.tables.calls, run) ?? misfitOfText(names.journal, run);
 }
 
-// The places of calls are by the order of a channel's entries, so there are as many: of a run that was cut off, perhaps more.
+// The places of calls are by the order of a channel's entries, so there are as many: of a truncated run, perhaps more.
 function misfitOfCalls(calls, run) {
   const counts = run.channels.map(() => 0);
   run.columns.channels.forEach((channel, number) => { if (number > 0) counts[channel]++; });
@@ -55,7 +55,7 @@ function misfitOfCalls(calls, run) {
   return null;
 }
 
-// The names may have the checksum of their journal. Of a script, and of a journal that was cut off, the page doesn't have that text.
+// The names may have the checksum of their journal. Of a script, and of a truncated journal, the page doesn't have that text.
 function misfitOfText(sum, run) {
   if (sum === null || !run.isWholeJournal || sum === checksum(run.journal)) return null;
   return "it was written beside another journal";
@@ -85,7 +85,7 @@ const MOST_SHOWN = 256;
 const MEANINGS = {
   malformed: "the line is not one that can stand in its place",
   "limit-exceeded": "the line is too long, or a number in it is outside its limits",
-  "wrong-order": "the stamp does not come after those of the entries before it",
+  "wrong-order": "the stamp does not come after those of the calls before it",
   "wrong-reply": "the recorded reply is not the one that this call gives",
   truncated: "the text ends before its last line does",
   "too-long": "the line has more than 256 bytes",

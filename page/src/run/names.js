@@ -45,7 +45,7 @@ const KEYS = {
   tasks: [value => isTable(value, isNumber), "its tasks are no numbers of locations by actor"],
   waiting: [value => isList(value, isWait), "its waiting calls have no actor, channel, handle, call and stamp"],
   root: [isText, "its folder of the sources is no text"],
-  waited: [value => isTable(value, list => isList(list, isNumber)), "its key \"waited\" has no lists of entries by channel"],
+  waited: [value => isTable(value, list => isList(list, isNumber)), "its key \"waited\" has no lists of calls by channel"],
   journal: [isText, "its checksum of the journal is no text"],
   account: [isAccount, "its account has no facts with their lines and places"],
 };

@@ -1,7 +1,7 @@
 // The calls that wait at the end: of a script the one that would wait, and of a recorded run those that its file of names has. Each
 // has a mark after the last place.
 
-import { grouped } from "../base/numbers.js";
+import { sinceText } from "../base/numbers.js";
 import { isolated, visible } from "../base/text.js";
 import { stepsOf } from "./bindings.js";
 
@@ -42,5 +42,5 @@ function waitText({ actor, channel, handle, call, since, location, held_by: hold
   const whose = run.lifeOf(channel, handle) ? run.titleOf(channel, handle) : `handle ${handle}`;
   const who = isolated(run.names.actor(actor));
   const where = isolated(run.names.channel(channel));
-  return `${who} waits in ${visible(call)} of ${whose} on ${where} since place ${grouped(run.placeOf(since))}${place ? `, at ${place}` : ""}${holderText(holder, run)}`;
+  return `${who} waits in ${visible(call)} of ${whose} on ${where} since ${sinceText(run.placeOf(since))}${place ? `, at ${place}` : ""}${holderText(holder, run)}`;
 }

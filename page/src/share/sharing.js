@@ -108,7 +108,7 @@ export function savePicture(walk, name) {
   composed(caption).toBlob(blob => {
     const link = document.createElement("a");
     link.href = URL.createObjectURL(blob);
-    link.download = `${visible(name)}.place-${place}.png`;
+    link.download = `${visible(name)}.call-${place}.png`;
     link.click();
     setTimeout(() => URL.revokeObjectURL(link.href), LONG_ENOUGH);
   });

@@ -1,5 +1,5 @@
 // What the debugger finds in a run beside what its commands write: losses, totals, closings, handles, values, levels by stretches of places, and what
-// is left of a journal text that was cut off. It reads them from journal texts.
+// is left of a truncated journal text. It reads them from journal texts.
 
 import { Scanner } from "../run/scanner.js";
 
