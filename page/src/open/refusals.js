@@ -83,7 +83,7 @@ const AROUND = 4;
 const MOST_SHOWN = 256;
 
 const MEANINGS = {
-  malformed: "the line is not one that can stand in its place",
+  malformed: "such a line can't be here",
   "limit-exceeded": "the line is too long, or a number in it is outside its limits",
   "wrong-order": "the stamp does not come after those of the calls before it",
   "wrong-reply": "the recorded reply is not the one that this call gives",

@@ -47,7 +47,7 @@ const KEYS = {
   root: [isText, "its folder of the sources is no text"],
   waited: [value => isTable(value, list => isList(list, isNumber)), "its key \"waited\" has no lists of calls by channel"],
   journal: [isText, "its checksum of the journal is no text"],
-  account: [isAccount, "its account has no facts with their lines and places"],
+  account: [isAccount, "its key \"account\" has no \"facts\" with \"text\" and \"places\""],
 };
 
 // What a call that waits is to users, where the journal has the word of a call that doesn't.
