@@ -46,7 +46,7 @@ def first_calls(tab, folder, journals):
     all_read(tab)
     first = tab.run("window.first")
     assert first["isBusy"] == "true" and first["hasPicture"], first
-    assert first["place"] == f"before call 1 of {CALLS:,}" and first["facts"] == "long.journal", first
+    assert first["place"] == "before call 1" and first["facts"] == "long.journal", first
     assert first["line"] == "the first calls: what was lost is counted when all of them are read", first
     assert [first["calls"], first["state"]] == [tab.text("calls"), tab.text("state")]
     assert f"{CALLS:,} calls" in tab.text("facts") and "lost" in tab.text("loss-line"), tab.text("facts")
@@ -73,4 +73,4 @@ def late_faults(tab, folder, journals):
     tab.load(opening.page_of(folder, "cut.journal", journal()[:-20]), 0)
     tab.wait("!document.getElementById('cut').hidden", 60)
     all_read(tab)
-    assert tab.text("place") == f"before call 1 of {CALLS - 1:,}", tab.text("place")
+    assert tab.text("place") == "before call 1", tab.text("place")

@@ -71,7 +71,7 @@ def history_of_jumps(tab, folder, journals):
 def check_names(tab, ask, place):
     """The place that is shown, and the entry that the program writes for it."""
     step = ask(f"goto {place}\nstep\n").split("\n")[1]
-    assert tab.text("place") == f"after call {place} of 648" and step.split(" = ")[1].split(" ")[0] in tab.text("sentence"), tab.text("sentence")
+    assert tab.text("place") == f"call {place} of 648" and step.split(" = ")[1].split(" ")[0] in tab.text("sentence"), tab.text("sentence")
 
 
 def address_keeps(tab, folder, journals):
@@ -159,7 +159,7 @@ def report_as_markdown(tab, folder, journals):
     head, found_, here, link = re.fullmatch(r"(### .*)\n\n(```+)text\n(.*?)\n\2\n\n```+text\n(.*?)\n```+\n\n(.*)\n", copied, re.S).group(1, 3, 4, 5)
     assert head == "### no\\_price\\_is\\_missing.journal" and found_ == "\n".join(line for fact in facts for line in fact["text"]), copied
     lines = here.split("\n")
-    assert lines[0].startswith("after call 3 of 8: ticker on prices: send 0 2 → sent 1 at src/lib.rs:") and lines[1].startswith("auditor · receiver 1 lost 1 of 3"), lines
+    assert lines[0].startswith("call 3 of 8: ticker on prices: send 0 2 → sent 1 at src/lib.rs:") and lines[1].startswith("auditor · receiver 1 lost 1 of 3"), lines
     assert link == f"The page: <{tab.run('location.href')}>", link
 
 

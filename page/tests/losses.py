@@ -58,7 +58,7 @@ def silent_loss(tab, folder, journals):
 
 def check_silent(tab, ask, place):
     opening.settle(tab, place)
-    assert tab.text("place") == f"after call {place:,} of {real_runs.LONG_MADE:,}"
+    assert tab.text("place") == f"call {place:,} of {real_runs.LONG_MADE:,}"
     assert ask(f"goto {place}\nstep\n").split("\n")[1].split(" ", 4)[4].replace(" = ", " → ").split(" → ")[1] in tab.text("sentence")
     label = {SILENT.start: "1 of 45 values so far", SILENT.to: "45 values"}[place]
     assert f"late joiner · receiver 2 lost {label} dropped untold" in tab.text("state"), tab.text("state")[:300]

@@ -95,7 +95,7 @@ def check_place(tab, ask, place):
     settle(tab, place)
     step, state = ask(f"goto {place}\nstep\n"), ask(f"goto {place}\nstate json\n")
     entry, count = step.split("\n")[1], json.loads(state.split("\n")[-2])["len"]
-    assert tab.text("place") == (f"after call {place:,}" if place else "before call 1") + f" of {count:,}", tab.text("place")
+    assert tab.text("place") == (f"call {place:,} of {count:,}" if place else "before call 1" if count else "no calls"), tab.text("place")
     sentence = tab.text("sentence")
     if place == 0:
         assert "the start" in sentence

@@ -35,9 +35,10 @@ const FEW_CALLS = { shown: 4, before: 1 };
 // How wide a letter of the place is, in widths of a digit.
 const LETTER = 0.95;
 
-// A place is between two calls: what is shown there is the state after the one and before the other.
+// A place is after a call, whose number it has, or before the first one.
 function placeText(place, last) {
-  return `${place === 0 ? "before call 1" : `after call ${grouped(place)}`} of ${grouped(last)}`;
+  if (place === 0) return last === 0 ? "no calls" : "before call 1";
+  return `call ${grouped(place)} of ${grouped(last)}`;
 }
 
 // A text as it is read out, without the codes of actors.
@@ -95,7 +96,7 @@ export class Telling {
     const { here, areNamed } = this.losses;
     byId("sentence").replaceChildren(...(place === 0 ? atTheStart(run) : sentence(run.entry(place), run, areNamed ? here : [])));
     fieldOf("slider").valueAsNumber = place;
-    byId("slider").setAttribute("aria-valuetext", `${placeText(place, run.lastPlace)}: ${spokenText(byId("sentence"))}`);
+    byId("slider").setAttribute("aria-valuetext", `${place === 0 ? "" : "after "}${placeText(place, run.lastPlace)}: ${spokenText(byId("sentence"))}`);
     byId("place").textContent = placeText(place, run.lastPlace);
     byId("calls").replaceChildren(...callsAround(run, place, this.screen.isNarrow ? FEW_CALLS : CALLS));
     byId("copied").textContent = "";
