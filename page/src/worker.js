@@ -3,6 +3,7 @@
 import { inflated } from "./base/inflating.js";
 import { isJournal, questions } from "./run/opened_text.js";
 import { accountOf } from "./worker/account/account.js";
+import { comparedWith } from "./worker/against/difference.js";
 import { Debugger } from "./worker/debugger.js";
 import { closingsIn, levelsIn, livesIn, salvagedFrom, totalsIn, valuesIn } from "./worker/exports.js";
 import { openRun } from "./worker/opening.js";
@@ -40,6 +41,8 @@ const requests = {
   totals: () => (found.totals ??= totalsIn(engine, journal)),
   closings: () => (found.closings ??= closingsIn(engine, journal, channels.length)),
   account: names => accountOf(journal, channels, lastPlace, { losses: found.losses, totals: requests.totals(), closings: requests.closings() }, names),
+  // How the opened run differs from another run of the same test: its journal, its channels at the start, and how many calls it has.
+  against: (other, names, otherNames) => comparedWith({ journal, channels, lastPlace, names }, { ...other, names: otherNames }),
   lives: () => livesIn(engine, journal),
   values: channel => valuesIn(engine, journal, channel),
   levels: (wanted, from, each, count) => levelsIn(engine, journal, channels, wanted, from, each, count),

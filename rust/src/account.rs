@@ -4,6 +4,7 @@
 //! those that failed were told last comes first. Its words say what was found, and add no judgement: a test may lose values on purpose, and
 //! fail for another reason. `docs/use/FORMATS.md` in the repository has each form.
 
+pub(crate) mod against;
 mod closings;
 mod columns;
 mod fact;

@@ -1,10 +1,11 @@
-//! The command `yovanelum`: `why` prints the report on a journal, and `open` writes the page with the run inside.
+//! The command `yovanelum`: `why` prints the report on a journal, or where it differs from another one, and `open` writes the page with the run inside.
 //!
 //! It is in the library since it uses parts of it that no other program may.
 
+use crate::account::against::Against;
 use crate::names::Names;
 use crate::report::{self, Report, at_call, page};
-use crate::run::{self, TextFault};
+use crate::run::{self, Run, TextFault};
 use std::ffi::OsString;
 use std::fs::{self, File};
 use std::io::{self, IsTerminal, Read, Write};
@@ -12,12 +13,14 @@ use std::path::{Path, PathBuf};
 
 const USAGE: &str = "\
 Usage: yovanelum why JOURNAL [--json | --sarif]
+       yovanelum why JOURNAL --against JOURNAL [--json]
        yovanelum open JOURNAL
        yovanelum dap [--port PORT]
 
 why    prints what was found in the run of a journal: which values were lost, by whom and where
        --json    prints it as an object
        --sarif   prints it as a SARIF log
+       --against JOURNAL   prints instead which call differs first from another run of the same test
 open   writes the page with the run inside beside the journal, and prints its name
 dap    starts the debug adapter for an editor, the program yovanelum-dap
 
@@ -30,6 +33,7 @@ const MOST_BYTES: u64 = 268_435_456;
 /// What the command line asks for.
 enum Verb {
     Why(Form),
+    Against(PathBuf, Form),
     Open,
     Help,
 }
@@ -73,6 +77,10 @@ pub fn command(
     let done = parsed(words).and_then(|(verb, path)| match verb {
         Verb::Help => write_to(out, USAGE),
         Verb::Why(form) => why(&Journal::read(&path)?, form, out, told),
+        Verb::Against(other, form) => {
+            let runs = [Journal::read(&path)?, Journal::read(&other)?];
+            against(&runs, form, out, told)
+        }
         Verb::Open => open(&Journal::read(&path)?, page, out, told),
     });
     let Err(fault) = done else { return 0 };
@@ -90,8 +98,9 @@ pub fn command(
 /// Reads the command line.
 fn parsed(words: impl IntoIterator<Item = OsString>) -> Result<(Verb, PathBuf), Fault> {
     let usage = |line: &str| Err(Fault::Usage(line.to_string()));
-    let (mut form, mut names) = (Form::Lines, vec![]);
-    for word in words {
+    let (mut form, mut other, mut names) = (Form::Lines, None, vec![]);
+    let mut words = words.into_iter();
+    while let Some(word) = words.next() {
         match word.to_str() {
             Some("--help" | "-h") => return Ok((Verb::Help, PathBuf::new())),
             Some(flag @ ("--json" | "--sarif")) if form == Form::Lines => {
@@ -102,6 +111,11 @@ fn parsed(words: impl IntoIterator<Item = OsString>) -> Result<(Verb, PathBuf), 
                 };
             }
             Some("--json" | "--sarif") => return usage("give one of `--json` and `--sarif`"),
+            Some("--against") if other.is_some() => return usage("give one `--against`"),
+            Some("--against") => match words.next() {
+                Some(path) => other = Some(PathBuf::from(path)),
+                None => return usage("`--against` needs the journal of another run"),
+            },
             Some(flag) if flag.len() > 1 && flag.starts_with('-') => {
                 return usage(&format!("there is no option `{flag}`"));
             }
@@ -113,7 +127,14 @@ fn parsed(words: impl IntoIterator<Item = OsString>) -> Result<(Verb, PathBuf), 
         return usage("a command is missing");
     };
     let verb = match (verb.to_str(), form) {
-        (Some("why"), form) => Verb::Why(form),
+        (Some("why"), Form::Sarif) if other.is_some() => {
+            return usage("`--against` has no `--sarif`");
+        }
+        (Some("why"), form) => match other {
+            Some(other) => Verb::Against(other, form),
+            None => Verb::Why(form),
+        },
+        (Some("open"), _) if other.is_some() => return usage("`--against` is an option of `why`"),
         (Some("open"), Form::Lines) => Verb::Open,
         (Some("open"), Form::Json) => return usage("`--json` is an option of `why`"),
         (Some("open"), Form::Sarif) => return usage("`--sarif` is an option of `why`"),
@@ -157,19 +178,24 @@ impl Journal {
         })
     }
 
-    /// Finds what is in the run. Names that can't be read are left out, and a line says so.
-    fn find(&self, told: &mut impl Write) -> Result<Found, Fault> {
+    /// Returns the names and their text. Names that can't be read are left out, and a line says so.
+    fn names(&self, told: &mut impl Write) -> (Names, String) {
         let without = || (Names::default(), Names::default().to_json());
         let read = match &self.names {
             Ok(text) => Names::read(text).map(|names| (names, text.clone())),
             Err(error) if error.kind() == io::ErrorKind::NotFound => Ok(without()),
             Err(error) => Err(error.to_string()),
         };
-        let (names, text) = read.unwrap_or_else(|fault| {
+        read.unwrap_or_else(|fault| {
             let path = self.path.with_extension("names");
             let _ = writeln!(told, "yovanelum: {} is left out: {fault}", path.display());
             without()
-        });
+        })
+    }
+
+    /// Finds what is in the run.
+    fn find(&self, told: &mut impl Write) -> Result<Found, Fault> {
+        let (names, text) = self.names(told);
         let report = Report::new(&self.text, &names).map_err(Fault::Refused)?;
         Ok(Found {
             report,
@@ -224,6 +250,24 @@ fn why(
     };
     let has_colours = report::has_colours(out);
     write_to(out, &report.text(Some(look), has_colours))
+}
+
+/// Prints which call of the first run differs first from the second one.
+fn against(
+    [here, there]: &[Journal; 2],
+    form: Form,
+    out: &mut impl Write,
+    told: &mut impl Write,
+) -> Result<(), Fault> {
+    let names = [here.names(told).0, there.names(told).0];
+    let read = |journal: &Journal| Run::read(&journal.text).map_err(Fault::Refused);
+    let runs = [read(here)?, read(there)?];
+    let found = Against::of((&runs[0], &names[0]), (&runs[1], &names[1]));
+    if form == Form::Json {
+        return write_to(out, &format!("{}\n", found.to_json()));
+    }
+    let lines = found.lines.iter().map(|line| format!("{line}\n"));
+    write_to(out, &lines.collect::<String>())
 }
 
 /// Writes the page with the run and its account inside, and prints its name.

@@ -315,6 +315,68 @@ fn the_names_of_another_journal_are_left_out() {
     assert!(page.contains(&format!("id=\"journal\">\n{JOURNAL}</script>\n")));
 }
 
+/// The same calls as in [`JOURNAL`], but the audit received before the second send.
+const PASSED: &str = "\
+ttd-journal 2
+watch 0
+broadcast 1
+steps
+1 0 1 subscribe 0 = new 2
+2 0 1 subscribe 0 = new 3
+3 0 1 send 0 5 = sent 3
+4 1 1 recv 2 = value 5
+5 0 1 send 0 6 = sent 3
+6 1 1 drop 3 = dropped
+7 0 1 send 0 7 = sent 2
+end
+";
+
+#[test]
+fn why_against_another_run_prints_the_first_call_that_differs() {
+    let folder = Folder::new("against");
+    let path = journal_in(&folder);
+    let failed = NAMES.replacen('{', r#"{"failed": true, "#, 1);
+    fs::write(path.with_extension("names"), failed).unwrap();
+    fs::write(folder.0.join("passed.journal"), PASSED).unwrap();
+    fs::write(folder.0.join("passed.names"), NAMES).unwrap();
+    let wanted = "\
+the first difference: call 5, `audit` received before the send in the passing run
+  here    call 4   orders.send(value 6)   actor 0  sent 3
+  here    call 5   orders.recv()          audit    lagged 1
+  there   call 4   orders.recv()          audit    \"first\"
+  there   call 5   orders.send(value 6)   actor 0  sent 3
+7 calls here, 7 calls there: 1 differs
+";
+    let words = ["why", "orders.journal", "--against", "passed.journal"];
+    let answer = run(&folder.0, &words);
+    assert_eq!(answer, (0, wanted.to_string(), String::new()));
+    // A run doesn't differ from itself.
+    let words = ["why", "--against", "orders.journal", "orders.journal"];
+    let wanted = "no call differs\n7 calls here, 7 calls there: all the same\n";
+    assert_eq!(run(&folder.0, &words).1, wanted);
+    let words = [
+        "why",
+        "orders.journal",
+        "--json",
+        "--against",
+        "passed.journal",
+    ];
+    let (status, out, _) = run(&folder.0, &words);
+    let start = r#"{"version": 1, "calls": [7, 7], "differing": [{"kind": "order", "here": 5, "there": 4}], "text": ["the first"#;
+    assert!(status == 0 && out.starts_with(start), "{out}");
+    let (status, _, told) = run(
+        &folder.0,
+        &["why", "orders.journal", "--against", "none.journal"],
+    );
+    assert!(
+        status == 4 && told.starts_with("read fault: none.journal: "),
+        "{told}"
+    );
+    fs::write(folder.0.join("passed.journal"), "ttd-journal 2\n").unwrap();
+    let words = ["why", "orders.journal", "--against", "passed.journal"];
+    assert_eq!(run(&folder.0, &words).1, "journal fault truncated\n");
+}
+
 #[test]
 fn a_command_line_that_is_wrong_is_answered_by_the_usage() {
     let folder = Folder::new("usage");
@@ -326,6 +388,22 @@ fn a_command_line_that_is_wrong_is_answered_by_the_usage() {
         (&["why", "a", "--jsn"], "there is no option `--jsn`"),
         (&["open", "a", "--json"], "`--json` is an option of `why`"),
         (&["open", "a", "--sarif"], "`--sarif` is an option of `why`"),
+        (
+            &["why", "a", "--against"],
+            "`--against` needs the journal of another run",
+        ),
+        (
+            &["why", "a", "--against", "b", "--against", "c"],
+            "give one `--against`",
+        ),
+        (
+            &["why", "a", "--against", "b", "--sarif"],
+            "`--against` has no `--sarif`",
+        ),
+        (
+            &["open", "a", "--against", "b"],
+            "`--against` is an option of `why`",
+        ),
         (
             &["why", "a", "--json", "--sarif"],
             "give one of `--json` and `--sarif`",

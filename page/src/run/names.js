@@ -26,12 +26,16 @@ function isLocation(value) {
   return isList(value, () => true) && value.length === 3 && isText(value[0]) && isNumber(value[1]) && isNumber(value[2]);
 }
 
+function isMaker(value) {
+  return isList(value, () => true) && value.length === 2 && (value[0] === null || isText(value[0])) && isNumber(value[1]);
+}
+
 function isWait(value) {
   return isTable(value, () => true) && isText(value.call) && ["actor", "channel", "handle", "since"].every(key => isNumber(value[key]));
 }
 
-// Each key that the page uses, with the test of its value, and what is wrong where that fails. Other keys are ignored: `made_by` and others are
-// for a replay, and later writers add keys within a version. What says how a test ended is used as far as it has its form.
+// Each key that the page uses, with the test of its value, and what is wrong where that fails. Other keys are ignored: some are for a
+// replay, and later writers add keys within a version. What says how a test ended is used as far as it has its form.
 const KEYS = {
   version: [isNumber, "its version is no number"],
   core: [isText, "its note on the core is no text"],
@@ -44,6 +48,8 @@ const KEYS = {
   calls: [value => isTable(value, list => isList(list, it => it === null || isNumber(it))), "its calls are no lists of locations by channel"],
   tasks: [value => isTable(value, isNumber), "its tasks are no numbers of locations by actor"],
   waiting: [value => isList(value, isWait), "its waiting calls have no actor, channel, handle, call and stamp"],
+  made_by: [value => isTable(value, isMaker), "its key \"made_by\" has no names with numbers by channel"],
+  unnamed: [value => isList(value, isNumber), "its key \"unnamed\" has no numbers of actors"],
   root: [isText, "its folder of the sources is no text"],
   waited: [value => isTable(value, list => isList(list, isNumber)), "its key \"waited\" has no lists of calls by channel"],
   journal: [isText, "its checksum of the journal is no text"],
@@ -69,14 +75,14 @@ export function readNames(text) {
 }
 
 // How a test ended, and what of it wasn't recorded.
-function endingOf({ panics, returned, test, unrecorded, journal = null }) {
+function endingOf({ panics, returned, test, unrecorded, journal = null, failed }) {
   const isPanic = it => isTable(it, () => true) && isNumber(it.since) && (it.actor === null || isNumber(it.actor));
   const counts = isTable(unrecorded, () => true) ? Object.entries(unrecorded).filter(([, count]) => isNumber(count) || count === true) : [];
   return {
     panics: isList(panics, isPanic) ? panics : [],
     returned: isTable(returned, () => true) && isNumber(returned.since) ? returned : null,
     test: isTable(test, isText) ? test.thread : undefined,
-    unrecorded: Object.fromEntries(counts), journal,
+    unrecorded: Object.fromEntries(counts), journal, hasFailed: failed === true,
   };
 }
 
@@ -91,8 +97,9 @@ function named(table, number, otherwise) {
 export class Names {
   /** @param {any} tables */
   constructor(tables = {}) {
-    const { core = "", actors = {}, channels = {}, values = {}, handles = {}, locations = [], made = {}, calls = {}, tasks = {}, waiting = [], journal = null, root = null } = tables;
-    this.tables = { actors, channels, values, handles, locations, made, calls, tasks };
+    const { core = "", actors = {}, channels = {}, values = {}, handles = {}, locations = [], made = {}, calls = {}, tasks = {} } = tables;
+    const { waiting = [], journal = null, root = null, made_by: madeBy = {}, unnamed = [] } = tables;
+    this.tables = { actors, channels, values, handles, locations, made, calls, tasks, madeBy, unnamed };
     this.core = visible(core);
     /** @type {Account | null} what was found in the run, in words */
     this.account = known(tables.account);

@@ -1,0 +1,157 @@
+//! Two runs of one test, as one that failed and one that passed: their calls are aligned, and the first that differs is put into words.
+//!
+//! `docs/use/FORMATS.md` in the repository says what is aligned with what, and when a call differs. The page does the same.
+
+mod side;
+#[cfg(test)]
+mod tests;
+mod words;
+
+use super::visible;
+use crate::names::{Json, Names};
+use crate::run::Run;
+use side::{Call, Keys, Side};
+
+/// By what a call differs from the one that it is aligned with.
+#[derive(Clone, Copy, Debug, PartialEq, Eq)]
+pub(crate) enum Kind {
+    /// There is no such call in the other run.
+    Missing,
+    /// Its channel, its method or its handle is another one.
+    Other,
+    /// Another number of sends comes before it, or its channel is closed before one of them alone.
+    Order,
+    /// It sends another value.
+    Value,
+    Reply,
+    /// There is no such call in this run.
+    More,
+}
+
+impl Kind {
+    fn text(self) -> &'static str {
+        match self {
+            Kind::Missing => "missing",
+            Kind::Other => "other",
+            Kind::Order => "order",
+            Kind::Value => "value",
+            Kind::Reply => "reply",
+            Kind::More => "more",
+        }
+    }
+}
+
+/// A call that differs, or that one of the runs alone has.
+#[derive(Clone, Copy, Debug, PartialEq, Eq)]
+pub(crate) struct Differing {
+    pub(crate) kind: Kind,
+    pub(crate) here: Option<u64>,
+    pub(crate) there: Option<u64>,
+}
+
+/// Two runs whose calls are aligned.
+pub(crate) struct Against {
+    /// The first difference in words, and how many calls differ.
+    pub(crate) lines: Vec<String>,
+    /// The calls that differ, in the order of the run here, and then those that are only there.
+    differing: Vec<Differing>,
+    calls: [u64; 2],
+}
+
+impl Against {
+    /// Aligns a run with another one. Each has the names beside it.
+    pub(crate) fn of(here: (&Run, &Names), there: (&Run, &Names)) -> Against {
+        let both = Both {
+            is_named: !here.1.actors.is_empty() && !there.1.actors.is_empty(),
+            has_makers: [here.1, there.1]
+                .iter()
+                .all(|names| !names.matching.made_by.is_empty()),
+        };
+        let mut keys = Keys::default();
+        let here = Side::of(here, both, &mut keys);
+        let there = Side::of(there, both, &mut keys);
+        let differing = differing(&here, &there);
+        Against {
+            lines: words::lines(&here, &there, &differing),
+            differing,
+            calls: [here.len(), there.len()],
+        }
+    }
+
+    /// Returns the object, without an end of its line.
+    pub(crate) fn to_json(&self) -> String {
+        let number = |place: Option<u64>| place.map_or(Json::Null, Json::number);
+        let differing = self.differing.iter().map(|it| {
+            Json::object(vec![
+                ("kind", Json::text(it.kind.text())),
+                ("here", number(it.here)),
+                ("there", number(it.there)),
+            ])
+        });
+        let calls = self.calls.map(Json::number);
+        let object = Json::object(vec![
+            ("version", Json::number(1)),
+            ("calls", Json::List(calls.to_vec())),
+            ("differing", Json::List(differing.collect())),
+            (
+                "text",
+                Json::List(self.lines.iter().map(|line| Json::text(line)).collect()),
+            ),
+        ]);
+        let mut out = String::new();
+        object.push(&mut out);
+        out
+    }
+}
+
+/// What both runs have names for.
+#[derive(Clone, Copy)]
+struct Both {
+    is_named: bool,
+    has_makers: bool,
+}
+
+fn differing(here: &Side<'_>, there: &Side<'_>) -> Vec<Differing> {
+    let mut has_partner = vec![false; there.calls.len()];
+    let mut found = vec![];
+    for (place, call) in (1..).zip(&here.calls) {
+        let partner = there.partner_of(call);
+        if let Some(partner) = partner {
+            has_partner[partner as usize - 1] = true;
+        }
+        if let Some(kind) = kind_of((here, call), (there, partner)) {
+            found.push(Differing {
+                kind,
+                here: Some(place),
+                there: partner,
+            });
+        }
+    }
+    let only = (1..).zip(has_partner).filter(|(_, has)| !has);
+    found.extend(only.map(|(place, _)| Differing {
+        kind: Kind::More,
+        here: None,
+        there: Some(place),
+    }));
+    found
+}
+
+fn kind_of(
+    (here, a): (&Side<'_>, &Call),
+    (there, partner): (&Side<'_>, Option<u64>),
+) -> Option<Kind> {
+    let Some(partner) = partner else {
+        return Some(Kind::Missing);
+    };
+    let b = there.call(partner);
+    if (a.channel, a.word, a.handle) != (b.channel, b.word, b.handle) {
+        return Some(Kind::Other);
+    }
+    if (a.sends, a.is_closed) != (b.sends, b.is_closed) {
+        return Some(Kind::Order);
+    }
+    if here.sent_key(a) != there.sent_key(b) {
+        return Some(Kind::Value);
+    }
+    (here.reply_key(a) != there.reply_key(b)).then_some(Kind::Reply)
+}

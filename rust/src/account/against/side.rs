@@ -1,0 +1,294 @@
+//! One of two runs that are compared: its calls, each with what of it is the same in another run.
+
+use super::super::history::History;
+use super::super::naming::Naming;
+use super::Both;
+use crate::names::Names;
+use crate::reply::Reply;
+use crate::run::{Entry, Run, Spec};
+use crate::word::Word;
+use std::collections::BTreeMap;
+
+/// The things of both runs, by a text that is the same in both.
+#[derive(Default)]
+pub(super) struct Keys(BTreeMap<String, u32>);
+
+impl Keys {
+    fn of(&mut self, text: String) -> u32 {
+        let next = self.0.len() as u32;
+        *self.0.entry(text).or_insert(next)
+    }
+}
+
+/// A call. Channels, handles and callers are the keys of both runs.
+pub(super) struct Call {
+    pub(super) entry: Entry,
+    /// The word, by which calls that wait are told from others.
+    pub(super) word: Word,
+    pub(super) channel: u32,
+    pub(super) handle: u32,
+    caller: u32,
+    /// How many calls of its caller are before it.
+    nth: usize,
+    /// How many sends come before it on its channel, if that says anything of it.
+    pub(super) sends: Option<usize>,
+    pub(super) is_closed: bool,
+}
+
+#[derive(Clone, Copy, PartialEq, Eq)]
+enum HandleKind {
+    Sender,
+    WeakSender,
+    Receiver,
+    Never,
+}
+
+#[derive(Clone, Copy)]
+struct Handle {
+    kind: HandleKind,
+    key: u32,
+}
+
+/// A channel, as far as its calls were read.
+pub(super) struct Channel {
+    key: u32,
+    /// The places of its sends.
+    pub(super) sends: Vec<u64>,
+    /// The place at which its last sender was dropped, or 0.
+    pub(super) closed_at: u64,
+    senders: u32,
+    handles: Vec<Handle>,
+    // By caller, how many handles it has made.
+    made: BTreeMap<u32, u32>,
+}
+
+/// A run.
+pub(super) struct Side<'a> {
+    names: &'a Names,
+    history: History,
+    pub(super) calls: Vec<Call>,
+    pub(super) channels: Vec<Channel>,
+    // By caller, the places of its calls.
+    places: BTreeMap<u32, Vec<u64>>,
+    // By actor, the caller that it is.
+    callers: BTreeMap<u32, u32>,
+    // How many actors that are called the same have made a call.
+    labels: BTreeMap<String, u32>,
+    both: Both,
+}
+
+impl<'a> Side<'a> {
+    pub(super) fn of((run, names): (&Run, &'a Names), both: Both, keys: &mut Keys) -> Side<'a> {
+        let specs = (0..).zip(run.specs());
+        let mut side = Side {
+            names,
+            history: History::of(run, &[], names),
+            calls: Vec::with_capacity(run.len() as usize),
+            channels: specs
+                .map(|(number, spec)| Channel::of(channel_text(names, spec, number, both), keys))
+                .collect(),
+            places: BTreeMap::new(),
+            callers: BTreeMap::new(),
+            labels: BTreeMap::new(),
+            both,
+        };
+        for (place, entry) in run.entries() {
+            side.add(place, entry, keys);
+        }
+        side
+    }
+
+    pub(super) fn len(&self) -> u64 {
+        self.calls.len() as u64
+    }
+
+    pub(super) fn naming(&self) -> Naming<'_> {
+        Naming::new(self.names, &self.history)
+    }
+
+    pub(super) fn has_failed(&self) -> bool {
+        self.names.matching.has_failed
+    }
+
+    pub(super) fn has_name(&self, actor: u32) -> bool {
+        self.names.actors.contains_key(&actor.into())
+    }
+
+    /// Returns the call that led to a place.
+    pub(super) fn call(&self, place: u64) -> &Call {
+        &self.calls[place as usize - 1]
+    }
+
+    /// Returns the place of the call by the same caller with the same number.
+    pub(super) fn partner_of(&self, call: &Call) -> Option<u64> {
+        self.places.get(&call.caller)?.get(call.nth).copied()
+    }
+
+    /// Adds a call with what came before it on its channel. What it does itself counts for those after it.
+    fn add(&mut self, place: u64, entry: Entry, keys: &mut Keys) {
+        let caller = self.caller_of(place, &entry, keys);
+        let word = self.naming().word(place, &entry);
+        let places = self.places.entry(caller).or_default();
+        places.push(place);
+        let nth = places.len() - 1;
+        let channel = &mut self.channels[entry.channel as usize];
+        let handle = channel.handle(entry.handle, keys);
+        let is_receiver = handle.kind == HandleKind::Receiver;
+        let counts = is_send(entry.word) || entry.word == Word::Subscribe || is_receiver;
+        self.calls.push(Call {
+            word,
+            channel: channel.key,
+            handle: handle.key,
+            caller,
+            nth,
+            sends: counts.then_some(channel.sends.len()),
+            is_closed: channel.closed_at > 0,
+            entry,
+        });
+        channel.note(place, &entry, handle.kind, caller, keys);
+    }
+
+    fn caller_of(&mut self, place: u64, entry: &Entry, keys: &mut Keys) -> u32 {
+        if let Some(caller) = self.callers.get(&entry.actor) {
+            return *caller;
+        }
+        let label = self.label_of(place, entry);
+        let before = self.labels.entry(label.clone()).or_default();
+        let caller = keys.of(format!("caller {before} {label}"));
+        *before += 1;
+        self.callers.insert(entry.actor, caller);
+        caller
+    }
+
+    /// Returns what an actor is called that makes its first call at a place.
+    fn label_of(&self, place: u64, entry: &Entry) -> String {
+        let actor = u64::from(entry.actor);
+        if !self.both.is_named {
+            return format!("number {actor}");
+        }
+        let has_own = !self.names.matching.unnamed.contains(&actor);
+        if let Some(name) = self.names.actors.get(&actor).filter(|_| has_own) {
+            return format!("name {name}");
+        }
+        let naming = self.naming();
+        let task = self.names.tasks.get(&actor);
+        let source = task.and_then(|index| naming.source(*index));
+        match source.or_else(|| naming.call_source(entry.channel, place)) {
+            Some(at) => format!("source {}:{}:{}", at.file, at.line, at.column),
+            None => "source".to_string(),
+        }
+    }
+
+    /// Returns the value that a call sends, as both runs have it.
+    pub(super) fn sent_key(&self, call: &Call) -> Option<ValueKey<'_>> {
+        call.entry
+            .value
+            .map(|value| self.value_key(call.entry.channel, value))
+    }
+
+    /// Returns what a call returned, as both runs have it: a value as in both, and of a new handle not its number.
+    pub(super) fn reply_key(&self, call: &Call) -> (Reply, Option<ValueKey<'_>>) {
+        let key = |value| Some(self.value_key(call.entry.channel, value));
+        match call.entry.reply {
+            Reply::New(_) => (Reply::New(0), None),
+            Reply::Value(value) => (Reply::Value(0), key(value)),
+            Reply::Old(value) => (Reply::Old(0), key(value)),
+            Reply::NoReceivers(value) => (Reply::NoReceivers(0), key(value)),
+            reply => (reply, None),
+        }
+    }
+
+    fn value_key(&self, channel: u32, value: u64) -> ValueKey<'_> {
+        let texts = self.names.values.get(&channel.into());
+        match texts.and_then(|texts| texts.get(&value)) {
+            Some(text) => ValueKey::Text(text),
+            None => ValueKey::Number(value),
+        }
+    }
+}
+
+/// A value: its text, or else its number.
+#[derive(PartialEq, Eq)]
+pub(super) enum ValueKey<'a> {
+    Text(&'a str),
+    Number(u64),
+}
+
+fn is_send(word: Word) -> bool {
+    matches!(word, Word::Send | Word::SendReplace | Word::Modify)
+}
+
+/// Returns what a channel is to both runs: its kind, and who made it as the how manieth, or its number.
+fn channel_text(names: &Names, spec: &Spec<u64>, number: u64, both: Both) -> String {
+    let kind = match spec {
+        Spec::Broadcast(_) => "broadcast",
+        Spec::Watch(_) => "watch",
+    };
+    let maker = names.matching.made_by.get(&number);
+    match maker.filter(|_| both.has_makers) {
+        Some(maker) => format!("{kind} {:?} {}", maker.name, maker.nth),
+        None => format!("{kind} {number}"),
+    }
+}
+
+impl Channel {
+    fn of(text: String, keys: &mut Keys) -> Channel {
+        let first = [
+            (HandleKind::Sender, "first sender"),
+            (HandleKind::Receiver, "first receiver"),
+        ];
+        Channel {
+            key: keys.of(text),
+            sends: vec![],
+            closed_at: 0,
+            senders: 1,
+            handles: first
+                .map(|(kind, text)| Handle {
+                    kind,
+                    key: keys.of(text.to_string()),
+                })
+                .to_vec(),
+            made: BTreeMap::new(),
+        }
+    }
+
+    /// Returns a handle, which may never have been made.
+    fn handle(&self, number: u32, keys: &mut Keys) -> Handle {
+        match self.handles.get(number as usize) {
+            Some(handle) => *handle,
+            None => Handle {
+                kind: HandleKind::Never,
+                key: keys.of(format!("never {number}")),
+            },
+        }
+    }
+
+    fn note(&mut self, place: u64, entry: &Entry, kind: HandleKind, caller: u32, keys: &mut Keys) {
+        if is_send(entry.word) {
+            self.sends.push(place);
+        }
+        match entry.reply {
+            Reply::New(_) => self.make(entry.word, caller, keys),
+            Reply::Dropped if kind == HandleKind::Sender => {
+                self.senders -= 1;
+                if self.senders == 0 {
+                    self.closed_at = place;
+                }
+            }
+            _ => {}
+        }
+    }
+
+    fn make(&mut self, word: Word, caller: u32, keys: &mut Keys) {
+        let kind = match word {
+            Word::CloneSender | Word::Upgrade => HandleKind::Sender,
+            Word::Downgrade | Word::CloneWeak => HandleKind::WeakSender,
+            _ => HandleKind::Receiver,
+        };
+        self.senders += u32::from(kind == HandleKind::Sender);
+        let before = self.made.entry(caller).or_default();
+        let key = keys.of(format!("made {before} by {caller}"));
+        *before += 1;
+        self.handles.push(Handle { kind, key });
+    }
+}
