@@ -66,7 +66,7 @@ def far_places(tab, folder, journals):
 
 
 def late_faults(tab, folder, journals):
-    """A fault at the end of a long journal is shown in place of its first calls, and one that was cut off there opens up to its cut."""
+    """A fault at the end of a long journal is shown in place of its first calls, and one that is truncated there opens up to its cut."""
     tab.load(opening.page_of(folder, "faulty.journal", journal()[:-4] + b"nonsense\nend\n"))
     tab.wait("!document.getElementById('refusal').hidden", 60)
     assert tab.run("document.getElementById('walk').hidden"), "a refused run is shown"

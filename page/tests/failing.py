@@ -75,7 +75,7 @@ def screen_untold(number):
             f' the panic not told {FORTY} {{the fourth screen is told}} its last receive: call {43 + number}, "1 EUR"', ' lost: "2 EUR", "3 EUR"']
 
 
-# By the name of a test. What is lost is by receiver: how many values, and how many of them it was told of.
+# By the name of a test. What is lost is by receiver: how many values, and how many of them it learned of.
 WANTED = {
     "no_price_is_missing": Wanted(
         {"no_price_is_missing", "ticker"}, ["prices"], {"0 1": "auditor · receiver 1"}, euros(range(101, 106)),

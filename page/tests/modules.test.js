@@ -7,7 +7,7 @@ import { fileURLToPath } from "node:url";
 
 const SOURCES = fileURLToPath(new URL("../src", import.meta.url));
 
-// A folder imports only itself and those before it. What stands at the top, `main.js` and `worker.js`, imports all.
+// A folder imports only itself and those before it. What is at the top, `main.js` and `worker.js`, imports all.
 const FOLDERS = ["base", "run", "worker", "draw", "findings", "share", "input", "open", "."];
 
 const modules = readdirSync(SOURCES, { recursive: true }).map(String).filter(name => name.endsWith(".js")).sort();

@@ -20,7 +20,7 @@ def opens_and_walks(page, folder):
     """A run opens, keys walk through it, and the sentence has what the program writes."""
     journal = native.record(runs.example())
     ask = opening.asker(journal)
-    # The loss that the slow auditor was told of last begins there.
+    # The loss that the slow auditor learned of last begins there.
     page.load(opening.page_of(folder, "walked.journal", journal))
     opening.settle(page, 36)
     page.key("\ue011")
@@ -53,7 +53,7 @@ def reads_the_answer(page, folder):
 
 
 def opens_large(page, folder):
-    """A run of 100,000 calls opens, and L reaches the loss that nobody was told of."""
+    """A run of 100,000 calls opens, and L reaches the loss that no receive returned."""
     journal, names = real_runs.long()
     opening.put(folder, "long.names", names)
     page.load(opening.page_of(folder, "long.journal", journal))

@@ -91,7 +91,7 @@ def fnv1a(data):
 
 
 def names_of_another_journal(tab, folder, journals):
-    """Names with the checksum of another journal aren't used, though all in them fits. A script and a journal that was cut off have no such text."""
+    """Names with the checksum of another journal aren't used, though all in them fits. A script and a truncated journal have no such text."""
     journal = native.record(SCRIPT)
     stamps_later = journal.replace(b"\n3 ", b"\n4 ")
     assert fnv1a(b"foobar") == "85944171f73967e8" and stamps_later != journal
@@ -103,7 +103,7 @@ def names_of_another_journal(tab, folder, journals):
         opening.load(tab, opening.page_of(folder, opened, stamps_later if is_refused else journal), 1)
         assert (refused in tab.text("notice")) == is_refused, (opened, tab.text("notice"))
         assert (" at src/worker.rs:30" in tab.text("sentence")) != is_refused, (opened, tab.text("sentence"))
-    # The last line of a journal that was cut off isn't there, and a script has another text.
+    # The last line of a truncated journal isn't there, and a script has another text.
     for opened, text in {"cut.journal": journal[:-4], "cut.script": SCRIPT}.items():
         opening.put(folder, "cut.names", json.dumps({**names, "journal": fnv1a(b"foobar")}).encode())
         opening.load(tab, opening.page_of(folder, opened, text), 1)

@@ -160,13 +160,13 @@ def kept_for_a_reload(tab, folder, journals):
 
 
 def salvaged(path):
-    """What the program leaves of a journal that was cut off, and how many of its bytes that is."""
+    """What the program leaves of a truncated journal, and how many of its bytes that is."""
     done = subprocess.run([native.PROGRAM, "salvage", path], capture_output=True, check=True)
     return done.stdout, int(done.stderr.split(b" ")[1])
 
 
 def cut_journals(tab, folder, journals):
-    """A journal that was cut off is opened with the calls of its whole lines, and a line says so. One without its head is refused."""
+    """A truncated journal is opened with the calls of its whole lines, and a line says so. One without its head is refused."""
     journal = journals[63]
     ends = [len(journal) - 2, len(journal) - 4, journal.index(b"= lagged 2") + 9, journal.index(b"\n9 ") + 1, journal.index(b"steps\n") + 6]
     for number, end in enumerate(ends):

@@ -75,7 +75,7 @@ pub fn on_lag(told: impl Fn(&Lag) + Send + Sync + 'static) {
 
 /// Calls a closure each time the last sender of a channel is dropped, on any channel that no recorder records.
 ///
-/// Receivers still receive what the channel retains, and are then told that it is closed. The closure is called by the drop, once those who
+/// Receivers still receive what the channel retains, and then find it closed. The closure is called by the drop, once those who
 /// wait are woken. It is called for a recorded channel too, if the recorder has no closure of its own
 /// ([`Recorder::on_close`](crate::Recorder::on_close)).
 ///

@@ -1,5 +1,5 @@
 // Draws losses as bands: each from the send that overwrote first to the call that was told, the drop, or past the end, at least so wide that it
-// is seen. Those that nobody was told of are hatched. Labels say how many values were lost; where two would touch, one says it of both.
+// is seen. Those that no receive returned are hatched. Labels say how many values were lost; where two would touch, one says it of both.
 
 import { grouped } from "../base/numbers.js";
 import { CODE } from "../base/palette.js";
@@ -30,7 +30,7 @@ export function drawStretch(pen, palette, { x, end }, y, height, isTold) {
   pen.setLineDash([]);
 }
 
-// How many values were lost, and how many of them nobody was told of: never, or since the test failed before.
+// How many values were lost, and how many of them no receive returned: never, or since the test failed before.
 function textOf({ count, sum, untold, unwound }) {
   const many = count > 1 ? `${grouped(sum)} in ${grouped(count)}` : grouped(sum);
   const of = (part, word) => (part === 0 ? "" : part === sum ? ` ${word}` : `, ${grouped(part)} ${word}`);

@@ -48,7 +48,7 @@ function drawLevels({ pen, run, frame, palette, whole }, channel, { y, bar }) {
   });
 }
 
-// Losses that nobody was told of are drawn last and lower, so that none of the others hides them.
+// Losses that no receive returned are drawn last and lower, so that none of the others hides them.
 function drawLosses({ pen, run, frame, palette }, channel, { y, bar }) {
   const height = Math.ceil(bar / 2);
   const losses = run.losses.on(channel);
@@ -58,7 +58,7 @@ function drawLosses({ pen, run, frame, palette }, channel, { y, bar }) {
   for (const stretch of uncovered(untold)) drawStretch(pen, palette, stretch, y + bar - height, height, false);
 }
 
-// How many values a channel's receivers lost, and a sign where nobody was told of some.
+// How many values a channel's receivers lost, and a sign where no receive returned some.
 export function drawLostCount({ pen, run, palette }, channel, right, middle) {
   const { lost, untold, unwound } = run.losses.sums[channel];
   if (lost === 0) return;

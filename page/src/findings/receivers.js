@@ -25,7 +25,7 @@ function endingOf(run, channel, life, state) {
   return state.unread > 0 ? "open, behind" : "open";
 }
 
-// What a receiver of a broadcast has to show in numbers. Of its losses only the last may be one that it was never told of, as one that is open. What
+// What a receiver of a broadcast has to show in numbers. Of its losses only the last may be one that it never learned of, as one that is open. What
 // that lost can't be read any more.
 function numbersOf(losses, { received, lost, worst, worstPlace, unread }) {
   const last = losses.at(-1) ?? { end: "told", lost: 0 };

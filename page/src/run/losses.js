@@ -163,7 +163,7 @@ function keyOf(channel, receiver) {
   return channel * 2 ** 20 + receiver;
 }
 
-// The receivers that lost values and were ever read by: they were told of a loss, or received a value.
+// The receivers that lost values and were ever read by: they lagged, or received a value.
 function readersIn({ columns, lastPlace }, losses) {
   const readers = new Set(losses.filter(({ end }) => end === "told").map(({ channel, receiver }) => keyOf(channel, receiver)));
   if (losses.every(({ channel, receiver }) => readers.has(keyOf(channel, receiver)))) return readers;

@@ -1,4 +1,4 @@
-//! The arguments of a request. Each fault of them is a text for the user.
+//! The arguments of a request. Each error in them is a text for the user.
 
 use crate::{Answer, Refusal};
 use serde_json::Value;

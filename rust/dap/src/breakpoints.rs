@@ -46,7 +46,7 @@ impl Breakpoints {
         self.sets.values().flatten()
     }
 
-    /// Replaces a set, and returns the answer. A breakpoint with a fault is told as one that isn't verified.
+    /// Replaces a set, and returns the answer. A breakpoint with an error is answered as one that isn't verified.
     fn replace(&mut self, set: String, asked: Vec<Asked<'_>>, recording: &mut Recording) -> Answer {
         let (mut kept, mut told) = (vec![], vec![]);
         for one in asked {

@@ -225,7 +225,7 @@ impl Recording {
         met.map(|(place, _)| place).collect()
     }
 
-    /// Returns the loss that begins at a place, or that the call of a place was told of.
+    /// Returns the loss that begins at a place, or that the call of a place returned.
     pub(crate) fn loss_at(&self, place: u32) -> Option<&Loss> {
         let told = |loss: &&Loss| loss.is_told && loss.to == Some(place);
         let begins = |loss: &&Loss| loss.from == place;

@@ -15,7 +15,7 @@ pub(super) struct Closed {
 }
 
 impl Closed {
-    /// Whether each receiver was told of it, as is usual where a sender has done its work.
+    /// Whether each receiver was told so, as is usual where a sender has done its work.
     pub(super) fn is_known(&self) -> bool {
         self.receivers.iter().all(|after| after.told.is_some())
     }
@@ -89,7 +89,7 @@ fn how_many_were_told(told: usize, all: usize) -> String {
     }
 }
 
-/// Returns the first call that was told of the close.
+/// Returns the first call that was told so.
 fn first_told(context: &Context<'_>, place: u64, after: &LateReader) -> Step {
     let naming = context.naming;
     let receiver = naming.receiver(after.channel, after.receiver).short;

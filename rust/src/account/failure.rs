@@ -58,7 +58,7 @@ impl Failure {
         self.end().is_none_or(|end| place <= end.place)
     }
 
-    /// The places at which those that failed were told of a loss last before that, the latest failure first.
+    /// The calls by which those that failed lagged last before that, the latest failure first.
     pub(super) fn told_last(&self, history: &History) -> Vec<u64> {
         let failures = self.all.iter().rev();
         let told = failures.filter_map(|at| history.last_told(at.actor?, at.place));

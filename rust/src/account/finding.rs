@@ -24,7 +24,7 @@ impl Finding {
             .collect()
     }
 
-    /// Returns how many of these, which are in their order, are told in full: the first three. A close that each receiver was told of is one of them
+    /// Returns how many of these, which are in their order, are told in full: the first three. A close that each receiver learned of is one of them
     /// only if nothing else was found.
     pub(super) fn told_in_full(found: &[Finding]) -> usize {
         let is_known =

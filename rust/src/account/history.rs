@@ -148,7 +148,7 @@ impl History {
         self.actor(actor).map_or(0, |actor| actor.last_call)
     }
 
-    /// The place up to this one of the last call that told an actor of a loss.
+    /// The place up to this one of the last call that returned `lagged` to an actor.
     pub(super) fn last_told(&self, actor: u64, up_to: u64) -> Option<u64> {
         let told = &self.actor(actor)?.told;
         let count = told.partition_point(|place| *place <= up_to);

@@ -13,9 +13,9 @@ use std::collections::{BTreeMap, BTreeSet};
 /// By what the losses of a receiver are ordered.
 #[derive(Clone, Copy, Debug, PartialEq, Eq, PartialOrd, Ord)]
 enum Rank {
-    /// Who failed was told of it last before that. The latest panic is first.
+    /// Who failed was told this last before that. The latest panic is first.
     ToldLast(usize),
-    /// It was told of at this place, before the end began if this is `false`.
+    /// The receiver was told by this call, before the end began if this is `false`.
     Told(bool, Reverse<u64>),
     /// Nobody was told.
     Untold,

@@ -17,7 +17,7 @@ pub(super) struct Naming<'a> {
 pub(super) struct Called {
     /// As `auditor`, or `receiver 2`.
     pub(super) short: String,
-    /// The same where it is first told of, as `auditor` between backquotes, or `receiver 2 (created at tests/bus.rs:9)`.
+    /// The same where it is first named, as `auditor` between backquotes, or `receiver 2 (created at tests/bus.rs:9)`.
     pub(super) full: String,
 }
 

@@ -27,7 +27,7 @@ pub struct Watch<'a>(&'a core_watch::Watch<u64>);
 pub struct BroadcastReceiver {
     /// How many values were sent before the one that it receives next, if that is still retained.
     pub position: u64,
-    /// How many values were sent that it has not received, and was not told to have lost.
+    /// How many values it has yet to receive, those included that were overwritten and that no `Lagged` has passed over yet.
     pub unread: u64,
     /// How many of these are no longer retained. If there are any, its next receive returns `Lagged` with this number.
     pub lag: u64,

@@ -1,4 +1,4 @@
-//! A receiver is told that it lags.
+//! A receiver lagged.
 
 use super::{ChannelOf, values};
 use crate::channel::{CallSite, ChannelState, Slot};

@@ -7,8 +7,8 @@ impl Recorder {
     /// Calls a closure each time a receiver of this recorder's channels lags. Returns the recorder, for the next call.
     ///
     /// The closure is called by the receive that returns `Lagged`, before it returns. It replaces one that was set before. While it runs there is
-    /// no lock of this crate, so it may use any channel, also this one. A panic in it is one of the receive, which has then counted the lost
-    /// values as told: so a test fails where somebody lags, if the closure panics.
+    /// no lock of this crate, so it may use any channel, also this one. A panic in it is one of the receive, which has then counted the values
+    /// as lost: so a test fails where somebody lags, if the closure panics.
     ///
     /// The recorder holds the closure until it is dropped with its clones and guards. From then on, and for a recorder without a closure, the one
     /// of the process is called, if there is one: [`yovanelum::on_lag`](crate::on_lag).

@@ -59,7 +59,7 @@ async fn run() {
         let task = subscriber(first.resubscribe(), set.clone());
         subscribers.push(tokio::spawn(named(&format!("subscriber {number}"), task)));
     }
-    // One that is cut off while it waits or works.
+    // One that is cancelled while it waits or works.
     let cut_off = tokio::spawn(named(
         "cut off",
         subscriber(first.resubscribe(), set.clone()),

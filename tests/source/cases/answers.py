@@ -9,7 +9,7 @@ from cases import journals, limits, running, scripts, sessions
 from cases.case import FILE, Case
 
 PARTS = {"scripts": scripts, "sessions": sessions, "journals": journals, "limits": limits}
-# Of a part with larger files the cases are made anew each time, and only the answers are kept.
+# Of a part with larger files the cases are made again each time, and only the answers are kept.
 LARGE = ("limits",)
 
 

@@ -18,7 +18,7 @@ METHODS = ("destroy_empty", "insert", "remove")
 
 
 def heads(kept, name, crates):
-    """The heads of paths that name a crate, as (start, end, what stands there in Rust)."""
+    """The heads of paths that name a crate, as (start, end, what is there in Rust)."""
     found = []
     for n, token in enumerate(kept[:-1]):
         if token.kind != "word" or kept[n + 1].text != "::":

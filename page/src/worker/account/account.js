@@ -24,7 +24,7 @@ class Failure {
     return this.end === null || place <= this.end.place;
   }
 
-  // The places at which those that failed were told of a loss last before that, the latest failure first.
+  // The calls by which those that failed lagged last before that, the latest failure first.
   toldLast(history) {
     return [...this.all].reverse().filter(({ actor }) => actor !== null).map(({ actor, place }) => history.lastTold(actor, place)).filter(it => it !== undefined);
   }
@@ -125,7 +125,7 @@ function restText(findings, after) {
   return parts.length > 0 ? `and ${parts.join(", ")}` : null;
 }
 
-// The first three are told in full. A close that each receiver was told of is one of them only if nothing else was found.
+// The first three are told in full. A close that each receiver learned of is one of them only if nothing else was found.
 function toldInFull(findings) {
   const known = findings.findIndex(it => it.kind === "closing" && isKnown(it));
   return Math.min(known > 0 ? known : findings.length, MOST_TOLD);

@@ -5,7 +5,7 @@ import { counted } from "./words.js";
 // How many receivers that were not told are named.
 const NAMED = 3;
 
-// Whether each receiver was told of it, as is usual where a sender has done its work.
+// Whether each receiver was told so, as is usual where a sender has done its work.
 export function isKnown({ receivers }) {
   return receivers.every(({ told }) => told !== null);
 }
@@ -30,7 +30,7 @@ function afterMore({ history }, channel, count) {
   return `after ${counted(count, history.channels[channel].kind === "broadcast" ? "more value" : "more change")}`;
 }
 
-// The first call that was told of the close.
+// The first call that was told so.
 function firstTold(context, channel, { told, receiver, readOn }) {
   const { naming, history } = context;
   const { short } = naming.receiver(channel, receiver);

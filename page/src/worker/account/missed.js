@@ -3,7 +3,7 @@
 
 import { counted, listText } from "./words.js";
 
-// By what the losses of a receiver are ordered: who failed was told of it last before that; it was told, before the end began or later; nobody was
+// By what the losses of a receiver are ordered: who failed was told this last before that; it was told, before the end began or later; nobody was
 // told; nobody was told, and nothing was ever received.
 const [TOLD_LAST, TOLD, UNTOLD, HELD] = [1, 2, 3, 4];
 

@@ -1,4 +1,4 @@
-//! Runs of a program that nobody explores, as a test makes them that is repeated: as they come, or with a sleep before each recorded call.
+//! Runs of a program that nobody explores, as a test makes them that is repeated: in any order, or with a sleep before each recorded call.
 //!
 //! A process makes them one after the other, each in a thread of its own with a recorder of its own. So a run costs no start of a process.
 

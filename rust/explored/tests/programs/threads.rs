@@ -191,7 +191,7 @@ pub fn double_claim() {
     assert_eq!(*claims.lock().unwrap(), 1);
 }
 
-/// A reader that lags begins anew, and never sees the last event, `closing`.
+/// A reader that lags begins again, and never sees the last event, `closing`.
 pub fn resubscribe_gap() {
     let (bus, mut rx) = broadcast::channel(4);
     let reader = spawn("reader", move || {

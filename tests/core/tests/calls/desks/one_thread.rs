@@ -220,7 +220,7 @@ fn ring_of_the_greatest_capacity() {
     overfills(&mut open);
 }
 
-/// Each call of a broadcast is refused for want of a stamp.
+/// Each call of a broadcast is refused for lack of a stamp.
 fn sends_nothing(open: &mut OfOne) {
     let (sender, receiver) = broadcast_of(&open.ends);
     let (desk, pass) = (&open.desk, &mut open.pass);
@@ -231,7 +231,7 @@ fn sends_nothing(open: &mut OfOne) {
     assert_eq!(answers, [Err(DeskFault::JournalFull); 2]);
 }
 
-/// Each call of a watch is refused for want of a stamp, and no closure is called.
+/// Each call of a watch is refused for lack of a stamp, and no closure is called.
 fn writes_nothing(open: &mut OfOne) {
     let (writer, reader) = watch_of(&open.ends);
     let (desk, pass) = (&open.desk, &mut open.pass);
@@ -247,7 +247,7 @@ fn writes_nothing(open: &mut OfOne) {
     assert!(!was_called);
 }
 
-/// Each call by the channel's number is refused for want of a stamp, but one that strays.
+/// Each call by the channel's number is refused for lack of a stamp, but one that strays.
 fn strays_alone(desk: &Desk<u64>, pass: &mut Pass<u64>) {
     let recv = ChanCall::B(BCall::Recv(1));
     let answers = [
@@ -258,7 +258,7 @@ fn strays_alone(desk: &Desk<u64>, pass: &mut Pass<u64>) {
     assert_eq!(answers, wanted);
 }
 
-/// A writer comes back where its drop is refused for want of a stamp, and nothing was recorded.
+/// A writer comes back where its drop is refused for lack of a stamp, and nothing was recorded.
 fn comes_back(open: &mut OfOne, heeded: u64) {
     let Some(Ends::Watch(writer, _)) = open.ends.pop() else {
         panic!("no watch")

@@ -1,4 +1,4 @@
-//! Journal texts that were cut off, and other damage.
+//! Truncated journal texts, and other damage.
 
 use super::rows::run_of;
 use super::writing::{OLD, SMALL};
@@ -18,7 +18,7 @@ fn held<V: Payload>(text: &[u8]) -> Result<(usize, u64), TextFault> {
     Ok((run.entries().len(), count))
 }
 
-/// Reads a text that isn't cut off. Returns how many entries it has.
+/// Reads a text that isn't truncated. Returns how many entries it has.
 fn read_whole<V: Payload>(text: &[u8]) -> Result<usize, TextFault> {
     let run: Run<V> = read(Global, text)?;
     Ok(run.entries().len())
