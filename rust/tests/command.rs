@@ -369,7 +369,7 @@ the first difference: call 5, `audit` received before the send in the passing ru
         &["why", "orders.journal", "--against", "none.journal"],
     );
     assert!(
-        status == 4 && told.starts_with("read fault: none.journal: "),
+        status == 4 && told.starts_with("read error: none.journal: "),
         "{told}"
     );
     fs::write(folder.0.join("passed.journal"), "ttd-journal 2\n").unwrap();
