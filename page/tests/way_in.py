@@ -136,7 +136,7 @@ def kept_for_a_reload(tab, folder, journals):
     opening.settle(tab)
     tab.key("ArrowRight")
     place = tab.run("document.getElementById('slider').valueAsNumber")
-    tab.wait(f"location.hash.includes('place={place}&')")
+    tab.wait(f"location.hash.includes('call={place}&')")
     said = tab.text("sentence")
     tab.run("""new Promise(done => {
         const look = () => indexedDB.open('yovanelum').onsuccess = ({ target: { result } }) => {

@@ -71,7 +71,7 @@ class WebKit:
 
     def load(self, path, place=None):
         self.call("url", url="about:blank")
-        self.call("url", url=f"file://{path}" + ("" if place is None else f"#place={place}"))
+        self.call("url", url=f"file://{path}" + ("" if place is None else f"#call={place}"))
 
     def run(self, script, *given):
         return self.call("execute/sync", script=script, args=list(given))
