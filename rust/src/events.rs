@@ -155,7 +155,9 @@ impl Drop for Event {
 }
 
 /// Calls the closure. Its panic goes on, but within another panic, where the process would end.
+// It gets the box, since what is in it would else be moved where the event is dropped.
 #[cold]
+#[allow(clippy::boxed_local)]
 fn tell(event: Box<(Option<Told>, Option<Held>)>) {
     let (told, held) = *event;
     let called = panic::catch_unwind(AssertUnwindSafe(|| {
