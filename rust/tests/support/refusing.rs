@@ -69,6 +69,14 @@ pub fn refusing<T>(refusal: Refusal, run: impl FnOnce() -> T) -> (T, u64) {
     (result, REFUSED.get())
 }
 
+/// Runs a closure whose requests are neither counted nor refused.
+pub fn paused<T>(run: impl FnOnce() -> T) -> T {
+    let refusal = REFUSAL.take();
+    let result = run();
+    REFUSAL.set(refusal);
+    result
+}
+
 /// Whether a request of this many bytes is refused.
 fn is_refused(size: usize) -> bool {
     let Some(mut refusal) = REFUSAL.get() else {

@@ -3,8 +3,12 @@
 pub mod desks;
 pub mod devices;
 pub mod fixtures;
+mod random;
 
-use std::thread;
+pub use random::Random;
+use std::sync::mpsc::{self, RecvTimeoutError};
+use std::time::Duration;
+use std::{env, panic, thread};
 
 /// Runs two closures side by side, the first in a thread of its own, and returns what both return.
 pub fn side_by_side<A: Send, B>(one: impl FnOnce() -> A + Send, two: impl FnOnce() -> B) -> (A, B) {
@@ -13,4 +17,33 @@ pub fn side_by_side<A: Send, B>(one: impl FnOnce() -> A + Send, two: impl FnOnce
         let two = two();
         (one.join().unwrap(), two)
     })
+}
+
+/// Runs something that a fault may make wait forever, in a thread of its own. Returns its result, or panics after two minutes.
+pub fn in_time<R: Send + 'static>(act: impl FnOnce() -> R + Send + 'static) -> R {
+    let (over, is_over) = mpsc::channel::<()>();
+    let thread = thread::spawn(move || {
+        let _over = over;
+        act()
+    });
+    let waited = is_over.recv_timeout(Duration::from_secs(120));
+    assert_ne!(
+        waited,
+        Err(RecvTimeoutError::Timeout),
+        "a wait does not end"
+    );
+    thread
+        .join()
+        .unwrap_or_else(|panicked| panic::resume_unwind(panicked))
+}
+
+/// How much of each workload a bench does: what its first number says, or `few` as a test and `many` else.
+pub fn asked(few: u64, many: u64) -> u64 {
+    let mut words = env::args().skip(1);
+    let default = if env::args().any(|word| word == "--bench") {
+        many
+    } else {
+        few
+    };
+    words.find_map(|word| word.parse().ok()).unwrap_or(default)
 }

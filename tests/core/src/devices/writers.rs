@@ -1,6 +1,7 @@
 //! A writer that fails.
 
 use crate::devices::calls::fails;
+use proved::Global;
 use std::io::{Error, ErrorKind, Result, Write};
 
 /// Stores what is written, a few bytes per call, and fails at one call, which writes nothing.
@@ -8,7 +9,7 @@ use std::io::{Error, ErrorKind, Result, Write};
 /// Like a buffer, it passes on what it holds only at a flush, so that a caller that forgets to flush is noticed. It fails with
 /// an interruption and succeeds afterwards, so that a caller that retries is noticed.
 pub struct FailingWriter {
-    kept: Vec<u8>,
+    kept: proved::Vec<u8>,
     most: usize,
     calls: Option<u64>,
     flushes: u64,
@@ -20,7 +21,7 @@ impl FailingWriter {
     /// flushes, succeed before the one that fails. With `None` all succeed.
     pub fn new(most: usize, calls: Option<u64>) -> FailingWriter {
         FailingWriter {
-            kept: Vec::new(),
+            kept: proved::Vec::new(Global),
             most,
             calls,
             flushes: 0,
@@ -45,12 +46,14 @@ impl FailingWriter {
 }
 
 impl Write for FailingWriter {
+    /// It fails at that call, and if memory runs out.
     fn write(&mut self, buf: &[u8]) -> Result<usize> {
         if fails(&mut self.calls) {
             return Err(Error::from(ErrorKind::Interrupted));
         }
         let count = buf.len().min(self.most);
-        self.kept.extend_from_slice(&buf[..count]);
+        let kept = self.kept.extend_from_slice(&buf[..count]);
+        kept.map_err(|_| ErrorKind::OutOfMemory)?;
         Ok(count)
     }
 

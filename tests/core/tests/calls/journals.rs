@@ -4,3 +4,4 @@ mod books;
 pub mod by_channel;
 mod ledgers;
 mod merges;
+mod recording;

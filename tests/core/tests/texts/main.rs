@@ -3,6 +3,7 @@
 //! What a run of the program shows as bytes is tested in `tests/program`. What is returned, shown or written comes from the
 //! documentation, not from the code. `texts/rows.rs` has a script for each worked row of the channels.
 
+mod devices;
 mod journals;
 mod lines;
 mod programs;

@@ -71,7 +71,7 @@ static DAMAGES: [Damage; 9] = [
 
 /// Returns the first n bytes of the small text, with `to` in place of `from`, and this many letters after them.
 fn damaged(n: usize, from: &str, to: &str, letters: usize) -> Vec<u8> {
-    let whole = str::from_utf8(SMALL).unwrap_or_default();
+    let whole = std::str::from_utf8(SMALL).unwrap_or_default();
     let (front, rest) = whole.split_once(from).unwrap_or((whole, ""));
     let mut text = [front.as_bytes(), to.as_bytes(), rest.as_bytes()].concat();
     text.truncate(n);
