@@ -313,7 +313,7 @@ def lost_everywhere(tab, folder, journals):
 
 
 # What the card says of the reader: where it last received, and the handles of others that lost some of the same values.
-READER = """(it => [it.textContent.match(/last received at ([\\d,]+)/)?.[1] ?? null, [...it.querySelectorAll('[data-handle]')].map(other => other.dataset.handle)])(
+READER = """(it => [it.textContent.match(/last received at call ([\\d,]+)/)?.[1] ?? null, [...it.querySelectorAll('[data-handle]')].map(other => other.dataset.handle)])(
     document.querySelector('.loss dl > div:nth-child(3) dd'))"""
 
 

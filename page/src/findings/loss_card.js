@@ -58,7 +58,7 @@ function reader(run, loss) {
   const others = run.losses.sharing(loss);
   const named = others.slice(0, MOST_NAMED).flatMap(it => ["; ", ...rowName(run, it.channel, run.lifeOf(it.channel, it.receiver))]);
   const more = others.length > MOST_NAMED ? ` and ${grouped(others.length - MOST_NAMED)} more` : "";
-  return part("reader", ...(received ? ["last received by ", toPlace(received)] : ["had received nothing yet"]),
+  return part("reader", ...(received ? ["last received at ", toPlace(received)] : ["had received nothing yet"]),
     ...(others.length ? [element("span", { class: "lag" }, ...named, more), " lost some of them too"] : []));
 }
 
