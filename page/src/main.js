@@ -8,6 +8,7 @@ import { chosenIn, listenToHands } from "./input/controls.js";
 import { keyRows, listenToKeys, showHelp } from "./input/keys.js";
 import { OWN, embeddedRun, exampleRun, hasEmbeddedRun, moduleBytes, workerText } from "./open/embedded.js";
 import { WayIn } from "./open/file_choice.js";
+import { Comparing } from "./open/comparing.js";
 import { Opener } from "./open/opener.js";
 import { recall } from "./open/stored_runs.js";
 import { Client } from "./run/client.js";
@@ -32,10 +33,10 @@ function listenToDrags(wayIn) {
 }
 
 // Empties the field, since it reports a chosen file only if it differs from the last, and the same file may have changed.
-function takeChosen(wayIn) {
-  const files = [...fieldOf("file").files];
-  fieldOf("file").value = "";
-  wayIn.take(files);
+function chosenFiles(id) {
+  const files = [...fieldOf(id).files];
+  fieldOf(id).value = "";
+  return files;
 }
 
 // Opens the run that this step of the browser's history belongs to: the page's own, a kept one, or none.
@@ -63,9 +64,12 @@ function followHistory(opener) {
   }
 }
 
-function listen(opener, wayIn) {
+function listen(opener, wayIn, comparing) {
   byId("choose").addEventListener("click", () => byId("file").click());
-  byId("file").addEventListener("change", () => takeChosen(wayIn));
+  byId("file").addEventListener("change", () => wayIn.take(chosenFiles("file")));
+  byId("compare").addEventListener("click", () => byId("other-file").click());
+  byId("other-file").addEventListener("change", () => comparing.take(chosenFiles("other-file")).catch(tellFault));
+  byId("compare-both").addEventListener("click", () => wayIn.compare().catch(tellFault));
   byId("runs").addEventListener("click", () => wayIn.turn());
   chosenIn("choice", "run", index => wayIn.choose(Number(index)));
   byId("example-button").addEventListener("click", () => opener.ask(exampleRun()));
@@ -104,7 +108,8 @@ function start() {
   const client = new Client(workerText(), moduleBytes);
   client.started.catch(tellFault);
   const opener = new Opener(client, page);
-  listen(opener, new WayIn(page, opener));
+  const comparing = new Comparing(page, () => new Client(workerText(), moduleBytes));
+  listen(opener, new WayIn(page, opener, comparing), comparing);
   window.ttd = answersOf(client);
   document.addEventListener("DOMContentLoaded", () => openAtFirst(opener));
 }

@@ -6,6 +6,7 @@ import subprocess
 
 import failing
 import native
+import opening
 
 HERE = os.path.dirname(os.path.realpath(__file__))
 SENDS = ("send", "send-replace", "modify")
@@ -242,4 +243,114 @@ def same_as_a_plain_model(tab, folder, journals):
     assert kinds == {"missing", "other", "order", "value", "reply", "more"}, kinds
 
 
-TESTS = [same_as_a_plain_model]
+FAILED = """0 0 subscribe 0 as audit
+1 0 send 0 1
+2 0 recv 2
+1 0 send 0 2
+1 0 send 0 3
+1 0 send 0 4
+2 0 recv 2
+1 0 drop 0"""
+# The audit received in time.
+PASSED = """0 0 subscribe 0 as audit
+1 0 send 0 1
+2 0 recv 2
+1 0 send 0 2
+2 0 recv 2
+1 0 send 0 3
+2 0 recv 2
+1 0 send 0 4
+2 0 recv 2
+1 0 drop 0"""
+
+
+def files_of(folder, name, calls, **more):
+    """The files of a run: its journal, and its names."""
+    journal = native.record(f"broadcast 2\nactors 3\n{calls}\n".encode())
+    names = {"version": 3, "actors": {"0": "main", "1": "checkout", "2": "audit"}, "channels": {"0": "orders"}, **more}
+    return [opening.put(folder, f"{name}.journal", journal), opening.put(folder, f"{name}.names", json.dumps(names).encode())]
+
+
+def choose(tab, field, files):
+    root = tab.call("DOM.getDocument")["root"]["nodeId"]
+    found = tab.call("DOM.querySelector", nodeId=root, selector=field)["nodeId"]
+    tab.call("DOM.setFileInputFiles", nodeId=found, files=files)
+
+
+def shown(tab):
+    """What the page says of two runs, as lines."""
+    tab.wait("!document.getElementById('against').hidden")
+    return [tab.text("against-line"), *tab.run("[...document.querySelectorAll('#against .line')].map(line => line.textContent)")]
+
+
+def marks(tab, canvas, colour):
+    """In which columns of a canvas, of ten pixels each, there are pixels of a colour of the style sheet."""
+    return tab.run(f"""(() => {{
+        const probe = document.createElement("canvas").getContext("2d");
+        probe.fillStyle = getComputedStyle(document.documentElement).getPropertyValue("--{colour}");
+        probe.fillRect(0, 0, 1, 1);
+        const wanted = probe.getImageData(0, 0, 1, 1).data.slice(0, 3).join();
+        const canvas = document.getElementById("{canvas}");
+        const {{ data, width }} = canvas.getContext("2d").getImageData(0, 0, canvas.width, canvas.height);
+        const found = new Set();
+        for (let i = 0; i < data.length; i += 4) if (data[i + 3] === 255 && data.slice(i, i + 3).join() === wanted) found.add(Math.floor((i / 4) % width / 10));
+        return [...found].sort((a, b) => a - b);
+    }})()""")
+
+
+def both_in_the_page(tab, folder, journals):
+    """Two runs that are dropped together are compared: the failed one is the opened one, and the first call that differs is said as by `why`, marked in
+    both pictures and gone to. Their common calls stand in the same columns."""
+    failing.said()
+    failed, passed = files_of(folder, "failed", FAILED, failed=True), files_of(folder, "passed", PASSED)
+    tab.load(native.PAGE)
+    tab.wait("window.ttd")
+    tab.drop(*passed, *failed)
+    tab.wait("!document.getElementById('choice').hidden")
+    tab.click("#compare-both")
+    wanted = failing.command("why", failed[0], "--against", passed[0]).splitlines()
+    assert wanted[0] == "the first difference: call 7, `audit` received before 2 sends in the passing run", wanted
+    assert shown(tab) == wanted
+    opening.settle(tab, 7)
+    assert tab.text("facts").startswith("failed.journal"), tab.text("facts")
+    assert tab.text("other-line") == "the passing run: passed.journal"
+    tab.wait("document.getElementById('other-picture').width > 0")
+    rings = [marks(tab, name, "hit") for name in ("cursor", "other-picture")]
+    assert rings[0] and rings[1], rings
+    # Each call of both runs in the same order stands in the same column, as all sends do.
+    sends = [marks(tab, name, "actor-1") for name in ("picture", "other-picture")]
+    near = lambda column, others: min(abs(column - it) for it in others) <= 1
+    assert sends[0] and all(near(it, sends[1]) for it in sends[0]) and all(near(it, sends[0]) for it in sends[1]), sends
+    tab.click("#against .line:nth-child(1) button")
+    opening.settle(tab, 5)
+    tab.key("d")
+    opening.settle(tab, 7)
+    tab.click("#against-close")
+    assert tab.run("document.getElementById('other').hidden && document.getElementById('against').hidden")
+    assert marks(tab, "cursor", "hit") == []
+
+
+def with_another(tab, folder, journals):
+    """An opened run is compared with a file that is chosen, which may be refused. A run that goes on after this one has its calls behind it."""
+    failed, passed = files_of(folder, "failed", FAILED, failed=True), files_of(folder, "passed", PASSED)
+    short = files_of(folder, "short", "\n".join(FAILED.split("\n")[:3]))
+    broken = opening.put(folder, "broken.journal", b"ttd-journal 2\nbroadcast 0\n")
+    opening.load_first(tab, opening.page_of(folder, "short.journal", open(short[0], "rb").read()))
+    choose(tab, "#other-file", [broken])
+    tab.wait('document.getElementById("notice").textContent.startsWith("broken.journal can\'t be compared. Line 2: the ")')
+    choose(tab, "#other-file", failed)
+    lines = shown(tab)
+    assert lines[0] == "the first difference: call 4 of the failing run, `checkout` doesn't make it here", lines
+    assert lines[-1] == "3 calls here, 8 calls there: 5 only there", lines
+    tab.wait("document.querySelector('#slider').max === '3'")
+    choose(tab, "#other-file", passed)
+    tab.wait("document.getElementById('against-box').textContent.endsWith('7 only there')")
+    assert tab.text("other-line") == "the other run: passed.journal"
+    choose(tab, "#other-file", short)
+    tab.wait("document.getElementById('against-line').textContent === 'no call differs'")
+    # Another run that is opened is compared with none.
+    choose(tab, "#file", failed)
+    tab.wait("document.getElementById('against').hidden && document.getElementById('facts').textContent.startsWith('failed.journal')")
+
+
+TESTS = [same_as_a_plain_model, both_in_the_page, with_another]

@@ -2,6 +2,7 @@
 import json
 import os
 import re
+from xml.etree import ElementTree
 
 import failing
 import found
@@ -143,6 +144,65 @@ def picture_as_png(tab, folder, journals):
     tab.prefer("light")
     with open(os.path.join(downloads, "bus.journal.call-30.png"), "rb") as file:
         assert file.read(8) == b"\x89PNG\r\n\x1a\n"
+
+
+def picture_as_svg(tab, folder, journals):
+    """The picture is saved as SVG: whole XML of shapes and texts, without an image or a script, that a browser draws as the page is drawn."""
+    path, _ = bus_page(folder)
+    opening.load(tab, path, 30)
+    downloads = os.path.join(folder, "downloads")
+    tab.browser.call("Browser.setDownloadBehavior", behavior="allow", downloadPath=downloads, eventsEnabled=True)
+    tab.click("#save-svg")
+    while tab.browser.event("Browser.downloadProgress", None)["state"] != "completed":
+        pass
+    root = ElementTree.parse(os.path.join(downloads, "bus.journal.call-30.svg")).getroot()
+    names = {it.tag.split("}")[1] for it in root.iter()}
+    assert names == {"svg", "title", "defs", "clipPath", "path", "rect", "g", "text"}, names
+    texts = ["".join(it.itertext()) for it in root.iter() if it.tag.endswith("text")]
+    wanted = [tab.text("sentence"), *tab.run("[...document.querySelectorAll('#legend li')].map(item => item.lastChild.textContent.trim() || item.lastElementChild.textContent)")]
+    assert wanted[0] in texts[0] and all(text in texts for text in wanted[1:]), (wanted, texts)
+    card = tab.run("[...document.querySelectorAll('#state .loss dt')].map(part => part.textContent)")
+    assert all(any(text.startswith(head) for text in texts) for head in card), (card, texts)
+    # As an image, its rows have the colours of the page's in the same points. The page itself lets no image be loaded.
+    own, above = tab.run(ROWS)
+    tab.call("Page.navigate", url="about:blank")
+    tab.browser.event("Page.loadEventFired", tab.session)
+    with open(os.path.join(downloads, "bus.journal.call-30.svg"), encoding="utf-8") as file:
+        same = tab.run(SAME_POINTS % (json.dumps(own), json.dumps(file.read()), above))
+    assert same > 0.97, same
+
+
+# The rows of the page as an image, and how high what is above them in a saved picture is.
+ROWS = """(() => {
+    const [rows, above] = ["picture", "cursor"].map(name => document.getElementById(name));
+    const whole = document.createElement("canvas");
+    [whole.width, whole.height] = [rows.width, rows.height];
+    const pen = whole.getContext("2d");
+    pen.fillStyle = "#fff";
+    pen.fillRect(0, 0, rows.width, rows.height);
+    pen.drawImage(rows, 0, 0);
+    pen.drawImage(above, 0, 0);
+    return [whole.toDataURL(), document.getElementById("strip").height + document.getElementById("axis").height + 26];
+})()"""
+
+# The share of the points of an image that an SVG has in the same colour, or nearly so, from a height on.
+SAME_POINTS = """(async (own, svg, above) => {
+    const points = async (address, top) => {
+        const image = new Image();
+        image.src = address;
+        await image.decode();
+        const drawn = document.createElement("canvas");
+        [drawn.width, drawn.height] = [image.width, image.height];
+        const pen = drawn.getContext("2d");
+        pen.drawImage(image, 0, -top);
+        return pen.getImageData(0, 0, image.width, image.height).data;
+    };
+    const a = await points(own, 0);
+    const b = await points(URL.createObjectURL(new Blob([svg], { type: "image/svg+xml" })), above);
+    let same = 0;
+    for (let i = 0; i < a.length; i += 4) same += Math.abs(a[i] - b[i]) + Math.abs(a[i + 1] - b[i + 1]) + Math.abs(a[i + 2] - b[i + 2]) < 60;
+    return same / (a.length / 4);
+})(%s, %s, %s)"""
 
 
 def report_as_markdown(tab, folder, journals):

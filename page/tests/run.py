@@ -53,7 +53,7 @@ TESTS = [
     way_in.several_runs, way_in.kept_for_a_reload, way_in.cut_journals, way_in.signs, jumps.history_of_jumps, jumps.address_keeps, jumps.console_commands,
     rows.seen_after_losses, rows.list_after_losses, rows.wide_after_losses, rows.rows_in_sight, rows.heads_over_rows, rows.same_order, rows.nothing_moves, rows.folds_and_filter, rows.lossy_first, rows.narrow_tabs,
     owners.whose_rows, owners.long_owners, owners.told_apart, owners.versions, owners.unseen_changes,
-    jumps.picture_as_png, jumps.report_as_markdown, jumps.help_of_keys, jumps.zoom_at_pointer, jumps.touch,
+    jumps.picture_as_png, jumps.picture_as_svg, jumps.report_as_markdown, jumps.help_of_keys, jumps.zoom_at_pointer, jumps.touch,
     hands.waiting_script, hands.refusals, hands.example, hands.files_that_are_not_there, hands.addresses, shown.large_runs,
     shown.quick_walking, shown.many_handles, weak.weak_senders, weak.weak_rows, texts.large_numbers, texts.long_texts, speed.figures,
     *losses.TESTS, *lives.TESTS, *sources.TESTS, *failing.TESTS, *accounts.TESTS, *layout.TESTS, *search.TESTS, *story.TESTS, *against.TESTS, *lowered.TESTS,

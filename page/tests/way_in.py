@@ -110,7 +110,7 @@ def several_runs(tab, folder, journals):
     empty_page(tab)
     tab.drop(*files, opening.put(folder, "third.ttd", SCRIPT), opening.put(folder, "lone.names", b"{}"), opening.put(folder, "p.zip", b"PK\3\4"))
     tab.wait("!document.getElementById('choice').hidden")
-    assert tab.run("[...document.querySelectorAll('#choice button')].map(it => it.textContent)") == ["bus.journal", "pool.journal", "third.ttd"]
+    assert tab.run("[...document.querySelectorAll('#choice button:not([hidden])')].map(it => it.textContent)") == ["bus.journal", "pool.journal", "third.ttd"]
     told(tab, "notice", "p.zip can't be read: it is packed by zip, and only gzip is unpacked here. lone.names isn't beside a run of that name.")
     for number, name, channel in ((1, "pool.journal", "jobs."), (0, "bus.journal", "event bus"), (2, "third.ttd", "channel 0")):
         tab.click(f"#choice [data-run='{number}']")

@@ -7,6 +7,8 @@ export class Latest {
     this.isWanted = false;
     this.isRunning = false;
     this.isStopped = false;
+    /** @type {Promise<void>} */
+    this.settled = Promise.resolve();
   }
 
   // After this no job begins.
@@ -14,9 +16,14 @@ export class Latest {
     this.isStopped = true;
   }
 
-  async ask() {
+  // The returned promise ends when nothing more is wanted.
+  ask() {
     this.isWanted = true;
-    if (this.isRunning) return;
+    if (!this.isRunning) this.settled = this.run();
+    return this.settled;
+  }
+
+  async run() {
     this.isRunning = true;
     while (this.isWanted && !this.isStopped) {
       this.isWanted = false;

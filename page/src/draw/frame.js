@@ -47,3 +47,19 @@ export class Frame {
     return this.column >= 5;
   }
 }
+
+// The same for another run, whose calls stand on the axis of this one.
+export class OtherFrame extends Frame {
+  constructor(axis, from, to, width, left) {
+    super(from, to, width, left);
+    this.axis = axis;
+  }
+
+  x(place) {
+    return super.x(this.axis.at(place));
+  }
+
+  columnAt(x) {
+    return this.axis.placeAt(super.columnAt(x) + 0.999);
+  }
+}

@@ -10,6 +10,7 @@ import { Frame, gutterOf, stripGutterOf } from "./frame.js";
 import { ActorDots, Overview } from "./from_far.js";
 import { headY } from "./heads.js";
 import { HEAD, inSight, layOut, rowOfHandle, rowsOf } from "./layout.js";
+import { drawDiffering } from "./other_picture.js";
 import { AXIS_HEIGHT, drawAxis, drawPicture } from "./picture.js";
 import { drawStrip, drawStripCursor, stripCap, stripHeight, stripRow } from "./strip.js";
 
@@ -41,6 +42,8 @@ export class Screen {
     this.isStory = false;
     // The places of the hits of a search.
     this.hits = [];
+    /** @type {import("./other_picture.js").OtherPicture | null} the picture of another run that this one is compared with */
+    this.other = null;
     this.folds = new Folds(run);
     this.sight = { top: 0, bottom: 0 };
     this.rows = rowsOf(run);
@@ -98,7 +101,11 @@ export class Screen {
   }
 
   drawStrip() {
-    drawStrip({ ...this.strip, order: this.folds.channels, whole: this.whole, pen: this.pen("strip", this.strip.height) });
+    this.drawStripOn(this.pen("strip", this.strip.height));
+  }
+
+  drawStripOn(pen) {
+    drawStrip({ ...this.strip, order: this.folds.channels, whole: this.whole, pen });
   }
 
   pen(id, height) {
@@ -144,20 +151,47 @@ export class Screen {
     if (this.drawn === wanted) return;
     const bands = inSight(this.layout, top, bottom);
     this.picture = { run, view, frame, bands, top, bottom, palette, folds, overview: this.inView, dots: this.dots };
-    const pen = this.pen("picture", bottom - top);
-    pen.translate(0, -top);
-    drawPicture({ ...this.picture, places, pen });
+    this.places = places;
+    this.drawRows(this.pen("picture", bottom - top));
     this.drawn = wanted;
   }
 
   drawPlace() {
     const { run, view, palette, frame } = this;
-    drawStripCursor({ ...this.strip, hits: this.hits, pen: this.pen("strip-cursor", this.strip.height) });
+    this.drawStripPlace(this.pen("strip-cursor", this.strip.height));
     drawAxis({ run, view, palette, frame, pen: this.pen("axis", AXIS_HEIGHT) });
-    if (!this.picture) return;
-    const pen = this.pen("cursor", this.picture.bottom - this.picture.top);
+    if (this.picture) this.drawRowsPlace(this.pen("cursor", this.picture.bottom - this.picture.top));
+  }
+
+  drawStripPlace(pen) {
+    drawStripCursor({ ...this.strip, hits: this.hits, pen });
+  }
+
+  drawRows(pen) {
+    pen.translate(0, -this.picture.top);
+    drawPicture({ ...this.picture, places: this.places, pen });
+  }
+
+  drawRowsPlace(pen) {
     pen.translate(0, -this.picture.top);
     drawCursor({ ...this.picture, pen, loss: this.loss, isStory: this.isStory });
+    if (this.other) drawDiffering({ ...this.picture, pen }, this.other.compared.differing);
+  }
+
+  // The drawings from top to bottom, each with its height and how a pen draws it.
+  layers() {
+    const { run, view, palette, frame, strip, picture, other } = this;
+    const both = (below, above) => pen => [below, above].forEach(draw => {
+      pen.save();
+      draw(pen);
+      pen.restore();
+    });
+    return [
+      { height: strip.height, draw: both(pen => this.drawStripOn(pen), pen => this.drawStripPlace(pen)) },
+      { height: AXIS_HEIGHT, draw: pen => drawAxis({ run, view, palette, frame, pen }) },
+      ...(picture ? [{ height: picture.bottom - picture.top, draw: both(pen => this.drawRows(pen), pen => this.drawRowsPlace(pen)) }] : []),
+      ...(other ? [other.layer()] : []),
+    ];
   }
 
   // Scrolls the row of a call in, with the head of its band if that fits, and its channel's row of the strip.

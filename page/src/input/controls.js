@@ -2,7 +2,7 @@
 
 import { byId, fieldOf } from "../base/dom.js";
 import { leaveAnswer, showTab } from "../base/tabs.js";
-import { copyCommands, copyReport, savePicture } from "../share/sharing.js";
+import { copyCommands, copyReport, saveDrawing, savePicture } from "../share/sharing.js";
 
 const STILL = 8;
 
@@ -108,6 +108,10 @@ function listenToButtons(page) {
   press(page, "last", walk => walk.toEnd());
   press(page, "loss-before", walk => walk.lossMoves.next(true));
   press(page, "loss-after", walk => walk.lossMoves.next(false));
+  press(page, "difference-before", walk => walk.toDifference(true));
+  press(page, "difference-after", walk => walk.toDifference(false));
+  press(page, "against-close", walk => walk.compare(null));
+  chosenIn("against-box", "place", place => page.walk?.jumpTo(Number(place)));
   press(page, "farther", walk => walk.zoom(2));
   press(page, "nearer", walk => walk.zoom(0.5));
   press(page, "whole", walk => walk.whole());
@@ -115,6 +119,7 @@ function listenToButtons(page) {
   press(page, "copy", copyCommands);
   press(page, "report", walk => copyReport(walk, page.source.name));
   press(page, "save", walk => savePicture(walk, page.source.name));
+  press(page, "save-svg", walk => saveDrawing(walk, page.source.name));
   chosenIn("state", "place", place => page.walk?.lossMoves.to(Number(place)));
   chosenIn("dock", "place", place => page.walk?.jumpTo(Number(place)));
   byId("state").addEventListener("click", event => turnChannel(page, event));
@@ -194,6 +199,7 @@ function listenToRows(page) {
       page.walk?.scrolled();
     });
   });
+  byId("other-pane").addEventListener("scroll", () => page.walk?.screen.other?.draw());
   byId("strip-box").addEventListener("scroll", () => page.walk?.screen.measureStrip());
   new ResizeObserver(() => page.walk?.scrolled()).observe(byId("pane"));
   filter.addEventListener("input", () => page.walk?.refold(folds => { folds.filter = filter.value; }));

@@ -16,6 +16,7 @@ const KEYS = [
   { keys: ["e", "E"], shown: "E", does: "the end of the loss: the call that lagged, or the drop", move: walk => walk.lossMoves.toEnd() },
   { keys: ["n", "N"], shown: "N", does: "the next receiver that lags here", move: walk => walk.lossMoves.turn() },
   { keys: ["p", "P"], shown: "P", does: "the cause of the loss in the picture, or no more", move: walk => walk.lossMoves.turnStory() },
+  { keys: ["d", "D"], shown: "D, with Shift back", does: "the next call that differs from the other run", move: (walk, back) => walk.toDifference(back) },
   { keys: ["u", "U"], shown: "U, with Shift back", does: "next change that a receiver of a watch hasn't seen", move: (walk, back) => walk.toUnseen(back) },
   { keys: ["t", "T"], shown: "T", does: "unfold or fold the table of receivers", move: walk => walk.lossMoves.turnTable() },
   { keys: ["i", "I"], shown: "I", does: "the call in whole, uncut; Escape closes it", move: walk => walk.telling.turnWhole() },

@@ -4,6 +4,7 @@ import { byId, fieldOf } from "../base/dom.js";
 import { Latest } from "../base/latest.js";
 import { leaveAnswer } from "../base/tabs.js";
 import { showAccount } from "../findings/answer.js";
+import { showDifference } from "../findings/difference.js";
 import { firstPlace } from "../run/account.js";
 import { unseenConditions } from "../findings/conditions.js";
 import { Searching } from "../findings/searching.js";
@@ -42,6 +43,7 @@ export class Walk {
     this.isLeft = true;
     byId("losses").removeAttribute("aria-busy");
     this.telling.turnWhole(false);
+    showDifference(null);
     forgetAddress();
     this.searching.stop();
     this.drawing.stop();
@@ -116,10 +118,37 @@ export class Walk {
     this.searching.forget();
     this.hasAccount = false;
     this.run.findAccount().then(() => this.isLeft || this.showFindings()).catch(this.onFault);
-    this.view.lastColumn = this.run.lastColumn;
+    this.view.lastColumn = this.lastColumn;
     this.view.show(this.view.from, this.view.width);
     this.table.fill();
     this.loadWhole();
+  }
+
+  // The last column that is drawn: of this run, or of one that it is compared with.
+  get lastColumn() {
+    return Math.max(this.run.lastColumn, Math.ceil(this.screen.other?.compared.axis.lastColumn ?? 0));
+  }
+
+  // Shows another run below this one, and goes to the first call that differs; or shows none any more.
+  compare(other, name = "") {
+    this.screen.other = other;
+    this.view.lastColumn = this.lastColumn;
+    showDifference(other?.compared ?? null, name);
+    this.view.show(this.view.from, this.view.width);
+    this.screen.resize();
+    const first = other?.compared.first;
+    if (first) this.jumpTo(Math.floor(first.here ?? other.compared.axis.at(first.there)));
+    else this.show();
+  }
+
+  // To the next call that differs from the other run, or the one before.
+  toDifference(isBack) {
+    const { other } = this.screen;
+    if (!other) return;
+    const { differing } = other.compared;
+    const { place } = this.view;
+    const next = isBack ? differing.findLast(it => it < place) : differing.find(it => it > place);
+    if (next !== undefined) this.jumpTo(next);
   }
 
   // Shows all texts again, such as for another editor.
@@ -341,6 +370,8 @@ export class Walk {
   async draw() {
     const places = this.neededPlaces();
     if (this.run.missing(places).length > 0) await this.run.load(places);
+    const { other } = this.screen;
+    if (other && other.missing.length > 0) await other.run.load(other.missing);
     if (this.isLeft) return;
     this.redraw();
     if (!this.losses.areNamed) await this.nameLost();
@@ -407,5 +438,6 @@ export class Walk {
     this.screen.hits = this.searching.hits.places;
     this.screen.drawView();
     this.screen.drawPlace();
+    this.screen.other?.draw();
   }
 }

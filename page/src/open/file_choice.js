@@ -42,7 +42,7 @@ function paired(runs, names) {
 }
 
 // Returns the runs among these files, with the names beside them, the files of names that are left, and the files that can't be read.
-async function readFiles(files) {
+export async function readFiles(files) {
   const read = await Promise.all(files.map(readFile));
   const whole = read.filter(it => it.fault === undefined);
   const runs = whole.filter(it => !isNames(it));
@@ -60,10 +60,17 @@ function runRow(run, index) {
   return element("li", {}, element("button", { type: "button", "data-run": index }, outside(run.name)), " ", element("small", {}, facts));
 }
 
+// Two runs to be compared: the one that failed first, if the names say so.
+function inOrder(runs) {
+  const hasFailed = ({ names }) => names && /"failed": *true/.test(new TextDecoder().decode(names));
+  return [...runs].sort((a, b) => Number(Boolean(hasFailed(b))) - Number(Boolean(hasFailed(a))));
+}
+
 export class WayIn {
-  constructor(page, opener) {
+  constructor(page, opener, comparing) {
     this.page = page;
     this.opener = opener;
+    this.comparing = comparing;
     // The runs that were dropped together, and the files of names that no run has got yet.
     this.runs = [];
     this.names = [];
@@ -101,6 +108,7 @@ export class WayIn {
     tell(...notice);
     byId("choice-head").textContent = `${runs.length} runs`;
     byId("choice-list").replaceChildren(...runs.map(runRow));
+    byId("compare-both").hidden = runs.length !== 2;
     byId("runs").textContent = `all ${runs.length} runs`;
     byId("runs").hidden = false;
     showPart("choice");
@@ -109,6 +117,14 @@ export class WayIn {
   // Shows the list again, or the opened run.
   turn() {
     showPart(byId("choice").hidden || !this.page.walk ? "choice" : "walk");
+  }
+
+  // Opens the first of two runs that were dropped together, and compares it with the other.
+  async compare() {
+    const [run, other] = inOrder(this.runs);
+    this.open(run);
+    await this.opener.opening.settled;
+    if (this.page.source?.name === run.name) await this.comparing.compare(other);
   }
 
   choose(index) {

@@ -81,7 +81,7 @@ function placeWanted({ names }) {
 
 // Reads a file of names for a run. If that fails, or the names are those of another run, the notice says why, and the result is null. Whether they
 // are isn't known at the beginning of a run.
-function namesFor(run, bytes, file, isBeginning = false) {
+export function namesFor(run, bytes, file, isBeginning = false) {
   const what = file === undefined ? "The file of names" : outside(file);
   try {
     const names = readNames(new TextDecoder().decode(bytes));
@@ -136,6 +136,7 @@ export class Opener {
     this.page.walk = null;
     this.leaveBeginning();
     byId("cut").hidden = true;
+    byId("compare").hidden = true;
     showPart(null);
   }
 
@@ -219,6 +220,7 @@ export class Opener {
   // Shows a run, or its beginning, at the place in the address.
   walkOver(run) {
     showPart("walk");
+    byId("compare").hidden = run.isBeginning;
     const view = new View(run.lastPlace, run.lastColumn, columnsThatFit(byId("picture-box").clientWidth || innerWidth));
     openAccount(run);
     showTab("answer", null);

@@ -117,6 +117,12 @@ function numbered(lines, number, isFaulty) {
   return element("li", { value: number, ...(isFaulty ? { "aria-current": "true" } : {}) }, element("code", {}, outside(text)));
 }
 
+// Which line of a text is wrong, and how.
+export function wrongLine(fault, bytes) {
+  const { kind, line } = takeApart(fault.text, new TextDecoder().decode(bytes).trimEnd().split("\n").length);
+  return `line ${grouped(line)}: ${MEANINGS[kind]}`;
+}
+
 // `fault` has the kind of text that is refused (`of`), and the text of the fault.
 export function faultPanel(fault, bytes) {
   const lines = new TextDecoder().decode(bytes).split("\n");

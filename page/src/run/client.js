@@ -11,6 +11,11 @@ export class Client {
     this.started = this.request("start", moduleBytes());
   }
 
+  // Ends the worker. What was requested gets no reply.
+  stop() {
+    this.worker.terminate();
+  }
+
   settle({ number, answer, fault }) {
     const { resolve, reject } = this.waiting.get(number);
     this.waiting.delete(number);
