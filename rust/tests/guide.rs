@@ -1,12 +1,13 @@
-//! The failing test of the guide's first page, word for word: what it prints, and the walk over its journal.
+//! The programs of the guide, word for word: what the failing test of its first page prints, with the walk over its journal, and what its
+//! service prints.
 
 mod support;
 
-use std::fs;
 use std::path::Path;
+use std::{fs, thread};
 use support::debugged;
 use support::parts::{
-    Folder, between, files, is_part, line_after, lines_of_failure, play, relocated,
+    Folder, between, files, is_part, line_after, lines_of_failure, play, relocated, started,
 };
 
 const START_PAGE: &str = include_str!("../src/guide/start.md");
@@ -111,4 +112,71 @@ fn the_program_prints_what_the_guide_has_of_it() {
     for text in ["\"ticker\"", "\"auditor\"", "\"prices\"", "\"101 EUR\""] {
         assert!(names.contains(text), "{names}");
     }
+}
+
+const SERVICE_PAGE: &str = include_str!("../src/guide/service.md");
+
+#[rustfmt::skip]
+fn service() {
+    // The program of the page on services.
+    use yovanelum::{Recorder, broadcast};
+
+    yovanelum::on_lag(|lag| eprintln!("warning: {lag}"));
+
+    let (prices, mut chart) = broadcast::channel(2);
+    Recorder::off().name(&prices, "prices").name(&chart, "chart");
+    for price in [101, 102, 103] {
+        prices.send(price).unwrap();
+    }
+    assert!(chart.try_recv().is_err());
+    print!("{}", yovanelum::snapshot());
+    // Its end there.
+}
+
+const SERVICE_START: &str = "    // The program of the page on services.\n";
+
+#[test]
+fn the_service_is_that_of_the_guide() {
+    let lines = between(
+        include_str!("guide.rs"),
+        SERVICE_START,
+        "    // Its end there.\n",
+    );
+    let lines = lines
+        .lines()
+        .map(|line| line.strip_prefix("    ").unwrap_or(line));
+    let source: String = lines.map(|line| format!("{line}\n")).collect();
+    assert_eq!(source, between(SERVICE_PAGE, "```rust\n", "```"));
+}
+
+/// Returns the words of these lines. Columns are as wide as the path of a source.
+fn words(lines: &str) -> Vec<&str> {
+    lines.split_whitespace().collect()
+}
+
+#[test]
+#[cfg_attr(target_family = "wasm", ignore = "WebAssembly has no processes")]
+#[cfg_attr(windows, ignore = "the text has paths of Unix")]
+fn the_service_prints_what_the_guide_has_of_it() {
+    if is_part() {
+        // A program's first thread has this name.
+        let main = thread::Builder::new().name("main".into()).spawn(service);
+        return main.unwrap().join().unwrap();
+    }
+    let folder = Folder::new("guide-service");
+    let test = "the_service_prints_what_the_guide_has_of_it";
+    let ran = started(test, &folder.0)
+        .arg("--nocapture")
+        .output()
+        .unwrap();
+    let (told, said) = (String::from_utf8(ran.stderr), String::from_utf8(ran.stdout));
+    let (told, said) = (told.unwrap(), said.unwrap());
+    // There the program begins at line 1.
+    let here = line_after(include_str!("guide.rs"), SERVICE_START.trim_end());
+    let shown = between(SERVICE_PAGE, "```text\n", "```");
+    let wanted = relocated(shown, ("src/main.rs", 1), ("tests/guide.rs", here));
+    let (warning, table) = wanted.split_once('\n').unwrap();
+    assert_eq!(told.trim_end(), warning);
+    let printed = said.find("prices: ").map_or("", |at| &said[at..]);
+    assert!(words(printed).starts_with(&words(table)), "{said}");
 }
