@@ -319,7 +319,7 @@ macro_rules! calls_of_one_machine {
     ($($method:ident)*) => {
         impl CoreChannel {
             $(#[cfg_attr(debug_assertions, inline(never))]
-            #[cfg_attr(not(debug_assertions), inline)]
+            #[cfg_attr(not(debug_assertions), inline(always))]
             pub(crate) fn $method(&mut self, caller: Caller, handle: u32) -> Reply {
                 let (machine, number) = self.machine_of(handle);
                 machine.core.$method(caller, number)
@@ -338,7 +338,7 @@ macro_rules! calls_of_all_machines {
     ($($method:ident($($arg:ident: $type:ty),*) by $fold:ident;)*) => {
         impl CoreChannel {
             $(#[cfg_attr(debug_assertions, inline(never))]
-            #[cfg_attr(not(debug_assertions), inline)]
+            #[cfg_attr(not(debug_assertions), inline(always))]
             pub(crate) fn $method(&mut self, caller: Caller, sender: u32, $($arg: $type),*) -> Reply {
                 self.call_all(sender, move |core, sender| core.$method(caller, sender, $($arg),*), $fold)
             })*
@@ -362,7 +362,7 @@ macro_rules! calls_that_create_senders {
     ($($method:ident by $other:ident;)*) => {
         impl CoreChannel {
             $(#[cfg_attr(debug_assertions, inline(never))]
-            #[cfg_attr(not(debug_assertions), inline)]
+            #[cfg_attr(not(debug_assertions), inline(always))]
             pub(crate) fn $method(&mut self, caller: Caller, handle: u32) -> Reply {
                 self.create(
                     handle,
@@ -399,7 +399,7 @@ impl CoreChannel {
     }
 
     #[cfg_attr(debug_assertions, inline(never))]
-    #[cfg_attr(not(debug_assertions), inline)]
+    #[cfg_attr(not(debug_assertions), inline(always))]
     pub(crate) fn broadcast_subscribe(&mut self, caller: Caller, sender: u32) -> Reply {
         self.create(
             sender,
@@ -409,7 +409,7 @@ impl CoreChannel {
     }
 
     #[cfg_attr(debug_assertions, inline(never))]
-    #[cfg_attr(not(debug_assertions), inline)]
+    #[cfg_attr(not(debug_assertions), inline(always))]
     pub(crate) fn broadcast_resubscribe(&mut self, caller: Caller, receiver: u32) -> Reply {
         self.create(
             receiver,
@@ -424,13 +424,13 @@ impl CoreChannel {
     }
 
     #[cfg_attr(debug_assertions, inline(never))]
-    #[cfg_attr(not(debug_assertions), inline)]
+    #[cfg_attr(not(debug_assertions), inline(always))]
     pub(crate) fn broadcast_drop(&mut self, caller: Caller, handle: u32) -> Reply {
         self.drop_handle(handle, |core, handle| core.broadcast_drop(caller, handle))
     }
 
     #[cfg_attr(debug_assertions, inline(never))]
-    #[cfg_attr(not(debug_assertions), inline)]
+    #[cfg_attr(not(debug_assertions), inline(always))]
     pub(crate) fn watch_subscribe(&mut self, caller: Caller, sender: u32) -> Reply {
         self.create(
             sender,
@@ -441,7 +441,7 @@ impl CoreChannel {
 
     /// Clones a receiver. One that is created in another machine is marked as the original is.
     #[cfg_attr(debug_assertions, inline(never))]
-    #[cfg_attr(not(debug_assertions), inline)]
+    #[cfg_attr(not(debug_assertions), inline(always))]
     pub(crate) fn watch_clone_receiver(&mut self, caller: Caller, receiver: u32) -> Reply {
         let is_seen = self.seen(receiver);
         self.create(
@@ -465,7 +465,7 @@ impl CoreChannel {
     }
 
     #[cfg_attr(debug_assertions, inline(never))]
-    #[cfg_attr(not(debug_assertions), inline)]
+    #[cfg_attr(not(debug_assertions), inline(always))]
     pub(crate) fn watch_drop(&mut self, caller: Caller, handle: u32) -> Reply {
         self.drop_handle(handle, |core, handle| core.watch_drop(caller, handle))
     }
