@@ -60,7 +60,7 @@
 //! | know what differs from tokio, the limits and the cost | [`guide::limits`], [`guide::speed`] |
 //! | know what is proved | [`guide::proofs`] |
 //!
-//! The crate is source alone, has no dependencies, and runs on [every target](guide::platforms) of Rust's standard library whose pointers
+//! The crate has only sources and no dependencies, and runs on [every target](guide::platforms) of Rust's standard library whose pointers
 //! have 32 bits or more.
 #![deny(unsafe_code)]
 
