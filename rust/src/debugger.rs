@@ -24,6 +24,7 @@ mod channel;
 mod condition;
 mod entry;
 mod journal_error;
+pub(crate) mod named;
 #[doc(hidden)]
 pub mod recorded;
 mod state;

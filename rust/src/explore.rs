@@ -4,10 +4,13 @@
 //! `search.rs` hands out. `run.rs` is such a run: its recorder has an [`Explorer`] in place of a journal's gate, before which each call stands,
 //! and each poll of a named task. `state.rs` has who stands, `chooser.rs` the strategies, `looks.rs` those who only look, `threads.rs` whether all
 //! other threads sleep, and `helper.rs` the thread that looks for that. `schedule.rs` is the file of the choices, which a replay follows too.
+//! `guide.rs` is the strategy that a condition guides, and `asked.rs` says whether a run met it.
 //! `shorten.rs` looks for fewer switches, `race.rs` says what they are, and `told.rs` what was done.
 
+mod asked;
 mod chooser;
 mod explorer;
+mod guide;
 mod helper;
 mod looks;
 mod order;
@@ -27,7 +30,9 @@ mod task;
 mod threads;
 mod told;
 
+pub(crate) use asked::{FOR, answer};
 pub(crate) use explorer::Explorer;
+pub(crate) use guide::{Known, KnownReceiver};
 pub(crate) use run::{current, end, follow, followed, target_folder, watch};
 pub use task::{Explored, explored, is_explored};
 pub(crate) use threads::{Asked, Sleeper, ThreadId, Threads, this_thread};
@@ -38,6 +43,8 @@ pub(crate) use threads::{Asked, Sleeper, ThreadId, Threads, this_thread};
 ///
 /// Panics if a failing order is found, or if a variable isn't what it is to be.
 pub(crate) fn begin(name: &str) {
+    // A text that is no condition is refused before any run.
+    asked::condition();
     if !run::begin() {
         session::explore(name);
     }

@@ -8,6 +8,7 @@ use crate::variables::Group;
 use crate::{Answer, Refusal};
 use serde_json::{Value, json};
 use yovanelum::debugger::Condition;
+use yovanelum::debugger::recorded::NamedCondition;
 
 /// The words of the console.
 const WORDS: [&str; 23] = [
@@ -129,40 +130,9 @@ impl Debuggee {
 
     /// Reads a condition, in which names may stand for numbers.
     fn condition(&self, text: &str) -> Answer<Condition> {
-        let (word, rest) = text.split_once(' ').unwrap_or((text, ""));
-        let is_actor = word == "actor";
-        let rest = if word == "reply" {
-            rest.to_string()
-        } else {
-            self.numbers(rest, is_actor)
-        };
-        let condition = format!("{word} {rest}").parse();
-        condition.map_err(|_| Refusal(format!("there is no condition `{text}`: see `help`")))
-    }
-
-    /// Replaces the name at the beginning of a text by its numbers. It may have blanks in it.
-    fn numbers(&self, text: &str, is_actor: bool) -> String {
-        let (name, count) = match text.rsplit_once(' ') {
-            Some((name, count)) if count.parse::<u64>().is_ok() && name.parse::<u64>().is_err() => {
-                (name, format!(" {count}"))
-            }
-            _ => (text, String::new()),
-        };
-        let name = name.trim_matches('`');
-        let numbers = match (is_actor, thing_of(name, &self.recording)) {
-            (true, _) => self
-                .recording
-                .actor_named(name)
-                .map(|actor| actor.to_string()),
-            (_, Some(Thing::Receiver(channel, handle))) => Some(format!("{channel} {handle}")),
-            (_, Some(Thing::Channel(channel))) => Some(channel.to_string()),
-            (_, Some(Thing::Actor(actor))) => Some(actor.to_string()),
-            (_, None) => None,
-        };
-        match numbers {
-            Some(numbers) => numbers + &count,
-            None => text.to_string(),
-        }
+        let read = text.parse().ok();
+        let condition = read.and_then(|it: NamedCondition| it.by_numbers(&self.recording.things));
+        condition.ok_or_else(|| Refusal(format!("there is no condition `{text}`: see `help`")))
     }
 
     fn entry_line(&self, place: u32) -> Option<String> {
@@ -193,7 +163,7 @@ impl Debuggee {
             .take(usize::try_from(column).unwrap_or(usize::MAX))
             .collect();
         let part = before.rsplit(' ').next().unwrap_or_default();
-        let names = self.recording.things.keys().map(String::as_str);
+        let names = self.recording.things.names();
         let words = WORDS
             .into_iter()
             .chain(names)

@@ -9,16 +9,10 @@ use std::cmp::Ordering;
 use std::fmt;
 use yovanelum::debugger::{Channel, Walk};
 
+pub(crate) use yovanelum::debugger::recorded::Thing;
+
 /// How many bytes an expression has at most. A longer one could be nested deeper than the stack is.
 const LONGEST: usize = 4096;
-
-/// What a name stands for.
-#[derive(Clone, Copy, Debug, PartialEq, Eq)]
-pub(crate) enum Thing {
-    Channel(u32),
-    Receiver(u32, u32),
-    Actor(u32),
-}
 
 /// A value that can be compared.
 #[derive(Clone, Debug, PartialEq, Eq)]
@@ -271,24 +265,7 @@ impl fmt::Display for Value {
 
 /// Returns what a name stands for: a receiver, a channel, or an actor; or `channel0`, or the receiver of a number as `orders.receiver1`.
 pub(crate) fn thing_of(name: &str, recording: &Recording) -> Option<Thing> {
-    if let Some(thing) = recording.things.get(name) {
-        return Some(*thing);
-    }
-    if let Some((channel, receiver)) = name.rsplit_once('.') {
-        let Some(Thing::Channel(channel)) = thing_of(channel, recording) else {
-            return None;
-        };
-        let handle = numbered(receiver, "receiver")?;
-        let is_one = recording.receivers.contains(&(channel, handle));
-        return is_one.then_some(Thing::Receiver(channel, handle));
-    }
-    let channel = numbered(name, "channel")?;
-    (channel < recording.walk().channels()).then_some(Thing::Channel(channel))
-}
-
-/// Reads `channel0` or `channel 0`.
-fn numbered(name: &str, word: &str) -> Option<u32> {
-    name.strip_prefix(word)?.trim_start().parse().ok()
+    recording.things.find(name)
 }
 
 fn unknown(name: &str) -> Refusal {

@@ -1,12 +1,11 @@
 //! A journal that was opened, with indexes over its calls: by actor, and by line of a source.
 
-use crate::expression::Thing;
 use crate::journal::Journal;
 use crate::sources::Sources;
 use crate::{Answer, Refusal};
 use serde_json::Value;
 use std::collections::{BTreeMap, BTreeSet};
-use yovanelum::debugger::recorded::{Opened, Recorded};
+use yovanelum::debugger::recorded::{Opened, Recorded, Things};
 use yovanelum::debugger::{Entry, Walk};
 
 /// A sorted list of places.
@@ -52,7 +51,7 @@ pub(crate) struct Recording {
     /// Each receiver that was created, as channel and handle.
     pub(crate) receivers: BTreeSet<(u32, u32)>,
     /// What the names of receivers, channels and actors stand for.
-    pub(crate) things: BTreeMap<String, Thing>,
+    pub(crate) things: Things,
     of_actor: BTreeMap<u32, Places>,
     // By index into the locations.
     of_location: Vec<Places>,
@@ -92,7 +91,7 @@ impl Recording {
             losses: losses_in(&account),
             waits: waits_in(&account),
             receivers: (0..walk.channels()).map(|channel| (channel, 1)).collect(),
-            things: BTreeMap::new(),
+            things: Things::default(),
             of_actor: BTreeMap::new(),
             of_location: vec![vec![]; names.locations().len()],
             locations: Vec::with_capacity(walk.len() as usize),
@@ -101,7 +100,9 @@ impl Recording {
             sources,
         };
         recording.index();
-        recording.name_things();
+        let (receivers, actors) = (&recording.receivers, recording.of_actor.keys());
+        let (receivers, actors) = (receivers.iter().copied(), actors.copied());
+        recording.things = Things::of(&recording.walk, &recording.names, receivers, actors);
         recording
     }
 
@@ -126,32 +127,6 @@ impl Recording {
                 _ => UNKNOWN,
             });
         }
-    }
-
-    /// Collects the names. One that several things have is that of a receiver before a channel, and of a channel before an actor.
-    fn name_things(&mut self) {
-        let names = &self.names;
-        let actors = self
-            .of_actor
-            .keys()
-            .map(|actor| (names.actor(*actor), Thing::Actor(*actor)));
-        let channels = (0..self.walk.channels()).map(|it| (names.channel(it), Thing::Channel(it)));
-        let receivers = self.receivers.iter().rev();
-        let receivers = receivers.map(|(channel, handle)| {
-            (
-                names.receiver(*channel, *handle),
-                Thing::Receiver(*channel, *handle),
-            )
-        });
-        self.things = actors.chain(channels).chain(receivers).collect();
-    }
-
-    /// Returns the actor of a name.
-    pub(crate) fn actor_named(&self, name: &str) -> Option<u32> {
-        let mut actors = self.of_actor.keys();
-        actors
-            .find(|actor| self.names.actor(**actor) == name)
-            .copied()
     }
 
     /// The last place. A run has 67 million calls at most.

@@ -1,6 +1,8 @@
 //! Bugs of order are found, and brought back by what the report names. Right programs pass. Each program is a test that is left out unless it is asked
 //! for; those that aren't run this program again to explore them.
 
+#[path = "explored/asked.rs"]
+mod asked;
 #[path = "explored/json.rs"]
 mod json;
 #[path = "explored/natural.rs"]
@@ -52,7 +54,7 @@ programs! {
         job_behind_stop first_of_a_set closed_pool;
     servers: chat acknowledged_too_early chat_on_one_thread;
     right: paused_clock long_timeout socket spin held_lock nested_closures barrier biased_select join_set blocking_pool
-        many_sends;
+        many_sends skipping_audit;
 }
 
 /// A program, which is run again in a process of its own.
@@ -107,16 +109,15 @@ impl Program {
         (ran.status.success(), said(&ran), json)
     }
 
-    /// Runs the program by an order, as a session does. Returns the steps of its schedule.
-    pub fn schedule(&self, order: &str) -> String {
+    /// Runs the program by an order, as a session does that looks for this condition, or for none. Returns its schedule.
+    pub fn schedule_for(&self, order: &str, condition: &str) -> String {
         let path = self.folder.join("one.schedule");
         let mut command = self.command();
         let command = command.env("YOVANELUM_EXPLORE_ORDER", order);
+        let command = command.env("YOVANELUM_EXPLORE_FOR", condition);
         let command = command.env("YOVANELUM_EXPLORE_PROCESSOR", "1");
         let ran = command.env("YOVANELUM_EXPLORE_SCHEDULE", &path).output();
-        let schedule = fs::read_to_string(path).unwrap_or_else(|_| said(&ran.unwrap()));
-        let (_, steps) = schedule.split_once("\nsteps ").unwrap();
-        steps.to_string()
+        fs::read_to_string(path).unwrap_or_else(|_| said(&ran.unwrap()))
     }
 
     /// Replays a journal, or what is beside it. One that hangs is ended.

@@ -18,7 +18,7 @@ fn start(text: &str) -> (&str, &'static str) {
 }
 
 /// Returns a name on one line. What can't be seen in it is escaped.
-pub(super) fn name(text: &str) -> String {
+pub(crate) fn name(text: &str) -> String {
     let (start, more) = start(text);
     path(start) + more
 }

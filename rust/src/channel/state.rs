@@ -4,6 +4,7 @@ use super::CoreChannel;
 use super::last_caller::LastCaller;
 use super::locations::{CallSite, Locations};
 use super::receivers::Receivers;
+use crate::explore::{Known, KnownReceiver};
 use crate::names::Maker;
 use crate::queue::Queue;
 use crate::wait::{Look, Pending, Wait, WaitFor};
@@ -108,6 +109,28 @@ impl ChannelState {
     pub(super) fn remove_name(&mut self, number: u32) {
         if !self.handle_names.is_empty() && number as usize >= self.locations.of_handles.len() {
             self.handle_names.remove(&number.into());
+        }
+    }
+
+    /// Returns what a run that is explored knows of the channel with this number.
+    pub(crate) fn known(&mut self, number: u32) -> Known {
+        let capacity = self.core.capacity();
+        let capacity = capacity.map(|capacity| capacity.next_power_of_two() as u64);
+        let handles: Vec<u32> = self.receivers.iter().map(|it| it.number).collect();
+        let receivers = handles.into_iter().map(|handle| {
+            let unread = self.unread(handle);
+            KnownReceiver {
+                handle,
+                name: self.handle_names.get(&handle.into()).cloned(),
+                lags: capacity.is_some_and(|capacity| unread > capacity),
+            }
+        });
+        let receivers = receivers.collect();
+        Known {
+            number,
+            name: self.name.clone(),
+            is_watch: capacity.is_none(),
+            receivers,
         }
     }
 

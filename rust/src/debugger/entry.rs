@@ -26,6 +26,17 @@ impl Entry {
         Entry(entry)
     }
 
+    /// Returns the receiver that the call made, as channel and handle, if it made one.
+    pub(super) fn new_receiver(&self) -> Option<(u32, u32)> {
+        let call = self.call();
+        if !matches!(call, "subscribe" | "resubscribe" | "clone-receiver") || self.reply() != "new"
+        {
+            return None;
+        }
+        let made = u32::try_from(self.returned()?).ok()?;
+        Some((self.channel(), made))
+    }
+
     pub(super) fn decoded(&self) -> run::Entry {
         run::Entry::of(&self.0)
     }

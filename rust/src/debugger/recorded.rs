@@ -8,6 +8,7 @@ use crate::names::{Names, checksum};
 use crate::report::Report;
 use crate::run::{Run, TextFault};
 
+pub use super::named::{NamedCondition, Thing, Things};
 pub use crate::names::SourceLocation;
 
 /// A journal with its names, and what was found in its run.
@@ -27,6 +28,16 @@ pub struct Opened {
     pub cut_off: Option<usize>,
     /// Why the names were left out, if they were.
     pub names_fault: Option<String>,
+}
+
+/// Opens a run with its names.
+///
+/// # Errors
+///
+/// Returns that there is no memory.
+pub(crate) fn opened(run: Run, names: Names) -> Result<(Walk, Recorded), JournalError> {
+    let walk = Walk::over(&run)?;
+    Ok((walk, Recorded::of(run, names).map_err(JournalError)?))
 }
 
 /// Which test made the run, as its names say.
@@ -65,8 +76,7 @@ impl Opened {
             Some(Err(fault)) => (Names::default(), Some(fault)),
             None => (Names::default(), None),
         };
-        let walk = Walk::over(&run)?;
-        let recorded = Recorded::of(run, names).map_err(JournalError)?;
+        let (walk, recorded) = opened(run, names)?;
         Ok(Opened {
             walk,
             recorded,

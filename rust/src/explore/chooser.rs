@@ -1,5 +1,7 @@
 //! Who is let go next, by the strategy of an order.
 
+use super::asked::FOR;
+use super::guide::Guide;
 use super::order::{Kind, Order};
 use super::random::{Random, hashed};
 use super::schedule::{Schedule, Step, What};
@@ -27,6 +29,7 @@ pub(super) enum Chooser {
         random: Random,
         priorities: HashMap<u64, u64>,
     },
+    Guided(Guide),
     Follow(Follow),
 }
 
@@ -35,7 +38,7 @@ impl Chooser {
     ///
     /// # Errors
     ///
-    /// Returns an error if it follows a file that can't be read.
+    /// Returns an error if it follows a file that can't be read, or is to be guided and isn't told where.
     pub(super) fn new(order: &Order) -> io::Result<Chooser> {
         Ok(match &order.kind {
             Kind::Steps(steps) => Chooser::Steps {
@@ -48,6 +51,10 @@ impl Chooser {
                 random: Random::new(*seed),
                 priorities: HashMap::new(),
             },
+            Kind::Guided { seed, steps } => {
+                let guide = Guide::new(*seed, *steps);
+                Chooser::Guided(guide.ok_or_else(|| io::Error::other(format!("{FOR} isn't set")))?)
+            }
             Kind::File(path) => Chooser::Follow(Follow::new(Schedule::of_file(path)?.steps)),
         })
     }
@@ -65,6 +72,7 @@ impl Chooser {
             Chooser::Random(random) => random.below(candidates.len()),
             Chooser::Pct(pct) => pct.choose(candidates),
             Chooser::Pos { random, priorities } => by_sampling(random, priorities, candidates),
+            Chooser::Guided(guide) => guide.choose(candidates),
             Chooser::Follow(follow) => follow.choose(candidates),
         }
     }

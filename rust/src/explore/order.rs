@@ -24,6 +24,8 @@ pub(super) enum Kind {
     Pct { depth: u32, seed: u64, steps: u32 },
     /// Partial-order sampling: each call has a priority of its own.
     Pos(u64),
+    /// What brings the condition nearer that the test is explored for. So many steps have others to choose.
+    Guided { seed: u64, steps: u32 },
     /// Those of a schedule's file, as far as they can be made.
     File(PathBuf),
 }
@@ -44,6 +46,13 @@ impl Order {
             'r' => Kind::Random(rest.parse().ok()?),
             'o' => Kind::Pos(rest.parse().ok()?),
             'f' => Kind::File(PathBuf::from(rest.strip_prefix(':')?)),
+            'g' => match numbers()?[..] {
+                [seed, steps] => Kind::Guided {
+                    seed,
+                    steps: steps.try_into().ok()?,
+                },
+                _ => return None,
+            },
             'p' => match numbers()?[..] {
                 [depth, seed, steps] if (1..100).contains(&depth) => Kind::Pct {
                     depth: depth as u32,
@@ -65,6 +74,7 @@ impl Order {
             Kind::Pct { depth: 2, .. } => "PCT 2",
             Kind::Pct { .. } => "PCT 3",
             Kind::Pos(_) => "POS",
+            Kind::Guided { .. } => "guided",
             Kind::File(_) => "schedule",
         }
     }
@@ -93,6 +103,7 @@ impl fmt::Display for Order {
             Kind::Random(seed) => write!(f, "r{seed}"),
             Kind::Pct { depth, seed, steps } => write!(f, "p{depth}.{seed}.{steps}"),
             Kind::Pos(seed) => write!(f, "o{seed}"),
+            Kind::Guided { seed, steps } => write!(f, "g{seed}.{steps}"),
             Kind::File(path) => write!(f, "f:{}", path.display()),
         }
     }
@@ -112,6 +123,7 @@ mod tests {
             "p2.17.40",
             "tp3.5.9",
             "o3",
+            "tg17.40",
             "f:/tmp/a b",
         ] {
             assert_eq!(Order::read(text).unwrap().to_string(), text);
@@ -121,7 +133,7 @@ mod tests {
     #[test]
     fn another_text_names_none() {
         for text in [
-            "", "t", "x", "s1", "s1.", "s1.2-", "r", "r-1", "p2.17", "p0.1.1", "o", "f",
+            "", "t", "x", "s1", "s1.", "s1.2-", "r", "r-1", "p2.17", "p0.1.1", "o", "f", "g1",
         ] {
             assert_eq!(Order::read(text), None, "{text}");
         }

@@ -1,5 +1,6 @@
 //! The program of the test, which is run again for each run, as a process.
 
+use super::asked::{ANSWER, Answer};
 use super::order::Order;
 use super::run::{ORDER, PROCESSOR, SCHEDULE, SESSION, TARGET};
 use super::schedule::{End, Schedule};
@@ -47,6 +48,8 @@ pub(super) enum By<'a> {
 pub(super) struct Ran {
     pub(super) schedule: Option<Schedule>,
     pub(super) failure: Option<Failure>,
+    /// What it says of the condition, if it is asked for one.
+    pub(super) answer: Option<Answer>,
     /// The folder in which the files of a test that fails are, as in cargo's target folder.
     pub(super) target: PathBuf,
     /// What it has written to standard error.
@@ -57,6 +60,13 @@ pub(super) struct Ran {
 #[derive(Clone, Debug, PartialEq, Eq)]
 pub(super) struct Failure(pub(super) String);
 
+impl Failure {
+    /// Whether the run passes, and meets the condition.
+    pub(super) fn is_met(&self) -> bool {
+        self.0 == MET
+    }
+}
+
 /// A process that runs, and until when.
 struct Running {
     child: Mutex<Child>,
@@ -66,6 +76,8 @@ struct Running {
     was_ended: Mutex<Option<&'static str>>,
 }
 
+/// What stands in the place of a failure where the condition is met by a run that passes.
+const MET: &str = "the condition is met";
 const HANGS: &str = "everybody waits forever";
 const NO_END: &str = "it has not ended in time";
 
@@ -103,12 +115,14 @@ impl TestProgram {
         let number = self.next.fetch_add(1, Ordering::Relaxed);
         let target = self.folder.join(number.to_string());
         let path = self.folder.join(format!("{number}.schedule"));
+        let answer = path.with_extension("answer");
         let mut command = Command::new(&self.path);
         command
             .args(&self.arguments)
             .env("RUST_TEST_THREADS", "2")
             .env(TARGET, &target)
             .env(SESSION, process::id().to_string())
+            .env(ANSWER, &answer)
             .env_remove(RUNS)
             .env_remove("YOVANELUM_KEEP")
             .env_remove(REPLAY)
@@ -126,11 +140,16 @@ impl TestProgram {
         let knows_hangs = matches!(by, By::Order(_));
         let (status, said, was_ended) = self.waited_for(command, knows_hangs, most)?;
         let schedule = Schedule::of_file(&path).ok();
-        let _ = fs::remove_file(&path);
+        let said_of = Answer::of_file(&answer);
+        for path in [path, answer] {
+            let _ = fs::remove_file(path);
+        }
         let failure = failure(status, was_ended, &said, schedule.as_ref());
+        let is_met = matches!(said_of, Some(Answer::Met(_)));
         Ok(Ran {
             schedule,
-            failure,
+            failure: failure.or(is_met.then(|| Failure(MET.to_string()))),
+            answer: said_of,
             target,
             said,
         })

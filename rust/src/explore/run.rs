@@ -1,5 +1,6 @@
 //! A run that is explored, in a process of its own, or one that follows a schedule.
 
+use super::guide::Known;
 use super::order::{Kind, Order};
 use super::random::hashed;
 use super::schedule::{End, Schedule};
@@ -71,7 +72,7 @@ pub(super) fn begin() -> bool {
 }
 
 /// Whether the process that has started this one is the session whose run it is.
-fn is_of_session() -> bool {
+pub(super) fn is_of_session() -> bool {
     #[cfg(unix)]
     let is_parent = |id: u32| std::os::unix::process::parent_id() == id;
     #[cfg(not(unix))]
@@ -138,6 +139,13 @@ pub(crate) fn target_folder() -> Option<PathBuf> {
     env::var_os(TARGET)
         .filter(|_| is_of_session())
         .map(PathBuf::from)
+}
+
+/// Returns the channels of the test as they are, without those that are locked.
+pub(super) fn channels() -> Vec<Known> {
+    let test = RUN.get().map(|run| lock(&run.test));
+    let recorder = test.and_then(|test| test.as_ref()?.recorder.upgrade());
+    recorder.map_or_else(Vec::new, |recorder| recorder.known_channels())
 }
 
 /// Notes the recorder of the test, and what writes its files if it hangs.

@@ -11,6 +11,9 @@ const ORDERS_KEPT: usize = 100_000;
 /// How many switches the search has at most.
 const SWITCHES: usize = 1;
 
+/// Of so many orders one is guided, where the test is explored for a condition.
+const BETWEEN_GUIDED: u64 = 4;
+
 /// The steps at which an order isn't the one without a switch.
 type Steps = Vec<(u32, u32)>;
 
@@ -26,6 +29,9 @@ pub(super) struct Search {
     /// Whether there were more orders than are kept.
     is_cut: bool,
     next_seed: u64,
+    /// The next seed of the strategy that is guided, if there is one, and how many orders were handed out since its last one.
+    next_guided: Option<u64>,
+    since_guided: u64,
     /// An order to begin with.
     first: Option<Order>,
     has_begun: bool,
@@ -43,7 +49,7 @@ pub(super) struct Task {
 }
 
 impl Search {
-    pub(super) fn new(runs: u64, from: &From) -> Search {
+    pub(super) fn new(runs: u64, from: &From, is_guided: bool) -> Search {
         let (first, next_seed, left_of_search) = match from {
             From::Start => (None, 0, runs.div_ceil(2)),
             From::Seed(seed) => (None, *seed, 0),
@@ -57,6 +63,9 @@ impl Search {
             passed: [0; SWITCHES + 1],
             is_cut: false,
             next_seed,
+            next_guided: is_guided.then_some(next_seed),
+            // The first run says what the others need to know.
+            since_guided: BETWEEN_GUIDED - 1,
             first,
             has_begun: false,
             has_timers: false,
@@ -68,6 +77,12 @@ impl Search {
     pub(super) fn next(&mut self) -> Option<Task> {
         self.left = self.left.checked_sub(1)?;
         if let Some(order) = self.first.take() {
+            return Some(Task {
+                order,
+                switches: None,
+            });
+        }
+        if let Some(order) = self.guided() {
             return Some(Task {
                 order,
                 switches: None,
@@ -107,6 +122,19 @@ impl Search {
             order: self.order(kind),
             switches: None,
         })
+    }
+
+    /// Returns an order of the strategy that is guided, if it is its turn.
+    fn guided(&mut self) -> Option<Order> {
+        let seed = self.next_guided?;
+        self.since_guided += 1;
+        if !self.has_begun || self.since_guided < BETWEEN_GUIDED {
+            return None;
+        }
+        self.since_guided = 0;
+        self.next_guided = Some(seed + 1);
+        let steps = self.choices;
+        Some(self.order(Kind::Guided { seed, steps }))
     }
 
     fn order(&self, kind: Kind) -> Order {
@@ -213,7 +241,7 @@ mod tests {
     #[test]
     fn orders_with_no_switch_come_first_then_those_with_one_and_then_seeds() {
         let schedule = schedule(&[(2, Turn::Free), (3, Turn::Same), (1, Turn::Same)]);
-        let mut search = Search::new(12, &From::Start);
+        let mut search = Search::new(12, &From::Start, false);
         let names = names(&mut search, &schedule);
         assert_eq!(
             names,
@@ -229,7 +257,7 @@ mod tests {
     #[test]
     fn a_search_that_has_not_ended_says_so() {
         let schedule = schedule(&[(2, Turn::Free), (3, Turn::Same), (2, Turn::Same)]);
-        let mut search = Search::new(8, &From::Start);
+        let mut search = Search::new(8, &From::Start, false);
         names(&mut search, &schedule);
         assert_eq!(search.all_with_at_most(), Some(0));
         assert!(search.waiting(1) > 0);
@@ -239,7 +267,7 @@ mod tests {
     fn a_timer_begins_the_search_anew() {
         let mut schedule = schedule(&[(2, Turn::Same)]);
         schedule.has_timers = true;
-        let mut search = Search::new(6, &From::Start);
+        let mut search = Search::new(6, &From::Start, false);
         assert_eq!(
             names(&mut search, &schedule),
             ["s", "ts", "ts0.1", "tr0", "tp2.1.1", "tp3.2.1"]
@@ -251,7 +279,7 @@ mod tests {
     fn a_timer_is_a_choice_without_a_search_too() {
         let mut schedule = schedule(&[(2, Turn::Same)]);
         schedule.has_timers = true;
-        let mut search = Search::new(3, &From::Seed(1000));
+        let mut search = Search::new(3, &From::Seed(1000), false);
         assert_eq!(
             names(&mut search, &schedule),
             ["r1000", "tp2.1001.1", "tp3.1002.1"]
@@ -260,8 +288,23 @@ mod tests {
     }
 
     #[test]
+    fn one_of_four_orders_is_guided_where_a_condition_is_asked_for() {
+        let schedule = schedule(&[(2, Turn::Free), (3, Turn::Same), (1, Turn::Same)]);
+        let mut search = Search::new(14, &From::Start, true);
+        let names = names(&mut search, &schedule);
+        assert_eq!(
+            names,
+            [
+                "s", "g0.2", "s0.1", "s1.1", "s1.2", "g1.2", "s0.1-1.1", "s0.1-1.2", "r0", "g2.2",
+                "p2.1.2", "p3.2.2", "o3", "g3.2"
+            ]
+        );
+        assert_eq!(search.all_with_at_most(), Some(1));
+    }
+
+    #[test]
     fn another_machine_has_the_seeds_from_a_number_on() {
-        let mut search = Search::new(3, &From::Seed(1000));
+        let mut search = Search::new(3, &From::Seed(1000), false);
         let names = names(&mut search, &schedule(&[(2, Turn::Same)]));
         assert_eq!(names, ["r1000", "p2.1001.1", "p3.1002.1"]);
         assert_eq!(search.all_with_at_most(), None);

@@ -1,16 +1,17 @@
 //! The test's own process, which runs its program again and again.
 
+use super::asked::{Answer, unknown_in_words};
 use super::process::{By, Ran, TIME_OF_RUN, TestProgram};
 use super::schedule::Schedule;
 use super::search::{Search, Task};
 use super::settings::{From, RUNS, Settings};
 use super::shorten::{Failing, Shortening};
-use super::told::{Counts, Found, Progress};
+use super::told::{Asked, Counts, Found, Progress};
 use crate::lock::lock;
 use crate::program::Program;
 use crate::recorder::files;
 use crate::replay;
-use std::collections::HashSet;
+use std::collections::{BTreeSet, HashSet};
 use std::path::{Path, PathBuf};
 use std::process::Command;
 use std::sync::Mutex;
@@ -104,9 +105,19 @@ struct Session {
     search: Mutex<Search>,
     counts: Mutex<Counts>,
     found: Mutex<Option<(Task, Ran)>>,
+    /// What there is in the runs of what the condition names.
+    there: Mutex<There>,
     is_over: AtomicBool,
     began: Instant,
     progress: Progress,
+}
+
+/// Whether there was anything of the condition's name in any run, and what else there was.
+#[derive(Default)]
+struct There {
+    is_any: bool,
+    is_answered: bool,
+    names: BTreeSet<String>,
 }
 
 impl Session {
@@ -116,7 +127,12 @@ impl Session {
         Ok(Session {
             name: name.to_string(),
             program: TestProgram::new(test, folder)?,
-            search: Mutex::new(Search::new(settings.runs, &settings.from)),
+            search: Mutex::new(Search::new(
+                settings.runs,
+                &settings.from,
+                settings.condition.is_some(),
+            )),
+            there: Mutex::default(),
             counts: Mutex::default(),
             found: Mutex::default(),
             is_over: AtomicBool::new(false),
@@ -141,16 +157,51 @@ impl Session {
         let found = found.map(|(task, ran)| self.report(task, ran));
         let (counts, search) = (lock(&self.counts), lock(&self.search));
         let elapsed = self.began.elapsed();
+        let asked = self.asked();
         if found.is_none() {
-            replay::say(&counts.passed_in_words(&self.name, &search, elapsed));
+            replay::say(&counts.passed_in_words(&self.name, asked.as_ref(), &search, elapsed));
         }
         if let Some(path) = &self.settings.out {
-            let json = counts.json(&self.name, &search, elapsed, found.as_ref());
+            let json = counts.json(&self.name, asked.as_ref(), &search, elapsed, found.as_ref());
             if let Err(error) = fs::write(path, json) {
                 replay::say(&format!("{} isn't written: {error}", path.display()));
             }
         }
-        found.is_some()
+        found.is_some() || asked.is_some_and(|asked| !asked.is_there)
+    }
+
+    /// Returns what is looked for, and says so if there was nothing of its name.
+    fn asked(&self) -> Option<Asked> {
+        let condition = self.settings.condition.as_ref()?;
+        let there = lock(&self.there);
+        // Without an answer of any run, nothing is known.
+        let is_there = there.is_any || !there.is_answered;
+        Some(Asked {
+            text: condition.to_string(),
+            is_there,
+            unknown: (!is_there).then(|| {
+                let names: Vec<String> = there.names.iter().cloned().collect();
+                unknown_in_words(condition, &names)
+            }),
+        })
+    }
+
+    /// Notes what a run says of the condition.
+    fn note(&self, ran: &Ran) {
+        let mut there = lock(&self.there);
+        match &ran.answer {
+            None => (),
+            Some(Answer::Met(_) | Answer::NotMet) => there.is_any = true,
+            Some(Answer::Unknown(names)) => {
+                if let (false, Some(condition)) = (there.is_answered, &self.settings.condition) {
+                    let unknown = unknown_in_words(condition, names);
+                    let name = &self.name;
+                    replay::say(&format!("{name}: in its first run {unknown}"));
+                }
+                there.names.extend(names.iter().cloned());
+            }
+        }
+        there.is_answered |= ran.answer.is_some();
     }
 
     /// Runs the test once. Returns `false` if there is no further run.
@@ -169,6 +220,7 @@ impl Session {
         let by = By::Order(&task.order);
         let ran = self.program.run(&by, job, TIME_OF_RUN);
         let ran = ran.unwrap_or_else(|error| panic!("yovanelum: a run can't be started: {error}"));
+        self.note(&ran);
         let Some(schedule) = ran.schedule.as_ref() else {
             return self.end_without_schedule(task, ran);
         };
@@ -238,7 +290,8 @@ impl Session {
             self.put(journal, &failing, &mut found);
         }
         let (counts, search) = (lock(&self.counts), lock(&self.search));
-        let lines = found.in_words(&self.name, &counts, &search, &failing, took);
+        let asked = self.asked();
+        let lines = found.in_words(&self.name, asked.as_ref(), &counts, &search, &failing, took);
         let mut lines = self.without_folder(&lines, &failing.ran.target);
         if let (Some(named), Some(journal)) = (journal, &found.journal) {
             lines = with_files_of(journal, &named, lines);

@@ -1,6 +1,8 @@
 //! The variables that say how a test is explored.
 
+use super::asked;
 use super::order::Order;
+use crate::debugger::named::NamedCondition;
 use std::env;
 use std::path::PathBuf;
 use std::thread;
@@ -24,6 +26,8 @@ pub(super) struct Settings {
     pub(super) jobs: usize,
     /// The file for what was done, as JSON.
     pub(super) out: Option<PathBuf>,
+    /// What a run is looked for that meets it.
+    pub(super) condition: Option<NamedCondition>,
 }
 
 /// Where to begin.
@@ -53,6 +57,7 @@ impl Settings {
             seconds: number(SECONDS).map(Duration::from_secs),
             jobs: number(JOBS).map_or((processors / 2).max(1), |jobs| jobs.max(1) as usize),
             out: env::var_os(OUT).map(PathBuf::from),
+            condition: asked::condition(),
         })
     }
 }

@@ -1,5 +1,6 @@
 //! What was done, in words and as JSON.
 
+use super::asked::Answer;
 use super::order::{Kind, Order};
 use super::process::Failure;
 use super::race;
@@ -19,6 +20,15 @@ use std::time::{Duration, Instant};
 /// What is said where the system doesn't tell who sleeps.
 const BY_CLOCK: &str =
     "threads were taken to sleep by a clock, so a seed or an order may not come back";
+
+/// The condition that a run is looked for.
+pub(super) struct Asked {
+    pub(super) text: String,
+    /// Whether any run had something of its name.
+    pub(super) is_there: bool,
+    /// What is said if none had.
+    pub(super) unknown: Option<String>,
+}
 
 /// How many runs were made, and what they were.
 #[derive(Default)]
@@ -50,7 +60,13 @@ impl Counts {
     }
 
     /// Says what was tried where all runs passed, and what wasn't.
-    pub(super) fn passed_in_words(&self, name: &str, search: &Search, took: Duration) -> String {
+    pub(super) fn passed_in_words(
+        &self,
+        name: &str,
+        asked: Option<&Asked>,
+        search: &Search,
+        took: Duration,
+    ) -> String {
         let searched = match search.all_with_at_most() {
             Some(0) => {
                 let all = all(search.passed[0], "without a switch");
@@ -73,12 +89,23 @@ impl Counts {
             .iter()
             .filter(|(strategy, _)| **strategy != "search");
         let others: Vec<_> = others
-            .map(|(strategy, count)| format!("{count} by {strategy}"))
+            .map(|(strategy, count)| match *strategy {
+                "guided" => format!("{count} guided"),
+                strategy => format!("{count} by {strategy}"),
+            })
             .collect();
         let mut parts = vec![searched, others.join(", ")];
         parts.retain(|part| !part.is_empty());
+        let no_run = match asked {
+            None => String::new(),
+            Some(Asked {
+                unknown: Some(unknown),
+                ..
+            }) => format!("{unknown}; "),
+            Some(asked) => format!("no run met `{}`: ", asked.text),
+        };
         let mut text = format!(
-            "explored {name}: all {} runs passed, in {} orders ({:.1} s): {}",
+            "explored {name}: {no_run}all {} runs passed, in {} orders ({:.1} s): {}",
             self.runs,
             self.orders.len(),
             took.as_secs_f64(),
@@ -116,6 +143,7 @@ impl Counts {
     pub(super) fn json(
         &self,
         name: &str,
+        asked: Option<&Asked>,
         search: &Search,
         took: Duration,
         found: Option<&Found>,
@@ -151,13 +179,27 @@ impl Counts {
             ", \"unnamedCalls\": {}, \"tooLong\": {}",
             self.unnamed, self.too_long
         );
-        json.push_str(", \"failure\": ");
-        match found {
-            Some(found) => found.push_json(&mut json),
-            None => json.push_str("null"),
+        let (met, failure) = match found {
+            Some(found) if found.failure.is_met() => (Some(found), None),
+            found => (None, found),
+        };
+        if let Some(asked) = asked {
+            json.push_str(", \"for\": ");
+            push_string(&mut json, &asked.text);
+            let _ = write!(json, ", \"isThere\": {}, \"met\": ", asked.is_there);
+            push_found(&mut json, met);
         }
+        json.push_str(", \"failure\": ");
+        push_found(&mut json, failure);
         json.push_str("}\n");
         json
+    }
+}
+
+fn push_found(json: &mut String, found: Option<&Found>) {
+    match found {
+        Some(found) => found.push_json(json),
+        None => json.push_str("null"),
     }
 }
 
@@ -178,6 +220,8 @@ pub(super) struct Found {
     order: Order,
     switches: usize,
     pub(super) failure: Failure,
+    /// The call that met the condition first, if one did.
+    met: Option<u64>,
     pub(super) by_journal: usize,
     pub(super) by_schedule: usize,
     pub(super) journal: Option<PathBuf>,
@@ -192,6 +236,10 @@ impl Found {
             order: failing.order.clone(),
             switches: failing.schedule.switches(),
             failure,
+            met: match failing.ran.answer {
+                Some(Answer::Met(call)) => Some(call),
+                _ => None,
+            },
             by_journal: 0,
             by_schedule: 0,
             journal: None,
@@ -207,6 +255,7 @@ impl Found {
             order: order.clone(),
             switches: 0,
             failure: failure.clone(),
+            met: None,
             by_journal: 0,
             by_schedule: 0,
             journal: None,
@@ -226,6 +275,7 @@ impl Found {
     pub(super) fn in_words(
         &self,
         name: &str,
+        asked: Option<&Asked>,
         counts: &Counts,
         search: &Search,
         failing: &Failing,
@@ -241,19 +291,26 @@ impl Found {
                 let _ = write!(text, "{passed} orders without a switch passed; ");
             }
         }
+        let verb = match asked.filter(|_| self.failure.is_met()) {
+            Some(asked) => format!("met `{}`", asked.text),
+            None => "failed".to_string(),
+        };
         let _ = match self.by_search {
-            Some(0) if self.switches == 0 => write!(text, "an order without a switch failed"),
-            Some(0) => write!(text, "one by the search failed"),
+            Some(0) if self.switches == 0 => write!(text, "an order without a switch {verb}"),
+            Some(0) => write!(text, "one by the search {verb}"),
             Some(_) => {
                 let number = search.passed[1] + 1;
                 let known = (search.passed[1] as usize + search.waiting(1)).max(number as usize);
                 write!(
                     text,
-                    "the {} of {known} with one switch failed",
+                    "the {} of {known} with one switch {verb}",
                     nth(number)
                 )
             }
-            None => write!(text, "one by {} failed", self.first.strategy()),
+            None => match self.first.kind {
+                Kind::Guided { .. } => write!(text, "a guided one {verb}"),
+                _ => write!(text, "one by {} {verb}", self.first.strategy()),
+            },
         };
         let _ = writeln!(
             text,
@@ -304,8 +361,13 @@ impl Found {
     fn push_json(&self, json: &mut String) {
         json.push_str("{\"order\": ");
         push_string(json, &self.order_again());
-        json.push_str(", \"failure\": ");
-        push_string(json, &self.failure.0);
+        if let Some(call) = self.met {
+            let _ = write!(json, ", \"call\": {call}");
+        }
+        if !self.failure.is_met() {
+            json.push_str(", \"failure\": ");
+            push_string(json, &self.failure.0);
+        }
         let _ = write!(json, ", \"switches\": {}", self.switches);
         for (key, path) in [("journal", &self.journal), ("schedule", &self.schedule)] {
             let _ = write!(json, ", \"{key}\": ");

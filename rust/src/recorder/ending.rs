@@ -22,11 +22,13 @@ pub(super) static WRITING: Mutex<()> = Mutex::new(());
 const PAGE: &str = concat!(env!("CARGO_MANIFEST_DIR"), "/built/yovanelum.html");
 
 impl TestRun {
-    /// Writes the files of this test, and prints the report. What can't be written is said in one line.
-    pub(super) fn report(&self, recorder: &Shared, has_failed: bool) {
+    /// Writes the files of this test, and prints the report. What can't be written is said in one line. `call` is where to look, if that isn't
+    /// where the report says.
+    pub(super) fn report(&self, recorder: &Shared, has_failed: bool, call: Option<u64>) {
         let _writing = lock(&WRITING);
+        let lines = self.lines_on(&recorder.run(), recorder, has_failed, call);
         // In one call, since other tests print too.
-        eprint!("{}", self.lines_on(&recorder.run(), recorder, has_failed));
+        eprint!("{lines}");
     }
 
     /// Writes the files of this test at once, since the process ends, and returns the report. What this thread has locked is left out.
@@ -34,7 +36,7 @@ impl TestRun {
         let recorder = self.recorder.upgrade()?;
         let _writing = try_lock_for(&WRITING, PATIENCE);
         Some(match recorder.readable_run(PATIENCE) {
-            Some(run) => self.lines_on(&run, &recorder, true),
+            Some(run) => self.lines_on(&run, &recorder, true, None),
             None => format!(
                 "yovanelum: {} isn't written, since this thread has locked its recorder\n",
                 self.name
@@ -50,7 +52,13 @@ impl TestRun {
     }
 
     /// Writes the files of this test, and returns the report on it.
-    fn lines_on(&self, run: &Run<'_>, recorder: &Shared, has_failed: bool) -> String {
+    fn lines_on(
+        &self,
+        run: &Run<'_>,
+        recorder: &Shared,
+        has_failed: bool,
+        call: Option<u64>,
+    ) -> String {
         let path = self.journal_path(recorder);
         let Saved {
             run,
@@ -68,7 +76,8 @@ impl TestRun {
             }
         };
         names.account = Some(report.account().to_json());
-        let (look, more) = match write(&path, &journal, &names, report.call()) {
+        let call = call.unwrap_or(report.call());
+        let (look, more) = match write(&path, &journal, &names, call) {
             Ok((path, look)) => (Some(look), replay_line::of(&path, self)),
             Err(error) => (None, not_written(&path, &error)),
         };

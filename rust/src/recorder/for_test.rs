@@ -242,10 +242,13 @@ impl Drop for SaveOnPanic {
         self.watchdog = None;
         let has_failed = self.has_failed();
         self.recorder.0.end_replay(&self.test, has_failed);
+        let last = self.recorder.0.last();
         explore::end(&self.recorder, has_failed);
-        if self.is_wanted() {
+        let met = explore::answer(&self.recorder.0, last);
+        if self.is_wanted() || met.is_some() && explore::current().is_some() {
             // A panic in a drop while a panic unwinds would end the process, and with it all other tests.
-            let report = || self.test.report(&self.recorder.0, has_failed);
+            let call = met.filter(|_| !has_failed);
+            let report = || self.test.report(&self.recorder.0, has_failed, call);
             let _ = panic::catch_unwind(AssertUnwindSafe(report));
         }
     }

@@ -2,6 +2,7 @@
 
 use super::replaying::REPLAY;
 use super::test_run::TestRun;
+use crate::explore::FOR;
 use crate::program::{CargoRun, Kind, Program};
 use std::env;
 use std::path::Path;
@@ -11,6 +12,7 @@ pub(super) fn of(journal: &Path, test: &TestRun) -> String {
     let program = Program::this();
     let arguments: Vec<_> = env::args().skip(1).collect();
     let mut words = vec![assigned(REPLAY, &journal.to_string_lossy())];
+    words.extend(env::var(FOR).ok().map(|asked| assigned(FOR, &asked)));
     let of_harness = of_harness(
         &program.target.kind,
         program.target.is_test,

@@ -176,6 +176,14 @@ impl Run<'_> {
         })
     }
 
+    /// Returns the recorded run with its names, without the texts of its files.
+    pub(crate) fn with_names(&self) -> io::Result<(run::Run, Names)> {
+        let run = self.recorded()?;
+        let mut names = self.names();
+        names.fit_to(&run, "");
+        Ok((run, names))
+    }
+
     /// Writes the journal to this file, and the names to the one beside it.
     pub(crate) fn save(&self, path: &Path) -> io::Result<()> {
         let Saved { journal, names, .. } = self.saved(None)?;

@@ -6,7 +6,7 @@ use crate::actors::{self, Actors};
 use crate::atomic::AtomicU64;
 use crate::backend::Actor;
 use crate::channel::{CallSite, ChannelState};
-use crate::explore;
+use crate::explore::{self, Known};
 use crate::lock::{lock, try_lock_for};
 use crate::names::{Maker, Unrecorded};
 use crate::replay::{self, Gate};
@@ -135,6 +135,16 @@ impl Shared {
         named
             .filter_map(|(number, channel)| Some((number, lock(channel).name.clone()?)))
             .collect()
+    }
+
+    /// Returns the channels as they are, without those that are locked.
+    pub(crate) fn known_channels(&self) -> Vec<Known> {
+        let channels = try_lock_for(&self.channels, Duration::ZERO);
+        let channels = channels.map_or_else(Vec::new, |channels| channels.clone());
+        let known = (0..).zip(&channels).filter_map(|(number, channel)| {
+            Some(try_lock_for(channel, Duration::ZERO)?.known(number))
+        });
+        known.collect()
     }
 
     /// Returns the functions that the recorder's handles hold.

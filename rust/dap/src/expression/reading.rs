@@ -161,7 +161,7 @@ impl Reader<'_> {
                 let known = match thing_of(&name, self.recording) {
                     // An actor may have the name of a receiver.
                     Some(Thing::Actor(actor)) => Some(actor),
-                    _ => self.recording.actor_named(&name),
+                    _ => self.recording.things.actor(&name),
                 };
                 let actor = known.or_else(|| name.parse().ok());
                 let actor = actor.ok_or_else(|| unknown(&name))?;

@@ -5,6 +5,7 @@ use crate::json::{hangs, number, text};
 use crate::natural::natural;
 use crate::{PROGRAMS, Program};
 use std::collections::BTreeSet;
+use std::process::Command;
 use std::sync::atomic::{AtomicUsize, Ordering};
 use std::time::Instant;
 use std::{env, fs, thread};
@@ -115,6 +116,107 @@ fn from_seed(program: &Program, seed: u64) -> u64 {
     number(&json, "runs") + u64::from(passes)
 }
 
+/// Programs with a condition that some of their runs meet.
+const CONDITIONS: [(&str, &str); 12] = [
+    ("slow_handler", "lagging handler"),
+    ("lag_of_33", "lagging handler"),
+    ("heart_and_monitor", "lagging monitor"),
+    ("resubscribe_gap", "reply lagged"),
+    ("last_job_at_stop", "unread worker 3"),
+    ("overtaken_router", "queue 0 4"),
+    ("late_audit", "reply no-receivers"),
+    ("check_then_send", "reply no-receivers"),
+    ("leaves_after_answers", "reply no-receivers"),
+    ("subscribes_after_answer", "reply no-receivers"),
+    ("closed_pool", "reply no-receivers"),
+    ("weak_plugin", "reply no-sender"),
+];
+
+/// Names an order, by a seed and by how many choices there are.
+type Strategy = fn(u64, usize) -> String;
+
+const STRATEGIES: [(&str, Strategy); 5] = [
+    ("guided", |seed, choices| format!("g{seed}.{choices}")),
+    ("random", |seed, _| format!("r{seed}")),
+    ("PCT 2", |seed, choices| format!("p2.{seed}.{choices}")),
+    ("PCT 3", |seed, choices| format!("p3.{seed}.{choices}")),
+    ("POS", |seed, _| format!("o{seed}")),
+];
+
+/// Prints how many runs each strategy takes to meet a condition: the median of ten seeds, of `MOST` runs at most.
+#[test]
+#[ignore = "it takes minutes"]
+fn toward_a_condition() {
+    println!("load {}", load());
+    let names = STRATEGIES.map(|(name, _)| name).join(" | ");
+    println!("program | condition | {names}");
+    let only: Vec<_> = programs().map(|(name, _)| name).collect();
+    let is_meant = |(name, _): &&(&str, &str)| only.contains(name);
+    let meant: Vec<_> = CONDITIONS.iter().filter(is_meant).collect();
+    let next = AtomicUsize::new(0);
+    let tries = || {
+        while let Some((name, condition)) = meant.get(next.fetch_add(1, Ordering::Relaxed)) {
+            println!("{}", row_of_condition(name, condition));
+        }
+    };
+    thread::scope(|scope| {
+        for _ in 0..setting("BESIDE", 1) {
+            scope.spawn(tries);
+        }
+    });
+    println!("load {}", load());
+}
+
+impl Program {
+    /// Runs the program by an order, as a session does that looks for a condition. Returns whether the run met it.
+    fn meets(&self, condition: &str, order: &str) -> bool {
+        let answer = self.folder.join("answer");
+        let mut command = Command::new("timeout");
+        let program = self.command();
+        let ran = command
+            .arg("20")
+            .arg(program.get_program())
+            .args(program.get_args())
+            .env("RUST_BACKTRACE", "0")
+            .env("YOVANELUM_EXPLORE_ORDER", order)
+            .env("YOVANELUM_EXPLORE_FOR", condition)
+            .env("YOVANELUM_EXPLORE_TARGET", &self.folder)
+            .env("YOVANELUM_EXPLORE_ANSWER", &answer)
+            .output();
+        let said = crate::said(&ran.unwrap());
+        let answer = fs::read_to_string(answer).unwrap_or_default();
+        assert!(!answer.starts_with("unknown"), "{said}");
+        answer.starts_with("met ")
+    }
+}
+
+fn row_of_condition(name: &'static str, condition: &str) -> String {
+    let program = Program::new(name);
+    let first = program.schedule_for("s", "");
+    let timers = if first.contains("\ntimers\n") {
+        "t"
+    } else {
+        ""
+    };
+    let first = program.schedule_for(&format!("{timers}s"), "");
+    let (_, steps) = first.split_once("\nsteps ").unwrap();
+    let has_others = |step: &&str| step.split(' ').nth(1).is_some_and(|count| count != "1");
+    let choices = steps.lines().skip(1).filter(has_others).count();
+    let of_strategies = STRATEGIES.map(|(_, order)| {
+        let mut runs: Vec<u64> = (1..=10)
+            .map(|seed| {
+                let order = |run| format!("{timers}{}", order(seed * 1000 + run, choices));
+                let most = setting("MOST", 200);
+                let met = (0..most).find(|run| program.meets(condition, &order(*run)));
+                met.map_or(most + 1, |run| run + 1)
+            })
+            .collect();
+        runs.sort_unstable();
+        runs[runs.len() / 2].to_string()
+    });
+    format!("{name} | {condition} | {}", of_strategies.join(" | "))
+}
+
 #[test]
 #[ignore = "it takes minutes"]
 fn the_right_programs() {
@@ -156,7 +258,8 @@ fn what_a_choice_costs() {
 fn one_seed() {
     for (name, _) in programs() {
         let program = Program::new(name);
-        let schedules: BTreeSet<String> = (0..100).map(|_| program.schedule("r5")).collect();
+        let schedules: BTreeSet<String> =
+            (0..100).map(|_| program.schedule_for("r5", "")).collect();
         println!(
             "{name} | {} schedules of one seed in 100 runs",
             schedules.len()

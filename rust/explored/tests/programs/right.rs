@@ -8,6 +8,7 @@ use std::sync::{Arc, Barrier, Mutex};
 use std::time::Duration;
 use tokio::task::yield_now;
 use tokio::time::timeout;
+use yovanelum::broadcast::error::RecvError;
 use yovanelum::{broadcast, named, watch};
 
 /// A server sends three values, and its client waits for each no longer than this.
@@ -231,4 +232,22 @@ pub fn many_sends() {
         })
     });
     let _ = senders.map(joined);
+}
+
+/// An audit passes over what it has lost, so it never fails. It lags where it isn't polled while three orders are sent.
+pub fn skipping_audit() {
+    on_one_thread(async {
+        let (orders, mut rx) = broadcast::channel(2);
+        let shop = tokio::spawn(named("shop", async move {
+            for order in 0..4 {
+                orders.send(order).unwrap();
+                yield_now().await;
+            }
+        }));
+        let audit = tokio::spawn(named("audit", async move {
+            while !matches!(rx.recv().await, Err(RecvError::Closed)) {}
+        }));
+        ended(shop).await;
+        ended(audit).await;
+    });
 }

@@ -1,0 +1,234 @@
+//! A package outside of this one, whose test never fails: an order is looked for in which a condition is met.
+// It is built without optimization in either build of this test, so one of the two runs it.
+#![cfg(all(target_os = "linux", debug_assertions))]
+
+mod support;
+
+use std::fs;
+use std::path::Path;
+use std::process::Output;
+use std::sync::{Mutex, MutexGuard, OnceLock, PoisonError};
+use support::workspace::{Workspace, printed};
+use yovanelum::debugger::{Channel, Walk};
+
+/// How often a line is pasted that the search prints.
+const REPLAYS: usize = 20;
+
+/// The audit lags where it receives nothing until the third shop has sent. Each shop looks once, and sends if it sees what the shops before it sent.
+const TESTS: &str = r#"
+use std::thread;
+use yovanelum::broadcast::error::RecvError;
+use yovanelum::{Recorder, broadcast};
+
+#[test]
+fn orders_are_audited() {
+    let recorder = Recorder::for_test("orders_are_audited");
+    let (orders, mut rx) = broadcast::channel(2);
+    recorder.name(&orders, "orders");
+    let named = |name: &str| thread::Builder::new().name(name.to_string());
+    let audit = named("audit").spawn(move || {
+        loop {
+            match rx.blocking_recv() {
+                Ok(_) | Err(RecvError::Lagged(_)) => (),
+                Err(RecvError::Closed) => return,
+            }
+        }
+    });
+    let shops = [0, 1, 2].map(|number| {
+        let orders = orders.clone();
+        let shop = move || {
+            if orders.len() == number {
+                orders.send(number).unwrap();
+            }
+        };
+        named(&format!("shop {number}")).spawn(shop).unwrap()
+    });
+    for shop in shops {
+        shop.join().unwrap();
+    }
+    drop(orders);
+    audit.unwrap().join().unwrap();
+    assert!(std::env::var_os("FAILS").is_none(), "it fails in each order");
+}
+"#;
+
+fn workspace() -> &'static Workspace {
+    static WORKSPACE: OnceLock<Workspace> = OnceLock::new();
+    WORKSPACE.get_or_init(|| {
+        let manifest = "[package]\nname = \"shop\"\nversion = \"0.0.0\"\nedition = \"2021\"\n\n[dependencies]\nCRATE\n\n[profile.dev]\ndebug = false\n\n[workspace]\n";
+        let files = [
+            ("Cargo.toml", manifest),
+            ("src/lib.rs", ""),
+            ("tests/bus.rs", TESTS),
+        ];
+        Workspace::new("explored-for", &files)
+    })
+}
+
+/// Tests that write the same files run in turn.
+fn in_turn() -> MutexGuard<'static, ()> {
+    static TURN: Mutex<()> = Mutex::new(());
+    TURN.lock().unwrap_or_else(PoisonError::into_inner)
+}
+
+fn run(line: &str) -> Output {
+    workspace().shell(line).output().unwrap()
+}
+
+/// Explores the test for a condition. Returns whether it passes, what it prints, and the JSON that it writes to this file.
+fn explored(condition: &str, more: &str, file: &str) -> (bool, String, String) {
+    let out = workspace().0.join(file);
+    let _ = fs::remove_file(&out);
+    let line = format!(
+        "YOVANELUM_EXPLORE=200 YOVANELUM_EXPLORE_FOR='{condition}' YOVANELUM_EXPLORE_OUT={} {more} cargo test --test bus orders_are",
+        out.display()
+    );
+    let ran = run(&line);
+    let json = fs::read_to_string(out).unwrap_or_default();
+    (ran.status.success(), printed(&ran), json)
+}
+
+fn line_after<'a>(text: &'a str, start: &str) -> &'a str {
+    let mut lines = text.lines().map(str::trim);
+    let found = lines.find_map(|line| line.strip_prefix(start));
+    found.unwrap_or_else(|| panic!("no `{start}` in {text}"))
+}
+
+/// Returns the number of the call that met the condition.
+fn call(printed: &str) -> u64 {
+    let met = line_after(printed, "yovanelum: met: lagging audit, at call ");
+    met.split(':').next().unwrap().parse().unwrap()
+}
+
+/// Returns what the channel is at a place of a journal, and how far the audit lags there and one place before.
+fn state(journal: &Path, place: u64) -> (String, u64, u64) {
+    let mut walk = Walk::open(&fs::read(journal).unwrap()).unwrap();
+    let mut lag = |place| {
+        assert!(walk.go_to(place));
+        let Some(Channel::Broadcast(orders)) = walk.channel(0) else {
+            panic!("channel 0 is a broadcast");
+        };
+        let lag = orders.receiver(1).unwrap().lag;
+        (walk.state().to_string(), lag)
+    };
+    let ((_, before), (state, at)) = (lag(place - 1), lag(place));
+    let (_, channel) = state.split_once('\n').unwrap();
+    (channel.to_string(), at, before)
+}
+
+#[test]
+fn a_receiver_that_can_lag_is_found_and_its_lines_bring_the_state_back() {
+    let _turn = in_turn();
+    let (passes, said, json) = explored("lagging audit", "", "met.json");
+    assert!(!passes, "{said}");
+    assert!(said.contains(" met `lagging audit`, in run "), "{said}");
+    let place = call(&said);
+    let met = "\"for\": \"lagging audit\", \"isThere\": true, \"met\": {\"order\": ";
+    assert!(json.contains(met), "{json}");
+    assert!(json.contains(&format!("\"call\": {place}, ")), "{json}");
+    assert!(json.ends_with("\"failure\": null}\n"), "{json}");
+    let files = workspace().0.join("target/yovanelum/shop/test-bus");
+    let wanted = state(&files.join("orders_are_audited.journal"), place);
+    assert!(wanted.1 > 0 && wanted.2 == 0, "{wanted:?}");
+    let replay = line_after(&said, "replay: ");
+    for _ in 0..REPLAYS {
+        let ran = run(&format!("YOVANELUM_KEEP=1 {replay} --nocapture"));
+        let replayed = printed(&ran);
+        assert!(ran.status.success(), "{replayed}");
+        assert_eq!(call(&replayed), place);
+        let journal = files.join("orders_are_audited.replayed.journal");
+        assert_eq!(state(&journal, place), wanted);
+        fs::remove_file(journal).unwrap();
+    }
+    let again = line_after(&said, "again:  ");
+    for _ in 0..3 {
+        let ran = run(again);
+        let found = printed(&ran);
+        assert!(
+            !ran.status.success() && found.contains(", in run 1 ("),
+            "{found}"
+        );
+        assert_eq!(call(&found), place);
+    }
+}
+
+#[test]
+fn a_condition_that_no_run_meets_is_told_with_what_was_tried() {
+    let _turn = in_turn();
+    let (passes, said, json) = explored("unread audit 4", "", "not-met.json");
+    assert!(passes, "{said}");
+    let told = "explored orders_are_audited: no run met `unread audit 4`: all 200 runs passed, in ";
+    assert!(said.contains(told), "{said}");
+    assert!(said.contains(" orders without a switch passed"), "{said}");
+    assert!(said.contains("50 guided"), "{said}");
+    let told =
+        "\"for\": \"unread audit 4\", \"isThere\": true, \"met\": null, \"failure\": null}\n";
+    assert!(json.ends_with(told), "{json}");
+}
+
+#[test]
+fn a_name_that_no_run_has_is_refused_with_those_that_there_are() {
+    let _turn = in_turn();
+    let (passes, said, json) = explored("lagging audti", "YOVANELUM_EXPLORE=8", "name.json");
+    assert!(!passes, "{said}");
+    let told = "`lagging audti` names nothing: the receivers of a broadcast are `audit`";
+    let at_first = format!("orders_are_audited: in its first run {told}");
+    let at_last = format!("explored orders_are_audited: {told}; ");
+    assert!(
+        said.contains(&at_first) && said.contains(&at_last),
+        "{said}"
+    );
+    assert!(json.contains("\"isThere\": false, \"met\": null"), "{json}");
+    let (_, said, _) = explored("closed audit", "YOVANELUM_EXPLORE=8", "kind.json");
+    let told = "`closed audit` names nothing: the channels are `orders`";
+    assert!(said.contains(told), "{said}");
+}
+
+#[test]
+fn a_text_that_is_no_condition_is_refused_before_any_run() {
+    let _turn = in_turn();
+    for (text, fault) in [
+        ("lagging", "and no condition: "),
+        ("lags audit", "and no condition: "),
+        ("unread audit many", "and no condition: "),
+        ("reply late", "and no condition: "),
+        ("unread audit 0", "which each run meets"),
+    ] {
+        let (passes, said, json) = explored(text, "", "text.json");
+        assert!(!passes && json.is_empty(), "{said}");
+        let told = format!("YOVANELUM_EXPLORE_FOR is `{text}`, {fault}");
+        assert!(said.contains(&told), "{said}");
+    }
+}
+
+#[test]
+fn a_test_that_fails_before_the_condition_is_met_is_reported_as_one() {
+    let _turn = in_turn();
+    let (passes, said, json) = explored("lagging audit", "FAILS=1", "fails.json");
+    assert!(!passes && said.contains("it fails in each order"), "{said}");
+    assert!(
+        said.contains("an order without a switch failed, in run 1 "),
+        "{said}"
+    );
+    assert!(
+        json.contains("\"met\": null, \"failure\": {\"order\": "),
+        "{json}"
+    );
+    assert!(json.contains("\"failure\": \"tests/bus.rs:"), "{json}");
+}
+
+/// Nobody orders these runs, so the condition is one that each meets, or none.
+#[test]
+fn a_run_that_is_not_explored_says_whether_it_met_the_condition() {
+    let _turn = in_turn();
+    for (condition, told) in [
+        ("closed orders", "yovanelum: met: closed orders, at call "),
+        ("unread audit 4", "yovanelum: not met: unread audit 4\n"),
+    ] {
+        let ran = run(&format!(
+            "YOVANELUM_EXPLORE_FOR='{condition}' cargo test --test bus orders_are"
+        ));
+        let said = printed(&ran);
+        assert!(ran.status.success() && said.contains(told), "{said}");
+    }
+}
