@@ -100,6 +100,52 @@ def conditions_by_names(tab, folder, journals):
             opening.settle(tab, place)
 
 
+def hits_of(states, entries, condition):
+    """The places at which a condition holds and didn't hold before, by the program's states; of a condition on calls, those whose entries meet it."""
+    word, *numbers = condition.split(" ")
+    if word in ("actor", "channel", "reply"):
+        return [place for place, it in enumerate(entries, 1) if it[word] == (numbers[0] if word == "reply" else int(numbers[0]))]
+    channel = int(numbers[0])
+    receiver = lambda state: next((it for it in state["channels"][channel]["receivers"] if it["handle"] == int(numbers[1])), None)
+    holds = {
+        "lagging": lambda state: (receiver(state) or {"lag": 0})["lag"] > 0, "unseen": lambda state: not (receiver(state) or {"seen": True})["seen"],
+        "closed": lambda state: state["channels"][channel]["closed"], "queue": lambda state: len(state["channels"][channel]["window"]) >= int(numbers[1]),
+    }[word]
+    return [place for place in range(1, len(states)) if holds(states[place]) and not holds(states[place - 1])]
+
+
+def conditions_are_counted(tab, folder, journals):
+    """All hits of a condition are counted and marked on the strip, and which of them is gone to."""
+    path, ask = page_of(folder, "bus", real_runs.bus())
+    states, entries = found.states(ask, real_runs.BUS_MADE), []
+    for line in lines_of(ask, 0):
+        call, _, reply = line.partition(" = ")
+        _, _, actor, channel, *_ = call.split(" ")
+        entries.append({"actor": int(actor), "channel": int(channel), "reply": reply.split(" ")[0]})
+    opening.load(tab, path)
+    counts = set()
+    for condition in ("actor 4", "reply lagged", "reply value", "lagging 0 7", "lagging 0 2", "unseen 1 3", "closed 0", "channel 1", "reply gone"):
+        tab.run("void (document.getElementById('condition').value = '', document.getElementById('condition').dispatchEvent(new Event('input')))")
+        tab.key("Escape")
+        tab.key("Home")
+        opening.settle(tab, 0)
+        places = hits_of(states, entries, condition)
+        counts.add(len(places))
+        for number in range(min(2, len(places))):
+            seek(tab, condition)
+            count = "1 hit" if len(places) == 1 else f"{len(places)} hits"
+            tab.wait(f"document.getElementById('hit-count').textContent === '{number + 1} of {count}'")
+            opening.settle(tab, places[number])
+        if places:
+            marks = tab.run(MARKS)
+            assert 0 < marks <= 2 * len(places), (condition, marks, len(places))
+        else:
+            seek(tab, condition)
+            tab.wait(f"{HIT}.startsWith('no hit')")
+            assert tab.run(MARKS) == 0 and tab.text("hit-count") == "", condition
+    assert len(counts) > 4 and max(counts) > 100, counts
+
+
 LIFE = """[...document.querySelectorAll('.life dl > div')].map(part => [...part.querySelectorAll('li')].map(row =>
     [Number(row.querySelector('[data-place]')?.dataset.place ?? -1), Number(row.querySelector('[data-handle]')?.dataset.handle ?? -1)]))"""
 
@@ -153,4 +199,4 @@ def life_of_a_value(tab, folder, journals):
     tab.wait("document.querySelector('.life') === null")
 
 
-TESTS = [texts_of_calls, places_in_sources, conditions_by_names, life_of_a_value]
+TESTS = [texts_of_calls, places_in_sources, conditions_by_names, conditions_are_counted, life_of_a_value]

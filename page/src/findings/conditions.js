@@ -5,6 +5,13 @@ import { isolated } from "../base/text.js";
 const MOST_RECEIVERS = 16;
 const HIT = /^hit (\d+) of/;
 
+// Conditions on calls have an index in the debugger. Others are looked for from call to call, so that a search without a hit takes long: of these the
+// first hits are found in small parts.
+const OF_CALLS = /^(actor|channel|reply) /;
+const MANY = { atOnce: 4096, most: 10_000 };
+const FEW = { atOnce: 64, most: 1000 };
+const FIRST = 8;
+
 // Searches for the nearest hit of some conditions by `rback` or `rforward`. Returns the line that the console writes for it, its place, if there is
 // one, and the condition.
 export async function seek(run, place, word, conditions) {
@@ -16,6 +23,20 @@ export async function seek(run, place, word, conditions) {
   });
   const away = it => (it.place === null ? Infinity : Math.abs(it.place - place));
   return answers.reduce((nearest, it) => (away(it) < away(nearest) ? it : nearest));
+}
+
+// Returns all hits of a condition, or as many as are looked for, and whether there are no more. It is null where `isOver` says that nobody waits for them.
+export async function hitsOfCondition(run, condition, isOver) {
+  const { atOnce, most } = OF_CALLS.test(condition) ? MANY : FEW;
+  const places = [];
+  for (let count = FIRST; places.length < most; count = Math.min(2 * count, atOnce)) {
+    const answers = (await run.ask(`goto ${places.at(-1) ?? 0}\n${`rforward ${condition}\n`.repeat(count)}`)).split("\n").slice(1, count + 1);
+    if (isOver()) return null;
+    const found = answers.map(line => HIT.exec(line)).filter(hit => hit !== null).map(([, place]) => Number(place));
+    places.push(...found);
+    if (found.length < count) return { places, isAll: true };
+  }
+  return { places, isAll: false };
 }
 
 // The conditions that a receiver of a watch has a value that it hasn't seen, for all of them.

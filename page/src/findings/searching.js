@@ -4,29 +4,32 @@ import { byId, outside } from "../base/dom.js";
 import { during } from "../base/notice.js";
 import { countOf, grouped } from "../base/numbers.js";
 import { countUpTo } from "../run/values.js";
-import { seek } from "./conditions.js";
+import { hitsOfCondition, seek } from "./conditions.js";
 import { hitsOf } from "./text_search.js";
 
 export class Searching {
-  // `placeNow` returns the current place, and `jump` goes to a place that was found.
-  constructor(run, placeNow, jump, onFault) {
+  // `placeNow` returns the current place, `jump` goes to a place that was found, and `onHits` marks hits that are found later.
+  constructor(run, { placeNow, jump, onHits }, onFault) {
     this.run = run;
     this.placeNow = placeNow;
     this.jump = jump;
+    this.onHits = onHits;
     this.onFault = onFault;
     this.last = Promise.resolve();
     this.stops = 0;
     // The last search that found a place: where it began, its command, and the place.
     this.found = null;
-    // The text that was searched for last, and the places of all calls that have it.
+    // The text or condition that was searched for last, and the places of its hits.
     this.hits = { text: "", places: [] };
-    byId("found").textContent = "";
+    // The search for all hits of a condition, while it goes on.
+    this.counting = null;
+    this.tell();
   }
 
   // Discards the searches that were asked for so far, and what they have reported.
   stop() {
     this.stops++;
-    byId("found").textContent = "";
+    this.tell();
   }
 
   // Asks for the nearest place where one of some conditions holds.
@@ -43,11 +46,35 @@ export class Searching {
     const start = this.placeNow();
     const found = await during(what, () => seek(this.run, start, word, conditions));
     if (isOver()) return;
-    byId("found").textContent = found.answer;
-    byId("found").classList.toggle("lag", found.place === null);
-    if (found.place === null) return;
-    this.found = { start, command: `${word} ${found.condition}`, place: found.place };
-    this.jump(found.place);
+    if (found.place !== null) {
+      this.found = { start, command: `${word} ${found.condition}`, place: found.place };
+      this.jump(found.place);
+    }
+    this.tell(found.place === null, found.answer);
+    if (conditions.length === 1) this.countHits(found, isOver).catch(this.onFault);
+  }
+
+  // Marks and counts all hits of a condition, once they are found.
+  async countHits({ condition, place }, isOver) {
+    if (this.hits.text !== condition) {
+      if (this.counting?.text !== condition) this.counting = { text: condition, hits: hitsOfCondition(this.run, condition, () => this.counting?.text !== condition) };
+      const hits = await this.counting.hits;
+      if (hits === null) return;
+      this.hits = { text: condition, ...hits };
+      this.onHits();
+    }
+    if (isOver()) return;
+    const { places, isAll } = this.hits;
+    const index = places.indexOf(place);
+    const count = countOf(places.length, "hit") + (isAll ? "" : " and more");
+    byId("hit-count").textContent = places.length === 0 ? "" : index < 0 ? count : `${grouped(index + 1)} of ${count}`;
+  }
+
+  // Says what was found, or that nothing was.
+  tell(isNothing = false, ...parts) {
+    byId("found").classList.toggle("lag", isNothing);
+    byId("found").replaceChildren(...parts);
+    byId("hit-count").textContent = "";
   }
 
   // Asks for the nearest call that has a text.
@@ -70,8 +97,7 @@ export class Searching {
     const place = places[index];
     this.found = null;
     if (place !== undefined) this.jump(place);
-    byId("found").classList.toggle("lag", place === undefined);
-    byId("found").replaceChildren(...(place === undefined ? this.noHit(word) : [`hit ${grouped(index + 1)} of ${grouped(places.length)}`]));
+    this.tell(place === undefined, ...(place === undefined ? this.noHit(word) : [`hit ${grouped(index + 1)} of ${grouped(places.length)}`]));
   }
 
   noHit(word) {
@@ -80,9 +106,10 @@ export class Searching {
     return [`none of the ${countOf(places.length, "hit")} is ${word === "rback" ? "before" : "after"} it`];
   }
 
-  // Forgets the hits of the last text.
+  // Forgets the hits of the last search.
   forget() {
     this.hits = { text: "", places: [] };
+    this.counting = null;
   }
 
   // Returns the commands by which the last search led to this place, or null if it led elsewhere.

@@ -30,7 +30,8 @@ export class Walk {
     this.drawing = new Latest(() => this.draw(), onFault);
     this.levelling = new Latest(() => this.drawLevels(), onFault);
     this.onFault = onFault;
-    this.searching = new Searching(run, () => view.place, place => this.jump(() => this.go(place)), onFault);
+    const hands = { placeNow: () => view.place, jump: place => this.jump(() => this.go(place)), onHits: () => this.redraw() };
+    this.searching = new Searching(run, hands, onFault);
     this.isLeft = false;
     // Whether the address names no place, and the account, which has the place to begin at, is still to come.
     this.isStarting = false;
@@ -46,6 +47,7 @@ export class Walk {
     showDifference(null);
     forgetAddress();
     this.searching.stop();
+    this.searching.forget();
     this.drawing.stop();
     this.levelling.stop();
     this.telling.stop();
@@ -320,11 +322,11 @@ export class Walk {
   seek(word, text) {
     const condition = conditionOf(this.run, text);
     if (condition === null) return this.searching.askText(word, text);
-    this.forgetHits();
+    if (this.searching.hits.text !== condition) this.forgetHits();
     this.searching.ask(word, condition);
   }
 
-  // Takes the marks of the last text from the strip.
+  // Takes the marks of the last search from the strip.
   forgetHits() {
     this.searching.forget();
     this.redraw();
