@@ -33,16 +33,22 @@ function eachLevel({ run, places, band }, show) {
 export function drawLevels(drawing) {
   const { pen, run, view, frame, band, palette, overview } = drawing;
   const { kind, capacity } = run.channels[band.channel];
-  pen.fillStyle = kind === "broadcast" ? palette.unread : palette.unseen;
+  const [colour, edge] = kind === "broadcast" ? [palette.unread, palette["unread-ink"]] : [palette.unseen, palette["unseen-ink"]];
+  const edges = [];
+  pen.fillStyle = colour;
   const show = (handle, level, from, end) => {
     const row = band.rowOf.get(handle);
     const x = Math.round(frame.x(Math.max(from, view.from)));
     const width = Math.max(1, Math.round(Math.min(frame.right, frame.x(Math.min(end, run.lastPlace + 1)))) - x);
     const height = kind === "broadcast" ? (row.base - row.lane - BAND - ABOVE) * level / capacity : UNSEEN_HEIGHT;
     pen.fillRect(x, row.base - height, width, height);
+    edges.push([x, row.base - height - 1, width]);
   };
   if (view.stride === 1) eachLevel(drawing, show);
   else if (overview.has(view.from, view.to, view.stride, band.channel)) overview.eachLevel(band.channel, band.rowOf.keys(), show);
+  // The colours are pale beside the ground, so that marks are seen on them. Their edge isn't.
+  pen.fillStyle = edge;
+  for (const [x, y, width] of edges) pen.fillRect(x, y, width, 1);
 }
 
 // Returns the first place and each place at which the value of a watch changes, with the values.
