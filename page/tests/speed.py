@@ -1,8 +1,10 @@
 """How long opening and stepping take. The figures are printed, and on an idle machine they have to be within what is promised."""
+import os
 import time
 
 import native
 import opening
+import real_runs
 import runs
 
 MANY = 30
@@ -18,6 +20,11 @@ LONG, FIRST_PAINT = 1_000_000, 2
 # on it counts as idle.
 MARGIN, BUSY = 2, 50
 IDLE = 0.8
+
+# A pool of so many channels, actors and calls, and the seconds of processors that all processes of the browser may take until its first picture,
+# from there until what is found in it is shown, for a jump to a place whose states aren't loaded, and for the answer to a stop.
+POOL, JUMP = (64, 64, 100_000), 77_777
+PROCESSOR_SECONDS = {"first picture": 1.5, "findings": 4.5, "cold jump": 0.4, "stop": 0.2}
 
 # When the state at the first place is shown.
 WATCH = """new MutationObserver((_, observer) => {
@@ -67,6 +74,41 @@ def factor(idle):
     return MARGIN if idle >= IDLE else BUSY
 
 
+def processor_seconds(browser):
+    """What the processes of a browser have taken of processors so far: each process with the one that started it."""
+    starters, times = {}, {}
+    for name in filter(str.isdigit, os.listdir("/proc")):
+        try:
+            with open(f"/proc/{name}/stat", encoding="utf-8") as file:
+                fields = file.read().rpartition(") ")[2].split()
+        except OSError:
+            continue
+        starters[int(name)], times[int(name)] = int(fields[1]), (int(fields[11]) + int(fields[12])) / os.sysconf("SC_CLK_TCK")
+    family = {browser.process.pid}
+    while more := {process for process, starter in starters.items() if starter in family} - family:
+        family |= more
+    return sum(times.get(process, 0) for process in family)
+
+
+def pool(tab, folder):
+    """What a pool of many channels takes of processors, which a busy machine changes less than the time that passes."""
+    path = opening.page_of(folder, "speed_pool.journal", real_runs.pool_of(*POOL)[0])
+    waits = {
+        "first picture": lambda: (tab.load(path), tab.wait("window.shownAt")),
+        "findings": lambda: opening.settle(tab),
+        "cold jump": lambda: (tab.run(f"location.hash = '#call={JUMP}'"), opening.settle(tab, JUMP)),
+        "stop": lambda: tab.run("ttd.ask('start\\nrforward reply lagged\\n')"),
+    }
+    tab.load(native.PAGE)
+    took, since = {}, processor_seconds(tab.browser)
+    for name, wait in waits.items():
+        wait()
+        until = processor_seconds(tab.browser)
+        took[name], since = until - since, until
+    print(f"  {POOL[2]:,} calls on {POOL[0]} channels, seconds of processors: " + ", ".join(f"{name} {taken:.2f}" for name, taken in took.items()))
+    assert all(taken < MARGIN * PROCESSOR_SECONDS[name] for name, taken in took.items()), "takes more of processors than it may"
+
+
 def mean_step(tab):
     times = tab.run(STEPS)
     return sum(times) / len(times) / 1000
@@ -97,3 +139,4 @@ def figures(tab, folder, journals):
               f"{100 * idle:.0f} % of the machine were idle")
         assert open_time < factor(idle) * most_open and max(near, far) < factor(idle) * most_step, "slower than it may be"
     first_paint(tab, folder)
+    pool(tab, folder)

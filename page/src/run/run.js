@@ -205,14 +205,15 @@ export class Run {
     }
   }
 
-  // Loads what is counted in the whole run, once, and goes on after each part of it. Each is asked for when the one before is there, so that a step
-  // waits for one of them at most. The values of channels where none was lost aren't needed.
+  // Loads what is counted in the whole run, once, and goes on after each part of it, which is drawn then, and after the values of all channels. Each is
+  // asked for when the one before is there, so that a step waits for one of them at most. The values of channels where none was lost aren't needed.
   async *findings() {
     yield this.closings = await this.client.request("closings");
     yield this.totals = await this.client.request("totals");
     yield await this.findAccount();
     yield this.listed = new Listed(await this.client.request("lives"), this.lives, this.lastPlace + 1);
-    for (const channel of this.losses.channels) yield this.values.load(channel);
+    for (const channel of this.losses.channels) await this.values.load(channel);
+    yield;
   }
 
   // Makes the account of a run whose names have none.
