@@ -106,11 +106,12 @@ impl Recording {
     }
 
     /// Makes a call once recording has ended.
-    // Apart, since it's not worth to be inlined, and the reply of a call that is recorded would be stored where this one is.
+    // Apart, since the reply of a call that is recorded would be stored where this one is. Each call has its own, of which the branches
+    // for others are left out.
     #[cold]
     #[inline(never)]
-    fn call_unrecorded(&mut self, caller: Caller, call: ChanCall<u64>) -> Reply {
-        Reply::of(&self.0.call(caller.actor.number(), caller.clock, call))
+    fn call_unrecorded(&mut self, caller: Caller, call: impl FnOnce() -> ChanCall<u64>) -> Reply {
+        Reply::of(&self.0.call(caller.actor.number(), caller.clock, call()))
     }
 }
 
@@ -121,7 +122,7 @@ macro_rules! calls {
             $(#[inline]
             pub(crate) fn $method(&mut self, caller: Caller, $($arg: $type),*) -> Reply {
                 if !self.0.is_recorded() {
-                    return self.call_unrecorded(caller, $call);
+                    return self.call_unrecorded(caller, move || $call);
                 }
                 Reply::of(&self.0.call(caller.actor.number(), caller.clock, $call))
             })*

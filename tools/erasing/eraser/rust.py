@@ -116,6 +116,9 @@ def inlined(source, names, lines):
     made = []
     for number, line in enumerate(lines):
         if number in hints:
+            # A hint of the source that says the opposite is for Rattle's compiler.
+            if made[-1].strip() == "#[inline(never)]":
+                made[-1] = f"//~ {made[-1]}"
             made.append(f"{line[: len(line) - len(line.lstrip())]}#[inline(always)] //+")
         made.append(line)
     return made

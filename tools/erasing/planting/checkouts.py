@@ -61,9 +61,9 @@ def with_saturated(folder, table, old="", new=""):
     forms.write(f"{folder}/{RUST}", text.replace(old, new))
 
 
-def with_hint(folder, old="", new=""):
+def with_hint(folder, old="", new="", source=HINTED):
     """A source with a function that rustc is to inline, whose Rust is changed."""
-    forms.made(folder, {"lib": HINTED}, hints="rw_sample/src/lib.rt: at\n")
+    forms.made(folder, {"lib": source}, hints="rw_sample/src/lib.rt: at\n")
     with open(f"{folder}/{RUST}", encoding="utf-8") as file:
         text = file.read()
     assert text.count("#[inline(always)] //+") == 1 and old in text, text
@@ -129,6 +129,7 @@ CASES = [
     ("a hint that is missing", lambda it: with_hint(it, "#[inline(always)] //+\n", ""), "judge", f"{RUST}:3: a line has to be added"),
     ("a hint that isn't listed", lambda it: with_hint(it, "fn put", "#[inline(always)] //+\nfn put"), "judge", f"{RUST}:9: an added line"),
     ("another hint", lambda it: with_hint(it, "#[inline(always)] //+", "#[cold] //+"), "judge", f"{RUST}:4: an added line"),
+    ("a hint in place of the opposite one", lambda it: with_hint(it, source=HINTED.replace("fn at", "#[inline(never)]\nfn at")), "judge", ""),
     ("a hint for no function", lambda it: forms.made(it, {"lib": HINTED}, hints="rw_sample/src/lib.rt: get\n"), "erase", "there are 0 here"),
     ("a crate that isn't proved", unproved, "judge", "crates.txt: rw_sample isn't in it"),
     ("a file of no crate", of_no_crate, "judge", "rust/src/source/added.rs: it is of no crate"),
