@@ -4,10 +4,12 @@ import os
 import shutil
 import signal
 import subprocess
+import sys
 import typing
 
-from cases import rattle
-from eraser import layout, rust
+HERE = os.path.dirname(os.path.dirname(os.path.realpath(__file__)))
+sys.path.insert(0, f"{os.path.dirname(os.path.dirname(HERE))}/tools/erasing")
+from eraser import layout, rust  # noqa: E402
 
 # Most of a program stays compiled from one edit to the next, since it has many parts that aren't optimised together. A program without symbols is the
 # same where its code is.
@@ -86,8 +88,9 @@ class Lane:
         with open(f"{folder}/program/Cargo.toml", "w", encoding="utf-8") as file:
             file.write(PROGRAM)
         shutil.copytree(f"{top}/rust", self.rust, ignore=shutil.ignore_patterns("target", "x86_64-linux", "tokio*"))
-        rattle.make(top, self.rust, f"{folder}/rattle")
-        if not (self.build() and self.reads_library() and self.rattle_tests() and self.crate_tests()):
+        shutil.rmtree(f"{folder}/tests", ignore_errors=True)
+        shutil.copytree(f"{top}/tests/core", f"{folder}/tests/core", ignore=shutil.ignore_patterns("target"))
+        if not (self.build() and self.reads_library() and self.core_tests() and self.crate_tests()):
             raise RuntimeError(f"the sources don't pass as they are: {folder}")
         self.unplanted = self.digest()
 
@@ -107,7 +110,7 @@ class Lane:
         if self.digest() != self.unplanted:
             return "built"
         # What only the library has isn't compiled with the program.
-        return "unused" if edit.crate in self.crates.program or self.reads_library() else "refused"
+        return "unused" if edit.crate in self.crates.program or self.reads(edit.crate) else "refused"
 
     def restore(self, edit):
         for path, _, _ in edit.pairs:
@@ -135,11 +138,18 @@ class Lane:
     def build(self):
         return run(["cargo", "build", "--release", "-j2"], f"{self.folder}/program", f"{self.folder}/target-program")
 
+    def reads(self, crate):
+        """Whether rustc reads what has a crate that the program lacks: the library, or what tests have of the proved crates."""
+        if crate not in self.crates.tests:
+            return self.reads_library()
+        return run(["cargo", "check", "--locked", "-j2", "-p", "proved"], f"{self.folder}/tests/core", f"{self.folder}/target-core")
+
     def reads_library(self):
         return run(["cargo", "check", "--release", "--locked", "-j2", "--lib"], self.rust, self.target)
 
-    def rattle_tests(self):
-        return run(["cargo", "test", "-j2", "--lib", "--", "--test-threads=2"], f"{self.folder}/rattle", f"{self.folder}/target-rattle")
+    def core_tests(self):
+        words = ["cargo", "test", "--locked", "-j2", "--test", "calls", "--test", "texts", "--", "--test-threads=2"]
+        return run(words, f"{self.folder}/tests/core", f"{self.folder}/target-core")
 
     def crate_tests(self):
         return run(["cargo", "test", "--release", "--locked", "-j2", *CRATE, "--", "--test-threads=2"], self.rust, self.target)

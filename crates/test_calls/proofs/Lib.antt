@@ -1,2 +1,0 @@
-mod Sharing
-mod SharingSeats

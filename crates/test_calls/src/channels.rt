@@ -1,6 +1,0 @@
-//! Worked rows of both channels, recorded in a book and walked by a navigator.
-
-pub mod broadcasts;
-mod openings;
-pub mod playing;
-pub mod watches;

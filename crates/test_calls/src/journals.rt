@@ -1,6 +1,0 @@
-//! Books and ledgers of a small machine, journals of channels, and what these merge to.
-
-mod books;
-pub mod by_channel;
-mod ledgers;
-mod merges;

@@ -1,8 +1,0 @@
-//! Hand-offs, and desks with seats.
-
-mod hand_offs;
-mod most;
-mod one_thread;
-mod shared;
-mod threads;
-mod waiting;

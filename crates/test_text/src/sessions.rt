@@ -1,4 +1,0 @@
-//! Sessions: devices that fail, and input without end.
-
-mod devices;
-mod limits;

@@ -1,4 +1,0 @@
-use Rattle.tool_refusals.proofs.seats.call_all.Given as goal
-
-abbrev pub invariant-loop-channel : goal.invariant-loop-channel
-invariant-loop-channel g l = g.D.Seated.owns l.desk l.seat

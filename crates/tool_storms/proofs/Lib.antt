@@ -1,2 +1,0 @@
-pub mod CallLists
-mod Sharing
