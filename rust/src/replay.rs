@@ -2,9 +2,11 @@
 //!
 //! A recorder knows the whole order of the calls on its channels. In a replay each call waits before the [`Gate`], until all calls that the
 //! journal has before it are made. `plan.rs` has the journal's calls and which of them a call can be, `state.rs` where the replay stands,
-//! `gate.rs` how threads and futures wait, `helper.rs` the thread that wakes futures, `rest.rs` whether all threads wait, `divergence.rs` how it leaves the
-//! journal, and `outcome.rs` how it went, in words.
+//! `gate.rs` how threads and futures wait, `helper.rs` the thread that wakes futures, `rest.rs` whether all threads wait, `clock.rs` how long the
+//! program has run, `divergence.rs` how it leaves the journal, `stop.rs` how it stops for a native debugger, and `outcome.rs` how it went, in
+//! words.
 
+mod clock;
 mod divergence;
 mod gate;
 mod helper;
@@ -14,6 +16,7 @@ mod permit;
 mod plan;
 mod rest;
 mod state;
+mod stop;
 #[cfg(test)]
 mod tests;
 mod turns;
@@ -25,6 +28,7 @@ pub(crate) use outcome::{TestEnd, say};
 pub(crate) use permit::Permit;
 pub(crate) use plan::UNNAMED_THREAD;
 pub(crate) use state::Ticket;
+pub(crate) use stop::is_wanted as is_stop_wanted;
 pub(crate) use turns::Turns;
 
 use crate::actors::Identity;

@@ -10,7 +10,7 @@ use std::sync::mpsc;
 use std::thread::{self, JoinHandle};
 use std::time::Duration;
 use support::parts::{Folder, files, is_part, line_after, replay_line, started, without_options};
-use yovanelum::{Recorder, broadcast};
+use yovanelum::{Recorder, broadcast, watch};
 
 /// The variable that says which of two threads is slow, or that Ann waits for Bob.
 const SLOW: &str = "YOVANELUM_TEST_SLOW";
@@ -322,6 +322,72 @@ fn refused(part: &Part) -> String {
     let start = "yovanelum: YOVANELUM_REPLAY names no journal: ";
     assert!(said.contains(start), "{said}");
     said
+}
+
+/// Sends by a closure that changes a watch, and tells of it.
+fn a_closure_changes_a_watch() {
+    let recorder = Recorder::for_test("ann_is_the_first");
+    let (feed, _rx) = watch::channel(7);
+    recorder.name(&feed, "feed");
+    feed.send_modify(|value| {
+        eprintln!("yovanelum: in the replay, the closure has {value}");
+        *value = 8;
+    });
+    panic!("it is over");
+}
+
+/// The variable at which a debugger is to see a replay.
+const STOP: &str = "YOVANELUM_REPLAY_STOP";
+
+#[test]
+fn a_replay_tells_of_the_call_that_a_debugger_is_to_see() {
+    if is_part() {
+        return ann_is_the_first();
+    }
+    let part = Part::new("a_replay_tells_of_the_call_that_a_debugger_is_to_see");
+    part.record();
+    let (succeeds, said) = part.replay(|part| {
+        part.env(STOP, "4");
+    });
+    let is_there = match cfg!(target_os = "linux") {
+        true => "no debugger is attached, so the replay goes on at #4 of 9, `",
+        false => "",
+    };
+    let start = format!("yovanelum: {is_there}");
+    assert!(!succeeds && said[0].starts_with(&start), "{said:#?}");
+    let end = format!("{LINE}all 9 calls in the recorded order; the same failure");
+    assert_eq!(said[1], end);
+    // Each is a number of no call.
+    for number in ["0", "10", "soon"] {
+        let mut refused = started(part.test, &part.folder.0);
+        refused.env("YOVANELUM_REPLAY", part.journal());
+        refused.env(STOP, number).arg("--nocapture");
+        let said = String::from_utf8(refused.output().unwrap().stderr).unwrap();
+        let fault =
+            format!("yovanelum: {STOP} is `{number}`, and no number of a call: the journal has 9");
+        assert!(said.lines().any(|line| line == fault), "{said}");
+    }
+}
+
+#[test]
+fn a_debugger_sees_a_watch_before_a_closure_changes_it() {
+    if is_part() {
+        return a_closure_changes_a_watch();
+    }
+    let part = Part::new("a_debugger_sees_a_watch_before_a_closure_changes_it");
+    let (_, said) = part.run("", |_| ());
+    assert_eq!(said.len(), 2, "{said:#?}");
+    let (_, said) = part.replay(|part| {
+        part.env(STOP, "1");
+    });
+    assert!(said[0].contains(" #1 of "), "{said:#?}");
+    assert!(said[0].contains(", `modify 0` on `feed` by `"), "{said:#?}");
+    assert_eq!(said[1], "yovanelum: in the replay, the closure has 7");
+    // It stops once.
+    assert_eq!(
+        said.iter().filter(|line| line.contains(" #1 of ")).count(),
+        1
+    );
 }
 
 /// The line at which a channel is made below.

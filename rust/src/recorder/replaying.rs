@@ -111,12 +111,19 @@ impl Recorder {
             ));
             return Recorder::new();
         }
-        let followed = explore::follow(path);
+        // A debugger stops at a call of the journal, which the schedule beside it doesn't know.
+        let followed = match replay::is_stop_wanted() {
+            true => Ok(false),
+            false => explore::follow(path),
+        };
         let recorder = followed.and_then(|is_followed| match is_followed {
             true => Ok(Recorder::new()),
             false => Recorder::replay(path),
         });
-        recorder.unwrap_or_else(|error| panic!("yovanelum: {REPLAY} names no journal: {error}"))
+        recorder.unwrap_or_else(|error| match error.kind() {
+            io::ErrorKind::InvalidInput => panic!("yovanelum: {error}"),
+            _ => panic!("yovanelum: {REPLAY} names no journal: {error}"),
+        })
     }
 
     /// Says that the test with this name isn't replayed, if the variable names its journal and this recorder replays none.

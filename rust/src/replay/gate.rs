@@ -1,10 +1,12 @@
 //! The gate, before which each call waits for its turn.
 
+use super::clock::Time;
 use super::divergence::{self, Came};
 use super::outcome::{self, Replayed, TestEnd};
 use super::permit::Permit;
 use super::plan::Plan;
 use super::state::{Held, Standing, State, Ticket, Waiter, Wakes};
+use super::stop;
 use super::{Coming, Identity};
 use crate::backend::Actor;
 use crate::explore::this_thread;
@@ -17,7 +19,7 @@ use std::sync::atomic::{AtomicBool, AtomicUsize, Ordering};
 use std::sync::{Condvar, Mutex, MutexGuard, PoisonError};
 use std::task::{Context, Poll};
 use std::thread;
-use std::time::{Duration, Instant};
+use std::time::Duration;
 
 /// How long a wait goes on without progress where it may be for what the wait itself keeps away.
 pub(super) const SHORT: Duration = Duration::from_millis(250);
@@ -83,6 +85,13 @@ impl Gate {
         }
     }
 
+    /// Lets a debugger stop before the call with this index.
+    pub(super) fn stopping_at(mut self, index: Option<usize>) -> Gate {
+        let state = self.state.get_mut();
+        state.unwrap_or_else(PoisonError::into_inner).stop_at = index;
+        self
+    }
+
     /// Whether all calls pass: the journal's end was reached, or the run diverged from it.
     #[inline]
     pub(super) fn is_over(&self) -> bool {
@@ -139,13 +148,26 @@ impl Gate {
         let mut state = self.enter();
         state.see(&self.plan, lane, &coming, &user);
         let standing = self.standing(&state, lane, &coming, wait);
-        if standing == Standing::Turn && !state.is_over {
-            return self.give(&mut state, wait);
+        let (mut state, is_turn) = match standing == Standing::Turn && !state.is_over {
+            true => (state, true),
+            false => self.block(state, lane, &coming, wait),
+        };
+        if !is_turn {
+            return Permit::free();
         }
-        let (mut state, is_turn) = self.block(state, lane, &coming, wait);
-        match is_turn {
-            true => self.give(&mut state, wait),
-            false => Permit::free(),
+        let permit = self.give(&mut state, wait);
+        self.stop_if_wanted(state, lane);
+        permit
+    }
+
+    /// Stops if a debugger is to see this call, the next one of its lane. Nothing is locked then, and others still wait for their turn.
+    #[inline]
+    fn stop_if_wanted(&self, mut state: MutexGuard<'_, State>, lane: Option<u32>) {
+        if state.stop_at == Some(state.position) && state.is_front(lane) {
+            let position = state.position;
+            state.stop_at = None;
+            drop(state);
+            stop::stop_before(&self.plan, position);
         }
     }
 
@@ -175,7 +197,7 @@ impl Gate {
         coming: &Coming,
         wait: Wait,
     ) -> (MutexGuard<'a, State>, bool) {
-        let (began, thread) = (Instant::now(), thread_number());
+        let (began, thread) = (state.clock.now(), thread_number());
         while !state.is_over {
             let standing = self.standing(&state, lane, coming, wait);
             match standing {
@@ -187,7 +209,8 @@ impl Gate {
                 Standing::Later | Standing::Unknown => (),
             }
             let (limit, is_own) = self.limit(&state, coming, thread);
-            if began.max(state.turned_at).elapsed() >= limit {
+            let since = began.max(state.turned_at);
+            if state.clock.since(since) >= limit {
                 let came = match is_own {
                     true => Came::Other,
                     false => Came::Nothing(limit),
@@ -272,11 +295,11 @@ impl Gate {
                 true => Permit::free(),
                 false => self.give(&mut state, Wait::Call),
             };
-            drop(state);
+            self.stop_if_wanted(state, lane);
             drop((before, waker, task));
             return Poll::Ready(permit);
         }
-        let waiter = Waiter::new(coming, waker, before.as_ref());
+        let waiter = Waiter::new(coming, waker, before.as_ref(), state.clock.now());
         *ticket = Some(state.add_waiter(lane, waiter));
         self.keep_awake(&state);
         drop(state);
@@ -424,7 +447,8 @@ impl Gate {
     /// Where a thread is blocked and nothing was called for a while, all futures are polled.
     pub(super) fn look_after_futures(&self, state: &mut State, is_at_rest: bool) {
         let turned_at = state.turned_at;
-        let idle = |since: Instant| since.max(turned_at).elapsed();
+        let now = state.clock.now();
+        let idle = |since: Time| now.since(since.max(turned_at));
         let limit = self.patience * PATIENCE_OF_FUTURES;
         let mut waiters = state.waiters.values();
         if let Some(late) = waiters.find(|waiter| idle(waiter.since) >= limit) {
@@ -441,7 +465,7 @@ impl Gate {
         }
         // The blocked thread may be the worker that drives its runtime's timers, and the turn that of a task that sleeps. When a task is woken,
         // another worker gets up, finds nobody at the timers, and drives them.
-        if !state.blocked.is_empty() && turned_at.elapsed() >= BETWEEN_LOOKS {
+        if !state.blocked.is_empty() && now.since(turned_at) >= BETWEEN_LOOKS {
             state.wake_all();
         }
     }
@@ -468,10 +492,15 @@ impl Gate {
 
     /// Waits until the last calls of the journal are made, as long as there is progress.
     fn wait_for_the_rest(&self) {
-        let began = Instant::now();
         let mut state = self.enter();
-        while !state.is_over && began.max(state.turned_at).elapsed() < SHORT {
+        let began = state.clock.now();
+        while !state.is_over {
+            let since = began.max(state.turned_at);
+            if state.clock.since(since) >= SHORT {
+                return;
+            }
             state.blocked.push(this_thread());
+            self.keep_awake(&state);
             let woken = self.end.wait_timeout(state, SHORT / 4);
             (state, _) = woken.unwrap_or_else(PoisonError::into_inner);
             state.unblock(this_thread());

@@ -3,6 +3,7 @@
 use super::gate::Gate;
 use super::helper;
 use super::plan::Plan;
+use super::stop;
 use crate::actors;
 use crate::explore;
 use crate::lock::lock;
@@ -31,7 +32,7 @@ static OPEN: Mutex<Vec<Weak<Gate>>> = Mutex::new(Vec::new());
 ///
 /// # Errors
 ///
-/// Returns an error if a file can't be read, or isn't what it is to be.
+/// Returns an error if a file can't be read, or isn't what it is to be. It is one of invalid input if a variable isn't.
 pub(crate) fn open(path: &Path, recorder: u64) -> io::Result<Arc<Gate>> {
     let patience = patience(env::var(PATIENCE).ok())?;
     let text = fs::read(path).map_err(|error| of_file(path, &error))?;
@@ -45,7 +46,9 @@ pub(crate) fn open(path: &Path, recorder: u64) -> io::Result<Arc<Gate>> {
         Err(error) if error.kind() == io::ErrorKind::NotFound => Names::default(),
         Err(error) => return Err(of_file(&beside, &error)),
     };
-    let gate = Arc::new(Gate::new(path, recorder, Plan::new(&run, names), patience));
+    let plan = Plan::new(&run, names);
+    let stop_at = stop::index(env::var(stop::STOP).ok(), plan.steps.len())?;
+    let gate = Arc::new(Gate::new(path, recorder, plan, patience).stopping_at(stop_at));
     helper::start(&gate)?;
     let mut open = lock(&OPEN);
     open.retain(|gate| gate.upgrade().is_some_and(|gate| !gate.is_over()));
@@ -64,9 +67,8 @@ fn patience(text: Option<String>) -> io::Result<Duration> {
     };
     let milliseconds = text.parse().map(Duration::from_millis);
     milliseconds.map_err(|_| {
-        io::Error::other(format!(
-            "{PATIENCE} is `{text}`, and no number of milliseconds"
-        ))
+        let fault = format!("{PATIENCE} is `{text}`, and no number of milliseconds");
+        io::Error::new(io::ErrorKind::InvalidInput, fault)
     })
 }
 

@@ -1,9 +1,10 @@
 //! Whether all threads of the process wait, and none of them until a time. Then only those who wait before the gate can go on.
 
+use super::clock::Time;
 use crate::explore::{Asked, Sleeper, ThreadId, Threads, this_thread};
 use std::path::Path;
 use std::process;
-use std::time::{Duration, Instant};
+use std::time::Duration;
 
 /// What the threads of the process were seen to do.
 pub(super) struct Rest {
@@ -11,7 +12,7 @@ pub(super) struct Rest {
     /// The harness, which waits for the test until a time.
     harness: Option<ThreadId>,
     /// When the last call was made, and where all have slept since.
-    before: Option<(Instant, Vec<Sleeper>)>,
+    before: Option<(Time, Vec<Sleeper>)>,
 }
 
 impl Rest {
@@ -27,7 +28,7 @@ impl Rest {
 
     /// Whether all threads sleep where they did at the last look, and the last call was made at the same time. `blocked` wait before the gate. Where
     /// the system doesn't say what threads do, none are known to sleep.
-    pub(super) fn is_seen(&mut self, turned_at: Instant, blocked: &[ThreadId]) -> bool {
+    pub(super) fn is_seen(&mut self, turned_at: Time, blocked: &[ThreadId]) -> bool {
         let now = self.sleepers(blocked).map(|sleepers| (turned_at, sleepers));
         let is_same = now.is_some() && now == self.before;
         self.before = now;

@@ -1,5 +1,6 @@
 //! Where a replay stands, and who waits for their turn. The gate locks it.
 
+use super::clock::{Clock, Time};
 use super::outcome;
 use super::plan::{NONE, Plan};
 use super::{Coming, Identity};
@@ -10,7 +11,6 @@ use crate::word::Word;
 use std::collections::{BTreeMap, HashMap};
 use std::iter;
 use std::task::Waker;
-use std::time::Instant;
 
 /// How many tasks are known apart that poll the calls of a lane.
 const MOST_TASKS: usize = 8;
@@ -32,16 +32,16 @@ pub(super) enum Standing {
 pub(super) struct Waiter {
     pub(super) waker: Waker,
     pub(super) coming: Coming,
-    pub(super) since: Instant,
+    pub(super) since: Time,
 }
 
 impl Waiter {
     /// The future of this call, which waits from now on, or has waited since it did so before.
-    pub(super) fn new(coming: Coming, waker: Waker, before: Option<&Waiter>) -> Waiter {
+    pub(super) fn new(coming: Coming, waker: Waker, before: Option<&Waiter>, now: Time) -> Waiter {
         Waiter {
             waker,
             coming,
-            since: before.map_or_else(Instant::now, |before| before.since),
+            since: before.map_or(now, |before| before.since),
         }
     }
 }
@@ -49,7 +49,7 @@ impl Waiter {
 /// A named future whose poll is held back.
 pub(super) struct Held {
     pub(super) waker: Waker,
-    pub(super) since: Instant,
+    pub(super) since: Time,
 }
 
 pub(super) struct Lane {
@@ -102,7 +102,10 @@ pub(super) struct State {
     pub(super) is_helper_idle: bool,
     /// What the helper is to wake.
     pub(super) woken: Vec<Waker>,
-    pub(super) turned_at: Instant,
+    pub(super) clock: Clock,
+    pub(super) turned_at: Time,
+    /// The index of the call before which a debugger stops, until it has.
+    pub(super) stop_at: Option<usize>,
     pub(super) is_over: bool,
     /// Whether it was said how the replay went, and whether somebody has asked.
     pub(super) is_told: bool,
@@ -144,6 +147,7 @@ impl State {
             asked: None,
             called_at: None,
         };
+        let mut clock = Clock::new();
         State {
             position: 0,
             is_given: false,
@@ -155,7 +159,9 @@ impl State {
             blocked: Vec::new(),
             is_helper_idle: false,
             woken: Vec::new(),
-            turned_at: Instant::now(),
+            turned_at: clock.now(),
+            clock,
+            stop_at: None,
             is_over: plan.steps.is_empty(),
             is_told: false,
             is_asked: false,
@@ -198,6 +204,11 @@ impl State {
         let front = lane.map_or(NONE, |lane| self.lanes[lane as usize].front);
         let step = plan.steps.get(front as usize);
         step.map_or(Actor::MOST - 1, |step| step.call.actor as usize)
+    }
+
+    /// Whether the call whose turn it is is one of this lane.
+    pub(super) fn is_front(&self, lane: Option<u32>) -> bool {
+        lane.is_some_and(|lane| self.lanes[lane as usize].front as usize == self.position)
     }
 
     fn is_next_of_actor(&self, actor: usize) -> bool {
@@ -271,7 +282,7 @@ impl State {
         self.actors[step.call.actor as usize].front = step.next_of_actor;
         self.position += 1;
         self.is_given = false;
-        self.turned_at = Instant::now();
+        self.turned_at = self.clock.now();
         self.release(step.call.actor);
         self.wakes(plan)
     }
@@ -307,14 +318,12 @@ impl State {
 
     /// Holds back the poll of a future, until its actor is released.
     pub(super) fn hold(&mut self, actor: u32, waker: Waker) -> Option<Waker> {
+        let since = self.clock.now();
         let held = &mut self.actors[actor as usize].held;
         if held.iter().any(|before| before.waker.will_wake(&waker)) {
             return Some(waker);
         }
-        held.push(Held {
-            waker,
-            since: Instant::now(),
-        });
+        held.push(Held { waker, since });
         self.held_count += 1;
         None
     }

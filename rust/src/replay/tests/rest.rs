@@ -1,6 +1,7 @@
 //! Polls that are held back until all threads sleep. Each test has a process of its own, where no other test runs beside it.
 
 use super::{JOURNAL, NAMES, PATIENT, make_first, plan_of, told};
+use crate::replay::clock::Clock;
 use crate::replay::gate::Gate;
 use crate::replay::helper;
 use crate::replay::rest::Rest;
@@ -36,7 +37,7 @@ fn is_alone(test: &str) -> bool {
 
 /// Looks until all are seen to sleep, or for so many times in vain.
 fn is_seen(rest: &mut Rest, times: usize) -> bool {
-    let now = Instant::now();
+    let now = Clock::new().now();
     (0..times).any(|_| {
         thread::yield_now();
         rest.is_seen(now, &[])
