@@ -11,10 +11,10 @@ use yovanelum::debugger::Condition;
 use yovanelum::debugger::recorded::NamedCondition;
 
 /// The words of the console.
-const WORDS: [&str; 23] = [
+const WORDS: [&str; 24] = [
     "back", "forward", "goto", "start", "end", "step", "state", "list", "rback", "rforward",
-    "hits", "why", "help", "actor", "channel", "reply", "lagging", "unread", "unseen", "version",
-    "closed", "queue", "value",
+    "hits", "why", "native", "help", "actor", "channel", "reply", "lagging", "unread", "unseen",
+    "version", "closed", "queue", "value",
 ];
 
 /// How many entries `list` prints.
@@ -25,6 +25,7 @@ back [N], forward [N], goto N, start, end   go to another call
 rback CONDITION, rforward CONDITION         go to the nearest call that meets it
 hits CONDITION                              count these up to here
 step, state, list, why                      print the call, the channels, all calls, the report
+native                                      run the test again, and stop before this call in a native debugger
 An expression prints its value: audit, audit.lag, orders.queued, reply, call, actor, number
 Conditions: lagging R, unread R N, unseen R, closed C, queue C N, version C N, actor A, channel C, reply WORD";
 
@@ -93,6 +94,11 @@ impl Debuggee {
                 format!("{hits} of `{condition}` up to call {}", self.place)
             }
             ("why", "") => self.recording.names.report().trim_end().to_string(),
+            ("native", "") => {
+                let call = self.call_at(self.place)?;
+                self.wanted = Some(call);
+                format!("the test is built, to stop before call {call} in a native debugger")
+            }
             ("help", "") => HELP.to_string(),
             _ => return Ok(None),
         };

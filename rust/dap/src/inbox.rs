@@ -13,6 +13,8 @@ pub(crate) enum Incoming {
     Line(String),
     /// The test's output has ended.
     Ended,
+    /// What cargo has said of a build that has ended.
+    Built(Vec<u8>),
     /// No message can be found any more, if there is an error. Else the stream has ended.
     NoMore(Option<io::Error>),
 }

@@ -3,6 +3,7 @@
 use crate::arguments::Arguments;
 use crate::inbox::Incoming;
 use crate::journal::newest;
+use crate::native;
 use crate::{Answer, Refusal};
 use serde_json::Value;
 use std::io::{self, BufRead, BufReader, Read};
@@ -24,9 +25,11 @@ pub(crate) struct Launch {
     pub(crate) root: Option<String>,
     pub(crate) replaced: Vec<(String, String)>,
     pub(crate) stop_at: StopAt,
+    /// How the editor's own debugger is started: the type of a configuration, or members of one.
+    pub(crate) native: Value,
+    pub(crate) variables: Vec<(String, String)>,
     folder: PathBuf,
     cargo: Vec<String>,
-    variables: Vec<(String, String)>,
 }
 
 /// Where the first stop is.
@@ -65,6 +68,7 @@ impl Launch {
                 .map(owned)
                 .collect(),
             stop_at: stop_at(given)?,
+            native: native::of_launch(given)?,
             folder,
             cargo: given
                 .texts("cargoArgs")?
@@ -123,22 +127,46 @@ impl Launch {
     pub(crate) fn start(&self, test: &str, lines: &Sender<Incoming>) -> Answer<Running> {
         let mut command = self.command(&["test"]);
         command.args(&self.cargo).args([test, "--", "--nocapture"]);
-        command
-            .env("YOVANELUM_KEEP", "1")
-            .stdout(Stdio::piped())
-            .stderr(Stdio::piped());
-        in_own_group(&mut command);
-        let mut child = command.spawn().map_err(|error| {
+        let mut child = self.spawn(command.env("YOVANELUM_KEEP", "1"))?;
+        for stream in [readable(child.stdout.take()), readable(child.stderr.take())] {
+            let lines = lines.clone();
+            thread::spawn(move || {
+                let _ = pass_lines(stream, &lines);
+                let _ = lines.send(Incoming::Ended);
+            });
+        }
+        Ok(Running::of(child))
+    }
+
+    /// Starts a build of the tests of a package. Its messages are sent when it ends.
+    pub(crate) fn build(&self, package: &str, sender: &Sender<Incoming>) -> Answer<Running> {
+        let mut command = self.command(&["test", "--no-run"]);
+        command.arg("--message-format=json-render-diagnostics");
+        let is_said = |word: &String| word.starts_with("-p") || word.starts_with("--package");
+        if !package.is_empty() && !self.cargo.iter().any(is_said) {
+            command.arg(format!("--package={package}"));
+        }
+        let mut child = self.spawn(command.args(&self.cargo))?;
+        let (lines, messages) = (sender.clone(), sender.clone());
+        let said = readable(child.stderr.take());
+        thread::spawn(move || pass_lines(said, &lines));
+        let mut built = readable(child.stdout.take());
+        thread::spawn(move || {
+            let mut bytes = vec![];
+            let _ = built.read_to_end(&mut bytes);
+            let _ = messages.send(Incoming::Built(bytes));
+        });
+        Ok(Running::of(child))
+    }
+
+    fn spawn(&self, command: &mut Command) -> Answer<Child> {
+        command.stdout(Stdio::piped()).stderr(Stdio::piped());
+        in_own_group(command);
+        command.spawn().map_err(|error| {
             Refusal(format!(
                 "cargo can't be run in {}: {error}",
                 self.folder.display()
             ))
-        })?;
-        pass_on(child.stdout.take(), lines.clone());
-        pass_on(child.stderr.take(), lines.clone());
-        Ok(Running {
-            child,
-            since: SystemTime::now(),
         })
     }
 }
@@ -157,7 +185,7 @@ fn stop_at(given: Arguments<'_>) -> Answer<StopAt> {
     }
 }
 
-/// A test that runs.
+/// A test that runs, or is built.
 pub(crate) struct Running {
     child: Child,
     pub(crate) since: SystemTime,
@@ -166,6 +194,13 @@ pub(crate) struct Running {
 impl Running {
     /// How many streams pass on their lines.
     pub(crate) const STREAMS: usize = 2;
+
+    fn of(child: Child) -> Running {
+        Running {
+            child,
+            since: SystemTime::now(),
+        }
+    }
 
     /// Waits for the end, once its streams have ended.
     pub(crate) fn wait(&mut self) {
@@ -180,14 +215,12 @@ impl Running {
     }
 }
 
-/// Passes on the lines of a stream, in a thread of its own.
-fn pass_on(stream: Option<impl Read + Send + 'static>, lines: Sender<Incoming>) {
-    thread::spawn(move || {
-        if let Some(stream) = stream {
-            let _ = pass_lines(stream, &lines);
-        }
-        let _ = lines.send(Incoming::Ended);
-    });
+/// Returns the stream of a program, which is there.
+fn readable(stream: Option<impl Read + Send + 'static>) -> Box<dyn Read + Send> {
+    match stream {
+        Some(stream) => Box::new(stream),
+        None => Box::new(io::empty()),
+    }
 }
 
 fn pass_lines(stream: impl Read, lines: &Sender<Incoming>) -> io::Result<()> {

@@ -12,6 +12,7 @@ mod journal;
 mod launch;
 mod message;
 mod moves;
+mod native;
 mod recording;
 mod session;
 mod shown;

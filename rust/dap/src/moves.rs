@@ -9,6 +9,9 @@ use crate::variables::Group;
 use crate::{Answer, Refusal};
 use serde_json::{Value, json};
 
+/// The target of a step in that is the real call, in a native debugger. No place has this number.
+pub(crate) const REAL_CALL: u64 = i32::MAX as u64;
+
 /// How many lines log points print in one move.
 const MOST_LINES: usize = 10_000;
 
@@ -23,6 +26,10 @@ pub(crate) struct Debuggee {
     /// The frames and groups of variables that have numbers, from 1 on. A move forgets them.
     pub(crate) frames: Vec<Frame>,
     pub(crate) groups: Vec<Group>,
+    /// Whether the client starts other debuggers.
+    pub(crate) has_debuggers: bool,
+    /// The call before which a native debugger is wanted.
+    pub(crate) wanted: Option<u32>,
     /// What is sent after the response.
     pub(crate) events: Vec<(&'static str, Value)>,
 }
@@ -64,6 +71,8 @@ impl Debuggee {
             breakpoints: Breakpoints::default(),
             frames: vec![],
             groups: vec![],
+            has_debuggers: false,
+            wanted: None,
             events: vec![],
         }
     }
@@ -153,6 +162,11 @@ impl Debuggee {
     pub(crate) fn step_in(&mut self, given: Arguments<'_>) -> Answer {
         self.actor_of(given.need_number("threadId")?)?;
         let chosen = given.number("targetId")?;
+        if chosen == Some(REAL_CALL) {
+            self.wanted = Some(self.call_at(self.place)?);
+            self.stop(Stop::of("step"));
+            return Ok(Value::Null);
+        }
         let place = match chosen {
             Some(id) => Some(self.place_of_id(id)?),
             None => self
@@ -296,6 +310,22 @@ impl Debuggee {
         let place = self.place_of_id(given.need_number("targetId")?)?;
         self.jump(place);
         Ok(Value::Null)
+    }
+
+    /// Wants a native debugger before the call of a frame, or before that of the place.
+    pub(crate) fn debug_real_call(&mut self, given: Arguments<'_>) -> Answer {
+        let place = match given.number("frameId")?.filter(|id| *id > 0) {
+            Some(id) => self.frame_of(id)?.call.unwrap_or(0),
+            None => self.place,
+        };
+        self.wanted = Some(self.call_at(place)?);
+        Ok(Value::Null)
+    }
+
+    /// Returns the number of the call that led to a place.
+    pub(crate) fn call_at(&self, place: u32) -> Answer<u32> {
+        let call = Some(place).filter(|place| *place > 0);
+        call.ok_or_else(|| Refusal::new("no call was made yet"))
     }
 
     pub(crate) fn restart_frame(&mut self, given: Arguments<'_>) -> Answer {

@@ -6,6 +6,7 @@ use crate::inbox::{Inbox, Incoming};
 use crate::journal::Journal;
 use crate::launch::{Launch, Running, StopAt, absolute};
 use crate::moves::Debuggee;
+use crate::native::Native;
 use crate::recording::Recording;
 use crate::sources::{Bases, Sources};
 use crate::{Answer, Refusal, message};
@@ -46,6 +47,10 @@ const SUPPORTED: [&str; 21] = [
     "supportsCancelRequest",
 ];
 
+/// Why no test is run or built.
+const NOT_ALLOWED: &str =
+    "no test is run for a client of a port: start the adapter with `--run-tests`";
+
 struct Session<W> {
     inbox: Inbox,
     output: W,
@@ -53,8 +58,11 @@ struct Session<W> {
     sent: u64,
     bases: Bases,
     has_progress: bool,
+    /// Whether the client starts other debuggers.
+    has_debuggers: bool,
     launched: Option<Value>,
     debuggee: Option<Debuggee>,
+    native: Option<Native>,
     is_over: bool,
 }
 
@@ -67,25 +75,35 @@ pub fn serve(input: impl Read + Send + 'static, output: impl Write, options: Opt
         sent: 0,
         bases: Bases { line: 1, column: 1 },
         has_progress: false,
+        has_debuggers: false,
         launched: None,
         debuggee: None,
+        native: None,
         is_over: false,
     };
-    while !session.is_over {
-        match session.inbox.next() {
-            Incoming::Message(bytes) => session.receive(&bytes),
-            Incoming::Line(_) | Incoming::Ended => {}
-            Incoming::NoMore(None) => return true,
-            Incoming::NoMore(Some(fault)) => {
-                session.respond(&Value::Null, Err(Refusal(fault.to_string())));
-                return false;
-            }
-        }
-    }
-    true
+    let is_whole = session.run();
+    session.end_build();
+    is_whole
 }
 
 impl<W: Write> Session<W> {
+    fn run(&mut self) -> bool {
+        while !self.is_over {
+            match self.inbox.next() {
+                Incoming::Message(bytes) => self.receive(&bytes),
+                Incoming::Line(line) => self.print("console", &line),
+                Incoming::Ended => {}
+                Incoming::Built(messages) => self.start_native(&messages),
+                Incoming::NoMore(None) => return true,
+                Incoming::NoMore(Some(fault)) => {
+                    self.respond(&Value::Null, Err(Refusal(fault.to_string())));
+                    return false;
+                }
+            }
+        }
+        true
+    }
+
     fn send(&mut self, mut message: Value) {
         self.sent += 1;
         message["seq"] = self.sent.into();
@@ -119,8 +137,8 @@ impl<W: Write> Session<W> {
             }
         };
         match request.get("type").and_then(Value::as_str) {
-            // The answer to a request of the adapter's.
-            Some("response" | "event") => return,
+            Some("response") => return self.heed(&request),
+            Some("event") => return,
             Some("request") => {}
             _ => return self.respond(&request, Err(Refusal::new("a message is no request"))),
         }
@@ -142,6 +160,75 @@ impl<W: Write> Session<W> {
             .map(|debuggee| std::mem::take(&mut debuggee.events));
         for (event, body) in events.unwrap_or_default() {
             self.event(event, body);
+        }
+        let wanted = self.debuggee.as_mut().and_then(|it| it.wanted.take());
+        if let Some(call) = wanted {
+            self.build_native(call);
+        }
+    }
+
+    /// Takes the answer to a request of the adapter's.
+    fn heed(&mut self, response: &Value) {
+        let is_of = |command| response.get("command").and_then(Value::as_str) == Some(command);
+        if is_of("startDebugging") && response.get("success") != Some(&true.into()) {
+            let why = response.get("message").and_then(Value::as_str);
+            let why = why.unwrap_or("it doesn't say why");
+            let line = format!(
+                "the editor didn't start its debugger: {why}. `nativeDebugger` of the launch says its type\n"
+            );
+            self.print("important", &line);
+        }
+    }
+
+    /// Builds the test of the journal, to stop a native debugger before this call.
+    fn build_native(&mut self, call: u32) {
+        let sender = self.inbox.sender();
+        let begun = match (&mut self.native, self.options.runs_tests) {
+            (Some(native), true) => native.build(call, &sender),
+            (Some(_), false) => Err(Refusal::new(NOT_ALLOWED)),
+            (None, _) => Err(Refusal::new("nothing was launched")),
+        };
+        match begun {
+            Err(Refusal(fault)) => self.print("important", &format!("{fault}\n")),
+            Ok(()) if self.has_progress => {
+                let title = format!("building the test, to stop before call {call}");
+                let body = json!({"progressId": "native", "title": title, "cancellable": true});
+                self.event("progressStart", body);
+            }
+            Ok(()) => {}
+        }
+    }
+
+    fn end_build(&mut self) {
+        if let Some(native) = &mut self.native {
+            native.end();
+        }
+    }
+
+    /// Has the editor start its own debugger on the test that was built, or says how to.
+    fn start_native(&mut self, messages: &[u8]) {
+        if self.has_progress {
+            self.event("progressEnd", json!({"progressId": "native"}));
+        }
+        let Some(native) = &mut self.native else {
+            return;
+        };
+        match native.built(messages) {
+            Err(Refusal(fault)) => self.print("important", &format!("{fault}\n")),
+            Ok(start) if self.has_debuggers => {
+                let configuration = native.configuration(&start);
+                let arguments = json!({"configuration": configuration, "request": "launch"});
+                self.send(
+                    json!({"type": "request", "command": "startDebugging", "arguments": arguments}),
+                );
+            }
+            Ok(start) => {
+                let line = format!(
+                    "this editor starts no other debugger for an adapter. In a shell:\n{}\n",
+                    start.command()
+                );
+                self.print("important", &line);
+            }
         }
     }
 
@@ -171,7 +258,10 @@ impl<W: Write> Session<W> {
             "initialize" => self.initialize(given),
             "launch" | "attach" => self.launch(given),
             "restart" => self.restart(),
-            "cancel" | "terminate" => Ok(Value::Null),
+            "cancel" | "terminate" => {
+                self.end_build();
+                Ok(Value::Null)
+            }
             "disconnect" => {
                 self.is_over = true;
                 Ok(Value::Null)
@@ -192,6 +282,8 @@ impl<W: Write> Session<W> {
             column: base("columnsStartAt1")?,
         };
         self.has_progress = given.flag("supportsProgressReporting")?.unwrap_or(false);
+        let starts = given.flag("supportsStartDebuggingRequest")?;
+        self.has_debuggers = starts.unwrap_or(false);
         let mut answer = json!({});
         for key in SUPPORTED {
             answer[key] = true.into();
@@ -218,11 +310,14 @@ impl<W: Write> Session<W> {
             StopAt::End => last,
             StopAt::Call(call) => call,
         };
-        let debuggee = Debuggee::new(recording, self.bases, place.min(last));
+        let mut debuggee = Debuggee::new(recording, self.bases, place.min(last));
+        debuggee.has_debuggers = self.has_debuggers;
         for line in debuggee.report_lines() {
             self.event("output", line);
         }
         self.debuggee = Some(debuggee);
+        self.end_build();
+        self.native = Some(Native::of(&journal, launch));
         Ok(Value::Null)
     }
 
@@ -251,9 +346,7 @@ impl<W: Write> Session<W> {
             (Some(journal), _) => Ok(journal.clone()),
             (None, Some(test)) if launch.runs => {
                 if !self.options.runs_tests {
-                    return Err(Refusal::new(
-                        "no test is run for a client of a port: start the adapter with `--run-tests`",
-                    ));
+                    return Err(Refusal::new(NOT_ALLOWED));
                 }
                 self.run_test(launch, test)
             }
@@ -291,6 +384,7 @@ impl<W: Write> Session<W> {
             match self.inbox.next_new() {
                 Incoming::Line(line) => self.print("stdout", &line),
                 Incoming::Ended => streams -= 1,
+                Incoming::Built(messages) => self.start_native(&messages),
                 incoming => {
                     let is_end = ends_test(&incoming);
                     self.inbox.put_back(incoming);
@@ -344,6 +438,7 @@ impl Debuggee {
             "loadedSources" => self.loaded_sources(),
             "source" => self.source(given),
             "locations" => self.location(given),
+            "native" => self.debug_real_call(given),
             _ => self.set(command, given),
         }
     }

@@ -1,7 +1,7 @@
 //! Where a value went: from a send to its receives, and from a receive to its send.
 
 use crate::arguments::Arguments;
-use crate::moves::Debuggee;
+use crate::moves::{Debuggee, REAL_CALL};
 use crate::{Answer, recording::Recording};
 use serde_json::json;
 use yovanelum::debugger::{Channel, Entry};
@@ -26,7 +26,9 @@ impl Debuggee {
         let targets = targets
             .into_iter()
             .map(|it| json!({"id": it.place, "label": it.label}));
-        Ok(json!({"targets": targets.collect::<Vec<_>>()}))
+        let real = json!({"id": REAL_CALL, "label": "the real call, in a native debugger"});
+        let real = (self.has_debuggers && frame.call == Some(self.place)).then_some(real);
+        Ok(json!({"targets": targets.chain(real).collect::<Vec<_>>()}))
     }
 
     /// Returns where the value of a call went or came from, the nearest first.

@@ -31,7 +31,7 @@ impl Random {
     }
 }
 
-const COMMANDS: [&str; 36] = [
+const COMMANDS: [&str; 37] = [
     "initialize",
     "launch",
     "attach",
@@ -66,6 +66,7 @@ const COMMANDS: [&str; 36] = [
     "terminate",
     "restart",
     "pause",
+    "native",
     "setVariable",
     "",
 ];
@@ -107,7 +108,7 @@ const KEYS: [&str; 34] = [
     "linesStartAt1",
 ];
 
-const TEXTS: [&str; 40] = [
+const TEXTS: [&str; 41] = [
     "",
     "repl",
     "hover",
@@ -125,6 +126,7 @@ const TEXTS: [&str; 40] = [
     "state",
     "list",
     "why",
+    "native",
     "((((",
     "!!!!!!!!",
     "`",

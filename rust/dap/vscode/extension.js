@@ -12,5 +12,6 @@ exports.activate = (context) => {
     vscode.debug.registerDebugConfigurationProvider('yovanelum', {
       resolveDebugConfiguration: (folder, config) => (config.type ? config : plain(folder)),
     }),
+    vscode.commands.registerCommand('yovanelum.native', () => vscode.debug.activeDebugSession?.customRequest('native', {})),
   );
 };

@@ -1,18 +1,62 @@
-"""Has gdb stop a replay before each send of a journal, and looks at the thread and at its own variable there. `gdb -batch -x native.py`, with the
-variables JOURNAL, PROGRAM and TEST, SAID, a file for what the replays say, and FOUND, one for what was found."""
+"""Has gdb stop a replay before each send of a journal, and looks there at the thread and at a variable of the test's own. `gdb -batch -x native.py`,
+with the variables ADAPTER, the program, SHOP, the package with the test, SAID, a file for what the replays say, and FOUND, one for what was found."""
 
 import json
 import os
+import subprocess
 import time
 
 import gdb
 
-journal = os.environ["JOURNAL"]
-said = os.environ["SAID"]
+shop, said = os.environ["SHOP"], os.environ["SAID"]
 found = open(os.environ["FOUND"], "w")
 
 
-def sends():
+class Adapter:
+    """A client of the adapter, which can start other debuggers."""
+
+    def __init__(self):
+        self.process = subprocess.Popen([os.environ["ADAPTER"]], stdin=subprocess.PIPE, stdout=subprocess.PIPE, cwd=shop)
+        self.count = 0
+
+    def next(self):
+        length = 0
+        for line in iter(self.process.stdout.readline, b"\r\n"):
+            length = int(line.split(b":")[1])
+        return json.loads(self.process.stdout.read(length))
+
+    def until(self, is_wanted):
+        message = self.next()
+        while not is_wanted(message):
+            message = self.next()
+        return message
+
+    def ask(self, command, **arguments):
+        self.count += 1
+        text = json.dumps({"seq": self.count, "type": "request", "command": command, "arguments": arguments}).encode()
+        self.process.stdin.write(b"Content-Length: %d\r\n\r\n%s" % (len(text), text))
+        self.process.stdin.flush()
+        answer = self.until(lambda message: message["type"] == "response" and message["command"] == command)
+        assert answer["success"], answer
+        return answer.get("body")
+
+    def configuration(self, call):
+        """Has the adapter run the test, goes to a call, and asks for the real one. Returns how the adapter has another debugger started."""
+        self.ask("initialize", adapterID="yovanelum", supportsStartDebuggingRequest=True)
+        self.ask("launch", test="two_desks", stopAt=call, nativeDebugger="gdb")
+        self.ask("configurationDone")
+        thread = self.until(lambda message: message.get("event") == "stopped")["body"]["threadId"]
+        frame = self.ask("stackTrace", threadId=thread, levels=1)["stackFrames"][0]["id"]
+        targets = self.ask("stepInTargets", frameId=frame)["targets"]
+        real = [target["id"] for target in targets if target["label"] == "the real call, in a native debugger"]
+        self.ask("stepIn", threadId=thread, targetId=real[0])
+        started = self.until(lambda message: message.get("command") == "startDebugging")
+        self.ask("disconnect")
+        self.process.wait()
+        return started["arguments"]["configuration"]
+
+
+def sends(journal):
     """The sends of the journal, each with its number, its actor's name and the text of its value."""
     with open(journal[: -len("journal")] + "names") as file:
         names = json.load(file)
@@ -23,9 +67,19 @@ def sends():
         yield int(number), names["actors"][actor], names["values"][channel][value]
 
 
-def start(number):
-    """Runs the test until it stops before the call, and returns the thread's name and the text of the value that it is about to send."""
-    gdb.execute("set environment YOVANELUM_REPLAY_STOP %d" % number)
+def prepare(started):
+    """Has gdb start what the adapter says."""
+    for setting in ("pagination off", "confirm off", "debuginfod enabled off", "print thread-events off"):
+        gdb.execute("set " + setting)
+    gdb.execute("file " + started["program"], to_string=True)
+    gdb.execute("cd " + started["cwd"], to_string=True)
+    gdb.execute("set args %s 2>%s >/dev/null" % (" ".join(started["args"]), said))
+    for name, value in started["env"].items():
+        gdb.execute("set environment %s %s" % (name, value))
+
+
+def run():
+    """Runs the test until it stops, and returns the thread's name and the text of the value that it is about to send."""
     gdb.execute("run", to_string=True)
     frame = gdb.newest_frame()
     while frame.name() != "desks::publish":
@@ -33,31 +87,28 @@ def start(number):
     return gdb.selected_thread().name, "order %d" % int(frame.read_var("id"))
 
 
-def finish():
-    """Lets the test go on to its end, and returns what was said of the replay."""
-    gdb.execute("continue", to_string=True)
-    with open(said) as file:
-        return file.read()
-
-
-for command in ("pagination off", "confirm off", "debuginfod enabled off", "print thread-events off", "breakpoint pending on"):
-    gdb.execute("set " + command)
-gdb.execute("file " + os.environ["PROGRAM"], to_string=True)
-gdb.execute("set args %s --exact 2>%s >/dev/null" % (os.environ["TEST"], said))
-gdb.execute("set environment YOVANELUM_REPLAY " + journal)
-expected = list(sends())
+started = Adapter().configuration(call=40)
+environment = started["env"]
+print("%s starts before call %s" % (started["type"], environment["YOVANELUM_REPLAY_STOP"]), file=found)
+prepare(started)
+expected = list(sends(environment["YOVANELUM_REPLAY"]))
+of_call = {number: (thread, value) for number, thread, value in expected}
+print("as recorded there:", run() == of_call[40], file=found)
 right = 0
 for number, thread, value in expected:
-    seen = start(number)
-    if seen == (thread, value):
-        right += 1
-    else:
-        print("call %d is by %s of %s, and gdb saw %s" % (number, thread, value, seen), file=found)
     gdb.execute("kill", to_string=True)
-threads = len({thread for _, thread, _ in expected})
-turns = sum(a[1] != b[1] for a, b in zip(expected, expected[1:]))
-print("%d threads, whose order changes %s: %d of %d" % (threads, "often" if turns > 4 else "seldom", right, len(expected)), file=found)
-# The other threads wait meanwhile, far longer than without a debugger.
-start(expected[len(expected) // 2][0])
+    gdb.execute("set environment YOVANELUM_REPLAY_STOP %d" % number)
+    seen = run()
+    right += seen == (thread, value)
+    if seen != (thread, value):
+        print("call %d is by %s of %s, and gdb saw %s" % (number, thread, value, seen), file=found)
+switches = sum(one[1] != other[1] for one, other in zip(expected, expected[1:]))
+print("right: %d of %d, with at least 5 switches: %s" % (right, len(expected), switches >= 5), file=found)
+gdb.execute("kill", to_string=True)
+gdb.execute("set environment YOVANELUM_REPLAY_STOP %d" % expected[len(expected) // 2][0])
+run()
+# The other desk waits meanwhile, longer than it does without a debugger.
 time.sleep(4)
-print("after a pause:", "in the recorded order" in finish(), file=found)
+gdb.execute("continue", to_string=True)
+with open(said) as file:
+    print("after a pause, in the recorded order:", "calls in the recorded order; the test passed" in file.read(), file=found)
