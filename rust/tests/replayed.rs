@@ -3,8 +3,9 @@
 mod support;
 
 use std::fs;
+use std::io::{self, Write};
 use std::path::PathBuf;
-use std::process::Command;
+use std::process::{Command, Stdio};
 use std::sync::atomic::{AtomicBool, Ordering};
 use std::sync::mpsc;
 use std::thread::{self, JoinHandle};
@@ -30,6 +31,9 @@ fn spawn(name: &'static str, run: impl FnOnce() + Send + 'static) -> JoinHandle<
     let run = move || {
         if is_set(SLOW, name) {
             thread::sleep(Duration::from_millis(30));
+        }
+        if name == "Bob" && is_set(SLOW, "for a line") {
+            io::stdin().read_line(&mut String::new()).unwrap();
         }
         while name == "Ann" && is_set(SLOW, "waits") && !BOB_HAS_BID.load(Ordering::Relaxed) {
             thread::yield_now();
@@ -350,7 +354,7 @@ fn a_replay_tells_of_the_call_that_a_debugger_is_to_see() {
         part.env(STOP, "4");
     });
     let is_there = match cfg!(target_os = "linux") {
-        true => "no debugger is attached, so the replay goes on at #4 of 9, `",
+        true => "no debugger is attached, so the replay goes on at call 4 of 9, `",
         false => "",
     };
     let start = format!("yovanelum: {is_there}");
@@ -380,13 +384,74 @@ fn a_debugger_sees_a_watch_before_a_closure_changes_it() {
     let (_, said) = part.replay(|part| {
         part.env(STOP, "1");
     });
-    assert!(said[0].contains(" #1 of "), "{said:#?}");
+    assert!(said[0].contains(" call 1 of "), "{said:#?}");
     assert!(said[0].contains(", `modify 0` on `feed` by `"), "{said:#?}");
     assert_eq!(said[1], "yovanelum: in the replay, the closure has 7");
     // It stops once.
     assert_eq!(
-        said.iter().filter(|line| line.contains(" #1 of ")).count(),
+        said.iter()
+            .filter(|line| line.contains(" call 1 of "))
+            .count(),
         1
+    );
+}
+
+/// Waits until the thread of Ann in a process is in this state, as the system's letter says.
+#[cfg(target_os = "linux")]
+fn wait_for_ann(process: u32, state: char) {
+    let is_ann = |thread: &PathBuf| {
+        fs::read_to_string(thread.join("comm")).is_ok_and(|name| name.trim_end() == "Ann")
+    };
+    let state_of = |thread: PathBuf| {
+        let stat = fs::read_to_string(thread.join("stat")).ok()?;
+        stat.rsplit_once(") ")?.1.chars().next()
+    };
+    loop {
+        let threads = fs::read_dir(format!("/proc/{process}/task")).unwrap();
+        let mut threads = threads.map(|thread| thread.unwrap().path());
+        if threads.find(is_ann).and_then(state_of) == Some(state) {
+            return;
+        }
+        thread::yield_now();
+    }
+}
+
+#[cfg(target_os = "linux")]
+#[test]
+fn a_program_that_was_stopped_for_long_goes_on_in_order() {
+    if is_part() {
+        return ann_is_the_first();
+    }
+    let part = Part::new("a_program_that_was_stopped_for_long_goes_on_in_order");
+    part.record();
+    let mut command = started(part.test, &part.folder.0);
+    command
+        .arg("--nocapture")
+        .env("YOVANELUM_REPLAY", part.journal())
+        .env(SLOW, "for a line")
+        .stdin(Stdio::piped())
+        .stdout(Stdio::null())
+        .stderr(Stdio::piped());
+    let mut child = command.spawn().unwrap();
+    let process = child.id();
+    let signal = |name: &str| {
+        let sent = Command::new("kill")
+            .args([name, &process.to_string()])
+            .status();
+        assert!(sent.unwrap().success());
+    };
+    // Ann waits for the turn of Bob, who waits for a line, which comes when the program was stopped for longer than she waits.
+    wait_for_ann(process, 'S');
+    signal("-STOP");
+    wait_for_ann(process, 'T');
+    thread::sleep(Duration::from_secs(4));
+    child.stdin.take().unwrap().write_all(b"go on\n").unwrap();
+    signal("-CONT");
+    let said = child.wait_with_output().unwrap().stderr;
+    let said = String::from_utf8(said).unwrap();
+    assert!(
+        said.contains("all 9 calls in the recorded order; the same failure"),
+        "{said}"
     );
 }
 

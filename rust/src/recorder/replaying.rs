@@ -33,6 +33,9 @@ impl Recorder {
     /// The names of actors, and who has created each channel, are read from the file `.names` beside the journal. Without it, channels aren't
     /// found again, and nothing is ordered.
     ///
+    /// The variable `YOVANELUM_REPLAY_STOP=3` stops the replay before call 3 in a native debugger, in the thread that makes it. While a debugger
+    /// holds all threads, the time in which a call has to come stands still. Without a debugger, one line says so.
+    ///
     /// Timers, random numbers, other channels and all else that the journal does not have are not brought back.
     ///
     /// [`for_test`](Recorder::for_test) replays the journal that the environment variable `YOVANELUM_REPLAY` names, without an edit of the test.

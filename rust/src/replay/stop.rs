@@ -1,7 +1,7 @@
 //! Where a replay stops for a native debugger: in the thread that makes the call, before it is made.
 #![allow(unsafe_code)]
 
-use super::outcome::{self, place, step_in_words};
+use super::outcome::{self, call_of, step_in_words};
 use super::plan::Plan;
 use std::{env, io};
 
@@ -30,7 +30,7 @@ pub(super) fn index(text: Option<String>, calls: usize) -> io::Result<Option<usi
 /// Stops in the debugger that this process runs under. Without one, nothing stops. One line says so.
 #[inline(never)]
 pub(super) fn stop_before(plan: &Plan, position: usize) {
-    let mut call = place(plan, position);
+    let mut call = call_of(plan, position);
     if let Some(step) = plan.steps.get(position) {
         call = format!("{call}, {}", step_in_words(plan, step));
     }
