@@ -4,8 +4,9 @@
 use crate::json::{hangs, number, text};
 use crate::natural::natural;
 use crate::{PROGRAMS, Program};
-use std::collections::BTreeSet;
+use std::collections::{BTreeMap, BTreeSet};
 use std::process::Command;
+use std::sync::Mutex;
 use std::sync::atomic::{AtomicUsize, Ordering};
 use std::time::Instant;
 use std::{env, fs, thread};
@@ -47,28 +48,41 @@ fn load() -> String {
     load.split(' ').take(3).collect::<Vec<_>>().join(" ")
 }
 
-/// `ONLY` names some of the programs, `SECONDS` says how long each is run without being explored, and `BESIDE` how many programs are tried beside
-/// each other.
-#[test]
-#[ignore = "it takes minutes"]
-fn the_bugs() {
+/// Prints a table with this head. Rows are made beside each other, and printed in their order.
+fn print_table(head: &str, count: usize, row: impl Fn(usize) -> String + Sync) {
     println!("load {}", load());
-    println!(
-        "program | found in run | the same from ten seeds, median | replays that fail | schedules that fail | free runs that fail | runs with sleeps that fail"
-    );
-    let bugs: Vec<_> = programs().filter(|(name, _)| !is_right(name)).collect();
+    println!("| {head} |\n{}|", "|---".repeat(head.split(" | ").count()));
+    let rows = Mutex::new((0, BTreeMap::new()));
     let next = AtomicUsize::new(0);
-    let tries = || {
-        while let Some((name, _)) = bugs.get(next.fetch_add(1, Ordering::Relaxed)) {
-            println!("{}", row(name));
+    let make = || {
+        while let Some(index) = Some(next.fetch_add(1, Ordering::Relaxed)).filter(|it| *it < count)
+        {
+            let made = row(index);
+            let mut rows = rows.lock().unwrap();
+            let (printed, waiting) = &mut *rows;
+            waiting.insert(index, made);
+            while let Some(row) = waiting.remove(printed) {
+                println!("| {row} |");
+                *printed += 1;
+            }
         }
     };
     thread::scope(|scope| {
         for _ in 0..setting("BESIDE", 1) {
-            scope.spawn(tries);
+            scope.spawn(make);
         }
     });
     println!("load {}", load());
+}
+
+/// `ONLY` names some of the programs, `EACH` says how many seconds each is run without being explored, and `BESIDE` how many programs are tried
+/// beside each other.
+#[test]
+#[ignore = "it takes minutes"]
+fn the_bugs() {
+    let bugs: Vec<_> = programs().filter(|(name, _)| !is_right(name)).collect();
+    let head = "Program | Found | Median | Replays | By choices | Free | With sleeps";
+    print_table(head, bugs.len(), |index| row(bugs[index].0));
 }
 
 fn row(name: &'static str) -> String {
@@ -81,15 +95,30 @@ fn row(name: &'static str) -> String {
         .map(|seed| from_seed(&program, seed * 1000))
         .collect();
     seeds.sort_unstable();
-    let seconds = setting("SECONDS", 5);
+    let seconds = setting("EACH", 60);
     format!(
-        "{name} | {search} | {} | {} of {REPLAYS} | {} of 10 | {} | {}",
+        "`{name}` | {search} | {} | {} of {REPLAYS} | {} of 10 | {} | {}",
         seeds[seeds.len() / 2],
         replays(&program, &journal, hangs),
         number(&json, "bySchedule"),
-        natural(name, false, seconds),
-        natural(name, true, seconds)
+        grouped(&natural(name, false, seconds)),
+        grouped(&natural(name, true, seconds))
     )
+}
+
+/// Returns a text whose last number, below a million, has a comma at its thousands.
+fn grouped(text: &str) -> String {
+    let digits = text.bytes().rev().take_while(u8::is_ascii_digit).count();
+    match digits > 3 {
+        true => format!("{},{}", &text[..text.len() - 3], &text[text.len() - 3..]),
+        false => text.to_string(),
+    }
+}
+
+#[test]
+fn thousands_have_a_comma() {
+    let texts = ["0 of 10000", "20 of 1303", "20 of 692"].map(grouped);
+    assert_eq!(texts, ["0 of 10,000", "20 of 1,303", "20 of 692"]);
 }
 
 /// Returns how many replays fail. Those that wait forever take no processor, so many do it beside each other.
@@ -136,8 +165,8 @@ const CONDITIONS: [(&str, &str); 12] = [
 type Strategy = fn(u64, usize) -> String;
 
 const STRATEGIES: [(&str, Strategy); 5] = [
-    ("guided", |seed, choices| format!("g{seed}.{choices}")),
-    ("random", |seed, _| format!("r{seed}")),
+    ("Guided", |seed, choices| format!("g{seed}.{choices}")),
+    ("Random", |seed, _| format!("r{seed}")),
     ("PCT 2", |seed, choices| format!("p2.{seed}.{choices}")),
     ("PCT 3", |seed, choices| format!("p3.{seed}.{choices}")),
     ("POS", |seed, _| format!("o{seed}")),
@@ -146,25 +175,16 @@ const STRATEGIES: [(&str, Strategy); 5] = [
 /// Prints how many runs each strategy takes to meet a condition: the median of ten seeds, of `MOST` runs at most.
 #[test]
 #[ignore = "it takes minutes"]
-fn toward_a_condition() {
-    println!("load {}", load());
-    let names = STRATEGIES.map(|(name, _)| name).join(" | ");
-    println!("program | condition | {names}");
+fn toward_a_state() {
     let only: Vec<_> = programs().map(|(name, _)| name).collect();
-    let is_meant = |(name, _): &&(&str, &str)| only.contains(name);
-    let meant: Vec<_> = CONDITIONS.iter().filter(is_meant).collect();
-    let next = AtomicUsize::new(0);
-    let tries = || {
-        while let Some((name, condition)) = meant.get(next.fetch_add(1, Ordering::Relaxed)) {
-            println!("{}", row_of_condition(name, condition));
-        }
-    };
-    thread::scope(|scope| {
-        for _ in 0..setting("BESIDE", 1) {
-            scope.spawn(tries);
-        }
+    let meant = CONDITIONS.iter().filter(|(name, _)| only.contains(name));
+    let meant: Vec<_> = meant.collect();
+    let names = STRATEGIES.map(|(name, _)| name).join(" | ");
+    let head = format!("Program | Condition | {names}");
+    print_table(&head, meant.len(), |index| {
+        let (name, condition) = meant[index];
+        row_of_condition(name, condition)
     });
-    println!("load {}", load());
 }
 
 impl Program {
@@ -214,26 +234,27 @@ fn row_of_condition(name: &'static str, condition: &str) -> String {
         runs.sort_unstable();
         runs[runs.len() / 2].to_string()
     });
-    format!("{name} | {condition} | {}", of_strategies.join(" | "))
+    format!("`{name}` | `{condition}` | {}", of_strategies.join(" | "))
 }
 
 #[test]
 #[ignore = "it takes minutes"]
 fn the_right_programs() {
-    println!("load {}", load());
-    for (name, _) in programs().filter(|(name, _)| is_right(name)) {
-        let program = Program::new(name);
-        let began = Instant::now();
-        let (passes, said, json) = program.explored(1000, "0");
-        assert!(passes, "{said}");
-        let (runs, took) = (number(&json, "runs"), began.elapsed().as_secs_f64());
-        println!(
-            "{name} | {runs} runs passed, {:.0} a second | {} chosen while a thread ran",
-            runs as f64 / took,
-            number(&json, "restless")
-        );
-    }
-    println!("load {}", load());
+    let right: Vec<_> = programs().filter(|(name, _)| is_right(name)).collect();
+    print_table(
+        "Program | Runs | A second | Chosen while a thread ran",
+        right.len(),
+        |index| {
+            let (name, _) = right[index];
+            let program = Program::new(name);
+            let began = Instant::now();
+            let (passes, said, json) = program.explored(1000, "0");
+            assert!(passes, "{said}");
+            let (runs, took) = (number(&json, "runs"), began.elapsed().as_secs_f64());
+            let (a_second, restless) = (runs as f64 / took, number(&json, "restless"));
+            format!("`{name}` | {runs} | {a_second:.0} | {restless}")
+        },
+    );
 }
 
 /// How long a step takes in which one is let go: what longer runs take longer, by what they have more steps.
