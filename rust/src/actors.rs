@@ -7,6 +7,7 @@ pub(crate) use holders::Unused;
 use crate::atomic::AtomicU64;
 use crate::backend::Actor;
 use crate::block_on::is_blocked_on_future;
+use crate::budget::Budgeted;
 use crate::channel::CallSite;
 use crate::explore;
 use crate::reentrant::thread_number;
@@ -466,6 +467,8 @@ impl Identity {
 /// a runtime would share it. The calls that the drop of the future makes have its name too. Within another named future, the inner name is
 /// used. Futures of the same name are recorded as one.
 ///
+/// As a task of tokio it gives way to others: each of its polls has a budget of 128 calls ([`guide::limits`](crate::guide::limits)).
+///
 /// # Examples
 ///
 /// ```
@@ -561,6 +564,7 @@ impl<F: Future> Future for Named<F> {
         if self.is_held(context) {
             return Poll::Pending;
         }
+        let _budgeted = Budgeted::named();
         let guard = NameGuard::new(&mut self);
         let future = guard.0.future.as_mut().expect("a future that is alive");
         future.as_mut().poll(context)

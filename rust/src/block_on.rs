@@ -1,5 +1,6 @@
 //! A thread that waits for a future.
 
+use crate::budget::Budgeted;
 use std::cell::Cell;
 use std::future::Future;
 use std::pin::pin;
@@ -71,6 +72,7 @@ impl Drop for Blocked {
 /// ```
 pub fn block_on<F: Future>(future: F) -> F::Output {
     let _blocked = Blocked::new();
+    let _unlimited = Budgeted::blocked();
     let mut future = pin!(future);
     let unpark = Arc::new(Unpark {
         thread: thread::current(),

@@ -86,6 +86,8 @@ pub mod service {}
 #[doc = include_str!("guide/limits.md")]
 ///
 /// [`block_on`]: crate::block_on
+/// [`named`]: crate::named()
+/// [`guide::swap`]: crate::guide::swap
 pub mod limits {}
 
 #[doc = include_str!("guide/speed.md")]

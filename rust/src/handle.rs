@@ -1,5 +1,6 @@
 //! What a sender, a weak sender and a receiver are, of either kind of channel.
 
+use crate::budget;
 use crate::channel::{
     Call, CallSite, Channel, CoreChannel, LockedChannel, NO_SLOT, RecordedChannel, Slot, call_site,
 };
@@ -191,6 +192,18 @@ impl<T, S> ChannelHandle<T, S> {
     ) -> R {
         let mut waiting = self.waiting(wait_for, word, method, Pending::default());
         poll_fn(|context| waiting.poll(context, &attempt)).await
+    }
+
+    /// Takes one of the budget of the task that is polled, once there is one.
+    pub(crate) async fn give_way(&self) {
+        poll_fn(|context| match self.recorded().gives_way(context) {
+            true => Poll::Pending,
+            false => {
+                budget::take_one(context);
+                Poll::Ready(())
+            }
+        })
+        .await
     }
 
     /// Waits for the turn of a call of this handle in a replay, where it may be pending until then.

@@ -73,6 +73,7 @@ mod atomic;
 mod backend;
 mod block_on;
 pub mod broadcast;
+mod budget;
 mod channel;
 mod command;
 mod cut;
@@ -112,6 +113,8 @@ mod word;
 
 pub use actors::{Named, named, set_task_id};
 pub use block_on::block_on;
+#[doc(hidden)]
+pub use budget::{budgeted, set_budget};
 #[doc(hidden)]
 pub use command::command;
 pub use events::{Close, Lag, on_close, on_lag};

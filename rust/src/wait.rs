@@ -1,6 +1,7 @@
 //! Calls that wait.
 
 use crate::backend::Actor;
+use crate::budget;
 use crate::channel::{CallSite, LockedChannel, RecordedChannel, call_site};
 use crate::handle::Kind;
 use crate::lock::lock;
@@ -143,6 +144,9 @@ impl<'a> WaitingCall<'a> {
         context: &Context<'_>,
         attempt: impl Fn(&mut LockedChannel<'_>) -> Poll<R>,
     ) -> Poll<R> {
+        if self.channel.gives_way(context) {
+            return Poll::Pending;
+        }
         let Poll::Ready(mut permit) = self.poll_pass(context) else {
             return Poll::Pending;
         };
@@ -157,6 +161,7 @@ impl<'a> WaitingCall<'a> {
                 let removed = channel.state.end_wait(self.wait_for, &mut self.pending);
                 drop(channel);
                 drop(removed);
+                budget::take_one(context);
                 return Poll::Ready(result);
             }
             channel.would_wait();

@@ -1,6 +1,7 @@
 //! The calls of a channel before the gate of a replay. Without a replay they pass at once.
 
 use super::{CallSite, LockedChannel, RecordedChannel};
+use crate::budget;
 use crate::lock::lock;
 use crate::replay::Coming;
 use crate::replay::{Permit, Ticket, Turns};
@@ -80,6 +81,13 @@ impl RecordedChannel {
             Some(_) => self.poll_gate(handle, word, called_at, ticket, context),
             None => Poll::Ready(Permit::free()),
         }
+    }
+
+    /// Whether a call that may wait is pending, since its task has used up its budget. In a replay its turn decides, and there is no budget: the
+    /// call before which the recorded task gave way comes later there, too.
+    #[inline]
+    pub(crate) fn gives_way(&self, context: &Context<'_>) -> bool {
+        self.replayed.is_none() && budget::gives_way(context)
     }
 
     /// Whether questions leave no entry. A replay, which doesn't order them then, notes that this one is asked here in the source.

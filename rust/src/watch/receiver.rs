@@ -278,6 +278,7 @@ impl<T> Receiver<T> {
     ) -> impl Future<Output = Result<Ref<'_, T>, RecvError>> {
         let method = Method::called("wait_for");
         async move {
+            self.handle.give_way().await;
             loop {
                 {
                     let (word, called_at) = (Word::WaitFor, method.called_at);

@@ -1,5 +1,6 @@
 //! tokio's `Handle`, whose tasks are seen where a test is explored.
 
+use crate::budget::blocked_on;
 use crate::spawning::seen;
 use real_tokio::runtime as theirs;
 use real_tokio::task::JoinHandle;
@@ -49,7 +50,7 @@ impl Handle {
     /// As tokio's own.
     #[track_caller]
     pub fn block_on<F: Future>(&self, future: F) -> F::Output {
-        self.0.block_on(future)
+        self.0.block_on(blocked_on(future))
     }
 
     /// As tokio's own.

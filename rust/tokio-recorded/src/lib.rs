@@ -7,6 +7,8 @@
 pub use real_tokio::*;
 
 #[cfg(all(feature = "rt", feature = "sync"))]
+mod budget;
+#[cfg(all(feature = "rt", feature = "sync"))]
 mod handle;
 #[cfg(all(feature = "rt", feature = "sync"))]
 pub mod runtime;

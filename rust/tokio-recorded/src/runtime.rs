@@ -7,6 +7,7 @@
 pub use crate::handle::Handle;
 pub use real_tokio::runtime::*;
 
+use crate::budget::blocked_on;
 use crate::spawning::seen;
 use crate::tasks;
 use real_tokio::runtime as theirs;
@@ -136,6 +137,12 @@ impl Runtime {
         F::Output: Send + 'static,
     {
         seen!(future => self.runtime.spawn(future))
+    }
+
+    /// As tokio's own.
+    #[track_caller]
+    pub fn block_on<F: Future>(&self, future: F) -> F::Output {
+        self.runtime.block_on(blocked_on(future))
     }
 
     /// As tokio's own.

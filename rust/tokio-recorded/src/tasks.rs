@@ -1,11 +1,13 @@
 //! The number of the task that a thread runs, by which yovanelum tells apart the tasks that have no name.
 
+use crate::budget;
 use std::hash::{Hash, Hasher};
 use yovanelum::{set_patch, set_task_id};
 
-/// Tells yovanelum how to know the current task, and that this package is part of the build.
+/// Tells yovanelum how to know the current task and its budget, and that this package is part of the build.
 pub(crate) fn tell_apart() {
     set_task_id(current);
+    budget::tell();
     set_patch(env!("CARGO_MANIFEST_DIR"));
 }
 
