@@ -1,6 +1,7 @@
-//! Nanoseconds a recorded call, the cases those of tokio's own bench: `cargo bench -- CALLS REPEATS`.
+//! Nanoseconds a call, recorded and with no recorder set, the cases those of tokio's own bench: `cargo bench -- CALLS REPEATS`.
 
 use std::hint::black_box;
+use std::sync::Barrier;
 use std::thread;
 use std::time::{Duration, Instant};
 use yovanelum::{ChannelSnapshot, Recorder, broadcast, watch};
@@ -105,6 +106,44 @@ fn ping(calls: u64) -> Timed {
     timed
 }
 
+/// Receivers in equal parts on four threads, which receive side by side what was sent before. The sends aren't timed.
+fn side_by_side(calls: u64, receivers: usize) -> Timed {
+    const SENT: usize = 4096;
+    let (tx, rx) = broadcast::channel(SENT);
+    let mut all: Vec<_> = (1..receivers).map(|_| tx.subscribe()).collect();
+    all.push(rx);
+    let rounds = (calls / (SENT * (receivers + 1)) as u64).max(1);
+    let parts: Vec<_> = all.chunks_mut(receivers.div_ceil(4)).collect();
+    let barrier = Barrier::new(parts.len() + 1);
+    let mut took = Duration::ZERO;
+    thread::scope(|scope| {
+        for part in parts {
+            scope.spawn(|| {
+                for _ in 0..rounds {
+                    barrier.wait();
+                    for _ in 0..SENT {
+                        for rx in &mut *part {
+                            black_box(rx.try_recv().unwrap());
+                        }
+                    }
+                    barrier.wait();
+                }
+            });
+        }
+        for _ in 0..rounds {
+            for value in 0..SENT {
+                tx.send(value).unwrap();
+            }
+            // The others wait there by now. After it, they may be done before this thread runs again.
+            let start = Instant::now();
+            barrier.wait();
+            barrier.wait();
+            took += start.elapsed();
+        }
+    });
+    (rounds * (SENT * receivers) as u64, took)
+}
+
 /// Lags with a closure that is called: two sends and two receives each.
 fn lags_told(calls: u64) -> Timed {
     if let Some(recorder) = Recorder::current() {
@@ -173,13 +212,19 @@ fn recorded(calls: u64, case: fn(u64) -> Timed) -> Recorded {
     }
 }
 
+/// Nanoseconds a call of a run of a case whose channels belong to no recorder.
+fn unset(calls: u64, case: fn(u64) -> Timed) -> f64 {
+    let (calls, took) = case(calls);
+    took.as_nanos() as f64 / calls as f64
+}
+
 fn main() {
     let numbers: Vec<u64> = std::env::args()
         .filter_map(|word| word.parse().ok())
         .collect();
     let calls = numbers.first().copied().unwrap_or(1_000_000).min(1_048_000);
     let repeats = numbers.get(1).copied().unwrap_or(5);
-    let cases: [Case; 10] = [
+    let cases: [Case; 13] = [
         ("broadcast-1024-pairs-1rx", |calls| pairs(calls, 1)),
         ("broadcast-1024-pairs-8rx", |calls| pairs(calls, 8)),
         ("broadcast-2-overrun", overrun),
@@ -188,20 +233,26 @@ fn main() {
         ("watch-pairs-1rx", watch_pairs),
         ("2t-broadcast-16-ping", ping),
         ("2t-own-channels-pairs", two_threads),
+        ("4t-broadcast-1rx", |calls| side_by_side(calls, 1)),
+        ("4t-broadcast-8rx", |calls| side_by_side(calls, 8)),
+        ("4t-broadcast-64rx", |calls| side_by_side(calls, 64)),
         ("broadcast-1-lags-told", lags_told),
         ("snapshot-8rx", snapshots),
     ];
     println!(
-        "{:30} {:>9} {:>9} {:>10} {:>13} {:>9}",
-        "case", "calls", "least ns", "median ns", "save ns/call", "bytes"
+        "{:30} {:>9} {:>9} {:>10} {:>9} {:>13} {:>9}",
+        "case", "calls", "least ns", "median ns", "unset ns", "save ns/call", "bytes"
     );
     for (name, case) in cases {
-        let mut runs: Vec<_> = (0..repeats).map(|_| recorded(calls, case)).collect();
+        // In turn, so that both have the same share of what else the machine does.
+        let in_turn = (0..repeats).map(|_| (recorded(calls, case), unset(calls, case)));
+        let (mut runs, unset): (Vec<_>, Vec<_>) = in_turn.unzip();
+        let unset = unset.into_iter().fold(f64::INFINITY, f64::min);
         let bytes = runs[0].bytes;
         runs.sort_by(|a, b| a.call.total_cmp(&b.call));
         let (least, median) = (&runs[0], &runs[runs.len() / 2]);
         println!(
-            "{name:30} {:>9} {:>9.1} {:>10.1} {:>13.1} {bytes:>9}",
+            "{name:30} {:>9} {:>9.1} {:>10.1} {unset:>9.1} {:>13.1} {bytes:>9}",
             least.calls, least.call, median.call, least.save
         );
     }
