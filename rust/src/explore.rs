@@ -33,7 +33,7 @@ mod told;
 pub(crate) use asked::{FOR, answer};
 pub(crate) use explorer::Explorer;
 pub(crate) use guide::{Known, KnownReceiver};
-pub(crate) use run::{current, end, follow, followed, target_folder, watch};
+pub(crate) use run::{current, end, follow, followed, is_run_of_search, target_folder, watch};
 pub use task::{Explored, explored, is_explored};
 pub(crate) use threads::{Asked, Sleeper, ThreadId, Threads, this_thread};
 

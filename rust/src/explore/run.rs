@@ -51,6 +51,11 @@ pub(crate) fn current() -> Option<&'static Explorer> {
     RUN.get().map(|run| &run.explorer)
 }
 
+/// Whether the run of this process is one of a search, and not a replay.
+pub(crate) fn is_run_of_search() -> bool {
+    RUN.get().is_some_and(|run| run.followed.is_none())
+}
+
 /// Begins a run, if this process is one of those that are explored. Returns `true` if it is.
 pub(super) fn begin() -> bool {
     if RUN.get().is_some() {

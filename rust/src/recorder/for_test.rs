@@ -245,7 +245,7 @@ impl Drop for SaveOnPanic {
         let last = self.recorder.0.last();
         explore::end(&self.recorder, has_failed);
         let met = explore::answer(&self.recorder.0, last);
-        if self.is_wanted() || met.is_some() && explore::current().is_some() {
+        if self.is_wanted() || met.is_some() && explore::is_run_of_search() {
             // A panic in a drop while a panic unwinds would end the process, and with it all other tests.
             let call = met.filter(|_| !has_failed);
             let report = || self.test.report(&self.recorder.0, has_failed, call);

@@ -38,8 +38,16 @@ fn a_task_that_can_lag_is_found_though_its_test_passes() {
     let (passes, said, again) = program.explored_with(&[asked], 1, &text(&json, "order"));
     assert!(!passes, "{said}");
     assert_eq!(number(&again, "call"), number(&json, "call"), "{again}");
-    let replay = program.replayed(&text(&json, "journal"));
-    assert!(!replay.fails(false), "the test passes");
+    let mut replay = program.command();
+    let replay = replay.env("YOVANELUM_REPLAY", text(&json, "journal"));
+    let replay = replay.env(FOR, "lagging audit").output().unwrap();
+    let said = crate::said(&replay);
+    assert!(replay.status.success(), "{said}");
+    let met = format!(
+        "yovanelum: met: lagging audit, at call {}: ",
+        number(&json, "call")
+    );
+    assert!(said.contains(&met) && !said.contains("look: "), "{said}");
 }
 
 #[test]
