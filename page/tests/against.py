@@ -33,7 +33,8 @@ def program(chance, caller, channels):
         elif turn < 0.5:
             calls.append((channel, f"send {chance.choice(senders)} {chance.randrange(1, 5)}"))
         elif turn < 0.9:
-            word = chance.choice(["update", "borrow", "has-changed", "changed", "receiver-count"]) if is_watch else chance.choice(["try-recv", "recv", "receiver-len"])
+            of_watch, of_broadcast = ["update", "borrow", "has-changed", "changed", "receiver-count"], ["try-recv", "recv", "receiver-len"]
+            word = chance.choice(of_watch if is_watch else of_broadcast)
             calls.append((channel, f"{word} {chance.choice(senders if word == 'receiver-count' else readers)}"))
         else:
             calls.append((channel, f"drop {chance.choice(readers + senders)}"))

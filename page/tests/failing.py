@@ -497,4 +497,24 @@ def account_of_an_opened_journal(tab, folder, journals):
         assert ('"later": [7]' in embedded) == (name == "old"), embedded
 
 
-TESTS = [*map(page_of_test, WANTED), keys_of_a_later_writer, account_of_an_opened_journal]
+def ends_of_tests(tab, folder, journals):
+    """Below what was found is how the test failed: each panic with who panicked, where, and what it says, as the file of names has it."""
+    count = 0
+    for name, (page, _) in addresses().items():
+        with open(beside(page, ".names"), encoding="utf-8") as file:
+            names = json.load(file)
+        if name == "the_last_tick_arrives":
+            continue
+        opening.load_first(tab, page)
+        lines = tab.run("[...document.querySelectorAll('#answer .ends .line')].map(line => line.textContent)")
+        panics = names.get("panics", [])
+        assert len(lines) == len(panics) + ("returned" in names), (name, lines)
+        for line, panic in zip(lines, panics):
+            file_, number, _ = names["locations"][panic["location"]]
+            who = "" if panic["actor"] is None else f" of {names['actors'][str(panic['actor'])]}"
+            assert line.startswith("  panic ") and f"{who} at {file_}:{number}" in line and panic["text"].split("\n")[0][:100] in line, (name, line, panic)
+            count += 1
+    assert count > 5, count
+
+
+TESTS = [*map(page_of_test, WANTED), ends_of_tests, keys_of_a_later_writer, account_of_an_opened_journal]

@@ -32,7 +32,8 @@ test("each module is in a known folder, and imports modules that exist", () => {
 });
 
 test("a folder imports only those before it", () => {
-  const wrong = [...imports].flatMap(([name, those]) => those.filter(it => FOLDERS.indexOf(folderOf(it)) > FOLDERS.indexOf(folderOf(name))).map(it => `${name} -> ${it}`));
+  const rank = name => FOLDERS.indexOf(folderOf(name));
+  const wrong = [...imports].flatMap(([name, those]) => those.filter(it => rank(it) > rank(name)).map(it => `${name} -> ${it}`));
   assert.deepStrictEqual(wrong, []);
 });
 

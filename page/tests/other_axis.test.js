@@ -15,7 +15,8 @@ function chanceOf(seed) {
 // Partners of so many calls here among some calls there: each has one, or none.
 function partnersOf(chance, here, there) {
   const free = Array.from({ length: there }, (_, i) => i + 1);
-  return Uint32Array.from([0, ...Array.from({ length: here }, () => (chance(4) === 0 || free.length === 0 ? 0 : free.splice(chance(Math.min(free.length, 3)), 1)[0]))]);
+  const partner = () => (chance(4) === 0 || free.length === 0 ? 0 : free.splice(chance(Math.min(free.length, 3)), 1)[0]);
+  return Uint32Array.from([0, ...Array.from({ length: here }, partner)]);
 }
 
 // How many calls here at most have partners in the same order: of all that end with a call, one more than the best that ends before it.

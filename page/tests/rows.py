@@ -251,6 +251,21 @@ def folds_and_filter(tab, folder, journals):
     assert places_in_view(tab)
 
 
+def fold_by_key(tab, folder, journals):
+    """X folds the channel of the call, and unfolds it again: its rows are gone and come back, and the address keeps that."""
+    path, ask = page_of(folder, "pool", real_runs.pool())
+    opening.load(tab, path, 100)
+    channel = int([line for line in ask("list\n").split("\n") if line.startswith("#100 ")][0].split(" ")[3])
+    high = tab.run("document.getElementById('space').offsetHeight")
+    tab.key("x")
+    tab.wait(f"document.getElementById('space').offsetHeight < {high}")
+    tab.wait(f"location.hash.includes('&fold={channel}.actors')")
+    assert texts_of(tab).count("▸") >= 1, texts_of(tab)
+    opening.settle(tab, 100)
+    tab.key("x")
+    tab.wait(f"document.getElementById('space').offsetHeight === {high} && !location.hash.includes('fold')")
+
+
 def channels_of(tab):
     """The channels in the order of the strip."""
     return [text for text, _, _, _ in sorted(drawn(tab, "strip"), key=lambda it: it[2]) if text.startswith("jobs.")]

@@ -51,7 +51,7 @@ TESTS = [
     hands.buttons, hands.mouse, moves.wheel, moves.stop_field, hands.drops, given.chosen_again, given.drop_with_names,
     given.note_on_the_core, given.places_of_two_runs, given.failed_opening, way_in.names_in_any_order, way_in.names_of_another_run, way_in.foreign_texts,
     way_in.several_runs, way_in.kept_for_a_reload, way_in.cut_journals, way_in.signs, jumps.history_of_jumps, jumps.address_keeps, jumps.console_commands,
-    rows.seen_after_losses, rows.list_after_losses, rows.wide_after_losses, rows.rows_in_sight, rows.heads_over_rows, rows.same_order, rows.nothing_moves, rows.folds_and_filter, rows.lossy_first, rows.narrow_tabs,
+    rows.seen_after_losses, rows.list_after_losses, rows.wide_after_losses, rows.rows_in_sight, rows.heads_over_rows, rows.same_order, rows.nothing_moves, rows.folds_and_filter, rows.fold_by_key, rows.lossy_first, rows.narrow_tabs,
     owners.whose_rows, owners.long_owners, owners.told_apart, owners.versions, owners.unseen_changes,
     jumps.picture_as_png, jumps.picture_as_svg, jumps.report_as_markdown, jumps.help_of_keys, jumps.zoom_at_pointer, jumps.touch,
     hands.waiting_script, hands.refusals, hands.example, hands.files_that_are_not_there, hands.addresses, shown.large_runs,

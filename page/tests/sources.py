@@ -1,8 +1,10 @@
 """What a file of names has: the places of calls in the sources, names of handles, tasks, and the calls that waited."""
 import json
 
+import against
 import native
 import opening
+from hands import GUTTER, MARGIN
 from opening import check_place
 from owners import drawn_texts
 
@@ -39,6 +41,11 @@ def waiting_calls(tab, folder, journals):
     told = "1 call waits: actor 1, src/worker.rs:30 waits in recv of actor 1, src/worker.rs:30 · receiver 2 on channel 0 since call 3, at src/bus.rs:15"
     assert tab.text("facts").endswith(told), tab.text("facts")
     assert "recv waits" in drawn_texts(tab)
+    # The wait is a line from the call after which it began to the end of the run.
+    column = (tab.run("document.getElementById('picture').clientWidth") - GUTTER - MARGIN) / 5
+    marked = [it * 10 - GUTTER for it in against.marks(tab, "picture", "actor-1")]
+    along, before = [[x for x in marked if low * column < x < high] for low, high in ((3.5, 4.5 * column - 60), (2.7, 3.4 * column))]
+    assert len(along) > 5 and not before, (marked, column)
     assert "waits in recv since call 3" in tab.text("table-rows")
     holders = {
         ", for a look taken at src/worker.rs:30 by main": {"actor": 0, "location": 1}, ", for a look taken by main": {"actor": 0, "location": None},

@@ -27,7 +27,8 @@ test("what hides in a text is written out, and ends of lines of `{:#?}` are sign
 
 test("an entry's line is read with its arguments and its reply", () => {
   const entry = readEntry("#7 9 2 0 send 0 18446744073709551615 = sent 3");
-  assert.deepStrictEqual(entry, { number: 7, stamp: "9", actor: 2, channel: 0, word: "send", handle: 0, rest: "18446744073709551615", reply: "sent", answer: "3" });
+  const wanted = { number: 7, stamp: "9", actor: 2, channel: 0, word: "send", handle: 0, rest: "18446744073709551615", reply: "sent", answer: "3" };
+  assert.deepStrictEqual(entry, wanted);
   assert.strictEqual(readEntry("#1 1 0 0 drop 0 = dropped").answer, "");
 });
 
@@ -57,8 +58,12 @@ test("names are read, and refused with a reason", () => {
   assert.deepStrictEqual([names.actor(0), names.actor(1), names.handle(1, 2), names.handle(0, 2), names.ending.hasFailed],
     ["a⟨U+202E⟩b", "actor 1", "audit", undefined, true]);
   assert.strictEqual(new Names().channel(4), "channel 4");
+  // What a later writer may have otherwise is left out.
+  const made = readNames('{"actors": {}, "made_by": 7, "unnamed": ["a"]}').tables;
+  assert.deepStrictEqual([made.madeBy, made.unnamed], [{}, []]);
+  assert.deepStrictEqual(readNames('{"actors": {}, "made_by": {"1": [null, 2]}, "unnamed": [3]}').tables.madeBy, { 1: [null, 2] });
   for (const [text, fault] of [
     ["[]", /no object/], ['{"version": 4}', /version 4/], ['{"x": 1}', /none of the keys/], ['{"actors": {"0": 1}}', /actors are no names/],
-    ['{"made_by": {"0": ["a"]}}', /made_by/], ['{"unnamed": ["a"]}', /unnamed/],
+    ['{"values": {"0": {"1": 2}}}', /values are no texts/],
   ]) assert.throws(() => readNames(text), fault);
 });

@@ -20,7 +20,7 @@ export function showTab(tab, walk) {
   if (!walk || !isTabbed() || tab !== "picture") return;
   walk.screen.resize();
   walk.reveal();
-  walk.show();
+  walk.render();
   walk.scrolled();
 }
 

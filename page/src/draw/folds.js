@@ -12,12 +12,37 @@ function firstKeys(run) {
 }
 
 export class Folds {
-  constructor(run) {
+  // What is folded, the filter and the order are those of `shown`.
+  /** @param {import("../run/shown.js").Shown} shown */
+  constructor(run, shown) {
     this.run = run;
-    this.filter = "";
-    this.isByNumber = false;
+    this.shown = shown;
     this.keys = new Set(firstKeys(run));
     this.first = this.text;
+  }
+
+  get keys() {
+    return this.shown.folded;
+  }
+
+  set keys(keys) {
+    this.shown.folded = keys;
+  }
+
+  get filter() {
+    return this.shown.filter;
+  }
+
+  set filter(text) {
+    this.shown.filter = text;
+  }
+
+  get isByNumber() {
+    return this.shown.isByNumber;
+  }
+
+  set isByNumber(is) {
+    this.shown.isByNumber = is;
   }
 
   has(key) {

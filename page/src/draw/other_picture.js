@@ -1,6 +1,7 @@
 // The picture of another run of the same test, below that of the opened run and on its axis. It follows what is in view there.
 
 import { byId } from "../base/dom.js";
+import { Shown } from "../run/shown.js";
 import { cleared } from "./canvas.js";
 import { Folds } from "./folds.js";
 import { OtherFrame, gutterOf } from "./frame.js";
@@ -13,7 +14,7 @@ const RING = 8;
 // The bands of another run, in the order of this run's channels where they are the same. None is folded.
 class OtherFolds extends Folds {
   constructor(run, folds, channels) {
-    super(run);
+    super(run, new Shown());
     this.keys = new Set();
     this.here = folds;
     this.indexes = channels;

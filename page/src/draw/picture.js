@@ -110,18 +110,24 @@ function drawActorsFar({ pen, dots, frame, band, palette }) {
 
 /** @param {Drawing} drawing */
 function drawWaits(drawing) {
-  const { run, view } = drawing;
-  if (view.to > run.lastPlace) for (const wait of run.waits) drawWait(drawing, wait);
+  for (const wait of drawing.run.waits) drawWait(drawing, wait);
 }
 
+// A wait is a line from where it began to the end of the run, with a sign there.
 /** @param {Drawing} drawing */
-function drawWait({ pen, run, frame, bands, palette }, { actor, channel, word, handle, isTried }) {
+function drawWait({ pen, run, view, frame, bands, palette }, { actor, channel, word, handle, since, isTried }) {
   const column = run.lastPlace + 1;
   const band = bands.find(it => it.channel === channel);
-  if (band === undefined) return;
+  if (band === undefined || view.to < since) return;
   const row = band.rowOf.get(handle);
   const x = frame.middle(column);
   const foot = row ? row.base : band.y + band.height;
+  pen.strokeStyle = palette.actor(actor);
+  pen.lineWidth = 2;
+  pen.setLineDash([2, 3]);
+  line(pen, Math.max(frame.left, frame.middle(since)), foot - 7, Math.min(frame.right, x), foot - 7);
+  pen.setLineDash([]);
+  if (view.to < column) return;
   flag(pen, `${word} ${isTried ? "would wait" : "waits"}`, {
     x, y: foot - 15, colour: palette.actor(actor), ink: palette.card, least: frame.left, most: frame.right,
   });

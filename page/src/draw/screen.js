@@ -29,22 +29,18 @@ const SHARE = 0.2;
 const LOW_SHARE = 0.14;
 
 export class Screen {
-  constructor(run, view) {
+  /** @param {import("../run/shown.js").Shown} shown */
+  constructor(run, view, shown) {
     this.run = run;
     this.view = view;
+    this.shown = shown;
     // The levels of the whole run, which the strip has too, and those of another view.
     this.whole = new Overview(run);
     this.levels = new Overview(run);
     this.dots = new ActorDots(run);
     /** @type {Loss | null} the loss whose cause is drawn */
     this.loss = null;
-    // Whether all of its story is.
-    this.isStory = false;
-    // The places of the hits of a search.
-    this.hits = [];
-    /** @type {import("./other_picture.js").OtherPicture | null} the picture of another run that this one is compared with */
-    this.other = null;
-    this.folds = new Folds(run);
+    this.folds = new Folds(run, shown);
     this.sight = { top: 0, bottom: 0 };
     this.rows = rowsOf(run);
     this.resize();
@@ -164,7 +160,7 @@ export class Screen {
   }
 
   drawStripPlace(pen) {
-    drawStripCursor({ ...this.strip, hits: this.hits, pen });
+    drawStripCursor({ ...this.strip, hits: this.shown.hits.places, pen });
   }
 
   drawRows(pen) {
@@ -174,13 +170,14 @@ export class Screen {
 
   drawRowsPlace(pen) {
     pen.translate(0, -this.picture.top);
-    drawCursor({ ...this.picture, pen, loss: this.loss, isStory: this.isStory });
-    if (this.other) drawDiffering({ ...this.picture, pen }, this.other.compared.differing);
+    drawCursor({ ...this.picture, pen, loss: this.loss, isStory: this.shown.isCause });
+    if (this.shown.other) drawDiffering({ ...this.picture, pen }, this.shown.other.compared.differing);
   }
 
   // The drawings from top to bottom, each with its height and how a pen draws it.
   layers() {
-    const { run, view, palette, frame, strip, picture, other } = this;
+    const { run, view, palette, frame, strip, picture } = this;
+    const { other } = this.shown;
     const both = (below, above) => pen => [below, above].forEach(draw => {
       pen.save();
       draw(pen);

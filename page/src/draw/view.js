@@ -28,12 +28,25 @@ function within(least, number, most) {
 }
 
 export class View {
-  constructor(lastPlace, lastColumn, width) {
+  // The place and the columns are those of `shown`.
+  /** @param {import("../run/shown.js").Shown} shown */
+  constructor(lastPlace, lastColumn, width, shown) {
     this.lastPlace = lastPlace;
     this.lastColumn = lastColumn;
-    this.place = 0;
-    this.from = 0;
-    this.to = Math.min(lastColumn, width);
+    this.shown = shown;
+    shown.to = Math.min(lastColumn, width);
+  }
+
+  get place() {
+    return this.shown.place;
+  }
+
+  get from() {
+    return this.shown.from;
+  }
+
+  get to() {
+    return this.shown.to;
   }
 
   get width() {
@@ -42,7 +55,7 @@ export class View {
 
   // Goes to a place, and brings it into view.
   go(place) {
-    this.place = within(0, place, this.lastPlace);
+    this.shown.place = within(0, place, this.lastPlace);
     if (this.place < this.from || this.place > this.to) this.centre(this.place);
   }
 
@@ -53,8 +66,8 @@ export class View {
   // Brings this many columns into view, from this one on, as far as the run has them.
   show(from, width) {
     const most = within(Math.min(FEWEST, this.lastColumn), width, this.lastColumn);
-    this.from = within(0, from, this.lastColumn - most);
-    this.to = this.from + most;
+    this.shown.from = within(0, from, this.lastColumn - most);
+    this.shown.to = this.from + most;
   }
 
   scroll(columns) {
@@ -79,7 +92,7 @@ export class View {
   // Goes to a place, with these columns in view if they are known.
   restore(place, view) {
     if (view === null) return this.go(place);
-    this.place = within(0, place, this.lastPlace);
+    this.shown.place = within(0, place, this.lastPlace);
     this.show(view[0], view[1] - view[0]);
   }
 

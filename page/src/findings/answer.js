@@ -6,6 +6,10 @@ import { countOf } from "../base/numbers.js";
 import { visible } from "../base/text.js";
 import { sourceLink } from "./source_links.js";
 
+// How many panics are shown, and how many characters of what one says.
+const MOST_ENDS = 3;
+const MOST_TEXT = 300;
+
 // What the line of a call begins with. Accounts of earlier versions say `step 3`.
 const STEP = /^ {2}((?:call|step) \d+|the panic|the error|the end)/;
 
@@ -61,6 +65,21 @@ function waitsPart(run, { waiting }) {
   return waits.length > 0 ? [element("section", { class: "waits" }, element("b", {}, "still waiting:"), ...waits)] : [];
 }
 
+// How the test ended, as the names say: its panics, or the error that it returned. Each leads to the last call before it.
+function endsPart(run) {
+  const { panics, returned } = run.names.ending;
+  const ends = [...panics.slice(0, MOST_ENDS).map(it => ["panic", it]), ...(returned === null ? [] : [["error", returned]])];
+  const lines = ends.map(([word, { since, actor = null, location, text = "" }]) => {
+    const place = run.placeOf(since);
+    const who = actor === null ? [] : [" of ", visible(run.names.shortActor(actor))];
+    const source = run.names.place(location);
+    const said = typeof text !== "string" || text === "" ? [] : [": ", visible(text.slice(0, MOST_TEXT))];
+    return element("bdi", { class: "line" }, "  ", toPlace(place, place === 0 ? `${word} at the start` : `${word} after call ${place}`, {}), ...who,
+      ...(source ? [" at ", sourceLink(run, source)] : []), ...said);
+  });
+  return lines.length > 0 ? [element("section", { class: "ends" }, element("b", {}, "the test failed:"), ...lines)] : [];
+}
+
 function summaryOf({ facts, unknown, waiting }) {
   const counts = [...(unknown.length > 0 ? ["not all is known"] : []), countOf(facts.length, "fact"), ...(waiting.length > 0 ? [`${countOf(waiting.length, "call")} still waiting`] : [])];
   return ["What was found: ", counts.join(", ")];
@@ -72,6 +91,7 @@ function accountParts(run, account) {
     ...factParts(run, account),
     ...(account.nothing === null ? [] : [paragraph(visible(account.nothing))]),
     ...waitsPart(run, account),
+    ...endsPart(run),
   ];
 }
 

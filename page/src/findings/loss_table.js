@@ -48,14 +48,13 @@ function compared(a, b) {
 }
 
 export class LossTable {
-  constructor(run) {
+  // How the table is unfolded and sorted is in `state`.
+  /** @param {import("../run/shown.js").Shown["table"]} state */
+  constructor(run, state) {
     this.run = run;
+    this.state = state;
     /** @type {Loss | null} */
     this.chosen = null;
-    this.sorted = { key: "lost", isDown: true };
-    // At first, receivers that lost values and were never read by are below the others.
-    this.isAtFirst = true;
-    this.isOpen = false;
     this.fill();
   }
 
@@ -67,8 +66,8 @@ export class LossTable {
       : totals === null ? ["what was lost is being counted"] : lineOf(this.run, this.receivers);
     byId("loss-line").replaceChildren(element("span", {}, ...line), element("span", { id: "fold-word" }));
     byId("loss-line").classList.toggle("none", isBeginning || this.run.losses.all.length === 0);
-    this.turn(this.isOpen);
-    this.sort(this.sorted.key, this.sorted.isDown);
+    this.turn(this.state.isOpen);
+    this.sort(this.state.key, this.state.isDown);
   }
 
   get columns() {
@@ -76,18 +75,18 @@ export class LossTable {
   }
 
   // Unfolds the table, or folds it.
-  turn(isOpen = !this.isOpen) {
-    this.isOpen = isOpen;
+  turn(isOpen = !this.state.isOpen) {
+    this.state.isOpen = isOpen;
     byId("losses").classList.toggle("is-open", isOpen);
     byId("loss-line").setAttribute("aria-expanded", String(isOpen));
     byId("fold-word").textContent = this.run.totals === null ? "" : isOpen ? "fold" : `show ${countOf(this.receivers.length, "receiver")}`;
   }
 
   // Sorts by a column: numbers first from the greatest on, and a second time the other way.
-  sort(key, isDown = this.sorted.key === key ? !this.sorted.isDown : !COLUMNS.find(it => it.key === key).isText) {
-    this.sorted = { key, isDown };
+  sort(key, isDown = this.state.key === key ? !this.state.isDown : !COLUMNS.find(it => it.key === key).isText) {
+    Object.assign(this.state, { key, isDown });
     const sign = isDown ? -1 : 1;
-    const held = (a, b) => (this.isAtFirst ? Number(a.isHeld) - Number(b.isHeld) : 0);
+    const held = (a, b) => (this.state.isAtFirst ? Number(a.isHeld) - Number(b.isHeld) : 0);
     this.rows = [...this.receivers].sort((a, b) => held(a, b) || sign * compared(a[key], b[key]) || a.channel - b.channel || a.life.handle - b.life.handle);
     byId("table-head").replaceChildren(element("tr", {}, ...this.columns.map(it => this.headCell(it))));
     this.shown = null;
@@ -96,13 +95,13 @@ export class LossTable {
 
   // The same by hand.
   sortBy(key) {
-    this.isAtFirst = false;
+    this.state.isAtFirst = false;
     this.sort(key);
   }
 
   headCell(column) {
     const { key, head, isText } = column;
-    const order = this.sorted.key !== key ? {} : { "aria-sort": this.sorted.isDown ? "descending" : "ascending" };
+    const order = this.state.key !== key ? {} : { "aria-sort": this.state.isDown ? "descending" : "ascending" };
     return element("th", { class: isText ? "" : "number", scope: "col", ...order }, element("button", { type: "button", "data-sort": key }, head));
   }
 

@@ -9,8 +9,9 @@ import { hitsOf } from "./text_search.js";
 
 export class Searching {
   // `placeNow` returns the current place, `jump` goes to a place that was found, and `onHits` marks hits that are found later.
-  constructor(run, { placeNow, jump, onHits }, onFault) {
+  constructor(run, shown, { placeNow, jump, onHits }, onFault) {
     this.run = run;
+    this.shown = shown;
     this.placeNow = placeNow;
     this.jump = jump;
     this.onHits = onHits;
@@ -19,8 +20,6 @@ export class Searching {
     this.stops = 0;
     // The last search that found a place: where it began, its command, and the place.
     this.found = null;
-    // The text or condition that was searched for last, and the places of its hits.
-    this.hits = { text: "", places: [] };
     // The search for all hits of a condition, while it goes on.
     this.counting = null;
     this.tell();
@@ -56,15 +55,16 @@ export class Searching {
 
   // Marks and counts all hits of a condition, once they are found.
   async countHits({ condition, place }, isOver) {
-    if (this.hits.text !== condition) {
-      if (this.counting?.text !== condition) this.counting = { text: condition, hits: hitsOfCondition(this.run, condition, () => this.counting?.text !== condition) };
+    if (this.shown.hits.text !== condition) {
+      const isOther = () => this.counting?.text !== condition;
+      if (isOther()) this.counting = { text: condition, hits: hitsOfCondition(this.run, condition, isOther) };
       const hits = await this.counting.hits;
       if (hits === null) return;
-      this.hits = { text: condition, ...hits };
+      this.shown.hits = { text: condition, ...hits };
       this.onHits();
     }
     if (isOver()) return;
-    const { places, isAll } = this.hits;
+    const { places, isAll } = this.shown.hits;
     const index = places.indexOf(place);
     const count = countOf(places.length, "hit") + (isAll ? "" : " and more");
     byId("hit-count").textContent = places.length === 0 ? "" : index < 0 ? count : `${grouped(index + 1)} of ${count}`;
@@ -86,12 +86,12 @@ export class Searching {
 
   async searchText(word, text, isOver) {
     if (isOver()) return;
-    if (this.hits.text !== text) {
+    if (this.shown.hits.text !== text) {
       const places = await during(["searching for ", outside(text)], () => hitsOf(this.run, text, isOver));
       if (places === null) return;
-      this.hits = { text, places };
+      this.shown.hits = { text, places };
     }
-    const { places } = this.hits;
+    const { places } = this.shown.hits;
     const here = this.placeNow();
     const index = word === "rback" ? countUpTo(places, here - 1) - 1 : countUpTo(places, here);
     const place = places[index];
@@ -101,14 +101,14 @@ export class Searching {
   }
 
   noHit(word) {
-    const { places, text } = this.hits;
+    const { places, text } = this.shown.hits;
     if (places.length === 0) return ["no call has ", outside(text)];
     return [`none of the ${countOf(places.length, "hit")} is ${word === "rback" ? "before" : "after"} it`];
   }
 
   // Forgets the hits of the last search.
   forget() {
-    this.hits = { text: "", places: [] };
+    this.shown.hits = { text: "", places: [] };
     this.counting = null;
   }
 

@@ -51,6 +51,7 @@ function spokenText(box) {
 export class Telling {
   // `losses` are the moves by losses, and `table` the table of receivers.
   constructor(run, view, screen, losses, table, onFault) {
+    this.shown = view.shown;
     this.losses = losses;
     this.table = table;
     this.run = run;
@@ -59,10 +60,6 @@ export class Telling {
     this.console = new Latest(() => this.askConsole(), onFault);
     this.isLeft = false;
     this.calls = byId("calls-part");
-    /** @type {{ channel: number, number: number } | null} the value whose life is shown */
-    this.life = null;
-    // The channels that are folded in the panel other than by themselves.
-    this.turned = new Set();
     fieldOf("slider").max = run.lastPlace;
     // As wide as the longest place, so that nothing moves while the place changes.
     const longest = Math.max(...[0, run.lastPlace].map(place => placeText(place, run.lastPlace).length));
@@ -75,12 +72,6 @@ export class Telling {
     if (this.view.place === 0) return channels;
     const first = this.run.columns.channels[this.view.place];
     return [first, ...channels.filter(channel => channel !== first)];
-  }
-
-  // Folds or unfolds a channel in the panel.
-  turn(channel) {
-    if (!this.turned.delete(channel)) this.turned.add(channel);
-    this.describe();
   }
 
   // After this nothing more is told.
@@ -128,9 +119,9 @@ export class Telling {
     const { isNarrow } = this.screen;
     const calls = isNarrow ? [] : [this.calls];
     if (isNarrow) byId("dock").replaceChildren(this.calls);
-    const life = this.life === null ? [] : [valueCard(run, this.life)];
-    const card = [...life, ...lossCard(run, this.losses.here, view.place, this.losses.isAll)];
-    byId("state").replaceChildren(...statePanel(state, run, this.channels, this.turned, calls, card));
+    const life = this.shown.life === null ? [] : [valueCard(run, this.shown.life)];
+    const card = [...life, ...lossCard(run, this.losses.here, view.place, this.shown.isAllValues)];
+    byId("state").replaceChildren(...statePanel(state, run, this.channels, this.shown.turned, calls, card));
     byId("state").dataset.place = String(view.place);
     this.offer(conditionsAt(state, run));
     byId("picture").setAttribute("aria-label", `${view.from === 0 ? "The start and calls 1" : `Calls ${view.from}`} to ${Math.min(view.to, run.lastPlace)}, drawn.`);

@@ -26,7 +26,7 @@ export function readAddress(address) {
 }
 
 /** @param {Address} address */
-function hashOf({ place, view, fold, filter, order, stop }) {
+export function hashOf({ place, view, fold, filter, order, stop }) {
   const parts = new URLSearchParams({ call: String(place), view: view.join("-") });
   for (const [name, text] of Object.entries({ fold, filter, order, stop })) if (text !== null) parts.set(name, text);
   return `#${parts}`;

@@ -68,7 +68,7 @@ function turnChannel(page, event) {
   const head = event.target.closest("summary");
   if (!head) return;
   event.preventDefault();
-  page.walk?.telling.turn(Number(head.parentElement.dataset.channel));
+  page.walk?.turnChannel(Number(head.parentElement.dataset.channel));
 }
 
 // The steps that the account tells of. One of a loss has the loss chosen.
@@ -161,7 +161,11 @@ function listenToStops(page) {
     event.preventDefault();
     seek(/** @type {HTMLButtonElement} */ (event.submitter).value);
   });
-  field.addEventListener("input", () => field.value === "" && page.walk?.forgetHits());
+  field.addEventListener("input", () => {
+    if (!page.walk) return;
+    page.walk.shown.stop = field.value.trim();
+    if (field.value === "") page.walk.forgetHits();
+  });
   field.addEventListener("keydown", event => {
     if (event.key === "Escape") closeStops();
     if (event.key !== "Enter") return;
@@ -170,6 +174,7 @@ function listenToStops(page) {
   });
   chosenIn("chips", "condition", condition => {
     field.value = condition;
+    if (page.walk) page.walk.shown.stop = condition;
     seek("rforward");
   });
 }
@@ -199,7 +204,7 @@ function listenToRows(page) {
       page.walk?.scrolled();
     });
   });
-  byId("other-pane").addEventListener("scroll", () => page.walk?.screen.other?.draw());
+  byId("other-pane").addEventListener("scroll", () => page.walk?.shown.other?.draw());
   byId("strip-box").addEventListener("scroll", () => page.walk?.screen.measureStrip());
   new ResizeObserver(() => page.walk?.scrolled()).observe(byId("pane"));
   filter.addEventListener("input", () => page.walk?.refold(folds => { folds.filter = filter.value; }));

@@ -15,7 +15,7 @@ export class LossMoves {
     searching.stop();
     const isFar = view.width === view.lastColumn && !screen.frame.isNear;
     const place = this.losses.next(isBack);
-    if (place !== null) this.show(this.losses.chosen, place, isFar);
+    if (place !== null) this.show(this.walk.shown.loss, place, isFar);
   }
 
   // To a place with a loss chosen, whose row scrolls in. `isAll` brings all of it into view.
@@ -23,7 +23,7 @@ export class LossMoves {
     const { walk, losses } = this;
     leaveAnswer(walk);
     walk.step(() => {
-      losses.chosen = loss;
+      walk.shown.loss = loss;
       if (isAll) losses.show(loss, walk.screen.isNarrow);
       walk.go(place);
     });
@@ -52,7 +52,7 @@ export class LossMoves {
 
   // To a place that the card of the loss at this place names.
   to(place) {
-    this.losses.chosen = this.losses.current;
+    this.walk.shown.loss = this.losses.current;
     this.walk.jumpTo(place);
   }
 
@@ -87,19 +87,19 @@ export class LossMoves {
     const { walk, losses } = this;
     const loss = losses.current;
     if (!loss || !walk.run.values.has(loss.channel)) return;
-    walk.screen.isStory = !walk.screen.isStory;
-    if (!walk.screen.isStory) return walk.redraw();
+    walk.shown.isCause = !walk.shown.isCause;
+    if (!walk.shown.isCause) return walk.render();
     const places = storyOf(walk.run, loss).map(({ place }) => place);
     const [first, last] = [Math.min(...places), Math.max(...places)];
     if (first < walk.view.from || last > walk.view.to) walk.view.show(first - 1, last - first + 3);
     this.reveal(loss.channel, loss.receiver);
-    walk.show();
+    walk.render();
   }
 
   // Shows all values of the loss in its card.
   showAll() {
-    this.losses.isAll = true;
-    this.walk.telling.describe();
+    this.walk.shown.isAllValues = true;
+    this.walk.render();
   }
 
   // Unfolds the table of receivers, or folds it. The strip is lower below it.
@@ -108,6 +108,6 @@ export class LossMoves {
     table.turn();
     screen.resize();
     table.draw();
-    this.walk.show();
+    this.walk.render();
   }
 }

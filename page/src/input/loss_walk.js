@@ -9,12 +9,11 @@ const LEAST = 90;
 const NARROW_LEAST = 40;
 
 export class LossWalk {
-  constructor(run, view) {
+  /** @param {import("../run/shown.js").Shown} shown */
+  constructor(run, view, shown) {
     this.run = run;
     this.view = view;
-    /** @type {Loss | null} */
-    this.chosen = null;
-    this.isAll = false;
+    this.shown = shown;
     // The losses at a place, once they are found.
     this.known = null;
   }
@@ -22,13 +21,13 @@ export class LossWalk {
   // The losses at the place: the chosen one first, then that of the call's receiver, those that begin there, and the largest.
   get here() {
     const { place } = this.view;
-    if (this.known?.place !== place || this.known.chosen !== this.chosen) this.known = { place, chosen: this.chosen, losses: this.lossesAt(place) };
+    if (this.known?.place !== place || this.known.chosen !== this.shown.loss) this.known = { place, chosen: this.shown.loss, losses: this.lossesAt(place) };
     return this.known.losses;
   }
 
   lossesAt(place) {
     const { channels, handles } = this.run.columns;
-    const rank = loss => [loss === this.chosen, loss.channel === channels[place] && loss.receiver === handles[place],
+    const rank = loss => [loss === this.shown.loss, loss.channel === channels[place] && loss.receiver === handles[place],
       loss.from === place || loss.to === place, loss.channel === channels[place]].reduce((sum, is) => 2 * sum + Number(is), 0);
     return this.run.losses.at(place).sort((a, b) => rank(b) - rank(a) || b.lost - a.lost);
   }
@@ -56,7 +55,7 @@ export class LossWalk {
     found.textContent = place === null ? `no loss begins or ends ${isBack ? "before" : "after"} it` : "";
     if (place === null) return null;
     const those = this.run.losses.at(place).filter(({ from, to }) => from === place || to === place);
-    [this.chosen] = those.sort((a, b) => b.lost - a.lost);
+    [this.shown.loss] = those.sort((a, b) => b.lost - a.lost);
     const begins = those.filter(({ from }) => from === place).length;
     found.textContent = [[begins, "begin"], [those.length - begins, "end"]].filter(([count]) => count > 0)
       .map(([count, word]) => (count === 1 ? `a loss ${word}s` : `${grouped(count)} losses ${word}`)).join(", ");
@@ -67,7 +66,7 @@ export class LossWalk {
   turn() {
     const those = [...this.here].sort((a, b) => a.channel - b.channel || a.receiver - b.receiver);
     const index = those.indexOf(this.current);
-    this.chosen = those[(index + 1) % those.length] ?? null;
+    this.shown.loss = those[(index + 1) % those.length] ?? null;
   }
 
   // Brings a loss into view, with what is around it.

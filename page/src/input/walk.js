@@ -16,7 +16,6 @@ import { LossMoves } from "./loss_moves.js";
 import { LossWalk } from "./loss_walk.js";
 
 const NEIGHBOURS = 24;
-const LAG = "reply lagged";
 
 export class Walk {
   constructor(run, view, screen, table, onFault) {
@@ -24,14 +23,17 @@ export class Walk {
     this.view = view;
     this.screen = screen;
     this.table = table;
-    this.losses = new LossWalk(run, view);
+    /** @type {import("../run/shown.js").Shown} */
+    this.shown = view.shown;
+    this.shown.stop = fieldOf("condition").value.trim();
+    this.losses = new LossWalk(run, view, this.shown);
     this.lossMoves = new LossMoves(this);
     this.telling = new Telling(run, view, screen, this.losses, table, onFault);
     this.drawing = new Latest(() => this.draw(), onFault);
     this.levelling = new Latest(() => this.drawLevels(), onFault);
     this.onFault = onFault;
     const hands = { placeNow: () => view.place, jump: place => this.jump(() => this.go(place)), onHits: () => this.redraw() };
-    this.searching = new Searching(run, hands, onFault);
+    this.searching = new Searching(run, this.shown, hands, onFault);
     this.isLeft = false;
     // Whether the address names no place, and the account, which has the place to begin at, is still to come.
     this.isStarting = false;
@@ -56,13 +58,8 @@ export class Walk {
   // Returns what the page's address has to keep.
   /** @returns {Address} */
   get address() {
-    const { place, from, to } = this.view;
     const { folds } = this.screen;
-    const stop = fieldOf("condition").value.trim();
-    return {
-      place, view: [from, to], fold: folds.areFirst ? null : folds.text, filter: folds.filter || null, order: folds.isByNumber ? "number" : null,
-      stop: stop === LAG ? null : stop,
-    };
+    return this.shown.address(folds.text, folds.first);
   }
 
   // Goes where an address leads, or without a place to where the account says. One with a place alone leaves folds and filter as they are.
@@ -71,7 +68,7 @@ export class Walk {
     const { folds } = this.screen;
     this.searching.stop();
     this.isStarting = place === null && this.run.account === null;
-    if (stop !== null) fieldOf("condition").value = stop;
+    if (stop !== null) fieldOf("condition").value = this.shown.stop = stop;
     if (view !== null) {
       folds.text = fold ?? folds.first;
       fieldOf("filter").value = folds.filter = filter ?? "";
@@ -81,7 +78,7 @@ export class Walk {
     else this.view.restore(place, view);
     this.chooseTold();
     this.reveal();
-    this.show();
+    this.render();
   }
 
   // Goes to the place that is worth looking at first, and what is around it.
@@ -97,8 +94,8 @@ export class Walk {
   chooseTold() {
     const { run, view } = this;
     const [fact] = run.account?.facts ?? [];
-    if (fact?.kind !== "loss" || this.losses.chosen !== null) return;
-    this.losses.chosen = run.losses.at(view.place).find(it => it.channel === fact.channel && it.receiver === fact.receiver && it.from === view.place) ?? null;
+    if (fact?.kind !== "loss" || this.shown.loss !== null) return;
+    this.shown.loss = run.losses.at(view.place).find(it => it.channel === fact.channel && it.receiver === fact.receiver && it.from === view.place) ?? null;
   }
 
   // Shows the account once it is made, and returns whether it is new. Where nobody has moved yet, it leads to where the run begins.
@@ -110,7 +107,7 @@ export class Walk {
     this.isStarting = false;
     this.begin();
     this.reveal();
-    this.show();
+    this.render();
     return true;
   }
 
@@ -128,24 +125,24 @@ export class Walk {
 
   // The last column that is drawn: of this run, or of one that it is compared with.
   get lastColumn() {
-    return Math.max(this.run.lastColumn, Math.ceil(this.screen.other?.compared.axis.lastColumn ?? 0));
+    return Math.max(this.run.lastColumn, Math.ceil(this.shown.other?.compared.axis.lastColumn ?? 0));
   }
 
   // Shows another run below this one, and goes to the first call that differs; or shows none any more.
   compare(other, name = "") {
-    this.screen.other = other;
+    this.shown.other = other;
     this.view.lastColumn = this.lastColumn;
     showDifference(other?.compared ?? null, name);
     this.view.show(this.view.from, this.view.width);
     this.screen.resize();
     const first = other?.compared.first;
     if (first) this.jumpTo(Math.floor(first.here ?? other.compared.axis.at(first.there)));
-    else this.show();
+    else this.render();
   }
 
   // To the next call that differs from the other run, or the one before.
   toDifference(isBack) {
-    const { other } = this.screen;
+    const { other } = this.shown;
     if (!other) return;
     const { differing } = other.compared;
     const { place } = this.view;
@@ -156,14 +153,14 @@ export class Walk {
   // Shows all texts again, such as for another editor.
   renew() {
     showAccount(this.run);
-    this.show();
+    this.render();
   }
 
   // Goes to a place, without a step of the browser's history, and without scrolling the rows.
   go(place) {
-    this.losses.isAll = false;
+    this.shown.isAllValues = false;
     this.view.go(place);
-    this.show();
+    this.render();
   }
 
   // The same by hand. It discards earlier searches.
@@ -177,10 +174,10 @@ export class Walk {
   by(places) {
     this.isStarting = false;
     this.searching.stop();
-    this.losses.isAll = false;
+    this.shown.isAllValues = false;
     this.view.go(this.view.place + places);
     this.reveal();
-    this.show();
+    this.render();
   }
 
   // Scrolls in the row of the call that led to the place. Drawing it is left to what follows.
@@ -229,7 +226,7 @@ export class Walk {
     const { row, channel, isName } = this.screen.rowAt(x, y);
     if (isName && row.kind === "receiver" && row.lives.length === 1) return this.lossMoves.toReceiver(channel, row.lives[0].handle);
     const place = this.screen.callAt(x, y) ?? this.screen.placeInPicture(x);
-    this.losses.chosen = this.run.losses.at(place).find(it => it.channel === channel && row?.lives.some(life => life.handle === it.receiver)) ?? null;
+    this.shown.loss = this.run.losses.at(place).find(it => it.channel === channel && row?.lives.some(life => life.handle === it.receiver)) ?? null;
     this.step(() => this.to(place));
   }
 
@@ -251,14 +248,23 @@ export class Walk {
     change(this.screen.folds);
     byId("fold-all").textContent = this.screen.folds.areAll ? "unfold all" : "fold all";
     this.screen.arrange();
-    this.show();
+    this.render();
+  }
+
+  // Folds or unfolds the band of the call that led here, or at the start the first one, and scrolls it in.
+  turnBand() {
+    const { place } = this.view;
+    const key = place > 0 ? this.run.columns.channels[place] : this.screen.folds.channels[0];
+    this.refold(folds => folds.turn(key));
+    this.reveal();
+    this.render();
   }
 
   // Changes the order of the channels, in strip, picture and panel.
   reorder() {
     this.order(!this.screen.folds.isByNumber);
     this.reveal();
-    this.show();
+    this.render();
   }
 
   order(isByNumber) {
@@ -281,7 +287,7 @@ export class Walk {
   scroll(columns) {
     if (columns === 0) return;
     this.view.scroll(columns);
-    this.show();
+    this.render();
   }
 
   // Moves what is in view from one point of the picture to another, by whole columns. Returns how far that is.
@@ -299,18 +305,18 @@ export class Walk {
 
   zoom(factor) {
     this.view.zoom(factor);
-    this.show();
+    this.render();
   }
 
   // Zooms so that the place under a point of the picture stays there.
   zoomAtPoint(factor, x) {
     this.view.zoomAt(factor, this.screen.frame.shareAt(x));
-    this.show();
+    this.render();
   }
 
   whole() {
     this.view.whole();
-    this.show();
+    this.render();
   }
 
   ask() {
@@ -322,7 +328,7 @@ export class Walk {
   seek(word, text) {
     const condition = conditionOf(this.run, text);
     if (condition === null) return this.searching.askText(word, text);
-    if (this.searching.hits.text !== condition) this.forgetHits();
+    if (this.shown.hits.text !== condition) this.forgetHits();
     this.searching.ask(word, condition);
   }
 
@@ -332,12 +338,19 @@ export class Walk {
     this.redraw();
   }
 
+  // Folds or unfolds a channel in the panel.
+  turnChannel(channel) {
+    const { turned } = this.shown;
+    if (!turned.delete(channel)) turned.add(channel);
+    this.render();
+  }
+
   // Shows the life of a value beside the picture, or no more.
   async showLife(value) {
     if (value) await this.run.values.load(value.channel);
     if (this.isLeft) return;
-    this.telling.life = value;
-    this.telling.describe();
+    this.shown.life = value;
+    this.render();
   }
 
   // Searches for the nearest place where a receiver of a watch begins to have a value that it hasn't seen.
@@ -351,8 +364,8 @@ export class Walk {
     return [...(this.searching.wayTo(this.view.place) ?? [`goto ${this.view.place}`]), "step", "state", ""].join("\n");
   }
 
-  // The texts change at once, and the picture when its states are loaded.
-  show() {
+  // Shows what is to be shown: the texts at once, and the picture when its states are loaded.
+  render() {
     this.telling.show();
     if (!this.isStarting) putIntoAddress(this.address);
     this.drawing.ask();
@@ -372,7 +385,7 @@ export class Walk {
   async draw() {
     const places = this.neededPlaces();
     if (this.run.missing(places).length > 0) await this.run.load(places);
-    const { other } = this.screen;
+    const { other } = this.shown;
     if (other && other.missing.length > 0) await other.run.load(other.missing);
     if (this.isLeft) return;
     this.redraw();
@@ -437,9 +450,8 @@ export class Walk {
   // Draws what is loaded.
   redraw() {
     this.screen.loss = this.losses.current;
-    this.screen.hits = this.searching.hits.places;
     this.screen.drawView();
     this.screen.drawPlace();
-    this.screen.other?.draw();
+    this.shown.other?.draw();
   }
 }

@@ -18,6 +18,7 @@ import { bindingsOf } from "../run/bindings.js";
 import { Names, readNames } from "../run/names.js";
 import { isJournal } from "../run/opened_text.js";
 import { Run } from "../run/run.js";
+import { Shown } from "../run/shown.js";
 import { waitingCall } from "../run/waiting.js";
 import { OWN } from "./embedded.js";
 import { faultPanel, misfit } from "./refusals.js";
@@ -221,11 +222,12 @@ export class Opener {
   walkOver(run) {
     showPart("walk");
     byId("compare").hidden = run.isBeginning;
-    const view = new View(run.lastPlace, run.lastColumn, columnsThatFit(byId("picture-box").clientWidth || innerWidth));
+    const shown = new Shown();
+    const view = new View(run.lastPlace, run.lastColumn, columnsThatFit(byId("picture-box").clientWidth || innerWidth), shown);
     openAccount(run);
     showTab("answer", null);
-    const table = new LossTable(run);
-    const screen = new Screen(run, view);
+    const table = new LossTable(run, shown.table);
+    const screen = new Screen(run, view, shown);
     byId("legend").replaceChildren(...legend(run, screen.palette));
     const walk = new Walk(run, view, screen, table, tellFault);
     walk.restore(readAddress(location.href));
@@ -253,7 +255,7 @@ export class Opener {
     if (!walk) return;
     walk.screen.resize();
     byId("legend").replaceChildren(...legend(walk.run, walk.screen.palette));
-    walk.show();
+    walk.render();
   }
 
   // Keeps a new run for a reload, and for the steps back to it.

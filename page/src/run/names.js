@@ -48,8 +48,6 @@ const KEYS = {
   calls: [value => isTable(value, list => isList(list, it => it === null || isNumber(it))), "its calls are no lists of locations by channel"],
   tasks: [value => isTable(value, isNumber), "its tasks are no numbers of locations by actor"],
   waiting: [value => isList(value, isWait), "its waiting calls have no actor, channel, handle, call and stamp"],
-  made_by: [value => isTable(value, isMaker), "its key \"made_by\" has no names with numbers by channel"],
-  unnamed: [value => isList(value, isNumber), "its key \"unnamed\" has no numbers of actors"],
   root: [isText, "its folder of the sources is no text"],
   waited: [value => isTable(value, list => isList(list, isNumber)), "its key \"waited\" has no lists of calls by channel"],
   journal: [isText, "its checksum of the journal is no text"],
@@ -98,8 +96,10 @@ export class Names {
   /** @param {any} tables */
   constructor(tables = {}) {
     const { core = "", actors = {}, channels = {}, values = {}, handles = {}, locations = [], made = {}, calls = {}, tasks = {} } = tables;
-    const { waiting = [], journal = null, root = null, made_by: madeBy = {}, unnamed = [] } = tables;
-    this.tables = { actors, channels, values, handles, locations, made, calls, tasks, madeBy, unnamed };
+    const { waiting = [], journal = null, root = null, made_by: makers, unnamed } = tables;
+    this.tables = { actors, channels, values, handles, locations, made, calls, tasks };
+    // Who made channels, and who has no name of its own, say what is the same in another run. They are used as far as they have their form.
+    Object.assign(this.tables, { madeBy: isTable(makers, isMaker) ? makers : {}, unnamed: isList(unnamed, isNumber) ? unnamed : [] });
     this.core = visible(core);
     /** @type {Account | null} what was found in the run, in words */
     this.account = known(tables.account);

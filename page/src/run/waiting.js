@@ -19,13 +19,15 @@ export function waitingCall(bytes, lineNumber, run) {
   const steps = stepsOf(bytes, lineNumber);
   const text = steps.pop();
   const [, actor, channel, word, handle] = CALL.exec(text);
-  return { line: lineNumber, text, actor: Number(actor), channel: Number(channel), word, handle: handleOf(handle, steps, run), isTried: true };
+  return {
+    line: lineNumber, text, actor: Number(actor), channel: Number(channel), word, handle: handleOf(handle, steps, run), since: run.lastPlace, isTried: true,
+  };
 }
 
 // Returns the calls that waited when the names were written, unless they are of channels that this run doesn't have.
 export function waitsOf(run) {
   return run.names.waiting.filter(({ channel }) => channel < run.channels.length).map(it => ({
-    actor: it.actor, channel: it.channel, handle: it.handle, word: it.call, text: waitText(it, run),
+    actor: it.actor, channel: it.channel, handle: it.handle, word: it.call, since: run.placeOf(it.since), text: waitText(it, run),
   }));
 }
 

@@ -106,7 +106,10 @@ export class SvgPen {
   }
 
   get stroked() {
-    return { fill: "none", stroke: this.strokeStyle, "stroke-width": short(this.lineWidth), "stroke-dasharray": this.dash.length ? this.dash.join(" ") : null, opacity: this.opacity };
+    return {
+      fill: "none", stroke: this.strokeStyle, "stroke-width": short(this.lineWidth),
+      "stroke-dasharray": this.dash.length ? this.dash.join(" ") : null, opacity: this.opacity,
+    };
   }
 
   fill() {

@@ -13,7 +13,8 @@ const METHODS = {
 
 // What a caller did by a call that has an order.
 const DONE = {
-  send: "sent", "send-replace": "sent", modify: "sent", subscribe: "subscribed", resubscribe: "resubscribed", "clone-receiver": "cloned", "clone-sender": "cloned",
+  send: "sent", "send-replace": "sent", modify: "sent", subscribe: "subscribed", resubscribe: "resubscribed",
+  "clone-receiver": "cloned", "clone-sender": "cloned",
   "clone-weak": "cloned", downgrade: "downgraded", upgrade: "upgraded", recv: "received", "try-recv": "received", borrow: "looked", update: "looked",
   wait_for: "looked", changed: "received", drop: "dropped",
 };

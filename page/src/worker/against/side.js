@@ -9,7 +9,8 @@ function unmade(number) {
 }
 
 function newChannel(key) {
-  return { key, sends: [], senders: 1, closedAt: 0, made: new Map(), handles: [{ kind: "sender", key: "first sender" }, { kind: "receiver", key: "first receiver" }] };
+  const handles = ["sender", "receiver"].map(kind => ({ kind, key: `first ${kind}` }));
+  return { key, sends: [], senders: 1, closedAt: 0, made: new Map(), handles };
 }
 
 // What a channel is to both runs: by who made it and as the how manieth, or by its number.
