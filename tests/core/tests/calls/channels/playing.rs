@@ -19,7 +19,6 @@ fn make_and_undo<M: Reversible + Shows>(
     M::Reply: PartialEq + Debug,
 {
     if let [first, rest @ ..] = steps {
-        let _known = machine.weight();
         let (call, wanted, place) = first;
         let (reply, patch) = machine.apply(call);
         assert_eq!(reply, *wanted);
