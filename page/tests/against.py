@@ -5,8 +5,10 @@ import random
 import subprocess
 
 import failing
+import layout
 import native
 import opening
+from jumps import CLIPBOARD
 
 HERE = os.path.dirname(os.path.realpath(__file__))
 SENDS = ("send", "send-replace", "modify")
@@ -322,6 +324,10 @@ def both_in_the_page(tab, folder, journals):
     sends = [marks(tab, name, "actor-1") for name in ("picture", "other-picture")]
     near = lambda column, others: min(abs(column - it) for it in others) <= 1
     assert sends[0] and all(near(it, sends[1]) for it in sends[0]) and all(near(it, sends[0]) for it in sends[1]), sends
+    tab.run(f"void {CLIPBOARD}")
+    tab.click("#report")
+    tab.wait("window.copied")
+    assert "```text\n" + "\n".join(wanted) + "\n```" in tab.run("copied"), tab.run("copied")
     tab.click("#against .line:nth-child(1) button")
     opening.settle(tab, 5)
     tab.key("d")
@@ -354,4 +360,32 @@ def with_another(tab, folder, journals):
     tab.wait("document.getElementById('against').hidden && document.getElementById('facts').textContent.startsWith('failed.journal')")
 
 
-TESTS = [same_as_a_plain_model, both_in_the_page, with_another]
+def in_each_window(tab, folder, journals):
+    """With two runs, too, no part lies over another or is cut off, texts can be read, and each picture has an eighth of a window that isn't low."""
+    texts = {"0": {str(number): f"OrderPlaced {{ id: {number} }}" for number in range(5)}}
+    failed, passed = files_of(folder, "failed", FAILED, failed=True, values=texts), files_of(folder, "passed", PASSED, values=texts)
+    for width, height in [*layout.SIZES, *layout.FAR_SIZES]:
+        tab.resize(width, height)
+        tab.load(native.PAGE)
+        tab.wait("window.ttd")
+        choose(tab, "#file", [*failed, *passed])
+        tab.wait("!document.getElementById('choice').hidden")
+        tab.click("#compare-both")
+        shown(tab)
+        opening.settle(tab, 7)
+        for scheme in ("light", "dark"):
+            tab.prefer(scheme)
+            for part in layout.parts_of(tab):
+                if part:
+                    tab.click(f"#tabs [data-tab={part}]")
+                tab.run("new Promise(done => requestAnimationFrame(() => requestAnimationFrame(done)))")
+                faults = tab.run(layout.MEASURE) + tab.run(layout.CONTRASTS)
+                assert faults == [], (width, height, scheme, part, faults[:6])
+                if part in (None, "picture") and height >= 700:
+                    heights = tab.run("['pane', 'other-pane'].map(name => document.getElementById(name).clientHeight)")
+                    assert min(heights) >= height / 8, (width, height, heights)
+    tab.prefer("light")
+    tab.resize(1440, 920)
+
+
+TESTS = [same_as_a_plain_model, both_in_the_page, with_another, in_each_window]

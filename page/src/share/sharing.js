@@ -39,11 +39,12 @@ function fenceOf(lines) {
   return "`".repeat(longest + 1);
 }
 
-// The account, the call at the place and the loss there, as Markdown, with the page's address.
+// The account, how another run differs, the call at the place and the loss there, as Markdown, with the page's address.
 export function copyReport(walk, name) {
   const { run, view } = walk;
   const lines = [`${byId("place").textContent}: ${view.place === 0 ? "the start" : wordsOf(byId("sentence"))}`, ...cardLines()];
-  const blocks = [accountLines(run.account), lines].map(those => [fenceOf(those) + "text", ...those, fenceOf(those)].join("\n"));
+  const difference = walk.shown.other === null ? [] : [walk.shown.other.compared.lines.map(visible)];
+  const blocks = [accountLines(run.account), ...difference, lines].map(those => [fenceOf(those) + "text", ...those, fenceOf(those)].join("\n"));
   return copyText(`### ${visible(name).replace(/[\\`*_<>#[\]]/g, "\\$&")}\n\n${blocks.join("\n\n")}\n\nThe page: <${location.href}>\n`);
 }
 
