@@ -255,6 +255,41 @@ fn a_test_that_was_edited_parts_and_says_where() {
 }
 
 #[test]
+fn a_replay_that_diverged_and_failed_says_how_to_compare_it() {
+    if is_part() {
+        return a_question_decides();
+    }
+    let test = "a_replay_that_diverged_and_failed_says_how_to_compare_it";
+    let part = Part::new(test);
+    let compared = |edited: &str| {
+        let mut replay = started(test, &part.folder.0);
+        replay.env("YOVANELUM_REPLAY", part.journal());
+        let said = replay.env(EDITED, edited).arg("--nocapture").output();
+        let said = String::from_utf8(said.unwrap().stderr).unwrap();
+        let lines = said.lines().filter_map(|it| it.strip_prefix("compare: "));
+        lines.map(String::from).collect::<Vec<_>>()
+    };
+    part.record();
+    // In the recorded order there is nothing to compare.
+    assert_eq!(compared(""), [""; 0]);
+    let again = part.journal().with_extension("").display().to_string() + ".replayed.journal";
+    let wanted = format!(
+        "yovanelum why {again} --against {}",
+        part.journal().display()
+    );
+    assert_eq!(compared("asks first"), [wanted.as_str()]);
+    let words = wanted.split(' ').skip(1);
+    let answer = Command::new(env!("CARGO_BIN_EXE_yovanelum"))
+        .args(words)
+        .output();
+    let answer = String::from_utf8(answer.unwrap().stdout).unwrap();
+    assert!(
+        answer.starts_with("the first difference: call "),
+        "{answer}"
+    );
+}
+
+#[test]
 fn a_replay_that_parts_after_a_quiet_question_names_it() {
     if is_part() {
         return a_question_decides();

@@ -78,7 +78,10 @@ impl TestRun {
         names.account = Some(report.account().to_json());
         let call = call.unwrap_or(report.call());
         let (look, more) = match write(&path, &journal, &names, call) {
-            Ok((path, look)) => (Some(look), replay_line::of(&path, self)),
+            Ok((path, look)) => {
+                let lines = replay_line::of(&path, self) + &compare_line(&path, recorder);
+                (Some(look), lines)
+            }
             Err(error) => (None, not_written(&path, &error)),
         };
         let has_colours = report::has_colours(&io::stderr());
@@ -98,6 +101,15 @@ impl TestRun {
             true => folder.join(format!("{name}{REPLAYED}{REPLAYED}.journal")),
             false => path,
         }
+    }
+}
+
+/// Returns the line that says how to compare a run with the one whose calls it was to make again, if it diverged from that.
+fn compare_line(path: &Path, recorder: &Shared) -> String {
+    let gate = recorder.gate.as_ref();
+    match gate.filter(|gate| gate.has_diverged()) {
+        Some(gate) => replay_line::comparing(path, gate.path()),
+        None => String::new(),
     }
 }
 

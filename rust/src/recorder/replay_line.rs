@@ -45,6 +45,12 @@ pub(super) fn of(journal: &Path, test: &TestRun) -> String {
     format!("replay: {}\n", words.join(" "))
 }
 
+/// Returns the line that compares this journal with the one that was replayed.
+pub(super) fn comparing(journal: &Path, replayed: &Path) -> String {
+    let [journal, replayed] = [journal, replayed].map(|path| quoted(&path.to_string_lossy()));
+    format!("compare: yovanelum why {journal} --against {replayed}\n")
+}
+
 /// Returns the words of cargo's command up to those for the program itself.
 fn cargo_words(run: &CargoRun, package: &str, target: &[String]) -> Vec<String> {
     let variables = run.variables.iter();

@@ -507,6 +507,11 @@ impl Gate {
         }
     }
 
+    /// Whether a call was another one than that of the journal.
+    pub(crate) fn has_diverged(&self) -> bool {
+        self.enter().divergence.is_some()
+    }
+
     /// Returns how the replay goes so far.
     pub(crate) fn outcome(&self) -> Replayed {
         let mut state = self.enter();
