@@ -9,6 +9,9 @@ use serde_json::{Map, Value, json};
 use std::path::{Path, PathBuf};
 use std::sync::mpsc::Sender;
 
+/// What the program of a test is told beside the test's name, which may be one that is ignored unless it is asked for.
+const WORDS: [&str; 3] = ["--exact", "--include-ignored", "--nocapture"];
+
 /// The type of the debugger that the editor starts, unless the launch says otherwise.
 const TYPE: &str = "lldb";
 
@@ -102,9 +105,11 @@ impl Native {
         Ok(Start {
             name: format!("{} before call {call}", test.name),
             program,
-            words: [test.name.as_str(), "--exact", "--nocapture"]
-                .map(str::to_string)
-                .to_vec(),
+            words: [test.name.as_str()]
+                .iter()
+                .chain(&WORDS)
+                .map(|word| word.to_string())
+                .collect(),
             folder,
             variables,
         })

@@ -10,6 +10,7 @@ use support::{Client, Folder, save_bus};
 
 /// The test of a package whose name is that of the journal's. It prints what a replay would read.
 const TEST: &str = r#"
+#[ignore = "it takes long"]
 #[test]
 fn no_price_is_missing() {
     for name in ["YOVANELUM_REPLAY", "YOVANELUM_REPLAY_STOP", "CARGO_MANIFEST_DIR", "DESK"] {
@@ -106,7 +107,12 @@ fn the_client_starts_its_own_debugger_before_the_call() {
     assert_eq!(started["name"], "no_price_is_missing before call 3");
     assert_eq!(
         started["args"],
-        json!(["no_price_is_missing", "--exact", "--nocapture"])
+        json!([
+            "no_price_is_missing",
+            "--exact",
+            "--include-ignored",
+            "--nocapture"
+        ])
     );
     // It is the program of the test, with the variables of the launch and of the replay.
     let words = started["args"].as_array().unwrap().iter();
