@@ -1,5 +1,7 @@
 ;; Emacs in a terminal, with dap-mode and its windows. Keys stand for its commands. The environment names the adapter, the package with the test, and a
 ;; folder for dap-mode's own files.
+;; Nothing is compiled beside.
+(setq native-comp-deferred-compilation nil)
 (package-initialize)
 (require 'dap-mode)
 (require 'dap-ui)
