@@ -97,7 +97,7 @@ fn row(name: &'static str) -> String {
     seeds.sort_unstable();
     let seconds = setting("EACH", 60);
     format!(
-        "`{name}` | {search} | {} | {} of {REPLAYS} | {} of 10 | {} | {}",
+        "`{name}` | {search} | {} | {} of {REPLAYS} | {} | {} | {}",
         seeds[seeds.len() / 2],
         replays(&program, &journal, hangs),
         number(&json, "bySchedule"),
