@@ -19,7 +19,7 @@ pub(crate) use state::ChannelState;
 
 use crate::explore;
 use crate::lock::lock;
-use crate::recorder::{RecordedBy, Recorder, TextOf, say_that_none_replays};
+use crate::recorder::{RecordedBy, Recorder, TextOf, note_channel, say_that_none_replays};
 use crate::replay::{ReplayedChannel, Turns};
 use registry::Registered;
 use std::sync::{Arc, Mutex, OnceLock};
@@ -39,6 +39,7 @@ impl RecordedChannel {
     /// channel isn't recorded. Its first two handles are made here in the source.
     pub(crate) fn add(core: CoreChannel, value_count: u64, made_at: CallSite) -> RecordedChannel {
         let current = Recorder::current_or_off();
+        note_channel(made_at, current.is_some());
         if current.is_none() {
             say_that_none_replays(made_at);
         }

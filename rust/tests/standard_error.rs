@@ -179,7 +179,7 @@ fn an_empty_journal_says_what_to_do() {
     let [line] = &said[..] else {
         panic!("{said:#?}");
     };
-    assert!(!succeeds && line.contains("empty.journal isn't written: no channel"));
+    assert!(!succeeds && line.contains("empty recorded nothing: a channel was created at "));
     for form in ["for_test", "enter", "on_thread_start", "scope", "install"] {
         assert!(line.contains(form), "{form} in {line}");
     }

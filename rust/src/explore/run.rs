@@ -4,9 +4,10 @@ use super::guide::Known;
 use super::order::{Kind, Order};
 use super::random::hashed;
 use super::schedule::{End, Schedule};
+use super::task::is_over_facade;
 use super::{Explorer, helper, pin, settings};
 use crate::lock::lock;
-use crate::recorder::{Recorder, Shared};
+use crate::recorder::{Recorder, Shared, is_any_of_none, likely_cause};
 use crate::replay;
 use std::path::{Path, PathBuf};
 use std::sync::{Mutex, OnceLock, Weak};
@@ -171,7 +172,7 @@ pub(crate) fn end(recorder: &Recorder, has_failed: bool) {
         false => End::Passed,
     };
     let mut schedule = run.explorer.end(end);
-    schedule.channels = recorder.0.channel_names();
+    schedule.note(&recorder.0);
     run.write(&schedule);
     if let Some((path, steps)) = &run.followed {
         let name = path.file_name().unwrap_or_default().to_string_lossy();
@@ -201,6 +202,16 @@ fn said(followed: &Schedule, steps: usize) -> String {
     }
 }
 
+impl Schedule {
+    /// Adds what is known of the test's recorder: the names of its channels, or why it has none.
+    fn note(&mut self, recorder: &Shared) {
+        self.channels = recorder.channel_names();
+        // Under the patch, polls are ordered also where the test has none of the two channels.
+        let is_for_polls = is_over_facade() && !self.steps.is_empty() && !is_any_of_none();
+        self.nothing = (recorder.has_nothing() && !is_for_polls).then(likely_cause);
+    }
+}
+
 impl Run {
     fn write(&self, schedule: &Schedule) {
         let written = self
@@ -219,7 +230,7 @@ pub(super) fn end_hung(schedule: &mut Schedule) -> ! {
     if let Some(run) = RUN.get() {
         if let Some(test) = &*lock(&run.test) {
             if let Some(recorder) = test.recorder.upgrade() {
-                schedule.channels = recorder.channel_names();
+                schedule.note(&recorder);
             }
             (test.report_hung)();
         }

@@ -72,6 +72,8 @@ pub(crate) struct Schedule {
     pub(super) was_too_long: bool,
     /// Whether threads were taken to sleep by a clock.
     pub(super) by_clock: bool,
+    /// The likely cause, if nothing was recorded.
+    pub(super) nothing: Option<String>,
     /// The number of the first step that isn't that of the schedule which was followed.
     pub(super) diverged: Option<u32>,
     /// The hash of the journal beside it.
@@ -91,6 +93,7 @@ impl Schedule {
             unnamed: 0,
             was_too_long: false,
             by_clock: false,
+            nothing: None,
             diverged: None,
             journal: None,
             channels: Vec::new(),
@@ -139,6 +142,9 @@ impl Schedule {
             "restless {}\nunnamed {}\n",
             self.restless, self.unnamed
         );
+        if let Some(cause) = &self.nothing {
+            let _ = writeln!(text, "nothing {}", one_line(cause));
+        }
         if let Some(diverged) = self.diverged {
             let _ = writeln!(text, "parted {diverged}");
         }
@@ -207,6 +213,7 @@ impl Schedule {
             "by-clock" => self.by_clock = true,
             "restless" => self.restless = rest.parse().ok()?,
             "unnamed" => self.unnamed = rest.parse().ok()?,
+            "nothing" => self.nothing = Some(rest.to_string()),
             "parted" => self.diverged = Some(rest.parse().ok()?),
             "journal" => self.journal = Some(u64::from_str_radix(rest, 16).ok()?),
             "channel" => {
@@ -333,6 +340,7 @@ mod tests {
         let mut schedule = Schedule::new("s1.1".to_string());
         schedule.has_timers = true;
         schedule.end = End::Hung;
+        schedule.nothing = Some("no channel".to_string());
         schedule.diverged = Some(4);
         schedule.journal = Some(0xab);
         schedule.channels = vec![(3, "prices of today".to_string())];
@@ -346,7 +354,7 @@ mod tests {
 
     #[test]
     fn a_file_has_the_whole_schedule() {
-        let wanted = "yovanelum schedule 1\norder s1.1\nend hung\ntimers\nrestless 0\nunnamed 0\nparted 4\n\
+        let wanted = "yovanelum schedule 1\norder s1.1\nend hung\ntimers\nrestless 0\nunnamed 0\nnothing no channel\nparted 4\n\
             journal 00000000000000ab\nchannel 3 prices of today\nsteps 3\n0 2 = poll - - a reader\n\
             1 2 ! send 3.0 7:tests/my%20shop.rs admin\n0 2 = time a%20reader - (time)\n";
         assert_eq!(schedule().text(), wanted);
@@ -366,7 +374,7 @@ mod tests {
         );
         assert_eq!(
             fault(&text.replace("1 2 ! send", "1 2 send")),
-            "line 12: `1 2 send 3.0 7:tests/my%20shop.rs admin`"
+            "line 13: `1 2 send 3.0 7:tests/my%20shop.rs admin`"
         );
         let (cut, _) = text.rsplit_once("0 2 =").unwrap();
         assert_eq!(fault(cut), "it ends too early");

@@ -25,6 +25,9 @@ const TRIES: usize = 10;
 /// How long each of these runs takes at most.
 const TIME_OF_TRY: Duration = Duration::from_secs(10);
 
+/// How many runs tell that nothing is recorded.
+const TELLING_RUNS: u64 = 5;
+
 /// What the name of a runtime's thread begins with, which is no test's.
 const WORKER: &str = "tokio-runtime-worker";
 
@@ -154,11 +157,17 @@ impl Session {
         });
         self.progress.clear();
         let found = lock(&self.found).take();
-        let found = found.map(|(task, ran)| self.report(task, ran));
+        let has_nothing = lock(&self.counts).have_nothing();
+        let found = found.map(|(task, ran)| match has_nothing {
+            true => self.report_nothing(&task, ran),
+            false => self.report(task, ran),
+        });
         let (counts, search) = (lock(&self.counts), lock(&self.search));
         let elapsed = self.began.elapsed();
         let asked = self.asked();
-        if found.is_none() {
+        if found.is_none() && has_nothing {
+            replay::say(&counts.nothing_in_words(&self.name, None));
+        } else if found.is_none() {
             replay::say(&counts.passed_in_words(&self.name, asked.as_ref(), &search, elapsed));
         }
         if let Some(path) = &self.settings.out {
@@ -167,7 +176,7 @@ impl Session {
                 replay::say(&format!("{} isn't written: {error}", path.display()));
             }
         }
-        found.is_some() || asked.is_some_and(|asked| !asked.is_there)
+        found.is_some() || has_nothing || asked.is_some_and(|asked| !asked.is_there)
     }
 
     /// Returns what is looked for, and says so if there was nothing of its name.
@@ -227,7 +236,11 @@ impl Session {
         let mut counts = lock(&self.counts);
         counts.add(&task, schedule);
         self.progress.show(&counts, self.began.elapsed());
+        let is_pointless = counts.have_nothing() && counts.runs >= TELLING_RUNS;
         drop(counts);
+        if is_pointless {
+            self.is_over.store(true, Ordering::Relaxed);
+        }
         if ran.failure.is_some() {
             self.end_with(task, ran);
             return false;
@@ -252,6 +265,16 @@ impl Session {
         }
         self.end_with(task, ran);
         false
+    }
+
+    /// Reports a failing run where none has recorded anything, so that nothing brings it back.
+    fn report_nothing(&self, task: &Task, ran: Ran) -> Found {
+        let failure = ran.failure.unwrap_or_else(|| unreachable!("it has failed"));
+        let counts = lock(&self.counts);
+        replay::say(&counts.nothing_in_words(&self.name, Some(&failure)));
+        drop(counts);
+        replay::say(self.without_folder(&ran.said, &ran.target).trim_end());
+        Found::without_schedule(&task.order, &failure)
     }
 
     /// Looks for the fewest switches, tries what brings the failure back, puts the files where they are looked for, and reports all.

@@ -7,10 +7,19 @@ use std::future::Future;
 use std::panic::Location;
 use std::pin::Pin;
 use std::sync::Arc;
+use std::sync::atomic::{AtomicBool, Ordering};
 use std::task::{Context, Poll};
 
 /// The type of futures that have a name, as the compiler writes it.
 const NAMED: &str = "yovanelum::actors::Named<";
+
+/// Whether the package that stands for tokio has spawned a task.
+static IS_OVER_FACADE: AtomicBool = AtomicBool::new(false);
+
+/// Whether a task of this run was spawned by the package that stands for tokio.
+pub(super) fn is_over_facade() -> bool {
+    IS_OVER_FACADE.load(Ordering::Relaxed)
+}
 
 /// Whether the runs of this process are explored. Then tasks are to be wrapped by [`explored`].
 ///
@@ -27,6 +36,7 @@ pub fn is_explored() -> bool {
 #[doc(hidden)]
 #[track_caller]
 pub fn explored<F: Future>(future: F) -> Explored<F> {
+    IS_OVER_FACADE.store(true, Ordering::Relaxed);
     let at = Location::caller();
     let is_named = any::type_name::<F>().starts_with(NAMED);
     Explored {

@@ -40,6 +40,9 @@ pub(super) struct Counts {
     restless: u64,
     unnamed: u64,
     too_long: u64,
+    /// How many recorded nothing, and the likely cause.
+    nothing: u64,
+    cause: Option<String>,
     by_clock: bool,
 }
 
@@ -57,6 +60,27 @@ impl Counts {
         self.unnamed += u64::from(schedule.unnamed);
         self.too_long += u64::from(schedule.was_too_long);
         self.by_clock |= schedule.by_clock;
+        self.nothing += u64::from(schedule.nothing.is_some());
+        self.cause = self.cause.take().or_else(|| schedule.nothing.clone());
+    }
+
+    /// Whether no run has recorded anything.
+    pub(super) fn have_nothing(&self) -> bool {
+        self.runs > 0 && self.nothing == self.runs
+    }
+
+    /// Says that nothing was recorded, where that is so of all runs.
+    pub(super) fn nothing_in_words(&self, name: &str, failed: Option<&Failure>) -> String {
+        let cause = self.cause.as_deref().unwrap_or_default();
+        let said = match (failed, self.runs) {
+            (Some(_), 1) => "run 1 failed, but recorded nothing".to_string(),
+            (Some(_), runs) => {
+                format!("run {runs} failed, but nothing was recorded in any of {runs} runs")
+            }
+            (None, 1) => "the run recorded nothing".to_string(),
+            (None, runs) => format!("nothing was recorded in any of {runs} runs"),
+        };
+        format!("explored {name}: {said}, so no order was chosen: {cause}")
     }
 
     /// Says what was tried where all runs passed, and what wasn't.
@@ -133,6 +157,14 @@ impl Counts {
         if self.by_clock {
             let _ = write!(text, "; {BY_CLOCK}");
         }
+        if self.nothing > 0 {
+            let cause = self.cause.as_deref().unwrap_or_default();
+            let _ = write!(
+                text,
+                "\n  {} of {} runs recorded nothing: {cause}",
+                self.nothing, self.runs
+            );
+        }
         text.push_str(
             "\n  not chosen: tasks without a name, and what happens between two calls or polls: atomics, locks, other channels",
         );
@@ -176,8 +208,8 @@ impl Counts {
         );
         let _ = write!(
             json,
-            ", \"unnamedCalls\": {}, \"tooLong\": {}",
-            self.unnamed, self.too_long
+            ", \"unnamedCalls\": {}, \"tooLong\": {}, \"nothingRecorded\": {}",
+            self.unnamed, self.too_long, self.nothing
         );
         let (met, failure) = match found {
             Some(found) if found.failure.is_met() => (Some(found), None),

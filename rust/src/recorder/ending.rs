@@ -31,6 +31,14 @@ impl TestRun {
         eprint!("{lines}");
     }
 
+    /// Says so if nothing was recorded in a test that passes. The harness shows it with `--nocapture`.
+    pub(super) fn say_if_nothing(&self, recorder: &Shared) {
+        if recorder.has_nothing() {
+            // In one call, and so that the harness captures it.
+            eprint!("{}", self.nothing_in_words(recorder));
+        }
+    }
+
     /// Writes the files of this test at once, since the process ends, and returns the report. What this thread has locked is left out.
     pub(super) fn write_before_process_ends(&self) -> Option<String> {
         let recorder = self.recorder.upgrade()?;
@@ -59,6 +67,9 @@ impl TestRun {
         has_failed: bool,
         call: Option<u64>,
     ) -> String {
+        if recorder.has_nothing() {
+            return self.nothing_in_words(recorder);
+        }
         let path = self.journal_path(recorder);
         let Saved {
             run,
@@ -86,6 +97,14 @@ impl TestRun {
         };
         let has_colours = report::has_colours(&io::stderr());
         format!("{}{more}", report.text(look, has_colours))
+    }
+
+    /// Says that nothing was recorded, unless others do: the end of a replay, and the session of the runs that it explores.
+    fn nothing_in_words(&self, recorder: &Shared) -> String {
+        match recorder.gate.is_some() || explore::current().is_some() {
+            true => String::new(),
+            false => format!("yovanelum: {}\n", recorder.nothing_line(&self.name)),
+        }
     }
 
     /// Returns the file for the journal of this test, or of its replay, which doesn't replace the one that it reads.

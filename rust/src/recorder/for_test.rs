@@ -23,7 +23,9 @@ impl Recorder {
     /// panic of the test. If the process ends with a panic, as after a second one in a drop or with `panic = "abort"`, the hook writes the files
     /// and the report.
     ///
-    /// Nothing is written or printed if the test passes, or if the result was created while its thread was panicking already. Nor is it if the
+    /// If no channel was created under it, one line says so with the likely cause, also where the test passes, and there is no report.
+    ///
+    /// Else nothing is written or printed if the test passes, or if the result was created while its thread was panicking already. Nor is it if the
     /// process ends otherwise, as by [`process::exit`](std::process::exit).
     ///
     /// Make it the first variable of the test. It is then dropped last, and the drops of senders and receivers are in the journal.
@@ -250,6 +252,8 @@ impl Drop for SaveOnPanic {
             let call = met.filter(|_| !has_failed);
             let report = || self.test.report(&self.recorder.0, has_failed, call);
             let _ = panic::catch_unwind(AssertUnwindSafe(report));
+        } else if !self.began_in_panic && explore::current().is_none() {
+            self.test.say_if_nothing(&self.recorder.0);
         }
     }
 }

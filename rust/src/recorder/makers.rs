@@ -37,6 +37,11 @@ impl Makers {
         maker.count - 1
     }
 
+    /// Whether any channel was made.
+    pub(super) fn have_made(&self) -> bool {
+        self.made > 0
+    }
+
     /// Whether there are so many makers that most of them have no channel in the run.
     pub(super) fn are_many(&self) -> bool {
         self.counts.len() >= MANY

@@ -149,6 +149,10 @@ impl Shared {
                 false => TestEnd::Passed,
             });
         }
+        let is_replay = self.gate.is_some() || explore::followed().is_some();
+        if is_replay && self.has_nothing() {
+            replay::say(&self.nothing_line(&test.name));
+        }
     }
 }
 

@@ -18,8 +18,8 @@ use std::sync::{Arc, Mutex};
 use std::time::Duration;
 use std::{fs, io, ptr};
 
-/// Why a recorder without channels has no journal.
-const NO_CHANNEL: &str = "no channel belongs to this recorder. It records those that are created on a thread that has entered it \
+/// Which channels a recorder has.
+pub(super) const ITS_CHANNELS: &str = "those that are created on a thread that has entered it \
     (`Recorder::for_test`, `enter`), on the threads of a runtime (`on_thread_start`), in a future (`scope`), or anywhere while it is \
     installed (`install`)";
 
@@ -97,7 +97,9 @@ impl Run<'_> {
         self.cut(self.shared.last()).map_err(|fault| {
             io::Error::other(match fault {
                 CutFault::NoChannels if self.shared.is_off => IS_OFF.to_string(),
-                CutFault::NoChannels => NO_CHANNEL.to_string(),
+                CutFault::NoChannels => {
+                    format!("no channel belongs to this recorder. It records {ITS_CHANNELS}")
+                }
                 CutFault::NoMemory => "no memory for the journal".to_string(),
                 // No recorder has more than 64 channels, and the stamps of each rise.
                 CutFault::TooManyChannels | CutFault::OutOfOrder => fault.to_string(),

@@ -1,6 +1,7 @@
 //! What the channels of a recorder share.
 
 use super::makers::Makers;
+use super::test_run::PATIENCE;
 use super::texts::Texts;
 use crate::actors::{self, Actors};
 use crate::atomic::AtomicU64;
@@ -126,6 +127,12 @@ impl Shared {
         }
         let nth = lock(&self.makers).count(&name);
         Maker { name, nth }
+    }
+
+    /// Whether a channel was created under this recorder.
+    pub(super) fn has_made_channels(&self) -> bool {
+        let makers = try_lock_for(&self.makers, PATIENCE);
+        makers.is_none_or(|makers| makers.have_made())
     }
 
     /// Returns the names of channels that have one, by number.
