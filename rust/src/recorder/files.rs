@@ -7,12 +7,13 @@ mod own;
 pub(super) use name::file_name;
 pub(crate) use own::begin;
 
+use crate::atomic::AtomicU64;
 use crate::explore;
 use crate::program::Program;
 use lock_file::LockFile;
 use std::hash::{BuildHasher, Hasher, RandomState};
 use std::path::{Path, PathBuf};
-use std::sync::atomic::{AtomicU64, Ordering};
+use std::sync::atomic::Ordering;
 use std::{fs, io, process};
 
 /// What each file of a test is: what its name ends with, and its bytes. `None` stands for a file that is to be gone.
