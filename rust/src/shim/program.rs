@@ -2,8 +2,8 @@
 //!
 //! The files of the library's part, in this folder, are included here a second time. Those in `program/` are the program's alone.
 //! Two of them stand for ports of the kit, and have as much of `indexmap` and `serde_json` as the sources use. All of it is safe
-//! code, written by hand, and each function names the clause of Rattle's std or of the port that it stands for. In a clause `S` is
-//! what `self` points to before the call and `S'` after it.
+//! code, written by hand. Each function names the clause of Rattle's std or of the port that it stands for, but for those of locks,
+//! conditions and the start of threads. In a clause `S` is what `self` points to before the call and `S'` after it.
 //!
 //! In Rattle all that a program asks of its system it asks of a handle, the runtime. Here the handle has no bytes.
 //!
