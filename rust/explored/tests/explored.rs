@@ -190,7 +190,9 @@ fn assert_brought_back(name: &'static str, lines: &[&str], times: u64) {
         "again:  YOVANELUM_EXPLORE=1 YOVANELUM_EXPLORE_FROM={} ",
         text(&json, "order")
     );
-    assert!(said.contains(&again), "no `{again}` in {said}");
+    // It is offered where it was seen to work.
+    let is_offered = said.contains(&again);
+    assert_eq!(is_offered, number(&json, "byOrder") > 0, "{again} in {said}");
 }
 
 /// Asserts that no order of this program fails.
@@ -265,7 +267,7 @@ fn an_order_of_polls_is_found_and_brought_back_by_the_schedule() {
     assert_found(
         "old_price",
         &[
-            "the journal brings it back 0 of 10, the schedule 10 of 10",
+            "the journal brings it back 0 of 10, the schedule's file 10 of 10, the order ",
             "an old price stays",
         ],
     );

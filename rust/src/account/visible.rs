@@ -54,7 +54,7 @@ pub(crate) fn call(number: u64) -> String {
 }
 
 /// Returns a number of things, as `1 call` or `2 calls`.
-pub(super) fn counted(count: u64, thing: &str) -> String {
+pub(crate) fn counted(count: u64, thing: &str) -> String {
     match count {
         1 => format!("1 {thing}"),
         _ => format!("{count} {thing}s"),

@@ -11,12 +11,21 @@ const CALLS_TOLD: usize = 3;
 pub(super) fn in_words(schedule: &Schedule) -> String {
     let switches: Vec<usize> = places(schedule, |step| step.turn == Turn::Switch);
     let mut lines = String::new();
-    for at in switches.iter().take(SWITCHES_TOLD) {
-        let told = switch(schedule, *at);
-        let _ = writeln!(lines, "  the switch: {told}");
+    let mut told: Vec<String> = Vec::new();
+    let mut untold = 0;
+    for at in switches {
+        // The same calls of a loop may be switched again and again.
+        match (switch(schedule, at), told.len() < SWITCHES_TOLD) {
+            (words, _) if told.contains(&words) => untold += 1,
+            (words, true) => told.push(words),
+            (_, false) => untold += 1,
+        }
     }
-    if let Some(more) = switches.len().checked_sub(SWITCHES_TOLD + 1) {
-        let _ = writeln!(lines, "  and {} more", more + 1);
+    for words in told {
+        let _ = writeln!(lines, "  the switch: {words}");
+    }
+    if untold > 0 {
+        let _ = writeln!(lines, "  and {untold} more");
     }
     for (at, step) in (1..).zip(&schedule.steps) {
         if let What::Time { ready } = &step.what {
@@ -131,6 +140,20 @@ mod tests {
             at: word.map(|(_, line)| ("tests/shop.rs".to_string(), line)),
             who: who.into(),
         }
+    }
+
+    #[test]
+    fn a_switch_that_comes_again_is_told_once() {
+        let call = |who, word, turn| step(who, Some((word, 12)), turn);
+        let mut schedule = Schedule::new(String::new());
+        for _ in 0..4 {
+            schedule.steps.push(call("reader", "borrow", Turn::Same));
+            schedule.steps.push(call("admin", "send", Turn::Switch));
+            schedule.steps.push(call("reader", "changed", Turn::Free));
+        }
+        let words = in_words(&schedule);
+        assert_eq!(words.matches("  the switch: ").count(), 1, "{words}");
+        assert!(words.ends_with("\n  and 3 more\n"), "{words}");
     }
 
     #[test]

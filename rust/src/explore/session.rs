@@ -309,6 +309,7 @@ impl Session {
             let order = found.following(&path);
             found.by_schedule = self.tries(&By::Order(&order), &found);
         }
+        found.by_order = self.tries(&By::Order(found.order_again()), &found);
         if let Some(journal) = &journal {
             self.put(journal, &failing, &mut found);
         }

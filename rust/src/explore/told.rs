@@ -7,6 +7,7 @@ use super::race;
 use super::schedule::Schedule;
 use super::search::{Search, Task};
 use super::shorten::Failing;
+use crate::account::visible;
 use crate::lock::lock;
 use crate::names::push_string;
 use std::collections::{BTreeMap, HashSet};
@@ -105,6 +106,7 @@ impl Counts {
             Some(_) => all(search.passed.iter().sum(), "with at most one switch"),
             None => match search.passed[0] {
                 0 => String::new(),
+                1 => "1 order without a switch passed, and there are more".to_string(),
                 some => format!("{some} orders without a switch passed, and there are more"),
             },
         };
@@ -114,7 +116,7 @@ impl Counts {
             .filter(|(strategy, _)| **strategy != "search");
         let others: Vec<_> = others
             .map(|(strategy, count)| match *strategy {
-                "guided" => format!("{count} guided"),
+                "guided" | "random" => format!("{count} {strategy}"),
                 strategy => format!("{count} by {strategy}"),
             })
             .collect();
@@ -128,13 +130,17 @@ impl Counts {
             }) => format!("{unknown}; "),
             Some(asked) => format!("no run met `{}`: ", asked.text),
         };
-        let mut text = format!(
-            "explored {name}: {no_run}all {} runs passed, in {} orders ({:.1} s): {}",
-            self.runs,
-            self.orders.len(),
-            took.as_secs_f64(),
-            parts.join("; ")
-        );
+        let runs = match self.runs {
+            1 => "1 run".to_string(),
+            runs => format!("all {runs} runs"),
+        };
+        let orders = visible::counted(self.orders.len() as u64, "order");
+        let seconds = took.as_secs_f64();
+        let mut text =
+            format!("explored {name}: {no_run}{runs} passed, in {orders} ({seconds:.1} s)");
+        if !parts.is_empty() {
+            let _ = write!(text, ": {}", parts.join("; "));
+        }
         let _ = write!(
             text,
             "\n  {} of {} steps were chosen while a thread ran",
@@ -256,6 +262,8 @@ pub(super) struct Found {
     met: Option<u64>,
     pub(super) by_journal: usize,
     pub(super) by_schedule: usize,
+    /// By the order's name.
+    pub(super) by_order: usize,
     pub(super) journal: Option<PathBuf>,
     pub(super) schedule: Option<PathBuf>,
 }
@@ -274,6 +282,7 @@ impl Found {
             },
             by_journal: 0,
             by_schedule: 0,
+            by_order: 0,
             journal: None,
             schedule: None,
         }
@@ -290,6 +299,7 @@ impl Found {
             met: None,
             by_journal: 0,
             by_schedule: 0,
+            by_order: 0,
             journal: None,
             schedule: None,
         }
@@ -320,7 +330,8 @@ impl Found {
                 let _ = write!(text, "{}; ", all(passed, "without a switch"));
             }
             (passed, _) => {
-                let _ = write!(text, "{passed} orders without a switch passed; ");
+                let orders = visible::counted(passed, "order");
+                let _ = write!(text, "{orders} without a switch passed; ");
             }
         }
         let verb = match asked.filter(|_| self.failure.is_met()) {
@@ -329,7 +340,7 @@ impl Found {
         };
         let _ = match self.by_search {
             Some(0) if self.switches == 0 => write!(text, "an order without a switch {verb}"),
-            Some(0) => write!(text, "one by the search {verb}"),
+            Some(0) => write!(text, "an order of the search {verb}"),
             Some(_) => {
                 let number = search.passed[1] + 1;
                 let known = (search.passed[1] as usize + search.waiting(1)).max(number as usize);
@@ -340,8 +351,11 @@ impl Found {
                 )
             }
             None => match self.first.kind {
-                Kind::Guided { .. } => write!(text, "a guided one {verb}"),
-                _ => write!(text, "one by {} {verb}", self.first.strategy()),
+                Kind::Guided { .. } | Kind::Random(_) => {
+                    write!(text, "a {} order {verb}", self.first.strategy())
+                }
+                Kind::Steps(_) | Kind::File(_) => write!(text, "the order {} {verb}", self.first),
+                _ => write!(text, "an order by {} {verb}", self.first.strategy()),
             },
         };
         let _ = writeln!(
@@ -353,14 +367,19 @@ impl Found {
         text.push_str(&race::in_words(&failing.schedule));
         let _ = writeln!(
             text,
-            "  the journal brings it back {} of 10, the schedule {} of 10",
-            self.by_journal, self.by_schedule
+            "  the journal brings it back {} of 10, the schedule's file {} of 10, the order {} {} of 10",
+            self.by_journal,
+            self.by_schedule,
+            self.order_again(),
+            self.by_order
         );
         if failing.schedule.by_clock {
             let _ = writeln!(text, "  {BY_CLOCK}");
         }
         text.push_str(&failing.ran.said);
-        let _ = write!(text, "again:  {}", self.again(name, &failing.ran.said));
+        if self.by_order > 0 {
+            let _ = write!(text, "again:  {}", self.again(name, &failing.ran.said));
+        }
         text
     }
 
@@ -383,16 +402,17 @@ impl Found {
         }
     }
 
-    fn order_again(&self) -> String {
+    /// Returns the order that is made again by its name, where a schedule's file has none.
+    pub(super) fn order_again(&self) -> &Order {
         match &self.order.kind {
-            Kind::File(_) => self.first.to_string(),
-            _ => self.order.to_string(),
+            Kind::File(_) => &self.first,
+            _ => &self.order,
         }
     }
 
     fn push_json(&self, json: &mut String) {
         json.push_str("{\"order\": ");
-        push_string(json, &self.order_again());
+        push_string(json, &self.order_again().to_string());
         if let Some(call) = self.met {
             let _ = write!(json, ", \"call\": {call}");
         }
@@ -408,10 +428,10 @@ impl Found {
                 None => json.push_str("null"),
             }
         }
-        let (journal, schedule) = (self.by_journal, self.by_schedule);
+        let (journal, schedule, order) = (self.by_journal, self.by_schedule, self.by_order);
         let _ = write!(
             json,
-            ", \"byJournal\": {journal}, \"bySchedule\": {schedule}}}"
+            ", \"byJournal\": {journal}, \"bySchedule\": {schedule}, \"byOrder\": {order}}}"
         );
     }
 }
