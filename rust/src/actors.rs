@@ -421,7 +421,12 @@ pub(crate) struct Identity {
     future: Option<Weak<str>>,
     task: Option<u64>,
     thread: usize,
+    // Whether the thread is a worker of a runtime, by the name that tokio gives it.
+    is_worker: bool,
 }
+
+/// The names that tokio's versions give to workers.
+const WORKERS: [&str; 2] = ["tokio-runtime-worker", "tokio-rt-worker"];
 
 impl Identity {
     /// Returns who calls now.
@@ -431,7 +436,21 @@ impl Identity {
             future: name.ok().flatten(),
             task: current_task(),
             thread: thread_number(),
+            is_worker: thread::current()
+                .name()
+                .is_some_and(|name| WORKERS.contains(&name)),
         }
+    }
+
+    /// Whether nothing but the thread is known of this caller.
+    pub(crate) fn is_thread_alone(&self) -> bool {
+        self.future.is_none() && self.task.is_none()
+    }
+
+    /// Whether both may be one task without a name, which has moved from one worker of its runtime to another.
+    pub(crate) fn may_be_moved(&self, other: &Identity) -> bool {
+        let is_any_task = |it: &Identity| it.is_thread_alone() && it.is_worker;
+        is_any_task(self) && is_any_task(other)
     }
 
     /// Returns the number of the thread.

@@ -28,8 +28,8 @@ const TIME_OF_TRY: Duration = Duration::from_secs(10);
 /// How many runs tell that nothing is recorded.
 const TELLING_RUNS: u64 = 5;
 
-/// What the name of a runtime's thread begins with, which is no test's.
-const WORKER: &str = "tokio-runtime-worker";
+/// What the names of a runtime's threads begin with, which are no test's.
+const WORKERS: [&str; 2] = ["tokio-runtime-worker", "tokio-rt-worker"];
 
 /// Explores the test of this name, if the variable says so, and it wasn't explored before.
 ///
@@ -70,7 +70,7 @@ fn path_of_test(name: &str) -> Option<String> {
     let thread = thread::current();
     let of_thread = thread
         .name()
-        .filter(|name| *name != "main" && !name.starts_with(WORKER));
+        .filter(|name| *name != "main" && !WORKERS.iter().any(|worker| name.starts_with(worker)));
     if let Some(path) = of_thread {
         return Some(path.to_string());
     }

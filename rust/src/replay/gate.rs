@@ -287,6 +287,13 @@ impl Gate {
         let task = user.may_be_any_task().then(|| waker.clone());
         let mut state = self.enter();
         let before = ticket.take().and_then(|left| state.waiters.remove(&left));
+        // A task may move from one worker of its runtime to another.
+        let is_moved = task
+            .as_ref()
+            .is_some_and(|task| state.is_last_task(lane, task));
+        if is_moved {
+            state.move_to(lane, &user);
+        }
         state.see(&self.plan, lane, &coming, &user);
         let task = task.and_then(|task| state.see_task(&self.plan, lane, &coming, task));
         let standing = state.standing(&self.plan, lane, coming.word);

@@ -165,10 +165,7 @@ impl fmt::Display for Replayed {
             None => write!(f, "all {} calls in the recorded order", self.calls)?,
         }
         if let Some(shared) = &self.shared {
-            write!(
-                f,
-                "; but several callers {shared}, and a replay can't tell them apart: give each a name of its own"
-            )?;
+            write!(f, "; but {shared}")?;
         }
         match &self.other_text {
             Some(other) => write!(f, "; {other}"),
@@ -265,18 +262,32 @@ pub(super) fn step_in_words(plan: &Plan, step: &Step) -> String {
     words
 }
 
-/// Says that several callers use the handle of this call.
-pub(super) fn shared_handle(plan: &Plan, coming: &Coming) -> String {
-    let mut words = format!("use handle {} of ", coming.handle);
+/// What is to be done about callers that can't be told apart.
+const NAME_EACH: &str = "and a replay can't tell them apart: give each a name of its own";
+
+/// Says that several callers use the handle of this call, which may be one that has moved between workers of a runtime.
+pub(super) fn shared_handle(plan: &Plan, coming: &Coming, may_be_moved: bool) -> String {
+    let who = match may_be_moved {
+        true => "workers of a runtime",
+        false => "callers",
+    };
+    let mut words = format!("several {who} use handle {} of ", coming.handle);
     push_channel(&mut words, plan, coming.channel);
+    words.push_str(", ");
+    words.push_str(match may_be_moved {
+        true => {
+            "as one task does that moves between them, or several tasks: name it by `named`, or set RUSTFLAGS='--cfg tokio_unstable'"
+        }
+        false => NAME_EACH,
+    });
     words
 }
 
 /// Says that several callers with this name, or with none, create channels.
 pub(super) fn shared_making(name: Option<&str>) -> String {
     match name {
-        Some(name) => format!("named `{name}` create channels"),
-        None => "without a name create channels".to_string(),
+        Some(name) => format!("several callers named `{name}` create channels, {NAME_EACH}"),
+        None => format!("several callers without a name create channels, {NAME_EACH}"),
     }
 }
 

@@ -230,11 +230,31 @@ impl State {
             Some(before) if before.is_same(user) => (),
             Some(before) => {
                 if before.is_alive() && self.shared.is_none() {
-                    self.shared = Some(outcome::shared_handle(plan, coming));
+                    self.shared = Some(outcome::shared_handle(
+                        plan,
+                        coming,
+                        before.may_be_moved(user),
+                    ));
                 }
                 *before = user.clone();
             }
             None => *before = Some(user.clone()),
+        }
+    }
+
+    /// Whether this task, known by its waker, is the one that has polled the last call of this lane.
+    pub(super) fn is_last_task(&self, lane: Option<u32>, waker: &Waker) -> bool {
+        let tasks = lane.map(|lane| &self.lanes[lane as usize].tasks);
+        let last = tasks.and_then(|tasks| tasks.last());
+        last.is_some_and(|task| task.will_wake(waker))
+    }
+
+    /// Records that the task without a name which has used a handle is polled on another thread now.
+    pub(super) fn move_to(&mut self, lane: Option<u32>, user: &Identity) {
+        let Some(lane) = lane else { return };
+        let before = &mut self.lanes[lane as usize].user;
+        if before.as_ref().is_some_and(Identity::is_thread_alone) {
+            *before = Some(user.clone());
         }
     }
 
@@ -255,7 +275,7 @@ impl State {
         let found = tasks.iter().position(|task| task.will_wake(&waker));
         match found {
             Some(index) if index + 1 < tasks.len() => {
-                self.shared = Some(outcome::shared_handle(plan, coming));
+                self.shared = Some(outcome::shared_handle(plan, coming, false));
             }
             None if tasks.len() < MOST_TASKS => {
                 tasks.push(waker);

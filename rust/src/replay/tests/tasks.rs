@@ -7,6 +7,7 @@ use crate::word::Word;
 use std::future::poll_fn;
 use std::sync::Arc;
 use std::task::{Poll, Waker};
+use std::thread;
 
 /// The gate of three receives by one receiver, once its sender is dropped.
 fn gate() -> Arc<Gate> {
@@ -44,6 +45,47 @@ fn tasks_that_use_a_handle_in_turn_are_not_told_apart() {
         format!(
             "{ALL}; but several callers use handle 1 of `orders`, \
              and a replay can't tell them apart: give each a name of its own"
+        )
+    );
+}
+
+/// Runs this on a worker of tokio's runtime.
+fn on_worker(run: impl FnOnce() + Send) {
+    thread::scope(|scope| {
+        let worker = thread::Builder::new().name("tokio-runtime-worker".to_string());
+        worker.spawn_scoped(scope, run).unwrap().join().unwrap();
+    });
+}
+
+#[test]
+#[cfg_attr(target_family = "wasm", ignore = "WebAssembly has no threads")]
+fn a_task_that_moves_from_worker_to_worker_is_one() {
+    let (gate, (_, task, _woken)) = (gate(), told());
+    on_worker(|| {
+        receive(&gate, &task);
+        on_worker(|| receive(&gate, &task));
+        receive(&gate, &task);
+    });
+    assert_eq!(gate.outcome().to_string(), ALL);
+}
+
+#[test]
+#[cfg_attr(target_family = "wasm", ignore = "WebAssembly has no threads")]
+fn tasks_on_two_workers_are_not_taken_for_one() {
+    let gate = gate();
+    let [(_, first, _a), (_, second, _b)] = [told(), told()];
+    on_worker(|| {
+        receive(&gate, &first);
+        on_worker(|| receive(&gate, &second));
+        receive(&gate, &first);
+    });
+    let replayed = gate.outcome();
+    assert!(!replayed.is_in_order());
+    assert_eq!(
+        replayed.to_string(),
+        format!(
+            "{ALL}; but several workers of a runtime use handle 1 of `orders`, as one task does that moves between them, \
+             or several tasks: name it by `named`, or set RUSTFLAGS='--cfg tokio_unstable'"
         )
     );
 }
