@@ -192,7 +192,11 @@ fn assert_brought_back(name: &'static str, lines: &[&str], times: u64) {
     );
     // It is offered where it was seen to work.
     let is_offered = said.contains(&again);
-    assert_eq!(is_offered, number(&json, "byOrder") > 0, "{again} in {said}");
+    assert_eq!(
+        is_offered,
+        number(&json, "byOrder") > 0,
+        "{again} in {said}"
+    );
 }
 
 /// Asserts that no order of this program fails.

@@ -20,7 +20,10 @@ fn a_monitor_that_lags_by_a_timer_is_found_by_a_guided_run() {
         );
         assert!(said.contains("Lagged("), "{said}");
         assert!(json.contains("\"met\": null, \"failure\": {"), "{json}");
-        (said.contains("a guided order failed"), number(&json, "runs"))
+        (
+            said.contains("a guided order failed"),
+            number(&json, "runs"),
+        )
     });
     // The second run of each session is guided.
     assert!(found.contains(&(true, 2)), "{found:?}");
