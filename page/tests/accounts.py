@@ -89,13 +89,14 @@ def names_beside(page):
 
 
 def open_in_the_editor(tab, folder, journals):
-    """Each step of the answer that has a place in the sources links to it in VS Code, below the root of the names, and its button copies it. Another
-    editor is kept for the next time, and what is no editor's address makes no link."""
+    """Each step of the answer that has a place in the sources links to it in VS Code, below the root of the names, and its button copies it. So does
+    the place of the panic. Another editor is kept for the next time, and what is no editor's address makes no link."""
     page, place = failing.addresses()["no_price_is_missing"]
     names = names_beside(page)
     places = [it["location"] for fact in names["account"]["facts"] for it in fact["places"] if it["location"]]
+    places += [names["locations"][it["location"]] for it in names["panics"]]
     opening.load(tab, page, place)
-    assert len(places) == 2 and tab.run(LINKS) == [
+    assert len(places) == 3 and tab.run(LINKS) == [
         [f"vscode://file{names['root']}/{file}:{line}:{column}", f"{file}:{line}:{column}"] for file, line, column in places], tab.run(LINKS)
     said = tab.run("document.querySelector('#sentence .source a').href")
     assert said == f"vscode://file{names['root']}/src/lib.rs:{failing.line_of('a price is sent').split(':')[1]}:20", said

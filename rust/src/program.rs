@@ -8,8 +8,8 @@ mod cargo;
 mod folder;
 mod target;
 
-pub(crate) use cargo::CargoRun;
 pub use cargo::set_patch;
+pub(crate) use cargo::{CargoRun, is_patched};
 pub(crate) use target::{Kind, Target};
 
 use std::env;

@@ -270,10 +270,9 @@ impl Session {
     /// Reports a failing run where none has recorded anything, so that nothing brings it back.
     fn report_nothing(&self, task: &Task, ran: Ran) -> Found {
         let failure = ran.failure.unwrap_or_else(|| unreachable!("it has failed"));
-        let counts = lock(&self.counts);
-        replay::say(&counts.nothing_in_words(&self.name, Some(&failure)));
-        drop(counts);
-        replay::say(self.without_folder(&ran.said, &ran.target).trim_end());
+        let nothing = lock(&self.counts).nothing_in_words(&self.name, Some(&failure));
+        let said = self.without_folder(&ran.said, &ran.target);
+        replay::say(&format!("{nothing}\n{}", said.trim_end()));
         Found::without_schedule(&task.order, &failure)
     }
 
@@ -286,8 +285,10 @@ impl Session {
             .unwrap_or_else(|| unreachable!("it has failed"));
         let Some(schedule) = ran.schedule.take() else {
             let found = Found::without_schedule(&order, &failure);
-            replay::say(&format!("{}: {} failed: {}", self.name, order, failure.0));
-            replay::say(&ran.said);
+            replay::say(&format!(
+                "{}: {} failed: {}\n{}",
+                self.name, order, failure.0, ran.said
+            ));
             return found;
         };
         let mut failing = Failing {

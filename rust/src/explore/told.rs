@@ -10,6 +10,7 @@ use super::shorten::Failing;
 use crate::account::visible;
 use crate::lock::lock;
 use crate::names::push_string;
+use crate::program;
 use std::collections::{BTreeMap, HashSet};
 use std::fmt::Write as _;
 use std::hash::{DefaultHasher, Hash, Hasher};
@@ -171,8 +172,14 @@ impl Counts {
                 self.nothing, self.runs
             );
         }
-        text.push_str(
-            "\n  not chosen: tasks without a name, and what happens between two calls or polls: atomics, locks, other channels",
+        // Under the patch they are.
+        let tasks = match program::is_patched() {
+            true => "",
+            false => "tasks without a name, and ",
+        };
+        let _ = write!(
+            text,
+            "\n  not chosen: {tasks}what happens between two calls or polls: atomics, locks, other channels"
         );
         text
     }

@@ -72,6 +72,11 @@ pub fn set_patch(folder: &'static str) {
     let _ = PATCH.set(folder);
 }
 
+/// Whether a package in tokio's place is part of the build.
+pub(crate) fn is_patched() -> bool {
+    PATCH.get().is_some()
+}
+
 /// What a command has to say for the same build as that of this program.
 #[derive(Clone, Debug, Default, PartialEq, Eq)]
 pub(crate) struct CargoRun {
