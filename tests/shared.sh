@@ -74,14 +74,14 @@ count() {
   tell_spent "$@"
 }
 
-# Calls a function for each line of standard input, as many side by side as there are processors, and adds their counts. The output
-# of each is printed when it ends.
+# Calls a function for each line of standard input, as many side by side as there are processors, or as `lanes` says, and adds their counts. The
+# output of each is printed when it ends.
 each() {
   local number=0 counts line counted
   counts=$(mktemp -d) || exit 70
   while IFS= read -r line; do
     number=$((number + 1))
-    while [ "$(jobs -rp | wc -l)" -ge "$(nproc)" ]; do wait -n; done
+    while [ "$(jobs -rp | wc -l)" -ge "${lanes:-$(nproc)}" ]; do wait -n; done
     {
       passed=0 failed=0 skipped=0
       "$@" "$line" >"$counts/$number.said" </dev/null
@@ -109,10 +109,10 @@ need() {
   done
 }
 
-# Installs Debian's packages. Parts of ./test run side by side, so one waits for the other.
+# Installs Debian's packages. Parts of ./test run side by side, so one waits for the other, and for whoever else installs something.
 install_packages() {
   (
-    flock 9 && apt-get update && DEBIAN_FRONTEND=noninteractive apt-get install -y --no-install-recommends "$@"
+    flock 9 && apt-get update && DEBIAN_FRONTEND=noninteractive apt-get -o DPkg::Lock::Timeout=600 install -y --no-install-recommends "$@"
   ) 9>"$out/packages.lock" </dev/null
 }
 

@@ -1,22 +1,28 @@
-/* The heap of the module: a free list for each power of two, over memory that the module grows itself. A header of 16 bytes
-   before each block has its power, so that blocks are aligned to 16. Memory is never returned to the browser. */
+/* The heap of the module: a free list for each size, over memory that the module grows itself. There are four sizes from one power of two to the
+   next, so that a block is at most a third larger than what was asked for, from 64 bytes on. A header of 16 bytes before each block has the number
+   of its size, so that blocks are aligned to 16. Memory is never returned to the browser. */
 typedef unsigned char byte;
 typedef unsigned long word;
 typedef struct { word is_there; byte *block; } Tried;
 
-enum { HEAD = 16, LEAST_POWER = 4, MOST_POWER = 40, PAGE_POWER = 16, LEAST_PAGES = 64 };
+enum { HEAD = 16, MOST_POWER = 40, SIZES = 4 * (MOST_POWER - 5), PAGE_POWER = 16, LEAST_PAGES = 64 };
 
 extern byte __heap_base;
 static word top, end;
-static byte *freed[MOST_POWER + 1];
+static byte *freed[SIZES + 1];
 
-static word power_of(word size) {
-  word power = LEAST_POWER;
-  while (((word)1 << power) < size) power++;
-  return power;
+/* The number of the least size with so many bytes: 1 to 7 are multiples of 16, and from 4 on each number has twice as many as the one four before. */
+static word number_of(word size) {
+  word units = size ? (size + HEAD - 1) / HEAD : 1, number = 0;
+  for (; units > 7; number += 4) units = (units + 1) / 2;
+  return number + units;
 }
 
-static word *power_before(byte *block) { return (word *)(block - HEAD); }
+static word size_of(word number) {
+  return number < 8 ? number * HEAD : (word)(number % 4 + 4) * HEAD << (number / 4 - 1);
+}
+
+static word *number_before(byte *block) { return (word *)(block - HEAD); }
 
 /* Whether this many bytes are left above the allocated ones. If not, more pages are requested. */
 static int has_room(word size) {
@@ -34,23 +40,23 @@ static int has_room(word size) {
 
 static byte *take(word size) {
   if (size > (word)1 << MOST_POWER) return 0;
-  word power = power_of(size);
-  byte *block = freed[power];
+  word number = number_of(size);
+  byte *block = freed[number];
   if (block) {
-    freed[power] = *(byte **)block;
+    freed[number] = *(byte **)block;
     return block;
   }
-  if (!has_room(HEAD + ((word)1 << power))) return 0;
+  if (!has_room(HEAD + size_of(number))) return 0;
   block = (byte *)top + HEAD;
-  *power_before(block) = power;
-  top += HEAD + ((word)1 << power);
+  *number_before(block) = number;
+  top += HEAD + size_of(number);
   return block;
 }
 
 static void give(byte *block) {
-  word power = *power_before(block);
-  *(byte **)block = freed[power];
-  freed[power] = block;
+  word number = *number_before(block);
+  *(byte **)block = freed[number];
+  freed[number] = block;
 }
 
 /* The heap as the proved code declares it. Each alignment that it requests divides 16, and one above that is refused. */
@@ -60,7 +66,7 @@ Tried rattle_alloc(word size, word align) {
 }
 
 Tried rattle_realloc(byte *block, word kept, word size, word align) {
-  if (align <= HEAD && size <= (word)1 << *power_before(block)) return (Tried){1, block};
+  if (align <= HEAD && size <= size_of(*number_before(block))) return (Tried){1, block};
   Tried moved = rattle_alloc(size, align);
   if (!moved.is_there) return (Tried){0, block};
   __builtin_memcpy(moved.block, block, kept);

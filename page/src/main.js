@@ -39,8 +39,15 @@ function chosenFiles(id) {
   return files;
 }
 
-// Opens the run that this step of the browser's history belongs to: the page's own, a kept one, or none.
-async function openInHistory(opener) {
+// Opens the run that this step of the browser's history belongs to, and compares it with another as the address says.
+async function openInHistory(opener, comparing) {
+  const { against } = readAddress(location.href);
+  await openKept(opener);
+  if (against) await comparing.follow(against);
+}
+
+// Opens the page's own run, a kept one, or none.
+async function openKept(opener) {
   const key = runInHistory();
   if (key === OWN) return opener.ask(embeddedRun());
   const kept = key && await during(["opening the run again"], () => recall(key));
@@ -53,14 +60,16 @@ async function openInHistory(opener) {
 }
 
 // An address that is written by hand means a place in the opened run.
-function followHistory(opener) {
+function followHistory(opener, comparing) {
   if (runInHistory() === undefined) setRun(page.source?.key ?? null);
   if (runInHistory() === (page.source?.key ?? null)) {
-    page.walk?.restore(readAddress(location.href));
+    const address = readAddress(location.href);
+    page.walk?.restore(address);
+    comparing.follow(address.against).catch(tellFault);
   } else {
     // The run that is left has to leave the other's address alone from now on.
     page.walk?.leave();
-    openInHistory(opener).catch(tellFault);
+    openInHistory(opener, comparing).catch(tellFault);
   }
 }
 
@@ -75,7 +84,7 @@ function listen(opener, wayIn, comparing) {
   byId("example-button").addEventListener("click", () => opener.ask(exampleRun()));
   byId("help-button").addEventListener("click", showHelp);
   listenToDrags(wayIn);
-  window.addEventListener("popstate", () => followHistory(opener));
+  window.addEventListener("popstate", () => followHistory(opener, comparing));
   window.addEventListener("resize", () => opener.redraw());
   matchMedia("(prefers-color-scheme: dark)").addEventListener("change", () => opener.redraw());
   listenToSources(() => page.walk?.renew());
@@ -93,9 +102,9 @@ function answersOf(client) {
 }
 
 // Opens the run in the page's own file, or after a reload the run that was dropped.
-function openAtFirst(opener) {
+function openAtFirst(opener, comparing) {
   if (runInHistory() === undefined) setRun(hasEmbeddedRun() ? OWN : null);
-  if (runInHistory() !== null) openInHistory(opener).catch(tellFault);
+  if (runInHistory() !== null) openInHistory(opener, comparing).catch(tellFault);
 }
 
 // The debugger starts while the browser still reads the run, which is after this script in the page's file.
@@ -108,10 +117,10 @@ function start() {
   const client = new Client(workerText(), moduleBytes);
   client.started.catch(tellFault);
   const opener = new Opener(client, page);
-  const comparing = new Comparing(page, () => new Client(workerText(), moduleBytes));
+  const comparing = new Comparing(page, () => new Client(workerText(), moduleBytes), source => opener.keep(source));
   listen(opener, new WayIn(page, opener, comparing), comparing);
   window.ttd = answersOf(client);
-  document.addEventListener("DOMContentLoaded", () => openAtFirst(opener));
+  document.addEventListener("DOMContentLoaded", () => openAtFirst(opener, comparing));
 }
 
 start();

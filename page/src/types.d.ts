@@ -60,6 +60,8 @@ interface Address {
   filter: string | null;
   order: string | null;
   stop: string | null;
+  /** The run that this one is compared with: the digest of its bytes, and the name of its file. */
+  against: { digest: string, name: string } | null;
 }
 
 /** What was found in a run, as the names have it. */
@@ -123,6 +125,11 @@ interface Closings {
 interface ValuePlaces {
   sends: Uint32Array;
   overwritten: Uint32Array;
+}
+
+/** The same of all channels, one after the other. `ends` has for each channel the index past its last value, or 0 if it has none. */
+interface ValueColumns extends ValuePlaces {
+  ends: Uint32Array;
 }
 
 /** A receiver's longest stretch of places at which it lags: from the send that overwrote first to the call that told it, its drop, or past the end. */

@@ -5,7 +5,7 @@ import { isJournal, questions } from "./run/opened_text.js";
 import { accountOf } from "./worker/account/account.js";
 import { comparedWith } from "./worker/against/difference.js";
 import { Debugger } from "./worker/debugger.js";
-import { closingsIn, levelsIn, livesIn, salvagedFrom, totalsIn, valuesIn } from "./worker/exports.js";
+import { foundIn, levelsIn, salvagedFrom } from "./worker/exports.js";
 import { openRun } from "./worker/opening.js";
 
 // The debugger, once it is unpacked. Requests wait for it, and are answered in their order.
@@ -38,13 +38,16 @@ const requests = {
     // The page has the text that it sent.
     return { ...opened, journal: text ? null : journal };
   },
-  totals: () => (found.totals ??= totalsIn(engine, journal)),
-  closings: () => (found.closings ??= closingsIn(engine, journal, channels.length)),
-  account: names => accountOf(journal, channels, lastPlace, { losses: found.losses, totals: requests.totals(), closings: requests.closings() }, names),
+  // What is found in the whole run. What an account is made of stays here too.
+  found() {
+    const { closings, totals, ...others } = foundIn(engine, journal, channels.length);
+    Object.assign(found, { closings, totals });
+    return { closings, totals, ...others };
+  },
+  // It is asked for once the findings are there.
+  account: names => accountOf(journal, channels, lastPlace, found, names),
   // How the opened run differs from another run of the same test: its journal, its channels at the start, and how many calls it has.
   against: (other, names, otherNames) => comparedWith({ journal, channels, lastPlace, names }, { ...other, names: otherNames }),
-  lives: () => livesIn(engine, journal),
-  values: channel => valuesIn(engine, journal, channel),
   levels: (wanted, from, each, count) => levelsIn(engine, journal, channels, wanted, from, each, count),
   // What is left of a truncated journal text, or null.
   salvage: bytes => salvagedFrom(engine, bytes),
@@ -53,7 +56,7 @@ const requests = {
   session: input => text(engine.session(input)),
 };
 
-// The columns of an opened run are handed over, since copying them is slow.
+// The columns of an opened run and of its values are handed over, since copying them is slow.
 function handedOver(answer) {
   return Object.values(answer?.columns ?? {}).filter(column => column.buffer).map(({ buffer }) => buffer);
 }

@@ -360,6 +360,48 @@ def with_another(tab, folder, journals):
     tab.wait("document.getElementById('against').hidden && document.getElementById('facts').textContent.startsWith('failed.journal')")
 
 
+def kept_in_the_address(tab, folder, journals):
+    """The address says which run was compared, and shows both again at the same place after a reload. A browser that doesn't have that run names its file,
+    and compares once that is chosen."""
+    failed, passed = files_of(folder, "failed", FAILED, failed=True), files_of(folder, "passed", PASSED)
+    path = opening.page_of(folder, "failed.journal", open(failed[0], "rb").read())
+    tab.load(path, 2)
+    opening.settle(tab, 2)
+    choose(tab, "#other-file", passed)
+    lines = shown(tab)
+    opening.settle(tab, 7)
+    tab.key("ArrowLeft")
+    opening.settle(tab, 6)
+    tab.wait("location.hash.includes('call=6') && location.hash.includes('against=')")
+    address = tab.run("location.hash")
+    assert address.endswith("+passed.journal"), address
+    tab.call("Page.reload")
+    tab.browser.event("Page.loadEventFired", tab.session)
+    assert shown(tab) == lines and tab.text("other-line") == "the passing run: passed.journal"
+    opening.settle(tab, 6)
+    tab.wait(f"location.hash === {json.dumps(address)}")
+    tab.click("#against-close")
+    tab.wait("!location.hash.includes('against=')")
+    # The same link in a browser that has kept nothing.
+    tab.run("new Promise(done => { indexedDB.deleteDatabase('yovanelum').onsuccess = done; })")
+    tab.load(path)
+    opening.settle(tab)
+    tab.run(f"location.hash = {json.dumps(address)}")
+    tab.wait("document.getElementById('notice').textContent !== ''")
+    wanted = "This link compares with passed.journal, which this browser doesn't have: choose that file by \u201ccompare\u2026\u201d."
+    assert tab.text("notice") == wanted, tab.text("notice")
+    opening.settle(tab, 6)
+    choose(tab, "#other-file", failed)
+    tab.wait("document.getElementById('notice').textContent === 'failed.journal isn\\'t the run that the link compares with.'")
+    tab.load(path)
+    opening.settle(tab)
+    tab.run(f"location.hash = {json.dumps(address)}")
+    tab.wait("document.getElementById('notice').textContent !== ''")
+    choose(tab, "#other-file", passed)
+    assert shown(tab) == lines
+    opening.settle(tab, 6)
+
+
 def in_each_window(tab, folder, journals):
     """With two runs, too, no part lies over another or is cut off, texts can be read, and each picture has an eighth of a window that isn't low."""
     texts = {"0": {str(number): f"OrderPlaced {{ id: {number} }}" for number in range(5)}}
@@ -388,4 +430,4 @@ def in_each_window(tab, folder, journals):
     tab.resize(1440, 920)
 
 
-TESTS = [same_as_a_plain_model, both_in_the_page, with_another, in_each_window]
+TESTS = [same_as_a_plain_model, both_in_the_page, with_another, kept_in_the_address, in_each_window]

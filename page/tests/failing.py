@@ -51,6 +51,8 @@ class Wanted:
     rest: str | None = None
     nothing: str | None = None
     waiting: list = field(default_factory=list)
+    # What the page says besides: the changes that a receiver never looked at, and of a call that waits what its channel has at the end.
+    besides: list = field(default_factory=list)
 
 
 def note(number):
@@ -115,7 +117,7 @@ WANTED = {
          ("screen on state: borrow 1 → value 3", "full!", "the state is looked at")],
         [["`reader` never looked at 2 of 3 changes of `state`", ' call 3 state.send("full!") each_state_is_seen {a state is sent} the last change',
           ' call 4 state.borrow() screen {the state is looked at} its last look: "full!"']],
-        nothing="no value was lost in 6 calls on 1 channel"),
+        nothing="no value was lost in 6 calls on 1 channel", besides=["not looked at: ready!, busy!"]),
     "the_sum_is_right": Wanted(
         {"the_sum_is_right"}, ["bus"], {"0 1": "reader · receiver 1"}, {"number 2"},
         [("the_sum_is_right on bus: send 0 0 → sent 1", "number 2", "a number is sent"),
@@ -125,7 +127,8 @@ WANTED = {
     HANGS: Wanted(
         {HANGS, "worker"}, ["state"], {"0 1": "reader · receiver 1"}, {"loading!", "busy!"},
         [(f"{HANGS} on state: send 0 1", "busy!", "the state is busy"), ("worker on state: wait_for 1 → value 1", "busy!", "the worker waits")],
-        [], nothing="no value was lost in 2 calls on 1 channel", waiting=["worker in `state.wait_for` since call 2, {the worker waits}"]),
+        [], nothing="no value was lost in 2 calls on 1 channel", waiting=["worker in `state.wait_for` since call 2, {the worker waits}"],
+        besides=["`state` has busy! and 1 sender at the end"]),
     "the_second_task_gets_the_first_order": Wanted(
         {"the_second_task_gets_the_first_order", "runtime", "task 7", "reader", "till", "audit"}, ["orders"],
         {"0 1": "first · receiver 1", "0 2": "second · receiver 2"}, {"order 71", "order 72", "order 73"},
@@ -440,6 +443,8 @@ def check_page(tab, name):
     wanted = WANTED[name]
     assert tab.text("notice") == "", tab.text("notice")
     assert "isn't" not in tab.run("document.body.innerText"), tab.run("document.body.innerText")
+    besides = tab.run("[...document.querySelectorAll('#answer .then')].map(it => it.textContent.trim())")
+    assert besides == wanted.besides, besides
     actors = tab.run(ACTORS)
     assert {actor.split(",")[0] for actor in actors} == wanted.actors, actors
     assert tab.run(CHANNELS) == wanted.channels, tab.run(CHANNELS)
@@ -517,4 +522,41 @@ def ends_of_tests(tab, folder, journals):
     assert count > 5, count
 
 
-TESTS = [*map(page_of_test, WANTED), ends_of_tests, keys_of_a_later_writer, account_of_an_opened_journal]
+# What someone asks who has never seen the page, of five runs that failed for five reasons, and the words that answer it.
+QUESTIONS = {
+    "no_price_is_missing": ("Which prices did the auditor never get, whose send overwrote the first of them, and where was it told?", [
+        'lost: "101 EUR", "102 EUR", "103 EUR"', 'call 3 prices.send("103 EUR") ticker {a price is sent}', "call 7 told: lagged 3", "{the auditor is told}"]),
+    "the_log_is_read": ("Why did the log read fewer jobs than were sent, although it was never told?", [
+        'lost: "job 2", "job 3"', 'call 5 jobs.send("job 3")', "{a job is sent}", "call 7 dropped: never told"]),
+    "each_state_is_seen": ("Which states did the screen never look at, and what did it see in their place?", [
+        "not looked at: ready!, busy!", 'its last look: "full!"', "call 4 state.borrow() screen {the state is looked at}"]),
+    "the_sum_is_right": ("Was a number lost on the bus, or is it the test that is wrong?", [
+        "no value was lost in 4 calls", "panic after call 2 of the_sum_is_right at tests/failing.rs", "left: 2", "right: 3"]),
+    HANGS: ("Who waits, for what and since when, and why does it not end?", [
+        "worker in `state.wait_for` since call 2, {the worker waits}", "`state` has busy! and 1 sender at the end"]),
+}
+
+# The texts of the answer that are in sight.
+IN_SIGHT = """[...document.querySelectorAll('#answer :is(.line, .then, p)')].filter(line => {
+    const box = line.getBoundingClientRect(), outer = document.getElementById('answer-box').getBoundingClientRect();
+    return box.height > 0 && box.top >= 0 && box.bottom <= Math.min(innerHeight, outer.bottom + 1);
+}).map(line => line.textContent.replace(/\\s+/g, ' ').trim()).join(' ')"""
+
+
+def answers_in_sight(tab, folder, journals):
+    """Each of five questions is answered by what is in sight when the page opens, without a click, on a desk and on a phone, in light and dark."""
+    for name, (question, words) in QUESTIONS.items():
+        page, place = addresses()[name]
+        for width, height in ((1440, 920), (390, 844)):
+            tab.resize(width, height)
+            opening.load(tab, page, place)
+            for scheme in ("light", "dark"):
+                tab.prefer(scheme)
+                said = tab.run(IN_SIGHT)
+                missing = [word for word in words if placed(word) not in said]
+                assert not missing, (question, width, missing, said)
+    tab.prefer("light")
+    tab.resize(1440, 920)
+
+
+TESTS = [*map(page_of_test, WANTED), answers_in_sight, ends_of_tests, keys_of_a_later_writer, account_of_an_opened_journal]

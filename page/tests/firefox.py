@@ -9,13 +9,13 @@ import tempfile
 import time
 
 import smoke
+from driver import PATIENCE, Driver
 
-PATIENCE = 60
 PREFERENCES = {"marionette.port": 0, "browser.shell.checkDefaultBrowser": False, "datareporting.policy.dataSubmissionEnabled": False,
                "app.update.enabled": False, "toolkit.telemetry.enabled": False}
 
 
-class Firefox:
+class Firefox(Driver):
     """A browser with one page."""
 
     def __init__(self, program):
@@ -58,26 +58,14 @@ class Firefox:
             raise RuntimeError(f"{command}: {fault['message']}")
         return answer
 
-    def load(self, path, place=None):
-        self.call("WebDriver:Navigate", url="about:blank")
-        self.call("WebDriver:Navigate", url=f"file://{path}" + ("" if place is None else f"#call={place}"))
+    def go(self, address):
+        self.call("WebDriver:Navigate", url=address)
 
     def run(self, script, *given):
         return self.call("WebDriver:ExecuteScript", script=script, args=list(given))["value"]
 
-    def wait(self, condition, seconds=60):
-        end = time.monotonic() + seconds
-        while not self.run(f"return Boolean({condition})"):
-            if time.monotonic() > end:
-                raise TimeoutError(condition)
-            time.sleep(0.02)
-
-    def key(self, key):
-        actions = [{"type": "key", "id": "keys", "actions": [{"type": kind, "value": key} for kind in ("keyDown", "keyUp")]}]
+    def act(self, actions):
         self.call("WebDriver:PerformActions", actions=actions)
-
-    def text(self, name):
-        return self.run(f"return document.getElementById({json.dumps(name)}).textContent")
 
     def close(self):
         self.process.terminate()

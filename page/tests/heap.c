@@ -31,5 +31,8 @@ int main(void) {
   rattle_dealloc(grown.block);
   want(rattle_alloc(128, 16).block == grown.block, "a block that was freed is allocated again");
   want(!rattle_alloc(1 << 20, 16).is_there, "a block that has no room is refused");
+  int count = 0;
+  while (rattle_alloc(40000, 16).is_there) count++;
+  want(count == 25, "of 1 MiB there is room for 25 blocks of 40,000 bytes");
   return failed;
 }

@@ -39,18 +39,18 @@ WATCH = """(() => {
         if (requests.size === 0) this.addEventListener('message', ({ data: { number, answer } }) => {
             const request = requests.get(number);
             if (request === 'open' && answer?.lives) opened.push({ lives: structuredClone(answer.lives), lastPlace: answer.lastPlace });
-            if (request === 'lives' && answer) compare(read(answer));
+            if (request === 'found' && answer) compare(read(answer.lives));
         });
         requests.set(message.number, message.request);
         return postMessage.call(this, message, ...more);
     };
 })()"""
 
-# The request for the list waits until `window.goOn` is called.
+# The request for what is found waits until `window.goOn` is called.
 HELD = """(() => {
     const { postMessage } = Worker.prototype;
     Worker.prototype.postMessage = function (...words) {
-        if (words[0].request === 'lives') window.goOn = () => postMessage.apply(this, words);
+        if (words[0].request === 'found') window.goOn = () => postMessage.apply(this, words);
         else postMessage.apply(this, words);
     };
 })()"""
@@ -128,22 +128,23 @@ def last_users(tab, folder, journals):
             assert users[channel][handle] == wanted, (name, channel, handle, users[channel][handle], life)
 
 
-def list_moves_nothing(tab, folder, journals):
-    """Nothing moves, looks otherwise or reads otherwise when the list comes, which is after the table."""
+def findings_move_nothing(tab, folder, journals):
+    """No part moves when what is found in the run comes. The picture stays as it is, and so does what is told of a place where nobody lags."""
     tab.call("Page.addScriptToEvaluateOnNewDocument", source=HELD)
     path, _ = page_of(folder, "bus", real_runs.bus())
     parts = ["#strip-box", ".bar", "#said", "#axis", "#pane", "aside", "#losses"]
-    shown = "[...['strip', 'picture', 'cursor'].map(name => document.getElementById(name).toDataURL()), document.getElementById('walk').textContent]"
+    shown = ("[...['picture', 'cursor'].map(name => document.getElementById(name).toDataURL()), "
+             "...['sentence', 'calls', 'state'].map(name => document.getElementById(name).textContent)]")
     for width, height in SIZES:
         tab.resize(width, height)
-        tab.load(path, 400)
-        tab.wait("window.goOn && document.getElementById('state').dataset.place === '400'")
+        tab.load(path, 6)
+        tab.wait("window.goOn && document.getElementById('state').dataset.place === '6'")
         tab.run("ttd.ask('').then(() => dispatchEvent(new Event('resize')))")
         before = tab.run(shown), boxes(tab, *parts)
-        assert "lost" in tab.text("loss-line"), tab.text("loss-line")
+        assert tab.text("loss-line") == "what was lost is being counted", tab.text("loss-line")
         tab.run("void goOn()")
-        opening.settle(tab, 400)
-        assert (tab.run(shown), boxes(tab, *parts)) == before, width
+        opening.settle(tab, 6)
+        assert "receivers lost" in tab.text("loss-line") and (tab.run(shown), boxes(tab, *parts)) == before, width
     tab.resize(1440, 920)
 
 
@@ -160,4 +161,4 @@ def owners_in_whole(tab, folder, journals):
     assert tab.text("whole-call").endswith(wanted), tab.text("whole-call")
 
 
-TESTS = [listed_lives, last_users, list_moves_nothing, owners_in_whole]
+TESTS = [listed_lives, last_users, findings_move_nothing, owners_in_whole]

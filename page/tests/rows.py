@@ -62,39 +62,38 @@ def wide():
     return native.record((head + made + calls).encode())
 
 
-def seen_after_losses(tab, folder, journals):
-    """After each L in the pool, on three sizes, the loss, sentence and list are inside the window, and so are strip, controls and axis."""
-    path, ask = page_of(folder, "pool", real_runs.pool())
-    losses = found.losses_of(ask, real_runs.POOL_MADE)
+def at_losses(tab, page, made, most):
+    """Goes to so many losses by L, on three sizes, and looks at each. Yields at the start of each size and at each loss, and whether it's the last."""
+    path, ask = page
+    losses = found.losses_of(ask, made)
+    stops = found.stops_of(losses)[:most]
     for width, height in SIZES:
         tab.resize(width, height)
         opening.load(tab, path)
         to_picture(tab)
-        for place in found.stops_of(losses)[:HITS]:
+        yield not stops
+        for number, place in enumerate(stops, 1):
             tab.key("l")
             opening.settle(tab, place)
             look_at_loss(tab, width, height, [it for it in losses if place in (it.start, it.to)])
+            yield number == len(stops)
     tab.resize(1440, 920)
+
+
+def seen_after_losses(tab, folder, journals):
+    """After each L in the pool, on three sizes, the loss, sentence and list are inside the window, and so are strip, controls and axis."""
+    for _ in at_losses(tab, page_of(folder, "pool", real_runs.pool()), real_runs.POOL_MADE, HITS):
+        pass
 
 
 def wide_after_losses(tab, folder, journals):
     """The same in a pool of 64 channels and 64 actors, where at most the rows that fit into the pane are drawn, at every zoom."""
-    path, ask = page_of(folder, "wide pool", real_runs.wide_pool())
-    losses = found.losses_of(ask, real_runs.WIDE_MADE)
-    for width, height in SIZES:
-        tab.resize(width, height)
-        opening.load(tab, path)
-        to_picture(tab)
+    for is_last in at_losses(tab, page_of(folder, "wide pool", real_runs.wide_pool()), real_runs.WIDE_MADE, HITS // 2):
         few_rows(tab)
-        for place in found.stops_of(losses)[:HITS // 2]:
-            tab.key("l")
-            opening.settle(tab, place)
-            look_at_loss(tab, width, height, [it for it in losses if place in (it.start, it.to)])
+        if is_last:
+            tab.key("0")
+            tab.wait(f"document.getElementById('picture').getAttribute('aria-label').includes('to {real_runs.WIDE_MADE}')")
             few_rows(tab)
-        tab.key("0")
-        tab.wait(f"document.getElementById('picture').getAttribute('aria-label').includes('to {real_runs.WIDE_MADE}')")
-        few_rows(tab)
-    tab.resize(1440, 920)
 
 
 def few_rows(tab):

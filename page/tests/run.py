@@ -9,16 +9,16 @@ import against
 import answers
 import beginning
 import bidi
+import chosen_files
 import dark
 import failing
-import given
 import hands
+import incoming
 import jumps
 import layout
 import lives
 import losses
 import lowered
-import moves
 import native
 import owners
 import rows
@@ -29,8 +29,8 @@ import sources
 import speed
 import story
 import texts
-import way_in
 import weak
+import wheel_and_stop
 from browser import Browser, Tab
 
 
@@ -48,9 +48,9 @@ def bare(test):
 TESTS = [
     shown.pictures, shown.lagging_is_red, dark.dark_colours, shown.hostile_names, shown.refused_markup, shown.wrong_names, shown.spoken,
     shown.nothing_is_loaded, bidi.written_out, bidi.right_to_left, hands.keys, hands.loss_keys, hands.hurried_searches, hands.failed_search, hands.early_click, hands.stops,
-    hands.buttons, hands.mouse, moves.wheel, moves.stop_field, hands.drops, given.chosen_again, given.drop_with_names,
-    given.note_on_the_core, given.places_of_two_runs, given.failed_opening, way_in.names_in_any_order, way_in.names_of_another_run, way_in.foreign_texts,
-    way_in.several_runs, way_in.kept_for_a_reload, way_in.cut_journals, way_in.signs, jumps.history_of_jumps, jumps.address_keeps, jumps.console_commands,
+    hands.buttons, hands.mouse, wheel_and_stop.wheel, wheel_and_stop.stop_field, hands.drops, chosen_files.chosen_again, chosen_files.drop_with_names,
+    chosen_files.note_on_the_core, chosen_files.places_of_two_runs, chosen_files.failed_opening, incoming.names_in_any_order, incoming.names_of_another_run, incoming.foreign_texts,
+    incoming.several_runs, incoming.kept_for_a_reload, incoming.cut_journals, incoming.signs, jumps.history_of_jumps, jumps.address_keeps, jumps.console_commands,
     rows.seen_after_losses, rows.list_after_losses, rows.wide_after_losses, rows.rows_in_sight, rows.heads_over_rows, rows.same_order, rows.nothing_moves, rows.folds_and_filter, rows.fold_by_key, rows.lossy_first, rows.narrow_tabs,
     owners.whose_rows, owners.long_owners, owners.told_apart, owners.versions, owners.unseen_changes,
     jumps.picture_as_png, jumps.picture_as_svg, jumps.report_as_markdown, jumps.help_of_keys, jumps.zoom_at_pointer, jumps.touch,

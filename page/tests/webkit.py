@@ -11,8 +11,7 @@ import urllib.error
 import urllib.request
 
 import smoke
-
-PATIENCE = 60
+from driver import PATIENCE, Driver
 
 
 def free_port():
@@ -37,7 +36,7 @@ class Display:
         self.process.wait()
 
 
-class WebKit:
+class WebKit(Driver):
     """A browser with one page."""
 
     def __init__(self, driver):
@@ -69,26 +68,14 @@ class WebKit:
         except urllib.error.HTTPError as fault:
             raise RuntimeError(f"{command}: {fault.read().decode()[:400]}") from fault
 
-    def load(self, path, place=None):
-        self.call("url", url="about:blank")
-        self.call("url", url=f"file://{path}" + ("" if place is None else f"#call={place}"))
+    def go(self, address):
+        self.call("url", url=address)
 
     def run(self, script, *given):
         return self.call("execute/sync", script=script, args=list(given))
 
-    def wait(self, condition, seconds=PATIENCE):
-        end = time.monotonic() + seconds
-        while not self.run(f"return Boolean({condition})"):
-            if time.monotonic() > end:
-                raise TimeoutError(condition)
-            time.sleep(0.02)
-
-    def key(self, key):
-        actions = [{"type": "key", "id": "keys", "actions": [{"type": kind, "value": key} for kind in ("keyDown", "keyUp")]}]
+    def act(self, actions):
         self.call("actions", actions=actions)
-
-    def text(self, name):
-        return self.run(f"return document.getElementById({json.dumps(name)}).textContent")
 
     def close(self):
         """Ends the session, and with it the browser that the driver started."""

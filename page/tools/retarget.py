@@ -12,7 +12,7 @@ import tempfile
 
 import clang
 
-EXPORTS = ("ttd_debug", "ttd_session", "ttd_salvage", "ttd_losses", "ttd_totals", "ttd_closings", "ttd_levels", "ttd_lives", "ttd_values")
+EXPORTS = ("ttd_debug", "ttd_session", "ttd_salvage", "ttd_losses", "ttd_found", "ttd_levels")
 X86_ALONE = re.compile(r'@llvm\.x86\.|\basm (sideeffect )?"')
 X86_ATTRIBUTES = re.compile(r' "(probe-stack|stack-probe-size|target-cpu|target-features)"="[^"]*"')
 TARGET_LINE = re.compile(r"^target (\w+) = (\".*\")$", re.M)

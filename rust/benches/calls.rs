@@ -1,4 +1,5 @@
-//! Nanoseconds a call, recorded and with no recorder set, the cases those of tokio's own bench: `cargo bench -- CALLS REPEATS`.
+//! Nanoseconds a call, recorded and with no recorder set, the cases those of tokio's own bench:
+//! `cargo bench -- CALLS REPEATS`.
 
 use std::hint::black_box;
 use std::sync::Barrier;
@@ -106,7 +107,8 @@ fn ping(calls: u64) -> Timed {
     timed
 }
 
-/// Receivers in equal parts on four threads, which receive side by side what was sent before. The sends aren't timed.
+/// Receivers in equal parts on four threads, which receive side by side what was sent before. The
+/// sends aren't timed.
 fn side_by_side(calls: u64, receivers: usize) -> Timed {
     const SENT: usize = 4096;
     let (tx, rx) = broadcast::channel(SENT);
@@ -134,7 +136,8 @@ fn side_by_side(calls: u64, receivers: usize) -> Timed {
             for value in 0..SENT {
                 tx.send(value).unwrap();
             }
-            // The others wait there by now. After it, they may be done before this thread runs again.
+            // The others wait there by now. After it, they may be done before this thread runs
+            // again.
             let start = Instant::now();
             barrier.wait();
             barrier.wait();
@@ -185,7 +188,8 @@ fn resident() -> u64 {
     line.trim().trim_end_matches(" kB").parse::<u64>().unwrap() * 1024
 }
 
-/// A run of a case under a recorder of its own: nanoseconds a call and for saving it, and the bytes that a call leaves in memory.
+/// A run of a case under a recorder of its own: nanoseconds a call and for saving it, and the bytes
+/// that a call leaves in memory.
 struct Recorded {
     calls: u64,
     call: f64,

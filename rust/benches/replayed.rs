@@ -1,4 +1,5 @@
-//! Nanoseconds a call, recorded and replayed in turn, in one run: `cargo bench --bench replayed -- CALLS REPEATS`.
+//! Nanoseconds a call, recorded and replayed in turn, in one run:
+//! `cargo bench --bench replayed -- CALLS REPEATS`.
 
 use std::hint::black_box;
 use std::path::Path;

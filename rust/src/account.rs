@@ -1,8 +1,9 @@
 //! The account of a run: what was found in it, in one order and in one choice of words.
 //!
-//! The report of a failing test, `yovanelum why` and the page show it, and may not differ. Facts are ordered by what ended the test: what
-//! those that failed were told last comes first. Its words say what was found, and add no judgement: a test may lose values on purpose, and
-//! fail for another reason. `docs/use/FORMATS.md` in the repository has each form.
+//! The report of a failing test, `yovanelum why` and the page show it, and may not differ. Facts
+//! are ordered by what ended the test: what those that failed were told last comes first. Its words
+//! say what was found, and add no judgement: a test may lose values on purpose, and fail for
+//! another reason. `docs/use/FORMATS.md` in the repository has each form.
 
 pub(crate) mod against;
 mod closings;
@@ -23,10 +24,10 @@ pub(crate) mod visible;
 mod waits;
 mod watches;
 
-pub(crate) use fact::{Fact, Role, Step};
+pub(crate) use fact::{Fact, FactStep, Role};
 pub(crate) use rest::Rest;
 pub(crate) use saying::Saying;
-pub(crate) use waits::Wait;
+pub(crate) use waits::WaitAtEnd;
 
 use crate::names::Names;
 use crate::run::{Findings, Loss, Run, TextFault};
@@ -52,11 +53,12 @@ struct Context<'a> {
 }
 
 impl Context<'_> {
-    /// Returns the call with this number as a step of a fact, with what was called and what there is to say of it.
-    fn step(&self, place: u64, role: Role, what: String, said: String) -> Step {
+    /// Returns the call with this number as a step of a fact, with what was called and what there
+    /// is to say of it.
+    fn step(&self, place: u64, role: Role, what: String, said: String) -> FactStep {
         let entry = self.run.entry(place);
         let location = self.naming.call_source(entry.channel, place);
-        Step {
+        FactStep {
             place,
             role,
             actor: Some(entry.actor.into()),
@@ -72,10 +74,10 @@ impl Context<'_> {
     }
 
     /// Returns what ended the test as a step of a fact.
-    fn failure_step(&self, failure: FailureAt, what: String, said: String) -> Step {
+    fn failure_step(&self, failure: FailureAt, what: String, said: String) -> FactStep {
         let location = self.naming.source(failure.location.unwrap_or(usize::MAX));
         let actor = failure.actor.map(|actor| self.naming.actor(actor));
-        Step {
+        FactStep {
             place: failure.place,
             role: Role::Failure,
             actor: failure.actor,
@@ -91,9 +93,9 @@ impl Context<'_> {
     }
 
     /// Returns the end of the run as a step of a fact.
-    fn end_step(&self, what: String, said: String) -> Step {
+    fn end_step(&self, what: String, said: String) -> FactStep {
         let nothing = String::new;
-        Step {
+        FactStep {
             place: self.run.len(),
             role: Role::End,
             actor: None,
@@ -117,7 +119,7 @@ pub(crate) struct Account {
     pub(crate) rest: Rest,
     /// What is said where no value was lost.
     pub(crate) nothing: Option<String>,
-    pub(crate) waiting: Vec<Wait>,
+    pub(crate) waiting: Vec<WaitAtEnd>,
     losses: Vec<Loss>,
     // The place of what ended the test.
     failure: Option<u64>,

@@ -1,7 +1,7 @@
 //! The core, as this crate calls it: channels with their journals, and the runs of journal texts.
 //!
-//! The core is the proved source in `source/`. What its functions require of a caller is a type here: the number of an actor is an
-//! [`Actor`], which is below 64.
+//! The core is the proved source in `source/`. What its functions require of a caller is a type
+//! here: the number of an actor is an [`Actor`], which is below 64.
 
 #[cfg(test)]
 mod tests;
@@ -10,6 +10,7 @@ pub(crate) use crate::source::rw_recording::{CutFault, OpenFault, Spec};
 
 use crate::reply::Reply;
 use crate::run::Run;
+use crate::shim::Vec;
 use crate::shim::alloc::Global;
 use crate::source::rw_recording::{self, BCall, ChanCall, Kind, WCall};
 
@@ -41,7 +42,8 @@ impl Actor {
     }
 }
 
-/// The actor of a call, and the clock of its recorder. If the call is recorded, its stamp is one more than the clock.
+/// The actor of a call, and the clock of its recorder. If the call is recorded, its stamp is one
+/// more than the clock.
 #[derive(Clone, Copy)]
 pub(crate) struct Caller {
     pub(crate) actor: Actor,
@@ -60,6 +62,19 @@ impl Recording {
     /// Ends recording: later calls are made as before, and leave no entry.
     pub(crate) fn end(&mut self) {
         self.0.end();
+    }
+
+    /// Whether calls are recorded.
+    #[inline]
+    pub(crate) fn is_recorded(&self) -> bool {
+        self.0.is_recorded()
+    }
+
+    /// Takes the dropped handles out of a channel that isn't recorded: those that are alive get the
+    /// numbers 0, 1, 2, .., in the order of those that they had. Returns the numbers that they had,
+    /// or `None` if there is no memory for it, and nothing has changed.
+    pub(crate) fn renumber(&mut self) -> Option<Vec<u32>> {
+        self.0.renumber(Global).ok().flatten()
     }
 
     /// Returns the spec that the channel was opened from.
@@ -106,8 +121,8 @@ impl Recording {
     }
 
     /// Makes a call once recording has ended.
-    // Apart, since the reply of a call that is recorded would be stored where this one is. Each call has its own, of which the branches
-    // for others are left out.
+    // Apart, since the reply of a call that is recorded would be stored where this one is. Each
+    // call has its own, of which the branches for others are left out.
     #[cold]
     #[inline(never)]
     fn call_unrecorded(&mut self, caller: Caller, call: impl FnOnce() -> ChanCall<u64>) -> Reply {

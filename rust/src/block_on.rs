@@ -9,8 +9,9 @@ use std::sync::atomic::{AtomicBool, Ordering};
 use std::task::{Context, Poll, Wake, Waker};
 use std::thread::{self, Thread};
 
-/// Wakes a thread that waits for a future. A thread has one unpark token at most, and other code that parks within a poll may consume it.
-/// So a flag records that the future is to be polled again.
+/// Wakes a thread that waits for a future. A thread has one unpark token at most, and other code
+/// that parks within a poll may consume it. So a flag records that the future is to be polled
+/// again.
 struct Unpark {
     thread: Thread,
     is_woken: AtomicBool,
@@ -49,10 +50,11 @@ impl Drop for Blocked {
     }
 }
 
-/// Runs a future on the current thread, blocks the thread until it completes, and returns its output.
+/// Runs a future on the current thread, blocks the thread until it completes, and returns its
+/// output.
 ///
-/// This is for tests that have threads and no runtime. It starts no runtime, so it cannot run futures that need one, such as timers of
-/// tokio.
+/// This is for tests that have threads and no runtime. It starts no runtime, so it cannot run
+/// futures that need one, such as timers of tokio.
 ///
 /// # Panics
 ///

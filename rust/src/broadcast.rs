@@ -1,25 +1,30 @@
-//! A channel with many senders and many receivers, in which every receiver gets every value: tokio's `sync::broadcast`, recorded.
+//! A channel with many senders and many receivers, in which every receiver gets every value:
+//! tokio's `sync::broadcast`, recorded.
 //!
-//! A [`Sender`] sends values. Each [`Receiver`] receives a clone of every value that is sent while it is alive, in the order of the sends.
-//! [`channel`] creates a sender and a receiver. [`Sender::subscribe`] and [`Receiver::resubscribe`] create further receivers, which receive
-//! what is sent from then on. A sender can be cloned, or shared by reference.
+//! A [`Sender`] sends values. Each [`Receiver`] receives a clone of every value that is sent while
+//! it is alive, in the order of the sends. [`channel`] creates a sender and a receiver.
+//! [`Sender::subscribe`] and [`Receiver::resubscribe`] create further receivers, which receive what
+//! is sent from then on. A sender can be cloned, or shared by reference.
 //!
-//! Names, signatures and results are those of [`tokio::sync::broadcast`][tokio]. "As in tokio" marks what tokio's documentation says about
-//! the same item, in other words. "Unlike tokio" marks a difference.
+//! Names, signatures and results are those of [`tokio::sync::broadcast`][tokio]. "As in tokio"
+//! marks what tokio's documentation says about the same item, in other words. "Unlike tokio" marks
+//! a difference.
 //!
 //! [tokio]: https://docs.rs/tokio/1/tokio/sync/broadcast/index.html
 //!
 //! # Lagging
 //!
-//! The channel retains as many values as its capacity, rounded up to a power of two. A send never waits for a receiver: if the channel
-//! is full, it overwrites the oldest value. A receiver that had not received that value *lags*. Its next receive returns
-//! [`Lagged`](error::RecvError::Lagged) with the number of values that it lost. The receive after that returns the oldest value that is
-//! still retained.
+//! The channel retains as many values as its capacity, rounded up to a power of two. A send never
+//! waits for a receiver: if the channel is full, it overwrites the oldest value. A receiver that
+//! had not received that value *lags*. Its next receive returns
+//! [`Lagged`](error::RecvError::Lagged) with the number of values that it lost. The receive after
+//! that returns the oldest value that is still retained.
 //!
 //! # Closing
 //!
-//! The channel is closed when every [`Sender`] has been dropped. A receiver still receives what was sent before, and then gets
-//! [`Closed`](error::RecvError::Closed). If every receiver has been dropped, a send fails until [`Sender::subscribe`] creates a new one.
+//! The channel is closed when every [`Sender`] has been dropped. A receiver still receives what was
+//! sent before, and then gets [`Closed`](error::RecvError::Closed). If every receiver has been
+//! dropped, a send fails until [`Sender::subscribe`] creates a new one.
 //!
 //! # Examples
 //!
@@ -79,14 +84,16 @@ pub(crate) const MOST_CAPACITY: usize = 65_536;
 /// What each sender, weak sender and receiver is.
 type BroadcastHandle<T> = ChannelHandle<T, GuardedBy<ChannelState, Values<T>>>;
 
-/// Creates a broadcast channel with this capacity, and returns its first sender and its first receiver.
+/// Creates a broadcast channel with this capacity, and returns its first sender and its first
+/// receiver.
 ///
-/// As in tokio, every receiver that is alive gets every value, in the order of the sends, and the channel may retain more values than the
-/// capacity: it is rounded up to a power of two.
+/// As in tokio, every receiver that is alive gets every value, in the order of the sends, and the
+/// channel may retain more values than the capacity: it is rounded up to a power of two.
 ///
 /// # Panics
 ///
-/// Panics if the capacity is 0 or greater than 65,536. Unlike tokio, whose limit is half of `usize::MAX`.
+/// Panics if the capacity is 0 or greater than 65,536. Unlike tokio, whose limit is half of
+/// `usize::MAX`.
 ///
 /// # Examples
 ///

@@ -1,11 +1,15 @@
-//! The budget of a task: how many of its calls that may wait are ready, before it gives way to other tasks of its thread.
+//! The budget of a task: how many of its calls that may wait are ready, before it gives way to
+//! other tasks of its thread.
 //!
-//! A receive from a channel that is never empty is always ready. A task that receives in a loop would never end its poll, and no other task of
-//! its thread would run. So each poll of a task has a budget. Once it is used up, calls that may wait wake the task and are pending, until
-//! that poll ends. A runtime that has a budget of its own says so by [`set_budget`], and then this module only asks it.
+//! A receive from a channel that is never empty is always ready. A task that receives in a loop
+//! would never end its poll, and no other task of its thread would run. So each poll of a task has
+//! a budget. Once it is used up, calls that may wait wake the task and are pending, until that poll
+//! ends. A runtime that has a budget of its own says so by [`set_budget`], and then this module
+//! only asks it.
 //!
-//! What a poll of a task is can't be told from within a future: a test that polls by hand looks the same. So it is one of a
-//! [`named`](crate::named) future, or of one that is wrapped by [`budgeted`]. Elsewhere there is no budget, as in tokio outside of a runtime.
+//! What a poll of a task is can't be told from within a future: a test that polls by hand looks the
+//! same. So it is one of a [`named`](crate::named) future, or of one that is wrapped by
+//! [`budgeted`]. Elsewhere there is no budget, as in tokio outside of a runtime.
 
 use crate::block_on::is_blocked_on_future;
 use std::cell::Cell;
@@ -29,8 +33,8 @@ struct OfRuntime {
 
 static OF_RUNTIME: OnceLock<OfRuntime> = OnceLock::new();
 
-/// Has the runtime's own budget used. `has_left` says whether any of it is left, and `take_one` takes one of it: where none is left, it is pending
-/// and wakes the task.
+/// Has the runtime's own budget used. `has_left` says whether any of it is left, and `take_one`
+/// takes one of it: where none is left, it is pending and wakes the task.
 ///
 /// No part of what this crate promises: other versions may have none, or another one.
 pub fn set_budget(has_left: fn() -> bool, take_one: fn(&mut Context<'_>) -> Poll<()>) {
@@ -57,7 +61,8 @@ pub(crate) fn take_one(context: &Context<'_>) {
     }
 }
 
-/// Returns the budget of the runtime that polls, if it has one. A thread that is blocked on a future has no other task to run.
+/// Returns the budget of the runtime that polls, if it has one. A thread that is blocked on a
+/// future has no other task to run.
 fn of_runtime() -> Option<&'static OfRuntime> {
     OF_RUNTIME.get().filter(|_| !is_blocked_on_future())
 }
@@ -66,7 +71,8 @@ fn take_one_of(runtime: &OfRuntime, context: &Context<'_>) -> Poll<()> {
     (runtime.take_one)(&mut Context::from_waker(context.waker()))
 }
 
-/// A part of a poll with another budget than the one around it, which is there again when this is dropped.
+/// A part of a poll with another budget than the one around it, which is there again when this is
+/// dropped.
 pub(crate) struct Budgeted(Option<Option<u8>>);
 
 impl Budgeted {
@@ -75,12 +81,14 @@ impl Budgeted {
         Budgeted(Some(LEFT.replace(Some(OF_A_POLL))))
     }
 
-    /// A poll of a future that is a task, unless this is within the poll of one, or its thread is blocked on it.
+    /// A poll of a future that is a task, unless this is within the poll of one, or its thread is
+    /// blocked on it.
     #[inline]
     pub(crate) fn named() -> Budgeted {
-        match LEFT.get().is_some() || is_blocked_on_future() {
-            true => Budgeted(None),
-            false => Budgeted::task(),
+        if LEFT.get().is_some() || is_blocked_on_future() {
+            Budgeted(None)
+        } else {
+            Budgeted::task()
         }
     }
 

@@ -1,4 +1,5 @@
-//! What both kinds of channel are made of: the core's channel, the recorder of its calls, and the values, which the core doesn't know.
+//! What both kinds of channel are made of: the core's channel, the recorder of its calls, and the
+//! values, which the core doesn't know.
 
 mod at_gate;
 mod core_channel;
@@ -6,6 +7,7 @@ mod last_caller;
 mod locations;
 mod locked;
 mod machine;
+mod numbers;
 mod receivers;
 mod registry;
 mod state;
@@ -35,8 +37,9 @@ pub struct RecordedChannel {
 }
 
 impl RecordedChannel {
-    /// Adds a channel that was opened with this many values to the current recorder. If there is none, or its run has no room for one more, the
-    /// channel isn't recorded. Its first two handles are made here in the source.
+    /// Adds a channel that was opened with this many values to the current recorder. If there is
+    /// none, or its run has no room for one more, the channel isn't recorded. Its first two handles
+    /// are made here in the source.
     pub(crate) fn add(core: CoreChannel, value_count: u64, made_at: CallSite) -> RecordedChannel {
         let current = Recorder::current_or_off();
         note_channel(made_at, current.is_some());
@@ -77,7 +80,8 @@ impl RecordedChannel {
     }
 }
 
-/// A channel with its values, which are of the type `T`. `S` is how they are stored: a broadcast stores several, and a watch one.
+/// A channel with its values, which are of the type `T`. `S` is how they are stored: a broadcast
+/// stores several, and a watch one.
 pub(crate) struct Channel<T, S> {
     pub(crate) recorded: RecordedChannel,
     pub(crate) values: S,
@@ -109,7 +113,8 @@ impl<T, S> Channel<T, S> {
             .then(|| text_of.text(value))?
     }
 
-    /// Sets the function for the texts of values. Returns `false` if the channel has one already, which it keeps.
+    /// Sets the function for the texts of values. Returns `false` if the channel has one already,
+    /// which it keeps.
     pub(crate) fn set_text_of(&self, text_of: TextOf<T>) -> bool {
         self.text_of.set(text_of).is_ok()
     }

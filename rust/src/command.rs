@@ -1,14 +1,15 @@
-//! The command `yovanelum`: `why` prints the report on a journal, or where it differs from another one, and `open` writes the page with the run inside.
+//! The command `yovanelum`: `why` prints the report on a journal, or where it differs from another
+//! one, and `open` writes the page with the run inside.
 //!
 //! It is in the library since it uses parts of it that no other program may.
 
 use crate::account::against::Against;
-use crate::names::Names;
+use crate::names::{Names, read_whole};
 use crate::report::{self, Report, at_call, page};
 use crate::run::{self, Run, TextFault};
 use std::ffi::OsString;
-use std::fs::{self, File};
-use std::io::{self, IsTerminal, Read, Write};
+use std::fs;
+use std::io::{IsTerminal, Write};
 use std::path::{Path, PathBuf};
 
 const USAGE: &str = "\
@@ -26,9 +27,6 @@ dap    starts the debug adapter for an editor, the program yovanelum-dap
 
 Names are read from the file NAME.names beside NAME.journal.
 ";
-
-/// How many bytes a journal has at most, as for `ttd`.
-const MOST_BYTES: u64 = 268_435_456;
 
 /// What the command line asks for.
 enum Verb {
@@ -66,8 +64,25 @@ impl Fault {
     }
 }
 
-/// Runs the command with these words, and returns its status. `page` is the page without a run.
-#[doc(hidden)]
+/// Runs the command `yovanelum` with these words, for a program that has it as one of its own:
+/// `why` prints the report on a journal, and `open` writes the page with its run inside.
+///
+/// It prints to `out`, and what it tells beside that to `told`. `page` is the page without a run, a
+/// file that comes with this crate: `built/yovanelum.html`. The words are those after the program's
+/// name, and `--help` prints them all. `dap`, which starts another program, is refused as unknown.
+///
+/// Returns the status to end with: 0, or 1 if the journal is refused, 2 for other words, 4 if a
+/// file can't be read or written, and 5 without memory.
+///
+/// # Examples
+///
+/// ```
+/// use std::io;
+///
+/// let words = ["why", "no.journal"].map(Into::into);
+/// let status = yovanelum::command(words, b"", &mut io::stdout(), &mut io::stderr());
+/// assert_eq!(status, 4); // there is no such file
+/// ```
 pub fn command(
     words: impl IntoIterator<Item = OsString>,
     page: &[u8],
@@ -153,14 +168,14 @@ fn write_to(out: &mut impl Write, text: &str) -> Result<(), Fault> {
         .map_err(|error| Fault::Write(error.to_string()))
 }
 
-/// A journal's file, with the file of names beside it.
+/// A journal's file.
 struct Journal {
     path: PathBuf,
     text: Vec<u8>,
-    names: io::Result<String>,
 }
 
-/// What is found in a journal, and the text of the names that were read, which are left out if they can't be.
+/// What is found in a journal, and the text of the names that were read, which are left out if they
+/// can't be.
 struct Found {
     report: Report,
     names: String,
@@ -170,27 +185,20 @@ impl Journal {
     fn read(path: &Path) -> Result<Journal, Fault> {
         let text = read_whole(path)
             .map_err(|error| Fault::Read(format!("{}: {error}", path.display())))?;
-        let names = fs::read_to_string(path.with_extension("names"));
         Ok(Journal {
             path: path.to_path_buf(),
-            names: names.and_then(|names| Names::beside(names, &text).map_err(io::Error::other)),
             text,
         })
     }
 
     /// Returns the names and their text. Names that can't be read are left out, and a line says so.
     fn names(&self, told: &mut impl Write) -> (Names, String) {
-        let without = || (Names::default(), Names::default().to_json());
-        let read = match &self.names {
-            Ok(text) => Names::read(text).map(|names| (names, text.clone())),
-            Err(error) if error.kind() == io::ErrorKind::NotFound => Ok(without()),
-            Err(error) => Err(error.to_string()),
-        };
-        read.unwrap_or_else(|fault| {
+        let read = Names::beside(&self.path, &self.text).unwrap_or_else(|fault| {
             let path = self.path.with_extension("names");
             let _ = writeln!(told, "yovanelum: {} is left out: {fault}", path.display());
-            without()
-        })
+            None
+        });
+        read.unwrap_or_else(|| (Names::default(), Names::default().to_json()))
     }
 
     /// Finds what is in the run.
@@ -216,16 +224,6 @@ impl Journal {
     }
 }
 
-/// Reads a file, unless it has too many bytes.
-fn read_whole(path: &Path) -> io::Result<Vec<u8>> {
-    let mut text = vec![];
-    let mut file = File::open(path)?.take(MOST_BYTES + 1);
-    match file.read_to_end(&mut text)? as u64 > MOST_BYTES {
-        true => Err(io::Error::other("it has more than 268,435,456 bytes")),
-        false => Ok(text),
-    }
-}
-
 /// Prints the account of the run.
 fn why(
     journal: &Journal,
@@ -240,13 +238,14 @@ fn why(
         Form::Sarif => return write_to(out, &report::sarif(report.account())),
     }
     let (page, call) = (journal.page(), report.call());
-    let look = match page.is_file() {
-        true => page::address(&absolute(&page), call),
-        false => format!(
+    let look = if page.is_file() {
+        page::address(&absolute(&page), call)
+    } else {
+        format!(
             "`yovanelum open {}`, {}",
             journal.path.display(),
             at_call(call)
-        ),
+        )
     };
     let has_colours = report::has_colours(out);
     write_to(out, &report.text(Some(look), has_colours))

@@ -1,7 +1,9 @@
-//! A recorded run as a debugger holds it: it is at a place, goes to others, and is asked what the channels were there.
+//! A recorded run as a debugger holds it: it is at a place, goes to others, and is asked what the
+//! channels were there.
 //!
-//! Place n is the run after call n, and place 0 is its start. At each place the channels are what tokio documents after these calls, however you
-//! got there. That is proved of the core, which `ttd` walks by too. A move by one place takes the time of one call, and allocates nothing.
+//! Place n is the run after call n, and place 0 is its start. At each place the channels are what
+//! tokio documents after these calls, however you got there. That is proved of the core, which
+//! `ttd` walks by too. A move by one place takes the time of one call, and allocates nothing.
 //!
 //! ```
 //! use yovanelum::debugger::{Channel, Condition, Walk};
@@ -47,7 +49,8 @@ pub struct Walk {
 }
 
 impl Walk {
-    /// Opens the run of a journal text, at its last place. All memory that the walk will need is allocated here.
+    /// Opens the run of a journal text, at its last place. All memory that the walk will need is
+    /// allocated here.
     ///
     /// # Errors
     ///
@@ -68,8 +71,8 @@ impl Walk {
         Walk::over(&Run::read(text).map_err(JournalError)?)
     }
 
-    /// Opens the run of a journal text that may be truncated, as it is where a program was killed: the calls of its whole lines.
-    /// Returns also how many bytes these lines have.
+    /// Opens the run of a journal text that may be truncated, as it is where a program was killed:
+    /// the calls of its whole lines. Returns also how many bytes these lines have.
     ///
     /// # Errors
     ///
@@ -152,7 +155,8 @@ impl Walk {
         self.debugger.step(Move::Goto(place)).is_ok()
     }
 
-    /// Goes back by one place: the last call is taken back. Returns `false` at place 0, and stays there.
+    /// Goes back by one place: the last call is taken back. Returns `false` at place 0, and stays
+    /// there.
     ///
     /// ```
     /// # use yovanelum::debugger::Walk;
@@ -166,7 +170,8 @@ impl Walk {
         self.debugger.step(Move::Back(1)).is_ok()
     }
 
-    /// Goes on by one place: the next call is made. Returns `false` at the last place, and stays there.
+    /// Goes on by one place: the next call is made. Returns `false` at the last place, and stays
+    /// there.
     ///
     /// ```
     /// # use yovanelum::debugger::Walk;
@@ -181,7 +186,8 @@ impl Walk {
         self.debugger.step(Move::Forward(1)).is_ok()
     }
 
-    /// Returns the entry of the call that leads to a place, wherever the walk is. No call leads to place 0.
+    /// Returns the entry of the call that leads to a place, wherever the walk is. No call leads to
+    /// place 0.
     ///
     /// ```
     /// # use yovanelum::debugger::Walk;
@@ -196,7 +202,8 @@ impl Walk {
         self.debugger.entry(place.checked_sub(1)?).map(Entry::of)
     }
 
-    /// Goes back to the nearest hit of a condition before the place, and returns it. Without one it stays where it is.
+    /// Goes back to the nearest hit of a condition before the place, and returns it. Without one it
+    /// stays where it is.
     ///
     /// ```
     /// # use yovanelum::debugger::{Condition, Walk};
@@ -211,7 +218,8 @@ impl Walk {
         self.debugger.back_to(&condition.0)
     }
 
-    /// Goes on to the nearest hit of a condition after the place, and returns it. Without one it stays where it is.
+    /// Goes on to the nearest hit of a condition after the place, and returns it. Without one it
+    /// stays where it is.
     ///
     /// ```
     /// # use yovanelum::debugger::{Condition, Walk};
@@ -227,7 +235,8 @@ impl Walk {
         self.debugger.forward_to(&condition.0)
     }
 
-    /// Counts the hits of a condition from the start to the place, with the place itself. The walk is at the same place then.
+    /// Counts the hits of a condition from the start to the place, with the place itself. The walk
+    /// is at the same place then.
     ///
     /// It makes the calls up to there again.
     ///
@@ -281,7 +290,8 @@ impl Walk {
         Some(Channel::of(machine))
     }
 
-    /// Returns what all channels are at the place, to be printed as the console's `state` prints it.
+    /// Returns what all channels are at the place, to be printed as the console's `state` prints
+    /// it.
     ///
     /// ```
     /// # use yovanelum::debugger::Walk;

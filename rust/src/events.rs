@@ -1,4 +1,5 @@
 //! Events of channels, for closures that somebody has set: a receiver lags, or a channel closes.
+//! Channels make them, and a recorder keeps closures of its own.
 
 mod close;
 mod lag;
@@ -8,7 +9,7 @@ pub use lag::Lag;
 
 use crate::channel::{CallSite, ChannelState};
 use crate::lock::lock;
-use crate::recorder::{Held, RecordedBy};
+use crate::recorder::{HeldTexts, RecordedBy};
 use std::fmt;
 use std::panic::{self, AssertUnwindSafe};
 use std::sync::{Arc, Mutex};
@@ -47,12 +48,14 @@ impl Hooks {
 
 /// Calls a closure each time a receiver lags, on any channel that no recorder records.
 ///
-/// It is for a service: a receive that returns `Lagged(17)` says neither which receiver it was, nor who sent what it lost. The [`Lag`] says so.
-/// The closure is called by the receive that returns `Lagged`, before it returns. It is called for a recorded channel too, if the recorder has no
+/// It is for a service: a receive that returns `Lagged(17)` says neither which receiver it was, nor
+/// who sent what it lost. The [`Lag`] says so. The closure is called by the receive that returns
+/// `Lagged`, before it returns. It is called for a recorded channel too, if the recorder has no
 /// closure of its own ([`Recorder::on_lag`](crate::Recorder::on_lag)).
 ///
-/// It is set for the process. A closure that is set later replaces it. There is no lock of this crate while it runs, so it may use any channel,
-/// also this one. A panic in it is one of the receive, which has then counted the values as lost.
+/// It is set for the process. A closure that is set later replaces it. There is no lock of this
+/// crate while it runs, so it may use any channel, also this one. A panic in it is one of the
+/// receive, which has then counted the values as lost.
 ///
 /// # Examples
 ///
@@ -73,13 +76,15 @@ pub fn on_lag(told: impl Fn(&Lag) + Send + Sync + 'static) {
     PROCESS.on_lag(told);
 }
 
-/// Calls a closure each time the last sender of a channel is dropped, on any channel that no recorder records.
+/// Calls a closure each time the last sender of a channel is dropped, on any channel that no
+/// recorder records.
 ///
-/// Receivers still receive what the channel retains, and then find it closed. The closure is called by the drop, once those who
-/// wait are woken. It is called for a recorded channel too, if the recorder has no closure of its own
-/// ([`Recorder::on_close`](crate::Recorder::on_close)).
+/// Receivers still receive what the channel retains, and then find it closed. The closure is called
+/// by the drop, once those who wait are woken. It is called for a recorded channel too, if the
+/// recorder has no closure of its own ([`Recorder::on_close`](crate::Recorder::on_close)).
 ///
-/// What [`on_lag`] says of the closure is so here too. A panic in it is one of the drop. If the thread panics already, it is dropped.
+/// What [`on_lag`] says of the closure is so here too. A panic in it is one of the drop. If the
+/// thread panics already, it is dropped.
 ///
 /// # Examples
 ///
@@ -100,41 +105,42 @@ pub fn on_close(told: impl Fn(&Close) + Send + Sync + 'static) {
 }
 
 /// An event with the closure that is called with it.
-enum Told {
+enum ToldEvent {
     Lag(Hook<Lag>, Lag),
     Close(Hook<Close>, Close),
 }
 
-impl Told {
+impl ToldEvent {
     fn tell(&self) {
         match self {
-            Told::Lag(hook, lag) => hook(lag),
-            Told::Close(hook, close) => hook(close),
+            ToldEvent::Lag(hook, lag) => hook(lag),
+            ToldEvent::Close(hook, close) => hook(close),
         }
     }
 }
 
-/// An event of a call, if somebody asked for it. Whoever makes the call drops this while nothing is locked: then the closure is called.
+/// An event of a call, if somebody asked for it. Whoever makes the call drops this while nothing is
+/// locked: then the closure is called.
 #[derive(Default)]
-pub(crate) struct Event(Option<Box<(Option<Told>, Option<Held>)>>);
+pub(crate) struct Event(Option<Box<(Option<ToldEvent>, Option<HeldTexts>)>>);
 
 impl Event {
     /// A lag on a channel of this recorder.
     pub(crate) fn lag(recorder: &RecordedBy, lag: impl FnOnce() -> Lag) -> Event {
         let find = |hooks: &Hooks| lock(&hooks.lag).clone();
-        Event::of(recorder, find, |hook| Told::Lag(hook, lag()))
+        Event::of(recorder, find, |hook| ToldEvent::Lag(hook, lag()))
     }
 
     /// The drop of the last sender of a channel of this recorder.
     pub(crate) fn close(recorder: &RecordedBy, close: impl FnOnce() -> Close) -> Event {
         let find = |hooks: &Hooks| lock(&hooks.close).clone();
-        Event::of(recorder, find, |hook| Told::Close(hook, close()))
+        Event::of(recorder, find, |hook| ToldEvent::Close(hook, close()))
     }
 
     fn of<E: ?Sized>(
         recorder: &RecordedBy,
         find: impl Fn(&Hooks) -> Option<Arc<E>>,
-        told: impl FnOnce(Arc<E>) -> Told,
+        told: impl FnOnce(Arc<E>) -> ToldEvent,
     ) -> Event {
         let held = recorder.held();
         let own = held.as_ref().and_then(|held| find(held.hooks()));
@@ -158,7 +164,7 @@ impl Drop for Event {
 // It gets the box, since what is in it would else be moved where the event is dropped.
 #[cold]
 #[allow(clippy::boxed_local)]
-fn tell(event: Box<(Option<Told>, Option<Held>)>) {
+fn tell(event: Box<(Option<ToldEvent>, Option<HeldTexts>)>) {
     let (told, held) = *event;
     let called = panic::catch_unwind(AssertUnwindSafe(|| {
         if let Some(told) = &told {

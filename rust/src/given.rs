@@ -1,14 +1,16 @@
 //! Macros that name what is of this crate, and do nothing with the same of another one.
 //!
-//! A test that is committed may run over tokio itself, or over this crate by a patch of tokio. By the methods of a recorder it would compile over
-//! this crate alone.
+//! A test that is committed may run over tokio itself, or over this crate by a patch of tokio. By
+//! the methods of a recorder it would compile over this crate alone.
 
 use crate::{Handle, Recorder};
 
-/// Names a receiver, or the channel of a sender, if it is one of this crate. If it is one of tokio, nothing is done.
+/// Names a receiver, or the channel of a sender, if it is one of this crate. If it is one of tokio,
+/// nothing is done.
 ///
-/// It is [`Recorder::name`] for a test that also runs where nothing is swapped: `name!(recorder, &tx, "orders")`. The type of the handle decides, so
-/// it has to be known where the macro is used: in a function that is generic over it, nothing is done.
+/// It is [`Recorder::name`] for a test that also runs where nothing is swapped:
+/// `name!(recorder, &tx, "orders")`. The type of the handle decides, so it has to be known where
+/// the macro is used: in a function that is generic over it, nothing is done.
 ///
 /// # Panics
 ///
@@ -39,10 +41,11 @@ macro_rules! name {
     }};
 }
 
-/// Records a text of each value that is sent on the channel, if it is one of this crate. If it is one of tokio, nothing is done.
+/// Records a text of each value that is sent on the channel, if it is one of this crate. If it is
+/// one of tokio, nothing is done.
 ///
-/// It is [`Recorder::show`] for a test that also runs where nothing is swapped. The function says the type of its values, which is not known from a
-/// channel of another crate.
+/// It is [`Recorder::show`] for a test that also runs where nothing is swapped. The function says
+/// the type of its values, which is not known from a channel of another crate.
 ///
 /// # Panics
 ///
@@ -77,7 +80,8 @@ macro_rules! show {
 /// What a macro was given.
 pub struct Given<T>(pub T);
 
-/// Is implemented for what is of this crate. The compiler takes it first, since it needs one reference less.
+/// Is implemented for what is of this crate. The compiler takes it first, since it needs one
+/// reference less.
 pub trait OfThisCrate {
     type Value;
 

@@ -4,8 +4,9 @@
 use std::cell::UnsafeCell;
 use std::ptr;
 
-/// A value that is guarded by the lock of a `K`, but stored apart from it: it is borrowed together with a `&mut K`. So the values of a
-/// channel, whose type may borrow, and its core, which a recorder shares, are under one lock.
+/// A value that is guarded by the lock of a `K`, but stored apart from it: it is borrowed together
+/// with a `&mut K`. So the values of a channel, whose type may borrow, and its core, which a
+/// recorder shares, are under one lock.
 pub(crate) struct GuardedBy<K, T> {
     key: *const K,
     value: UnsafeCell<T>,
@@ -35,8 +36,8 @@ impl<K, T> GuardedBy<K, T> {
             ptr::eq(self.key, key),
             "the value is guarded by another lock"
         );
-        // SAFETY: there is one `&mut` at a time to the address of the key, since a `K` isn't zero-sized, and this one is borrowed as
-        // long as the value.
+        // SAFETY: there is one `&mut` at a time to the address of the key, since a `K` isn't
+        // zero-sized, and this one is borrowed as long as the value.
         unsafe { &mut *self.value.get() }
     }
 }

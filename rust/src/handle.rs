@@ -8,7 +8,7 @@ use crate::lock::lock;
 use crate::recorder::RecordedHandle;
 use crate::replay::Permit;
 use crate::reply::Reply;
-use crate::wait::{ComingCall, Method, Pending, WaitFor, WaitingCall};
+use crate::wait::{ComingCall, Method, Pending, PolledCall, WaitFor};
 use crate::word::Word;
 use std::future::poll_fn;
 use std::mem;
@@ -24,8 +24,8 @@ pub(crate) enum Kind {
     Receiver,
 }
 
-/// A sender, weak sender or receiver: its channel, its number in that channel, and its kind. The public types wrap it, and make the call
-/// that drops it.
+/// A sender, weak sender or receiver: its channel, its number in that channel, and its kind. The
+/// public types wrap it, and make the call that drops it.
 pub(crate) struct ChannelHandle<T, S> {
     pub(crate) channel: Arc<Channel<T, S>>,
     pub(crate) number: u32,
@@ -34,8 +34,8 @@ pub(crate) struct ChannelHandle<T, S> {
     pub(crate) kind: Kind,
 }
 
-// A panic in user code leaves no channel half changed: none of that code runs while the channel is locked. The value of a watch is what a
-// closure that panics has left, as in tokio.
+// A panic in user code leaves no channel half changed: none of that code runs while the channel is
+// locked. The value of a watch is what a closure that panics has left, as in tokio.
 impl<T, S> UnwindSafe for ChannelHandle<T, S> {}
 impl<T, S> RefUnwindSafe for ChannelHandle<T, S> {}
 
@@ -87,20 +87,23 @@ impl<T, S> ChannelHandle<T, S> {
         }
     }
 
-    /// Locks the channel for a call of this handle, which is made where the caller was called, once its turn in a replay has come.
+    /// Locks the channel for a call of this handle, which is made where the caller was called, once
+    /// its turn in a replay has come.
     #[track_caller]
     #[inline]
     pub(crate) fn lock(&self, word: Word) -> LockedChannel<'_> {
         self.recorded().lock(self.number, word, call_site())
     }
 
-    /// Locks the channel for a call of this handle, which is made here in the source, once its turn in a replay has come.
+    /// Locks the channel for a call of this handle, which is made here in the source, once its turn
+    /// in a replay has come.
     #[inline]
     pub(crate) fn lock_at(&self, word: Word, called_at: CallSite) -> LockedChannel<'_> {
         self.recorded().lock(self.number, word, called_at)
     }
 
-    /// Waits for the turn of a call of this handle in a replay. It is called before a lock is acquired.
+    /// Waits for the turn of a call of this handle in a replay. It is called before a lock is
+    /// acquired.
     #[inline]
     pub(crate) fn pass(&self, word: Word, called_at: CallSite) -> Permit<'_> {
         self.recorded().pass(self.number, word, called_at)
@@ -155,8 +158,8 @@ impl<T, S> ChannelHandle<T, S> {
         count(&mut lock(&self.recorded().state).core) as usize
     }
 
-    /// Makes the call that drops this handle, and wakes those who wait for it. Drops are called by the compiler, so it has no location
-    /// in the source.
+    /// Makes the call that drops this handle, and wakes those who wait for it. Drops are called by
+    /// the compiler, so it has no location in the source.
     pub(crate) fn drop_by(&self, call: Call) {
         let mut channel = self.lock_at(Word::Drop, None);
         let (wakers, _event) = channel.drop_handle(self.kind, self.slot, call);
@@ -171,8 +174,8 @@ impl<T, S> ChannelHandle<T, S> {
         word: Word,
         method: Method,
         pending: Pending,
-    ) -> WaitingCall<'_> {
-        WaitingCall {
+    ) -> PolledCall<'_> {
+        PolledCall {
             channel: self.recorded(),
             handle: self.number,
             wait_for,
@@ -196,9 +199,10 @@ impl<T, S> ChannelHandle<T, S> {
 
     /// Takes one of the budget of the task that is polled, once there is one.
     pub(crate) async fn give_way(&self) {
-        poll_fn(|context| match self.recorded().gives_way(context) {
-            true => Poll::Pending,
-            false => {
+        poll_fn(|context| {
+            if self.recorded().gives_way(context) {
+                Poll::Pending
+            } else {
                 budget::take_one(context);
                 Poll::Ready(())
             }
@@ -218,7 +222,8 @@ impl<T, S> ChannelHandle<T, S> {
         poll_fn(|context| coming.poll(context)).await
     }
 
-    /// Attempts a call that waits. Between attempts the caller holds its state, and ends the wait if there is no further attempt.
+    /// Attempts a call that waits. Between attempts the caller holds its state, and ends the wait
+    /// if there is no further attempt.
     pub(crate) fn poll_wait<R>(
         &self,
         wait_for: WaitFor,

@@ -3,9 +3,11 @@
 
 use std::mem::MaybeUninit;
 
-/// Asks the system to back room by large pages, so that the first write to each 4 KiB of it isn't a page fault.
+/// Asks the system to back room by large pages, so that the first write to each 4 KiB of it isn't a
+/// page fault.
 ///
-/// It changes no byte, and the system may not do it. Room smaller than a large page is left as it is.
+/// It changes no byte, and the system may not do it. Room smaller than a large page is left as it
+/// is.
 pub(crate) fn ask_for_large_pages<T>(room: &mut [MaybeUninit<T>]) {
     #[cfg(all(target_os = "linux", not(miri)))]
     {

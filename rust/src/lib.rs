@@ -1,15 +1,18 @@
-//! tokio's [`broadcast`] and [`watch`] for tests: when a test fails, walk back to the call that made a receiver lag.
+//! tokio's [`broadcast`] and [`watch`] for tests: when a test fails, walk back to the call that
+//! made a receiver lag.
 //!
-//! The channels have the names, signatures and results of `tokio::sync`. A recorder records each call: on which channel, who made it, and
-//! what it returned. A failing test prints which call lost which value. Its calls can be made again in their order, and walked through
-//! forwards and backwards, in a browser, an editor or a terminal.
+//! The channels have the names, signatures and results of `tokio::sync`. A recorder records each
+//! call: on which channel, who made it, and what it returned. A failing test prints which call lost
+//! which value. Its calls can be made again in their order, and walked through forwards and
+//! backwards, in a browser, an editor or a terminal.
 //!
-//! [The guide](guide) is the manual. It begins with [how to add the crate](guide::start) and [three ways to swap the channels](guide::swap), one
-//! of which edits no source.
+//! [The guide](guide) is the manual. It begins with [how to add the crate](guide::start) and [three
+//! ways to swap the channels](guide::swap), one of which edits no source.
 //!
 //! # A test that fails
 //!
-//! A bus of capacity 2 announces orders. The screen receives each one at once, and the audit receives late:
+//! A bus of capacity 2 announces orders. The screen receives each one at once, and the audit
+//! receives late:
 //!
 //! ```should_panic
 //! use yovanelum::{Recorder, broadcast};
@@ -43,8 +46,9 @@
 //! replay: YOVANELUM_REPLAY=/shop/target/yovanelum/shop/test-shop/slow_audit.journal cargo test -p shop --test shop -- slow_audit --exact
 //! ```
 //!
-//! Call 6 did it, the send of the third order: the channel retains two, and the audit had not received the first. Call 8 returned the loss. The
-//! address opens the run in a browser at call 6, and the command [makes the calls again](guide::replay).
+//! Call 6 did it, the send of the third order: the channel retains two, and the audit had not
+//! received the first. Call 8 returned the loss. The address opens the run in a browser at call 6,
+//! and the command [makes the calls again](guide::replay).
 //!
 //! # What it does
 //!
@@ -60,8 +64,8 @@
 //! | know what differs from tokio, the limits and the cost | [`guide::limits`], [`guide::speed`] |
 //! | know what is proved | [`guide::proofs`] |
 //!
-//! The crate has only sources and no dependencies, and runs on [every target](guide::platforms) of Rust's standard library whose pointers
-//! have 32 bits or more.
+//! The crate has only sources and no dependencies, and runs on [every target](guide::platforms) of
+//! Rust's standard library whose pointers have 32 bits or more.
 #![deny(unsafe_code)]
 
 #[cfg(target_pointer_width = "16")]
@@ -115,12 +119,10 @@ pub use actors::{Named, named, set_task_id};
 pub use block_on::block_on;
 #[doc(hidden)]
 pub use budget::{budgeted, set_budget};
-#[doc(hidden)]
 pub use command::command;
 pub use events::{Close, Lag, on_close, on_lag};
 #[doc(hidden)]
 pub use explore::{Explored, explored, is_explored};
-#[doc(hidden)]
 pub use polled::Polled;
 #[doc(hidden)]
 pub use program::set_patch;

@@ -4,7 +4,8 @@ use std::sync::{Mutex, MutexGuard, TryLockError};
 use std::thread;
 use std::time::{Duration, Instant};
 
-/// Locks a mutex, even if it is poisoned: what it guards is whole between calls, and the journal of a test that panics must not be lost.
+/// Locks a mutex, even if it is poisoned: what it guards is whole between calls, and the journal of
+/// a test that panics must not be lost.
 #[inline]
 pub(crate) fn lock<T>(mutex: &Mutex<T>) -> MutexGuard<'_, T> {
     match mutex.lock() {
@@ -13,7 +14,8 @@ pub(crate) fn lock<T>(mutex: &Mutex<T>) -> MutexGuard<'_, T> {
     }
 }
 
-/// Locks a mutex as [`lock`] does, unless it isn't free for this time. It is for a thread that may hold the lock itself.
+/// Locks a mutex as [`lock`] does, unless it isn't free for this time. It is for a thread that may
+/// hold the lock itself.
 pub(crate) fn try_lock_for<T>(mutex: &Mutex<T>, patience: Duration) -> Option<MutexGuard<'_, T>> {
     let began = Instant::now();
     loop {

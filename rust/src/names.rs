@@ -1,12 +1,18 @@
-//! The names beside a journal, as JSON: what its numbers mean, where its calls were made, and which calls still wait.
-//! `docs/use/FORMATS.md` in the repository describes the format.
+//! The names beside a journal, as JSON: what its numbers mean, where its calls were made, and which
+//! calls still wait. `docs/use/FORMATS.md` in the repository describes the format.
+//!
+//! A recorder collects and writes them. All that reads a journal reads them too: replays, the
+//! account, the command and the debugger.
 
+mod beside;
 mod ending;
 mod json;
 mod matching;
 mod reading;
 mod sources;
 
+pub use beside::read_whole;
+pub(crate) use beside::test_beside;
 pub(crate) use ending::{Ending, Panic, Returned, TestId, Unrecorded, checksum};
 pub(crate) use json::Json;
 pub(crate) use matching::{Maker, Matching};
@@ -16,10 +22,12 @@ use std::collections::BTreeMap;
 use std::fmt::{Display, Write};
 use std::panic::Location;
 
-/// The version of the format that is written, and the last one that is read. A document of version 1 has no such key.
+/// The version of the format that is written, and the last one that is read. A document of version
+/// 1 has no such key.
 const VERSION: u64 = 3;
 
-/// A location in a source: the file as the compiler was given it, with the line and the column, which count from 1.
+/// A location in a source: the file as the compiler was given it, with the line and the column,
+/// which count from 1.
 #[derive(Clone, Debug, PartialEq, Eq)]
 pub struct SourceLocation {
     /// The file.
@@ -40,7 +48,8 @@ impl From<&Location<'_>> for SourceLocation {
     }
 }
 
-/// A call that had begun to wait and had not ended. Actor, channel and handle are those of the journal.
+/// A call that had begun to wait and had not ended. Actor, channel and handle are those of the
+/// journal.
 #[derive(Clone, Debug, PartialEq, Eq)]
 pub(crate) struct WaitingCall {
     pub(crate) actor: u64,
@@ -48,7 +57,8 @@ pub(crate) struct WaitingCall {
     pub(crate) handle: u64,
     /// The name of the method, such as `recv`.
     pub(crate) call: String,
-    /// The entries with stamps up to this were recorded before it began to wait. Of a saved run, it is the last such stamp, or 0.
+    /// The entries with stamps up to this were recorded before it began to wait. Of a saved run, it
+    /// is the last such stamp, or 0.
     pub(crate) since: u64,
     /// An index into the locations.
     pub(crate) location: Option<usize>,
@@ -64,8 +74,8 @@ pub(crate) struct HeldBy {
     pub(crate) location: Option<usize>,
 }
 
-/// What is known of a run beside its journal. Keys are the journal's numbers, and where a location is meant, values are indexes into
-/// `locations`.
+/// What is known of a run beside its journal. Keys are the journal's numbers, and where a location
+/// is meant, values are indexes into `locations`.
 #[derive(Clone, Debug, Default, PartialEq, Eq)]
 pub(crate) struct Names {
     pub(crate) actors: BTreeMap<u64, String>,
@@ -84,7 +94,8 @@ pub(crate) struct Names {
     pub(crate) waiting: Vec<WaitingCall>,
     pub(crate) matching: Matching,
     pub(crate) ending: Ending,
-    /// The account of the run as JSON, for readers that don't find it themselves. It is written and never read.
+    /// The account of the run as JSON, for readers that don't find it themselves. It is written and
+    /// never read.
     pub(crate) account: Option<String>,
 }
 
@@ -98,8 +109,8 @@ impl Names {
         })
     }
 
-    /// Makes these the names of this run, whose journal text this is: calls that were recorded after it are left out, and each wait and each end
-    /// is since a stamp that the run has, or 0.
+    /// Makes these the names of this run, whose journal text this is: calls that were recorded
+    /// after it are left out, and each wait and each end is since a stamp that the run has, or 0.
     pub(crate) fn fit_to(&mut self, run: &Run, journal: &str) {
         let entries = run.entries_by_channel();
         for (channel, calls) in &mut self.calls {
@@ -245,9 +256,9 @@ fn push_waiting(out: &mut String, wait: &WaitingCall) {
     out.push('}');
 }
 
-type Texts = BTreeMap<u64, String>;
+type TextsByNumber = BTreeMap<u64, String>;
 
-fn push_texts(out: &mut String, texts: &Texts) {
+fn push_texts(out: &mut String, texts: &TextsByNumber) {
     push_object(out, texts, push_string);
 }
 

@@ -1,8 +1,11 @@
-//! What is known of this program: from which package and build target cargo has made it, where, and how it was started.
+//! What is known of this program: from which package and build target cargo has made it, where, and
+//! how it was started.
 //!
-//! Nothing of it is known when the crate is compiled, since it has no build script. It is found at run time, in the variables that cargo sets
-//! for what it runs, in the path of the program and the file of its sources that the compiler leaves beside it, and in the command line of the
-//! cargo that runs it, where the system shows that.
+//! Nothing of it is known when the crate is compiled, since it has no build script. It is found at
+//! run time, in the variables that cargo sets for what it runs, in the path of the program and the
+//! file of its sources that the compiler leaves beside it, and in the command line of the cargo
+//! that runs it, where the system shows that. Recorders name files and commands by it, and
+//! exploring starts the program again.
 
 mod cargo;
 mod folder;
@@ -10,7 +13,7 @@ mod target;
 
 pub use cargo::set_patch;
 pub(crate) use cargo::{CargoRun, is_patched};
-pub(crate) use target::{Kind, Target};
+pub(crate) use target::{Target, TargetKind};
 
 use std::env;
 use std::path::{self, Path, PathBuf};
@@ -68,8 +71,8 @@ impl Program {
         }
     }
 
-    /// Returns the folder that the paths of sources are relative to, of which these are some: that of the workspace, in which cargo runs the
-    /// compiler.
+    /// Returns the folder that the paths of sources are relative to, of which these are some: that
+    /// of the workspace, in which cargo runs the compiler.
     pub(crate) fn root_of<'a>(
         &'a self,
         sources: impl IntoIterator<Item = &'a Path>,
@@ -87,7 +90,8 @@ impl Program {
 /// How many sources are looked for to find their root.
 const SOURCES_TRIED: usize = 16;
 
-/// Returns the folder of the package whose target has this root file, of a build in this folder: the one above it that has a manifest.
+/// Returns the folder of the package whose target has this root file, of a build in this folder:
+/// the one above it that has a manifest.
 fn package_of(target_folder: &Path, crate_root: &Path) -> Option<PathBuf> {
     let root = target_folder.parent()?.join(crate_root);
     let above = root.ancestors().skip(1);
@@ -132,7 +136,7 @@ mod tests {
     fn this_program_is_the_test_of_its_library() {
         let program = Program::this();
         assert_eq!(program.package.as_deref(), Some("yovanelum"));
-        assert_eq!(program.target.kind, Kind::Lib);
+        assert_eq!(program.target.kind, TargetKind::Lib);
         assert_eq!(program.target.folder_name(), "lib");
         let root = program.root_of([Path::new(file!())]).unwrap();
         assert!(root.join(file!()).is_file());

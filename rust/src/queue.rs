@@ -1,13 +1,15 @@
 //! A queue from which items leave at any time.
 
-/// The number of an item in a queue. Of two items, the one that was added first has the lower number.
+/// The number of an item in a queue. Of two items, the one that was added first has the lower
+/// number.
 pub(crate) type ItemNumber = u64;
 
 /// Items in the order in which they were added.
 ///
-/// An item is added, found and removed without a look at the others: numbers rise by one, so an entry's index is known from its number where
-/// no gap was removed, and found by binary search where one was. Half of the entries at most are gaps, so removing them costs each item as
-/// much as one more entry.
+/// An item is added, found and removed without a look at the others: numbers rise by one, so an
+/// entry's index is known from its number where no gap was removed, and found by binary search
+/// where one was. Half of the entries at most are gaps, so removing them costs each item as much as
+/// one more entry.
 pub(crate) struct Queue<T> {
     // Greater than each number so far, also of items that are no longer here.
     next: ItemNumber,
@@ -73,11 +75,13 @@ impl<T> Queue<T> {
     fn remove_gaps(&mut self) {
         self.entries.retain(|(_, item)| item.is_some());
         self.gaps = 0;
-        // Where few are left of many, their memory goes too. A queue that is now and then empty keeps a little.
+        // Where few are left of many, their memory goes too. A queue that is now and then empty
+        // keeps a little.
         self.entries.shrink_to(4 * self.entries.len().max(4));
     }
 
-    /// Whether no item is here. Then no gap is here either, since half of the entries at most are gaps.
+    /// Whether no item is here. Then no gap is here either, since half of the entries at most are
+    /// gaps.
     #[inline]
     pub(crate) fn is_empty(&self) -> bool {
         self.entries.is_empty()
@@ -108,7 +112,8 @@ mod tests {
         let mut queue = Queue::default();
         let stays = queue.add(0);
         let mut last = queue.add(1);
-        // Three are there at most: the first one always, and each other one until the next one is added.
+        // Three are there at most: the first one always, and each other one until the next one is
+        // added.
         for item in 2..10_000 {
             let next = queue.add(item);
             assert_eq!(queue.remove(last), Some(item - 1));

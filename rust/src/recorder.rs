@@ -1,8 +1,10 @@
-//! Recorders. The channels of a recorder make one run, with one journal.
+//! Recorders. The channels of a recorder make one run, with one journal. Each channel asks here
+//! whom it belongs to; what a test or a service calls of recorders is here too.
 
 mod current;
 mod ending;
 mod events;
+mod facade;
 pub(crate) mod files;
 mod for_test;
 mod handle;
@@ -26,7 +28,7 @@ pub use handle::{Handle, RecordedHandle};
 pub(crate) use nothing::{is_any_of_none, likely_cause, note_channel};
 pub(crate) use replaying::say_that_none_replays;
 pub use scope::Scoped;
-pub(crate) use shared::Held;
+pub(crate) use shared::HeldTexts;
 pub(crate) use shared::{RecordedBy, Shared};
 pub(crate) use test_run::NotedPanic;
 pub use texts::TextOf;
@@ -44,33 +46,37 @@ use texts::Texts;
 ///
 /// A channel belongs to one recorder from its creation on, whichever thread uses it:
 ///
-/// 1. to the recorder that is entered on the thread that creates the channel ([`enter`](Recorder::enter),
-///    [`for_test`](Recorder::for_test), [`scope`](Recorder::scope), [`on_thread_start`](Recorder::on_thread_start)),
+/// 1. to the recorder that is entered on the thread that creates the channel
+///    ([`enter`](Recorder::enter), [`for_test`](Recorder::for_test), [`scope`](Recorder::scope),
+///    [`on_thread_start`](Recorder::on_thread_start)),
 /// 2. else to the one that is installed for the process ([`install`](Recorder::install)),
-/// 3. else to none. Then nothing of it is recorded, and it needs no memory for entries. The same is so under a recorder that is
-///    [`off`](Recorder::off).
+/// 3. else to none. Then nothing of it is recorded, and it needs no memory for entries. The same is
+///    so under a recorder that is [`off`](Recorder::off).
 ///
-/// The journal has an entry for each call: which channel, who called, what the call was and what it returned. The drop of a sender or a
-/// receiver is a call too. The caller is a thread, or a future that was wrapped by [`named`](crate::named). A call that waits is recorded
-/// when it completes. A cancelled call isn't recorded. On one channel, entries are in the order of the calls. On several
+/// The journal has an entry for each call: which channel, who called, what the call was and what it
+/// returned. The drop of a sender or a receiver is a call too. The caller is a thread, or a future
+/// that was wrapped by [`named`](crate::named). A call that waits is recorded when it completes. A
+/// cancelled call isn't recorded. On one channel, entries are in the order of the calls. On several
 /// channels they are if one call returned before the other began.
 ///
 /// A recorder is a handle: its clones record the same run.
 ///
 /// # Limits
 ///
-/// Nothing fails at these limits. The first time that one is reached, a line on standard error reports it.
+/// Nothing fails at these limits. The first time that one is reached, a line on standard error
+/// reports it.
 ///
-/// - A run has 64 channels. When another one is created, the oldest channel whose senders and receivers are all dropped leaves the run, with
-///   its entries. The channels after it move up by one number. If 64 channels are alive, the new one is not recorded.
-/// - When a channel has created 65,536 senders, weak senders and receivers and is to create another one, its recording ends. The other
-///   channels are still recorded.
+/// - A run has 64 channels. When another one is created, the oldest channel whose senders and
+///   receivers are all dropped leaves the run, with its entries. The channels after it move up by
+///   one number. If 64 channels are alive, the new one is not recorded.
+/// - When a channel has created 65,536 senders, weak senders and receivers and is to create another
+///   one, its recording ends. The other channels are still recorded.
 /// - When a channel has 1,048,576 entries, recording ends for all channels of the recorder.
-/// - A thread or named future after the 64th is recorded under the number of the 64th. The number of one that is gone is given to another, once
-///   no call in the run is by it.
+/// - A thread or named future after the 64th is recorded under the number of the 64th. The number
+///   of one that is gone is given to another, once no call in the run is by it.
 ///
-/// Of tasks without a name ([`set_task_id`](crate::set_task_id)), 32 have a number of their own. Those that come later are recorded under the
-/// name of their thread, and no line reports it.
+/// Of tasks without a name ([`set_task_id`](crate::set_task_id)), 32 have a number of their own.
+/// Those that come later are recorded under the name of their thread, and no line reports it.
 ///
 /// # Examples
 ///
@@ -108,8 +114,8 @@ impl fmt::Debug for Recorder {
 impl Recorder {
     /// Creates a recorder without channels.
     ///
-    /// It records nothing before it is entered by [`enter`](Recorder::enter) or installed by [`install`](Recorder::install), and a channel
-    /// is created.
+    /// It records nothing before it is entered by [`enter`](Recorder::enter) or installed by
+    /// [`install`](Recorder::install), and a channel is created.
     ///
     /// # Examples
     ///
@@ -135,8 +141,9 @@ impl Recorder {
 
     /// Creates a recorder that records nothing.
     ///
-    /// A channel that is created while it is entered, or in a future of its [`scope`](Recorder::scope), belongs to no recorder, as if no
-    /// recorder was there. It is for channels that have no part in what a test is about, and would only fill its journal.
+    /// A channel that is created while it is entered, or in a future of its
+    /// [`scope`](Recorder::scope), belongs to no recorder, as if no recorder was there. It is for
+    /// channels that have no part in what a test is about, and would only fill its journal.
     ///
     /// # Examples
     ///
@@ -160,9 +167,11 @@ impl Recorder {
         Recorder::with(Arc::new(Shared::new(true)))
     }
 
-    /// Returns the recorder to which the channel of this sender or receiver belongs, or `None` if it belongs to none and is not recorded.
+    /// Returns the recorder to which the channel of this sender or receiver belongs, or `None` if
+    /// it belongs to none and is not recorded.
     ///
-    /// A channel belongs to its recorder also if it is not in its run, since [limits](Recorder#limits) were reached.
+    /// A channel belongs to its recorder also if it is not in its run, since
+    /// [limits](Recorder#limits) were reached.
     ///
     /// # Examples
     ///
@@ -188,10 +197,12 @@ impl Recorder {
             .map(Recorder::with)
     }
 
-    /// Ends the recording of questions, so that a loop that polls does not fill the journal. Returns the recorder, for the next call.
+    /// Ends the recording of questions, so that a loop that polls does not fill the journal.
+    /// Returns the recorder, for the next call.
     ///
-    /// Questions are `len`, `is_empty` and `receiver_count`, and on a watch channel also `borrow`, `has_changed` and `is_closed`. What they
-    /// return does not change. Calls that wait, such as `closed`, are still recorded when they complete. This cannot be undone.
+    /// Questions are `len`, `is_empty` and `receiver_count`, and on a watch channel also `borrow`,
+    /// `has_changed` and `is_closed`. What they return does not change. Calls that wait, such as
+    /// `closed`, are still recorded when they complete. This cannot be undone.
     ///
     /// # Examples
     ///
@@ -216,13 +227,15 @@ impl Recorder {
 
     /// Returns the text of the journal so far: all calls up to one moment, and none after it.
     ///
-    /// `ttd check`, `ttd debug` and the page read it. An entry has a stamp, which increases from entry to entry, the number of the caller
-    /// and the number of the channel, then the call with the number of its sender or receiver, and what it returned. This can be called at
-    /// any time, also while other threads use the channels.
+    /// `ttd check`, `ttd debug` and the page read it. An entry has a stamp, which increases from
+    /// entry to entry, the number of the caller and the number of the channel, then the call with
+    /// the number of its sender or receiver, and what it returned. This can be called at any time,
+    /// also while other threads use the channels.
     ///
     /// # Errors
     ///
-    /// Returns an error if no channel belongs to the recorder, or if there is no memory for the text. The text of the first says what to do.
+    /// Returns an error if no channel belongs to the recorder, or if there is no memory for the
+    /// text. The text of the first says what to do.
     ///
     /// # Examples
     ///
@@ -247,13 +260,15 @@ impl Recorder {
 
     /// Returns the names that belong to the journal, as JSON.
     ///
-    /// `actors` has the names of threads, tasks and [`named`](crate::named) futures, `channels` those of channels, both by number, and
-    /// `handles` those of senders and receivers by channel. `values` has the texts of each channel's values. What has no name is left out.
+    /// `actors` has the names of threads, tasks and [`named`](crate::named) futures, `channels`
+    /// those of channels, both by number, and `handles` those of senders and receivers by channel.
+    /// `values` has the texts of each channel's values. What has no name is left out.
     ///
-    /// `locations` has locations in the source, as file, line and column. The other keys have indexes into it: `made` where each sender and
-    /// receiver was created, `calls` where each call of a channel was made, in the order of its entries, `tasks` where each task without a name
-    /// has made its first call, and `waiting` where the calls that wait were made. The drop of a sender or a receiver is called by the
-    /// compiler, so its location is `null`.
+    /// `locations` has locations in the source, as file, line and column. The other keys have
+    /// indexes into it: `made` where each sender and receiver was created, `calls` where each call
+    /// of a channel was made, in the order of its entries, `tasks` where each task without a name
+    /// has made its first call, and `waiting` where the calls that wait were made. The drop of a
+    /// sender or a receiver is called by the compiler, so its location is `null`.
     ///
     /// # Examples
     ///
@@ -281,14 +296,16 @@ impl Recorder {
         names.unwrap_or_else(|_| run.names()).to_json()
     }
 
-    /// Writes the journal to a file, and the names to a file beside it: those of `RUN.journal` to `RUN.names`.
+    /// Writes the journal to a file, and the names to a file beside it: those of `RUN.journal` to
+    /// `RUN.names`.
     ///
-    /// Files with these names are overwritten. This can be called at any time, as [`journal`](Recorder::journal).
+    /// Files with these names are overwritten. This can be called at any time, as
+    /// [`journal`](Recorder::journal).
     ///
     /// # Errors
     ///
-    /// Returns an error if [`journal`](Recorder::journal) does, and then no file is changed, or if a file cannot be written. If only the
-    /// names cannot be written, the journal has been written.
+    /// Returns an error if [`journal`](Recorder::journal) does, and then no file is changed, or if
+    /// a file cannot be written. If only the names cannot be written, the journal has been written.
     ///
     /// # Examples
     ///

@@ -5,7 +5,8 @@ use crate::lock::lock;
 use std::sync::Mutex;
 use std::sync::atomic::{AtomicUsize, Ordering};
 
-/// A value that one thread at a time uses, by reference. Within its use that thread may use it again, where a `Mutex` would wait for itself.
+/// A value that one thread at a time uses, by reference. Within its use that thread may use it
+/// again, where a `Mutex` would wait for itself.
 pub(crate) struct Reentrant<T> {
     value: T,
     in_use: Mutex<()>,
@@ -13,7 +14,8 @@ pub(crate) struct Reentrant<T> {
     user: AtomicUsize,
 }
 
-// SAFETY: the value is used by one thread at a time, so a `T` that may be sent is never used by two.
+// SAFETY: the value is used by one thread at a time, so a `T` that may be sent is never used by
+// two.
 unsafe impl<T: Send> Sync for Reentrant<T> {}
 
 /// Ends the use by this thread when it is dropped, also if the use panics.
@@ -38,7 +40,8 @@ impl<T> Reentrant<T> {
     /// Waits until no other thread uses the value, and uses it.
     pub(crate) fn with<R>(&self, user: impl FnOnce(&T) -> R) -> R {
         let this = thread_number();
-        // Only this thread writes its number, so if it is read here, an outer use is going on, which holds the lock until this one ends.
+        // Only this thread writes its number, so if it is read here, an outer use is going on,
+        // which holds the lock until this one ends.
         if self.user.load(Ordering::Relaxed) == this {
             return user(&self.value);
         }

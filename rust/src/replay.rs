@@ -1,10 +1,12 @@
 //! Replays: the calls of a run are made again in the order of a journal.
 //!
-//! A recorder knows the whole order of the calls on its channels. In a replay each call waits before the [`Gate`], until all calls that the
-//! journal has before it are made. `plan.rs` has the journal's calls and which of them a call can be, `state.rs` where the replay stands,
-//! `gate.rs` how threads and futures wait, `helper.rs` the thread that wakes futures, `rest.rs` whether all threads wait, `clock.rs` how long the
-//! program has run, `divergence.rs` how it leaves the journal, `stop.rs` how it stops for a native debugger, and `outcome.rs` how it went, in
-//! words.
+//! A recorder knows the whole order of the calls on its channels. In a replay each call waits
+//! before the [`Gate`], until all calls that the journal has before it are made. `plan.rs` has the
+//! journal's calls and which of them a call can be, `state.rs` where the replay stands, `gate.rs`
+//! how threads wait and `gate/futures.rs` how futures do, `helper.rs` the thread that wakes
+//! futures, `rest.rs` whether all threads wait, `clock.rs` how long the program has run,
+//! `divergence.rs` how it leaves the journal, `stop.rs` how it stops for a native debugger, and
+//! `outcome.rs` how it went, in words. Recorders open a gate, and channels pass it.
 
 mod clock;
 mod divergence;
@@ -37,7 +39,8 @@ use crate::channel::CallSite;
 use crate::word::Word;
 use std::sync::atomic::{AtomicBool, Ordering};
 
-/// A call that comes to a gate: on which channel of the journal, by which handle, what, and who calls.
+/// A call that comes to a gate: on which channel of the journal, by which handle, what, and who
+/// calls.
 #[derive(Clone, Copy)]
 pub(crate) struct Coming {
     pub(crate) channel: u32,

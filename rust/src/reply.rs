@@ -1,12 +1,13 @@
-//! What the core replies to a call, and what each reply means to the caller.
+//! What the core replies to a call, and what each reply means to the caller. Channels return it,
+//! and senders and receivers make the results of tokio's methods of it.
 
 use crate::broadcast::error::{RecvError, TryRecvError};
 use crate::source::rw_recording::{BReply, ChanReply, TakeFault, WReply};
 use crate::watch;
 use std::task::Poll;
 
-/// What a call returns. All that carry a number carry one of 64 bits, so that a reply is passed in registers: its kind in one, and its number in
-/// another.
+/// What a call returns. All that carry a number carry one of 64 bits, so that a reply is passed in
+/// registers: its kind in one, and its number in another.
 #[derive(Clone, Copy, Debug, PartialEq, Eq)]
 pub(crate) enum Reply {
     Sent(u64),
@@ -139,7 +140,8 @@ impl Reply {
     pub(crate) fn expect_made(self) -> Reply {
         match self {
             Reply::JournalFull | Reply::NoMemory => panic!("yovanelum: no memory for a call"),
-            // A channel asks a further machine instead of a full one, and no handle of this crate makes one of the other calls.
+            // A channel asks a further machine instead of a full one, and no handle of this crate
+            // makes one of the other calls.
             Reply::TooManyHandles
             | Reply::Unknown
             | Reply::Gone
@@ -158,7 +160,8 @@ impl Reply {
         }
     }
 
-    /// Returns the number of the sender that the upgrade of a weak sender has created, or `None` if no sender is alive.
+    /// Returns the number of the sender that the upgrade of a weak sender has created, or `None` if
+    /// no sender is alive.
     pub(crate) fn upgraded(self) -> Option<u32> {
         match self {
             Reply::New(handle) => Some(handle as u32),

@@ -1,4 +1,5 @@
-//! The text that a failing test prints: the [`Account`] of its run, in the form in which rustc writes its errors, which editors read.
+//! The text that a failing test prints: the [`Account`] of its run, in the form in which rustc
+//! writes its errors, which editors read. The end of a test, the command and the debugger print it.
 
 mod colours;
 pub(crate) mod page;
@@ -116,7 +117,8 @@ impl Report {
     }
 }
 
-/// Appends the lines of a fact. The first one has both its places in the sources on lines of their own, and the others have one.
+/// Appends the lines of a fact. The first one has both its places in the sources on lines of their
+/// own, and the others have one.
 fn push_fact(lines: &mut Vec<String>, fact: &Fact, level: &str, colours: Colours) {
     let is_first = level == LEVELS[0];
     let head = colours.head(&fact.head);

@@ -1,6 +1,8 @@
-//! Runs, as the core makes them of recorded calls and reads them from journal texts, and what it finds in them.
+//! Runs, as the core makes them of recorded calls and reads them from journal texts, and what it
+//! finds in them.
 //!
-//! A place is a number of entries: at place 3 the first three calls have been made.
+//! A place is a number of entries: at place 3 the first three calls have been made. All that reads
+//! a journal or saves one has a run of here.
 
 #[cfg(test)]
 pub(crate) mod tests;
@@ -22,7 +24,7 @@ pub(crate) struct Run(rw_recording::Run<u64>);
 
 /// A recorded call.
 #[derive(Clone, Copy, Debug, PartialEq, Eq)]
-pub(crate) struct Entry {
+pub(crate) struct RunEntry {
     pub(crate) stamp: u64,
     pub(crate) actor: u32,
     pub(crate) channel: u32,
@@ -33,10 +35,10 @@ pub(crate) struct Entry {
     pub(crate) reply: Reply,
 }
 
-impl Entry {
-    pub(crate) fn of(entry: &rw_law::Entry<World<u64>>) -> Entry {
+impl RunEntry {
+    pub(crate) fn of(entry: &rw_law::Entry<World<u64>>) -> RunEntry {
         let call = &entry.call.call;
-        Entry {
+        RunEntry {
             stamp: entry.stamp,
             actor: entry.actor,
             channel: entry.call.channel,
@@ -85,7 +87,8 @@ impl Run {
         rw_text::read(Global, text).map(Run)
     }
 
-    /// Reads the run of a journal text that may be truncated. Returns also how many bytes its whole lines have.
+    /// Reads the run of a journal text that may be truncated. Returns also how many bytes its whole
+    /// lines have.
     ///
     /// # Errors
     ///
@@ -124,13 +127,13 @@ impl Run {
     }
 
     /// Returns the entry that led to a place from 1 on.
-    pub(crate) fn entry(&self, place: u64) -> Entry {
-        Entry::of(&self.0.entries()[place as usize - 1])
+    pub(crate) fn entry(&self, place: u64) -> RunEntry {
+        RunEntry::of(&self.0.entries()[place as usize - 1])
     }
 
     /// Returns each entry with the place that it led to.
-    pub(crate) fn entries(&self) -> impl Iterator<Item = (u64, Entry)> {
-        (1..).zip(self.0.entries().iter().map(Entry::of))
+    pub(crate) fn entries(&self) -> impl Iterator<Item = (u64, RunEntry)> {
+        (1..).zip(self.0.entries().iter().map(RunEntry::of))
     }
 
     /// How many entries each channel has.

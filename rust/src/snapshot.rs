@@ -4,6 +4,7 @@ mod json;
 mod table;
 
 use crate::channel::{CallSite, ChannelState, LiveReceiver, all_channels};
+use crate::handle::Kind;
 use crate::lock::lock;
 use crate::recorder::{Handle, Recorder};
 use crate::wait::{Awaited, Wait};
@@ -11,12 +12,15 @@ use std::panic::Location;
 use std::sync::{Arc, Mutex};
 use std::time::Duration;
 
-/// Channels as they are at one moment, recorded or not: how much was sent, and how far each receiver is.
+/// Channels as they are at one moment, recorded or not: how much was sent, and how far each
+/// receiver is.
 ///
-/// It is what a health page or an exporter of metrics reads. With `Display` it is a table for a person, and [`to_json`](Snapshot::to_json) is for
-/// a program. [`snapshot`] is of all channels of the process, and [`Recorder::snapshot`] of those of a recorder.
+/// It is what a health page or an exporter of metrics reads. With `Display` it is a table for a
+/// person, and [`to_json`](Snapshot::to_json) is for a program. [`snapshot`] is of all channels of
+/// the process, and [`Recorder::snapshot`] of those of a recorder.
 ///
-/// Each channel is read under its own lock, so what is said of one channel is of one moment. Other channels may have changed meanwhile.
+/// Each channel is read under its own lock, so what is said of one channel is of one moment. Other
+/// channels may have changed meanwhile.
 ///
 /// # Examples
 ///
@@ -119,7 +123,8 @@ struct Waits {
 
 /// Returns what is on all channels of the process now, in the order of their creation.
 ///
-/// These are the channels of which a sender, weak sender or receiver is alive, whether a recorder records them or not.
+/// These are the channels of which a sender, weak sender or receiver is alive, whether a recorder
+/// records them or not.
 ///
 /// # Examples
 ///
@@ -148,7 +153,8 @@ pub fn snapshot() -> Snapshot {
 impl Recorder {
     /// Returns what is on the channels of this recorder now, in the order of their creation.
     ///
-    /// These are the channels that belong to it and of which a sender, weak sender or receiver is alive. No call is recorded for it.
+    /// These are the channels that belong to it and of which a sender, weak sender or receiver is
+    /// alive. No call is recorded for it.
     ///
     /// # Examples
     ///
@@ -188,14 +194,16 @@ impl Snapshot {
 impl ChannelSnapshot {
     /// Returns what is on the channel of this sender, weak sender or receiver now.
     ///
-    /// It is no method of senders and receivers, so it never has the name of one of tokio's. No call is recorded for it.
+    /// It is no method of senders and receivers, so it never has the name of one of tokio's. No
+    /// call is recorded for it.
     pub fn of<H: Handle>(handle: &H) -> ChannelSnapshot {
         ChannelSnapshot::new(&mut lock(&handle.recorded().channel.state))
     }
 
     fn new(state: &mut ChannelState) -> ChannelSnapshot {
         let mut receivers: Vec<_> = state.receivers.iter().map(ReceiverSnapshot::new).collect();
-        receivers.sort_by_key(|(number, _)| *number);
+        // Not by the number, which may have been that of another one before.
+        receivers.sort_by_key(|(number, _)| state.core.nth(*number));
         let retained = state.core.capacity().map_or(1, |_| state.core.queued());
         let mut receivers: Vec<_> = receivers
             .into_iter()
@@ -219,7 +227,8 @@ impl ChannelSnapshot {
         }
     }
 
-    /// Returns the name of the channel, or `channel at src/main.rs:9` with the place of its creation if it has none.
+    /// Returns the name of the channel, or `channel at src/main.rs:9` with the place of its
+    /// creation if it has none.
     pub fn name(&self) -> &str {
         &self.name
     }
@@ -229,18 +238,21 @@ impl ChannelSnapshot {
         self.made_at
     }
 
-    /// Returns the capacity that a broadcast channel was created with, and `None` for a watch channel.
+    /// Returns the capacity that a broadcast channel was created with, and `None` for a watch
+    /// channel.
     pub fn capacity(&self) -> Option<usize> {
         self.capacity
     }
 
-    /// Returns how many values were sent on the channel. The one that a watch channel was created with is not among them.
+    /// Returns how many values were sent on the channel. The one that a watch channel was created
+    /// with is not among them.
     pub fn sent(&self) -> u64 {
         self.sent
     }
 
-    /// Returns how many values the channel retains for some receiver, as [`Sender::len`](crate::broadcast::Sender::len) does. A watch channel
-    /// always retains its value.
+    /// Returns how many values the channel retains for some receiver, as
+    /// [`Sender::len`](crate::broadcast::Sender::len) does. A watch channel always retains its
+    /// value.
     pub fn retained(&self) -> u64 {
         self.retained
     }
@@ -255,7 +267,8 @@ impl ChannelSnapshot {
         self.weak_senders
     }
 
-    /// Returns the name of the thread, task or [`named`](crate::named) future that sent last, if anything was sent.
+    /// Returns the name of the thread, task or [`named`](crate::named) future that sent last, if
+    /// anything was sent.
     pub fn sender(&self) -> Option<&str> {
         self.sender.as_deref()
     }
@@ -290,7 +303,7 @@ impl ReceiverSnapshot {
 
     /// Adds what the channel knows of the receiver with this number.
     fn in_channel(mut self, number: u32, state: &mut ChannelState) -> (u32, ReceiverSnapshot) {
-        self.name = state.receiver_name(number);
+        self.name = state.handle_name(Kind::Receiver, number);
         self.unread = state.unread(number);
         let retained = state
             .core
@@ -300,17 +313,19 @@ impl ReceiverSnapshot {
         (number, self)
     }
 
-    /// Adds the calls that wait to their receivers, which are sorted by their numbers.
+    /// Adds the calls that wait to their receivers, which are in the order of their creation.
     fn add_waits(receivers: &mut [(u32, ReceiverSnapshot)], state: &ChannelState) {
         for wait in state.waits.items() {
-            let index = receivers.binary_search_by_key(&wait.handle, |(number, _)| *number);
+            let nth = state.core.nth(wait.handle);
+            let index = receivers.binary_search_by_key(&nth, |(number, _)| state.core.nth(*number));
             if let (Ok(index), Awaited::Value) = (index, wait.awaited) {
                 receivers[index].1.waits = Some(Waits::new(wait, state.made_by.is_some()));
             }
         }
     }
 
-    /// Returns the name of the receiver, or `receiver 1` with its number in the channel if it has none.
+    /// Returns the name of the receiver, or `receiver 1` with its number in the channel if it has
+    /// none.
     pub fn name(&self) -> &str {
         &self.name
     }
@@ -320,23 +335,26 @@ impl ReceiverSnapshot {
         self.made_at
     }
 
-    /// Returns how many values the receiver has yet to receive, those that were overwritten included. Of a watch channel, it is 1 if the receiver
-    /// hasn't seen the value.
+    /// Returns how many values the receiver has yet to receive, those that were overwritten
+    /// included. Of a watch channel, it is 1 if the receiver hasn't seen the value.
     pub fn unread(&self) -> u64 {
         self.unread
     }
 
-    /// Returns how many of these were overwritten: its next receive returns `Lagged` with this number, if it isn't 0.
+    /// Returns how many of these were overwritten: its next receive returns `Lagged` with this
+    /// number, if it isn't 0.
     pub fn lag(&self) -> u64 {
         self.lag
     }
 
-    /// Returns how many values the receiver has lost since it was created: the sum of what its `Lagged` said.
+    /// Returns how many values the receiver has lost since it was created: the sum of what its
+    /// `Lagged` said.
     pub fn lost(&self) -> u64 {
         self.lost
     }
 
-    /// Returns where the call was made by which the receiver last received a value, if it has received one.
+    /// Returns where the call was made by which the receiver last received a value, if it has
+    /// received one.
     ///
     /// Of a watch channel, that is the last `borrow_and_update`, `changed` or `wait_for`.
     pub fn received_at(&self) -> Option<&'static Location<'static>> {
@@ -358,8 +376,8 @@ impl ReceiverSnapshot {
         self.waits.as_ref()?.called_at
     }
 
-    /// Returns the recorder's clock when the receiver began to wait: the entries with stamps up to this were recorded before. It is `None` if the
-    /// channel belongs to no recorder.
+    /// Returns the recorder's clock when the receiver began to wait: the entries with stamps up to
+    /// this were recorded before. It is `None` if the channel belongs to no recorder.
     pub fn waits_since(&self) -> Option<u64> {
         self.waits.as_ref()?.since
     }

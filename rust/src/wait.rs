@@ -1,4 +1,5 @@
-//! Calls that wait.
+//! Calls that wait: what a channel lists of them, and their futures. The methods of senders and
+//! receivers wait by it.
 
 use crate::backend::Actor;
 use crate::budget;
@@ -70,7 +71,8 @@ pub(crate) enum Awaited {
     Value,
     /// That no receiver is alive.
     NoReceiver,
-    /// The lock of a watch's value, and a look that held it when the wait began, if it is known whose it was.
+    /// The lock of a watch's value, and a look that held it when the wait began, if it is known
+    /// whose it was.
     Lock(Option<Look>),
 }
 
@@ -91,9 +93,10 @@ pub(crate) struct Wait {
 /// Returns the time. WebAssembly without an operating system has no clock, and would panic.
 #[inline]
 pub(crate) fn now() -> Option<Instant> {
-    match cfg!(all(target_family = "wasm", target_os = "unknown")) {
-        true => None,
-        false => Some(Instant::now()),
+    if cfg!(all(target_family = "wasm", target_os = "unknown")) {
+        None
+    } else {
+        Some(Instant::now())
     }
 }
 
@@ -126,8 +129,9 @@ impl Pending {
     }
 }
 
-/// A call that waits. If it is dropped before it completes, it has changed nothing, isn't recorded, and is no longer woken or listed.
-pub(crate) struct WaitingCall<'a> {
+/// A call that waits. If it is dropped before it completes, it has changed nothing, isn't recorded,
+/// and is no longer woken or listed.
+pub(crate) struct PolledCall<'a> {
     pub(crate) channel: &'a RecordedChannel,
     pub(crate) handle: u32,
     pub(crate) wait_for: WaitFor,
@@ -136,9 +140,10 @@ pub(crate) struct WaitingCall<'a> {
     pub(crate) pending: Pending,
 }
 
-impl<'a> WaitingCall<'a> {
-    /// Attempts the call. If it has to wait, the future is put into the queue under the same lock, so no call in between is missed. Wakers
-    /// are cloned and dropped while no lock is held, since that may run user code.
+impl<'a> PolledCall<'a> {
+    /// Attempts the call. If it has to wait, the future is put into the queue under the same lock,
+    /// so no call in between is missed. Wakers are cloned and dropped while no lock is held, since
+    /// that may run user code.
     pub(crate) fn poll<R>(
         &mut self,
         context: &Context<'_>,
@@ -197,7 +202,7 @@ impl<'a> WaitingCall<'a> {
     }
 }
 
-impl WaitingCall<'_> {
+impl PolledCall<'_> {
     /// Lists the call among those that wait since this time of the clock, unless it is there.
     fn list(&mut self, channel: &mut LockedChannel<'_>, since: u64) {
         if self.pending.listed.is_none() {
@@ -207,14 +212,16 @@ impl WaitingCall<'_> {
     }
 }
 
-/// A call that blocks its thread for the lock of a watch's value, and is listed until this is dropped.
+/// A call that blocks its thread for the lock of a watch's value, and is listed until this is
+/// dropped.
 pub(crate) struct BlockedCall<'a> {
     channel: &'a RecordedChannel,
     listed: ItemNumber,
 }
 
 impl<'a> BlockedCall<'a> {
-    /// Lists a call of this handle, which waits for the lock that this look holds, if it is known whose it is.
+    /// Lists a call of this handle, which waits for the lock that this look holds, if it is known
+    /// whose it is.
     pub(crate) fn list(
         channel: &'a RecordedChannel,
         (handle, kind): (u32, Kind),
@@ -234,13 +241,14 @@ impl Drop for BlockedCall<'_> {
     }
 }
 
-impl Drop for WaitingCall<'_> {
+impl Drop for PolledCall<'_> {
     fn drop(&mut self) {
         self.pending.end(self.channel, self.wait_for);
     }
 }
 
-/// A call that waits before the gate of a replay. If it is dropped before its turn comes, it leaves the gate.
+/// A call that waits before the gate of a replay. If it is dropped before its turn comes, it leaves
+/// the gate.
 pub(crate) struct ComingCall<'a> {
     pub(crate) channel: &'a RecordedChannel,
     pub(crate) handle: u32,

@@ -1,23 +1,26 @@
 //! The wakers of the futures that wait for a channel.
 
 use crate::queue::{ItemNumber, Queue};
+use std::mem;
 use std::panic::{self, AssertUnwindSafe};
 use std::task::Waker;
 use std::thread;
 
-/// The wakers of the futures that wait for the same thing, in the order in which they began to wait.
+/// The wakers of the futures that wait for the same thing, in the order in which they began to
+/// wait.
 #[derive(Default)]
 pub(crate) struct WakerQueue(Queue<Waker>);
 
 impl WakerQueue {
-    /// Returns `true` if the future with this number is in the queue, with a waker that wakes the same task as this one.
+    /// Returns `true` if the future with this number is in the queue, with a waker that wakes the
+    /// same task as this one.
     pub(crate) fn wakes(&self, number: Option<ItemNumber>, waker: &Waker) -> bool {
         let queued = number.and_then(|number| self.0.get(number));
         queued.is_some_and(|queued| queued.will_wake(waker))
     }
 
-    /// Adds the waker of a future, at the end. A future that is in the queue stays where it is, and its waker from before is returned, to
-    /// be dropped while no lock is held.
+    /// Adds the waker of a future, at the end. A future that is in the queue stays where it is, and
+    /// its waker from before is returned, to be dropped while no lock is held.
     pub(crate) fn add(&mut self, number: &mut Option<ItemNumber>, waker: Waker) -> Option<Waker> {
         if let Some(queued) = number.and_then(|number| self.0.get_mut(number)) {
             return Some(std::mem::replace(queued, waker));
@@ -58,7 +61,8 @@ impl Wakers {
         }
     }
 
-    /// Wakes them in order. If one panics, the others are woken all the same, and then the panic goes on. Within a panic that one goes on.
+    /// Wakes them in order. If one panics, the others are woken all the same, and then the panic
+    /// goes on. Within a panic that one goes on.
     fn wake_each(self) {
         let mut panicked = None;
         for waker in self.0.into_iter().filter_map(|(_, waker)| waker) {
@@ -68,6 +72,15 @@ impl Wakers {
         if let Some(panicked) = panicked.filter(|_| !thread::panicking()) {
             panic::resume_unwind(panicked);
         }
+    }
+}
+
+/// Wakers that are woken when this is dropped, also by a panic.
+pub(crate) struct WakeAtEnd(pub(crate) Wakers);
+
+impl Drop for WakeAtEnd {
+    fn drop(&mut self) {
+        mem::take(&mut self.0).wake();
     }
 }
 

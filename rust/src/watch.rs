@@ -1,26 +1,31 @@
 //! A channel that holds one value, the last that was sent: tokio's `sync::watch`, recorded.
 //!
-//! A [`Sender`] replaces or changes the value. A [`Receiver`] looks at it by [`borrow`](Receiver::borrow), and waits for the next one by
-//! [`changed`](Receiver::changed). Only the last value is available: a receiver that looks late does not see the values that were replaced
-//! before. So a watch suits a configuration, or a state whose history does not matter. [`channel`] creates a sender and a receiver, and
-//! both can be cloned.
+//! A [`Sender`] replaces or changes the value. A [`Receiver`] looks at it by
+//! [`borrow`](Receiver::borrow), and waits for the next one by [`changed`](Receiver::changed). Only
+//! the last value is available: a receiver that looks late does not see the values that were
+//! replaced before. So a watch suits a configuration, or a state whose history does not matter.
+//! [`channel`] creates a sender and a receiver, and both can be cloned.
 //!
-//! Names, signatures and results are those of [`tokio::sync::watch`][tokio]. "As in tokio" marks what tokio's documentation says about the
-//! same item, in other words. "Unlike tokio" marks a difference.
+//! Names, signatures and results are those of [`tokio::sync::watch`][tokio]. "As in tokio" marks
+//! what tokio's documentation says about the same item, in other words. "Unlike tokio" marks a
+//! difference.
 //!
 //! [tokio]: https://docs.rs/tokio/1/tokio/sync/watch/index.html
 //!
 //! # Seen and unseen values
 //!
-//! For each receiver the last value is either seen or unseen. The value that the channel is created with is seen by its first receiver, and
-//! the value at a call of [`Sender::subscribe`] by the receiver which that call creates. A cloned receiver has seen what the original has.
-//! [`changed`](Receiver::changed), [`borrow_and_update`](Receiver::borrow_and_update) and [`wait_for`](Receiver::wait_for) mark the value
-//! as seen, [`borrow`](Receiver::borrow) does not. Values are not compared: a value that is sent twice is unseen twice.
+//! For each receiver the last value is either seen or unseen. The value that the channel is created
+//! with is seen by its first receiver, and the value at a call of [`Sender::subscribe`] by the
+//! receiver which that call creates. A cloned receiver has seen what the original has.
+//! [`changed`](Receiver::changed), [`borrow_and_update`](Receiver::borrow_and_update) and
+//! [`wait_for`](Receiver::wait_for) mark the value as seen, [`borrow`](Receiver::borrow) does not.
+//! Values are not compared: a value that is sent twice is unseen twice.
 //!
 //! # Closing
 //!
-//! The channel is closed for receivers when every [`Sender`] has been dropped. A receiver can still look at the last value. It is closed
-//! for senders when every [`Receiver`] has been dropped; [`Sender::subscribe`] opens it again.
+//! The channel is closed for receivers when every [`Sender`] has been dropped. A receiver can still
+//! look at the last value. It is closed for senders when every [`Receiver`] has been dropped;
+//! [`Sender::subscribe`] opens it again.
 //!
 //! # Examples
 //!
@@ -70,9 +75,11 @@ use value::ValueLock;
 /// What each sender and receiver is.
 type WatchHandle<T> = ChannelHandle<T, ValueLock<T>>;
 
-/// Creates a watch channel that holds this value, and returns its first sender and its first receiver.
+/// Creates a watch channel that holds this value, and returns its first sender and its first
+/// receiver.
 ///
-/// The receiver has seen the value. As in tokio, the receivers can look at the last value alone, and those before it are dropped.
+/// The receiver has seen the value. As in tokio, the receivers can look at the last value alone,
+/// and those before it are dropped.
 ///
 /// # Examples
 ///
@@ -115,19 +122,19 @@ impl<T> WatchHandle<T> {
     fn borrow(&self) -> Ref<'_, T> {
         let method = Method::called("borrow");
         let recorded = self.recorded();
-        match recorded.is_quiet(self.number, Word::Borrow, method.called_at) {
-            true => self.borrow_by(Permit::free(), method, |_| ()),
-            false => {
-                let permit = self.pass(Word::Borrow, method.called_at);
-                self.borrow_by(permit, method, |channel| {
-                    channel.call(CoreChannel::watch_borrow);
-                })
-            }
+        if recorded.is_quiet(self.number, Word::Borrow, method.called_at) {
+            self.borrow_by(Permit::free(), method, |_| ())
+        } else {
+            let permit = self.pass(Word::Borrow, method.called_at);
+            self.borrow_by(permit, method, |channel| {
+                channel.call(CoreChannel::watch_borrow);
+            })
         }
     }
 
-    /// Returns a reference to the value. The call of this method that looks at it has its turn by this permit. The value is locked before the
-    /// channel, so the value that is returned is the one that the call reads.
+    /// Returns a reference to the value. The call of this method that looks at it has its turn by
+    /// this permit. The value is locked before the channel, so the value that is returned is the
+    /// one that the call reads.
     fn borrow_by<'a>(
         &'a self,
         permit: Permit<'a>,
@@ -147,7 +154,8 @@ impl<T> WatchHandle<T> {
         }
     }
 
-    /// Locks the value for this method, to look at it. A call that waits for the lock is listed meanwhile.
+    /// Locks the value for this method, to look at it. A call that waits for the lock is listed
+    /// meanwhile.
     fn read_value(&self, method: Method) -> RwLockReadGuard<'_, T> {
         let values = &self.channel.values;
         values.try_read().unwrap_or_else(|| {
@@ -156,7 +164,8 @@ impl<T> WatchHandle<T> {
         })
     }
 
-    /// Locks the value for this method, to change it. A call that waits for the lock is listed meanwhile.
+    /// Locks the value for this method, to change it. A call that waits for the lock is listed
+    /// meanwhile.
     fn write_value(&self, method: Method) -> RwLockWriteGuard<'_, T> {
         let values = &self.channel.values;
         values.try_write().unwrap_or_else(|| {
@@ -165,7 +174,8 @@ impl<T> WatchHandle<T> {
         })
     }
 
-    /// Lists a call of this method, which waits for the lock of the value, until the result is dropped.
+    /// Lists a call of this method, which waits for the lock of the value, until the result is
+    /// dropped.
     #[cold]
     fn list_blocked(&self, method: Method) -> BlockedCall<'_> {
         let looks = &self.channel.values.looks;
@@ -180,7 +190,8 @@ impl<T> WatchHandle<T> {
         self.kind == Kind::Receiver && !channel.has_seen()
     }
 
-    /// Waits for this method until there is a value that this receiver has not seen, and marks it as seen.
+    /// Waits for this method until there is a value that this receiver has not seen, and marks it
+    /// as seen.
     async fn changed(&self, method: Method) -> Result<(), error::RecvError> {
         self.wait(WaitFor::Value, Word::Changed, method, |channel| {
             attempt_changed(channel, self.slot)
@@ -189,7 +200,8 @@ impl<T> WatchHandle<T> {
     }
 
     fn set_text_of(&self, text_of: TextOf<T>) {
-        // The first value, if it is still the last, gets its text now. It stays in the channel, so it is locked while its text is made.
+        // The first value, if it is still the last, gets its text now. It stays in the channel, so
+        // it is locked while its text is made.
         let values = &self.channel.values;
         let value = values.try_read().unwrap_or_else(|| values.read());
         let text = values.run_reading(|| text_of.text(&value));

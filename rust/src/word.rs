@@ -2,7 +2,8 @@
 
 use crate::source::rw_recording::{BCall, ChanCall, WCall};
 
-/// What a call is, as its journal names it. Two calls that wait are told from the calls that a journal has the same word for.
+/// What a call is, as its journal names it. Two calls that wait are told from the calls that a
+/// journal has the same word for.
 #[derive(Clone, Copy, Debug, PartialEq, Eq)]
 pub(crate) enum Word {
     Send,
@@ -122,7 +123,8 @@ impl Word {
         }
     }
 
-    /// Whether the call may wait: its future is then pending until its turn. Any other call blocks its thread until then.
+    /// Whether the call may wait: its future is then pending until its turn. Any other call blocks
+    /// its thread until then.
     pub(crate) fn may_wait(self) -> bool {
         matches!(
             self,

@@ -1,9 +1,10 @@
-//! Which types may be sent to other threads, shared by them, moved while pinned, and used after a panic: those that tokio's may.
+//! Which types may be sent to other threads, shared by them, moved while pinned, and used after a
+//! panic: those that tokio's may.
 
 use std::cell::{Cell, RefCell};
 use std::panic::{RefUnwindSafe, UnwindSafe};
 use yovanelum::{
-    ChannelSnapshot, Close, Entered, ForTest, Lag, ReceiverSnapshot, Recorder, SaveOnPanic,
+    ChannelSnapshot, Close, Entered, ForTest, Lag, Polled, ReceiverSnapshot, Recorder, SaveOnPanic,
     Snapshot, Waiting, broadcast, watch,
 };
 
@@ -45,6 +46,8 @@ fn handles_are_sent_and_shared_as_tokio_s_are() {
     is_not!(watch::Receiver<Unshared>: Send);
     is_not!(watch::Receiver<Unshared>: Sync);
     is_not!(broadcast::Sender<std::rc::Rc<u8>>: Send);
+    is_sent::<Polled<broadcast::Receiver<Unshared>>>();
+    is_shared::<Polled<watch::Receiver<u8>>>();
 }
 
 #[test]

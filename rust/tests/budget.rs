@@ -10,6 +10,7 @@ use std::pin::{Pin, pin};
 use std::rc::Rc;
 use std::sync::{Arc, Condvar, Mutex};
 use std::task::{Context, Poll, Wake, Waker};
+use support::yielding::yield_now;
 use yovanelum::broadcast::error::RecvError;
 use yovanelum::{Recorder, block_on, broadcast, named, watch};
 
@@ -57,20 +58,6 @@ fn run<'a>(tasks: impl IntoIterator<Item = Task<'a>>) {
 /// Polls a future once.
 fn poll_once<F: Future>(future: F, waker: &Waker) -> Poll<F::Output> {
     pin!(future).poll(&mut Context::from_waker(waker))
-}
-
-/// Is ready when the task is polled again.
-async fn yield_now() {
-    let mut has_yielded = false;
-    poll_fn(|context| {
-        if has_yielded {
-            return Poll::Ready(());
-        }
-        has_yielded = true;
-        context.waker().wake_by_ref();
-        Poll::Pending
-    })
-    .await
 }
 
 /// A channel with this many values to receive, which is closed behind them.
@@ -242,7 +229,8 @@ fn a_task_within_a_task_has_its_budget() {
     assert_eq!(turns, multiples(2));
 }
 
-/// Runs a named task that receives 300 orders, and one that sends two more, which has a name or hasn't.
+/// Runs a named task that receives 300 orders, and one that sends two more, which has a name or
+/// hasn't.
 fn mails_and_sends(is_named: bool, run: impl FnOnce([Task<'_>; 2])) {
     let (orders, mut mailer) = broadcast::channel(1024);
     for order in 0..300 {
@@ -259,14 +247,16 @@ fn mails_and_sends(is_named: bool, run: impl FnOnce([Task<'_>; 2])) {
             yield_now().await;
         }
     };
-    let sends: Task<'_> = match is_named {
-        true => Box::pin(named("sends", sends)),
-        false => Box::pin(sends),
+    let sends: Task<'_> = if is_named {
+        Box::pin(named("sends", sends))
+    } else {
+        Box::pin(sends)
     };
     run([Box::pin(mails), sends]);
 }
 
-/// Records a run, and replays it by tasks of this thread. Returns how many receives were before each of the last two sends.
+/// Records a run, and replays it by tasks of this thread. Returns how many receives were before
+/// each of the last two sends.
 fn recorded_and_replayed(is_named: bool, run_recorded: impl FnOnce([Task<'_>; 2])) -> [usize; 2] {
     let recorder = Recorder::new();
     let entered = recorder.enter();
@@ -301,7 +291,8 @@ fn a_run_in_which_a_task_gave_way_is_replayed() {
 #[test]
 #[cfg_attr(target_family = "wasm", ignore = "WebAssembly has no threads")]
 fn a_run_in_which_no_task_gave_way_is_replayed() {
-    // If the replay had a budget, the second task would block this thread, and the first couldn't go on.
+    // If the replay had a budget, the second task would block this thread, and the first couldn't
+    // go on.
     let in_turn = |tasks: [Task<'_>; 2]| tasks.into_iter().for_each(block_on);
     assert_eq!(recorded_and_replayed(false, in_turn), [300, 300]);
 }

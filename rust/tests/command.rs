@@ -8,7 +8,8 @@ use std::process::{Command, Stdio};
 use support::named::checksum;
 use support::parts::{Folder, address};
 
-/// Runs the command in a folder. Returns its status, and what it writes to standard output and to standard error.
+/// Runs the command in a folder. Returns its status, and what it writes to standard output and to
+/// standard error.
 fn run(folder: &Path, words: &[&str]) -> (i32, String, String) {
     let command = Command::new(env!("CARGO_BIN_EXE_yovanelum"))
         .args(words)
@@ -24,7 +25,8 @@ fn run(folder: &Path, words: &[&str]) -> (i32, String, String) {
     )
 }
 
-/// A run with a loss of each end: receiver 2 is told, receiver 3 is dropped, and receiver 1 lags at the end.
+/// A run with a loss of each end: receiver 2 is told, receiver 3 is dropped, and receiver 1 lags at
+/// the end.
 const JOURNAL: &str = "\
 ttd-journal 2
 watch 0
@@ -457,8 +459,8 @@ fn a_reader_that_is_gone_is_a_write_fault() {
     );
 }
 
-/// A folder with programs that are the command under other names. It is beside the command, so that they are links: a copy can't be started while
-/// another thread that starts a program has it open.
+/// A folder with programs that are the command under other names. It is beside the command, so that
+/// they are links: a copy can't be started while another thread that starts a program has it open.
 struct Programs(PathBuf);
 
 impl Programs {

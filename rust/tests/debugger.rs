@@ -10,7 +10,8 @@ use yovanelum::{Recorder, broadcast, watch};
 #[global_allocator]
 static ALLOCATOR: Refusing = Refusing;
 
-/// Returns the journal of a bus whose audit loses two of four orders, and of a level that nobody looks at.
+/// Returns the journal of a bus whose audit loses two of four orders, and of a level that nobody
+/// looks at.
 fn recorded() -> String {
     let recorder = Recorder::new();
     let _entered = recorder.enter();

@@ -1,4 +1,5 @@
-//! How a test ends, as its names say it, and the files of a test that ends with its process. Each test runs this program again for its part.
+//! How a test ends, as its names say it, and the files of a test that ends with its process. Each
+//! test runs this program again for its part.
 
 mod support;
 
@@ -46,7 +47,8 @@ impl Left {
     }
 }
 
-/// Plays the part of this test. Returns whether it succeeds, what it writes to standard error, and its folder.
+/// Plays the part of this test. Returns whether it succeeds, what it writes to standard error, and
+/// its folder.
 fn played(test: &str) -> (bool, String, Folder) {
     let folder = Folder::new(test);
     let (succeeds, said) = play(test, &folder.0, None);
@@ -85,7 +87,8 @@ fn the_panics_of_a_test_are_in_its_names() {
     let panics = member(&left.names, "panics");
     let (first, last) = panics.split_at(wanted.len());
     assert_eq!(first, wanted);
-    // The text of `unwrap` is the standard library's. The drop of the receiver and a send came between.
+    // The text of `unwrap` is the standard library's. The drop of the receiver and a send came
+    // between.
     assert!(last.starts_with(r#"{"text": "called `Result::unwrap()` on an `Err` value: Any"#));
     let end = format!(
         r#""location": {}, "actor": {}, "since": 4}}]"#,

@@ -1,4 +1,5 @@
-//! An event bus whose slow subscriber lags. The step at which it began to lag is found in the journal.
+//! An event bus whose slow subscriber lags. The step at which it began to lag is found in the
+//! journal.
 
 mod support;
 
@@ -6,7 +7,8 @@ use support::{debugged, poll_once, temporary};
 use yovanelum::broadcast::{self, error::RecvError};
 use yovanelum::{Recorder, block_on, named};
 
-/// Returns what `ttd debug` writes for these commands over the journal so far, if the variable `YOVANELUM_TTD` names the program.
+/// Returns what `ttd debug` writes for these commands over the journal so far, if the variable
+/// `YOVANELUM_TTD` names the program.
 fn walked(recorder: &Recorder, commands: &str) -> Option<String> {
     let path = temporary::path("bus.journal");
     recorder.save(&path).unwrap();

@@ -133,7 +133,8 @@ fn a_watch_closes_with_its_last_sender_too() {
     drop(server);
     let _client = config.subscribe();
     drop(config);
-    // A sender that is made without a receiver closes nothing, and one whose receivers are gone is open.
+    // A sender that is made without a receiver closes nothing, and one whose receivers are gone is
+    // open.
     let alone = watch::Sender::new(1);
     let all = closed.take();
     assert_eq!(all.len(), 1);
@@ -228,7 +229,8 @@ fn a_panic_of_the_closure_leaves_nobody_waiting_for_a_channel_that_is_closed() {
     }
     assert!(catch_unwind(AssertUnwindSafe(|| drop(prices))).is_err());
     assert_eq!(waiting.join().unwrap(), Err(RecvError::Closed));
-    // A sender that is dropped by a panic: the process would end if the closure's panic went on too.
+    // A sender that is dropped by a panic: the process would end if the closure's panic went on
+    // too.
     let panicked = catch_unwind(AssertUnwindSafe(|| {
         let (_prices, _chart) = broadcast::channel::<u32>(2);
         panic!("the first");

@@ -1,5 +1,5 @@
-//! The closures of the process, which are called with events of channels that no recorder records. They are set for all tests of this program, so
-//! the tests run one after the other.
+//! The closures of the process, which are called with events of channels that no recorder records.
+//! They are set for all tests of this program, so the tests run one after the other.
 
 #[path = "support/noted.rs"]
 mod noted;

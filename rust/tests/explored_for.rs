@@ -1,4 +1,5 @@
-//! A package outside of this one, whose test never fails: an order is looked for in which a condition is met.
+//! A package outside of this one, whose test never fails: an order is looked for in which a
+//! condition is met.
 // It is built without optimization in either build of this test, so one of the two runs it.
 #![cfg(all(target_os = "linux", debug_assertions))]
 
@@ -7,14 +8,15 @@ mod support;
 use std::fs;
 use std::path::Path;
 use std::process::Output;
-use std::sync::{Mutex, MutexGuard, OnceLock, PoisonError};
-use support::workspace::{Workspace, printed};
+use std::sync::OnceLock;
+use support::workspace::{Workspace, in_turn, printed};
 use yovanelum::debugger::{Channel, Walk};
 
 /// How often a line is pasted that the search prints.
 const REPLAYS: usize = 20;
 
-/// The audit lags where it receives nothing until the third shop has sent. Each shop looks once, and sends if it sees what the shops before it sent.
+/// The audit lags where it receives nothing until the third shop has sent. Each shop looks once,
+/// and sends if it sees what the shops before it sent.
 const TESTS: &str = r#"
 use std::thread;
 use yovanelum::broadcast::error::RecvError;
@@ -54,28 +56,15 @@ fn orders_are_audited() {
 
 fn workspace() -> &'static Workspace {
     static WORKSPACE: OnceLock<Workspace> = OnceLock::new();
-    WORKSPACE.get_or_init(|| {
-        let manifest = "[package]\nname = \"shop\"\nversion = \"0.0.0\"\nedition = \"2021\"\n\n[dependencies]\nCRATE\n\n[profile.dev]\ndebug = false\n\n[workspace]\n";
-        let files = [
-            ("Cargo.toml", manifest),
-            ("src/lib.rs", ""),
-            ("tests/bus.rs", TESTS),
-        ];
-        Workspace::new("explored-for", &files)
-    })
-}
-
-/// Tests that write the same files run in turn.
-fn in_turn() -> MutexGuard<'static, ()> {
-    static TURN: Mutex<()> = Mutex::new(());
-    TURN.lock().unwrap_or_else(PoisonError::into_inner)
+    WORKSPACE.get_or_init(|| Workspace::of_shop("explored-for", "bus", TESTS))
 }
 
 fn run(line: &str) -> Output {
     workspace().shell(line).output().unwrap()
 }
 
-/// Explores the test for a condition. Returns whether it passes, what it prints, and the JSON that it writes to this file.
+/// Explores the test for a condition. Returns whether it passes, what it prints, and the JSON that
+/// it writes to this file.
 fn explored(condition: &str, more: &str, file: &str) -> (bool, String, String) {
     let out = workspace().0.join(file);
     let _ = fs::remove_file(&out);
@@ -100,7 +89,8 @@ fn call(printed: &str) -> u64 {
     met.split(':').next().unwrap().parse().unwrap()
 }
 
-/// Returns what the channel is at a place of a journal, and how far the audit lags there and one place before.
+/// Returns what the channel is at a place of a journal, and how far the audit lags there and one
+/// place before.
 fn state(journal: &Path, place: u64) -> (String, u64, u64) {
     let mut walk = Walk::open(&fs::read(journal).unwrap()).unwrap();
     let mut lag = |place| {

@@ -1,4 +1,5 @@
-//! What a failing test prints and writes. Each test runs this program again for its part, as a process whose output can be read.
+//! What a failing test prints and writes. Each test runs this program again for its part, as a
+//! process whose output can be read.
 
 mod support;
 
@@ -10,8 +11,9 @@ use support::parts::{Folder, address, files, is_part, line_after, our_lines, pla
 use yovanelum::broadcast::error::TryRecvError;
 use yovanelum::{Recorder, block_on, broadcast, named, watch};
 
-/// Runs the part of this test. Returns whether it succeeds, and the lines of this crate, with `DIR` for the folder of the files. The last one,
-/// which says how to replay the test, is left to `tests/replayed.rs`.
+/// Runs the part of this test. Returns whether it succeeds, and the lines of this crate, with `DIR`
+/// for the folder of the files. The last one, which says how to replay the test, is left to
+/// `tests/replayed.rs`.
 fn played(test: &str, folder: &Folder) -> (bool, Vec<String>) {
     let (succeeds, said) = play(test, &folder.0, None);
     let files = files(&folder.0);
@@ -26,16 +28,20 @@ fn played(test: &str, folder: &Folder) -> (bool, Vec<String>) {
     )
 }
 
-/// Asserts that the part of this test fails with these lines, each with the number of a line of this source in place of `NN`.
+/// Asserts that the part of this test fails with these lines, each with the number of a line of
+/// this source in place of `NN`.
 fn assert_said(test: &str, at: &[u32], wanted: &str) {
     let folder = Folder::new(test);
     let (succeeds, said) = played(test, &folder);
     let mut at = at.iter();
     let wanted: Vec<_> = wanted
         .lines()
-        .map(|line| match line.contains("NN") {
-            true => line.replace("NN", &at.next().unwrap().to_string()),
-            false => line.to_string(),
+        .map(|line| {
+            if line.contains("NN") {
+                line.replace("NN", &at.next().unwrap().to_string())
+            } else {
+                line.to_string()
+            }
         })
         .collect();
     assert_eq!((succeeds, said), (false, wanted));

@@ -1,4 +1,5 @@
-//! The failing test of the crate's front page, word for word: what it prints, and what its files name.
+//! The failing test of the crate's front page, word for word: what it prints, and what its files
+//! name.
 
 mod support;
 

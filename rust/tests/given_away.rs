@@ -1,4 +1,5 @@
-//! Numbers of actors, which are given to others once nobody needs them: each recorded call still has the name of who made it.
+//! Numbers of actors, which are given to others once nobody needs them: each recorded call still
+//! has the name of who made it.
 
 use std::collections::HashMap;
 use std::future::Future;
@@ -35,7 +36,8 @@ fn senders(recorder: &Recorder) -> Vec<(String, String)> {
         .collect()
 }
 
-/// Creates a channel of this name, and sends on it. The names of the channel and of who sends are the same in these tests.
+/// Creates a channel of this name, and sends on it. The names of the channel and of who sends are
+/// the same in these tests.
 fn send_on(recorder: &Recorder, name: &str) {
     let (tx, _rx) = broadcast::channel(1);
     recorder.name(&tx, name);
@@ -51,7 +53,8 @@ fn each_of_many_tasks_has_its_own_name_as_long_as_its_calls_are_stored() {
         block_on(named(&name, async { send_on(&recorder, &name) }));
     }
     let senders = senders(&recorder);
-    // A run has 64 channels: these are of the last requests. Two tasks at most have shared a number while all were taken.
+    // A run has 64 channels: these are of the last requests. Two tasks at most have shared a number
+    // while all were taken.
     assert_eq!(senders.len(), 64);
     let right = senders.iter().filter(|(actor, channel)| actor == channel);
     assert!(right.count() >= 62, "{senders:?}");
@@ -71,9 +74,12 @@ fn a_task_that_is_alive_keeps_its_number() {
     let is_woken = AtomicBool::new(false);
     let mut alive = pin!(named("alive", async {
         send_on(&recorder, "alive");
-        std::future::poll_fn(|_| match is_woken.load(Ordering::Relaxed) {
-            true => Poll::Ready(()),
-            false => Poll::Pending,
+        std::future::poll_fn(|_| {
+            if is_woken.load(Ordering::Relaxed) {
+                Poll::Ready(())
+            } else {
+                Poll::Pending
+            }
         })
         .await;
         send_on(&recorder, "alive");

@@ -1,5 +1,5 @@
-//! The programs of the guide, word for word: what the failing test of its first page prints, with the walk over its journal, and what its
-//! service prints.
+//! The programs of the guide, word for word: what the failing test of its first page prints, with
+//! the walk over its journal, and what its service prints.
 
 mod support;
 
@@ -15,7 +15,8 @@ const NAME: &str = "no_price_is_missing";
 
 const TEST: &str = "the_program_prints_what_the_guide_has_of_it";
 
-/// How often the program may be run until its auditor is as late as in the guide. It sleeps, but another thread may be even slower.
+/// How often the program may be run until its auditor is as late as in the guide. It sleeps, but
+/// another thread may be even slower.
 const TRIES: usize = 20;
 
 #[rustfmt::skip]
@@ -60,7 +61,8 @@ fn source() -> String {
     lines.map(|line| format!("{line}\n")).collect()
 }
 
-/// Returns the lines that the guide shows of the program's output, with this folder as that of its journal.
+/// Returns the lines that the guide shows of the program's output, with this folder as that of its
+/// journal.
 fn said_in_the_guide(folder: &Path) -> String {
     let told = between(START_PAGE, "```text\nassertion", "```");
     let files = files(folder).display().to_string();

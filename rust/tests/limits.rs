@@ -1,4 +1,5 @@
-//! At the limits of a run: which channels are in it, and channels with more handles than a journal names.
+//! At the limits of a run: which channels are in it, and channels with more handles than a journal
+//! names.
 
 mod support;
 
@@ -78,7 +79,8 @@ fn a_loop_of_100_cases_that_fails_at_its_70th_has_that_case_in_its_journal() {
     assert!(names.contains(r#""62": {"0": "order 700", "1": "order 701", "2": "order 702"}"#));
     let journal = recorder.journal().unwrap();
     assert!(journal.contains(" 62 try-recv 1 = lagged 1\n"), "{journal}");
-    // Of each broadcast two sends, a receive and two drops, and of each watch two drops. The case that failed has a send more.
+    // Of each broadcast two sends, a receive and two drops, and of each watch two drops. The case
+    // that failed has a send more.
     assert_eq!(accepted(&recorder, "loop"), 32 * 7 + 1);
 }
 
@@ -165,7 +167,8 @@ impl Wake for Counts {
     }
 }
 
-/// Creates a broadcast of two values with 70,000 receivers, of which the last ones have numbers that no journal names.
+/// Creates a broadcast of two values with 70,000 receivers, of which the last ones have numbers
+/// that no journal names.
 fn seventy_thousand() -> (broadcast::Sender<u32>, Vec<broadcast::Receiver<u32>>) {
     let (tx, rx) = broadcast::channel(2);
     let mut receivers = vec![rx];

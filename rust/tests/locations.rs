@@ -1,4 +1,5 @@
-//! Where calls are made, and senders and receivers: the file and the line, as the names beside a journal say.
+//! Where calls are made, and senders and receivers: the file and the line, as the names beside a
+//! journal say.
 
 mod support;
 

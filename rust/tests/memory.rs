@@ -1,32 +1,11 @@
-//! The memory that channels take, by counting what is allocated. A program of its own, since the allocator counts for all threads.
+//! The memory that channels take, by counting what is allocated. A program of its own, since the
+//! allocator counts for all threads.
 
-use std::alloc::{GlobalAlloc, Layout, System};
-use std::sync::atomic::{AtomicUsize, Ordering};
+#[path = "support/allocated.rs"]
+mod allocated;
+
+use allocated::allocated;
 use yovanelum::{Recorder, broadcast, watch};
-
-/// How many bytes are allocated now.
-static ALLOCATED: AtomicUsize = AtomicUsize::new(0);
-
-/// The system's allocator, which counts.
-struct Counting;
-
-#[global_allocator]
-static COUNTING: Counting = Counting;
-
-// SAFETY: each call is passed on to the system's allocator.
-unsafe impl GlobalAlloc for Counting {
-    unsafe fn alloc(&self, layout: Layout) -> *mut u8 {
-        ALLOCATED.fetch_add(layout.size(), Ordering::Relaxed);
-        // SAFETY: the caller upholds what `alloc` requires.
-        unsafe { System.alloc(layout) }
-    }
-
-    unsafe fn dealloc(&self, block: *mut u8, layout: Layout) {
-        ALLOCATED.fetch_sub(layout.size(), Ordering::Relaxed);
-        // SAFETY: the caller upholds what `dealloc` requires.
-        unsafe { System.dealloc(block, layout) }
-    }
-}
 
 type Broadcast = (broadcast::Sender<u64>, broadcast::Receiver<u64>);
 type Watch = (watch::Sender<u64>, watch::Receiver<u64>);
@@ -41,19 +20,21 @@ struct Channels {
 /// How many channels there are of each kind.
 const COUNT: usize = 2;
 
-/// How many calls are made on each channel, half of them sends. A channel has room for a handle for each value, up to 65,536.
+/// How many calls are made on each channel, half of them sends. A channel has room for a handle for
+/// each value, up to 65,536.
 const CALLS: u64 = 140_000;
 
 impl Channels {
     fn open() -> Channels {
         Channels {
-            at_start: ALLOCATED.load(Ordering::Relaxed),
+            at_start: allocated(),
             broadcasts: (0..COUNT).map(|_| broadcast::channel(16)).collect(),
             watches: (0..COUNT).map(|_| watch::channel(0)).collect(),
         }
     }
 
-    /// Makes calls on all channels. Returns how many bytes are allocated then that weren't at the start.
+    /// Makes calls on all channels. Returns how many bytes are allocated then that weren't at the
+    /// start.
     fn call(&mut self) -> usize {
         for value in 0..CALLS / 2 {
             for (tx, rx) in &mut self.broadcasts {
@@ -65,9 +46,7 @@ impl Channels {
                 assert_eq!(*rx.borrow_and_update(), value);
             }
         }
-        ALLOCATED
-            .load(Ordering::Relaxed)
-            .saturating_sub(self.at_start)
+        allocated().saturating_sub(self.at_start)
     }
 }
 
@@ -77,7 +56,8 @@ fn played() -> (usize, usize) {
     (channels.call(), channels.call())
 }
 
-/// The most memory of a channel without entries: room for 65,536 handles of 16 bytes, which a list that grows exceeds by up to a half.
+/// The most memory of a channel without entries: room for 65,536 handles of 16 bytes, which a list
+/// that grows exceeds by up to a half.
 const MOST_OF_A_CHANNEL: usize = 65_536 * 24;
 
 /// The memory of an entry, at least.

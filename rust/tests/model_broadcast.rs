@@ -1,4 +1,5 @@
-//! Random calls on a broadcast, compared with a plain model: how many values were sent, and the position of each receiver.
+//! Random calls on a broadcast, compared with a plain model: how many values were sent, and the
+//! position of each receiver.
 
 mod support;
 
@@ -14,7 +15,8 @@ struct Model {
     retained: usize,
     sent: usize,
     senders: usize,
-    // The position of each live receiver: how many values were sent before the one that it receives next.
+    // The position of each live receiver: how many values were sent before the one that it receives
+    // next.
     places: Vec<usize>,
 }
 
@@ -212,6 +214,22 @@ fn random_calls_answer_as_the_model() {
         drop(pair);
         if seed < 20 {
             assert!(accepted(&recorder, &format!("model-broadcast-{seed}")) > 0);
+        }
+    }
+}
+
+#[test]
+fn random_calls_answer_as_the_model_where_the_core_takes_dropped_handles_out() {
+    for seed in 0..100 {
+        let mut random = Random::new(seed + 700);
+        let off = Recorder::off().enter();
+        let mut pair = Pair::open(1 + random.below(6));
+        drop(off);
+        for _ in 0..6 {
+            for _ in 0..50 {
+                pair.step(&mut random);
+            }
+            pair.create_and_drop(600);
         }
     }
 }

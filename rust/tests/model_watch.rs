@@ -1,4 +1,5 @@
-//! Random calls on a watch, compared with a plain model: the value, how many changes were notified, and what each receiver has seen.
+//! Random calls on a watch, compared with a plain model: the value, how many changes were notified,
+//! and what each receiver has seen.
 
 mod support;
 
@@ -12,7 +13,8 @@ struct Model {
     value: usize,
     changes: usize,
     senders: usize,
-    // For each live receiver the number of changes when it last saw the value, or `None` if the value was marked as unseen.
+    // For each live receiver the number of changes when it last saw the value, or `None` if the
+    // value was marked as unseen.
     seen: Vec<Option<usize>>,
 }
 
@@ -237,6 +239,22 @@ fn random_calls_answer_as_the_model() {
         drop(pair);
         if seed < 20 {
             assert!(accepted(&recorder, &format!("model-watch-{seed}")) > 0);
+        }
+    }
+}
+
+#[test]
+fn random_calls_answer_as_the_model_where_the_core_takes_dropped_handles_out() {
+    for seed in 0..100 {
+        let mut random = Random::new(seed + 1700);
+        let off = Recorder::off().enter();
+        let mut pair = Pair::open();
+        drop(off);
+        for _ in 0..6 {
+            for _ in 0..50 {
+                pair.step(&mut random);
+            }
+            pair.create_and_drop(600);
         }
     }
 }

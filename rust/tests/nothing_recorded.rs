@@ -1,4 +1,5 @@
-//! A package outside of this one, whose test records nothing: each line that it prints says so, and names the likely cause.
+//! A package outside of this one, whose test records nothing: each line that it prints says so, and
+//! names the likely cause.
 // It is built without optimization in either build of this test, so one of the two runs it.
 #![cfg(all(target_os = "linux", debug_assertions))]
 
@@ -6,10 +7,11 @@ mod support;
 
 use std::fs;
 use std::process::Output;
-use std::sync::{Mutex, MutexGuard, OnceLock, PoisonError};
-use support::workspace::{Workspace, printed};
+use std::sync::OnceLock;
+use support::workspace::{Workspace, in_turn, printed};
 
-/// A test over the channels of the standard library, as it is where nobody has swapped them. With a variable they are recorded ones.
+/// A test over the channels of the standard library, as it is where nobody has swapped them. With a
+/// variable they are recorded ones.
 const TESTS: &str = r#"
 use std::{env, fs, thread};
 use yovanelum::{Recorder, broadcast};
@@ -58,21 +60,7 @@ fn cause() -> String {
 
 fn workspace() -> &'static Workspace {
     static WORKSPACE: OnceLock<Workspace> = OnceLock::new();
-    WORKSPACE.get_or_init(|| {
-        let manifest = "[package]\nname = \"shop\"\nversion = \"0.0.0\"\nedition = \"2021\"\n\n[dependencies]\nCRATE\n\n[profile.dev]\ndebug = false\n\n[workspace]\n";
-        let files = [
-            ("Cargo.toml", manifest),
-            ("src/lib.rs", ""),
-            ("tests/orders.rs", TESTS),
-        ];
-        Workspace::new("nothing_recorded", &files)
-    })
-}
-
-/// The tests write the same files, so they run in turn.
-fn in_turn() -> MutexGuard<'static, ()> {
-    static TURN: Mutex<()> = Mutex::new(());
-    TURN.lock().unwrap_or_else(PoisonError::into_inner)
+    WORKSPACE.get_or_init(|| Workspace::of_shop("nothing_recorded", "orders", TESTS))
 }
 
 /// Runs the test with these variables before the command, and these arguments behind it.

@@ -1,4 +1,5 @@
-//! The program's part of the shim, clause by clause: by cases, beside plain models in random order, and with each request for memory refused.
+//! The program's part of the shim, clause by clause: by cases, beside plain models in random order,
+//! and with each request for memory refused.
 //!
 //! The program has the shim in private, so its files are included here.
 
@@ -33,8 +34,9 @@ use std::fmt::Debug;
 #[global_allocator]
 static ALLOCATOR: refusing::Refusing = refusing::Refusing;
 
-/// Makes a call without memory from its first request on, then from its second one on, and so on until it has all that it asks for.
-/// The result has to be an error while a request is refused. Returns how many requests there were.
+/// Makes a call without memory from its first request on, then from its second one on, and so on
+/// until it has all that it asks for. The result has to be an error while a request is refused.
+/// Returns how many requests there were.
 fn each_refused<T, E: Debug>(call: impl Fn() -> Result<T, E>) -> u64 {
     for allowed in 0.. {
         let (result, refused) = refusing(Refusal::after(allowed), &call);

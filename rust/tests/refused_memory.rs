@@ -1,5 +1,6 @@
-//! Channels, calls and journals whose memory is refused: each says so, and goes on when there is memory again. What the crate allocates
-//! beside its core is small here, and isn't refused: as elsewhere in Rust that would end the process.
+//! Channels, calls and journals whose memory is refused: each says so, and goes on when there is
+//! memory again. What the crate allocates beside its core is small here, and isn't refused: as
+//! elsewhere in Rust that would end the process.
 
 #[path = "support/refusing.rs"]
 mod refusing;
@@ -7,6 +8,7 @@ mod refusing;
 use refusing::{Refusal, Refusing, refusing};
 use std::any::Any;
 use std::panic::{AssertUnwindSafe, catch_unwind};
+use yovanelum::broadcast::error::TryRecvError;
 use yovanelum::{Recorder, broadcast, watch};
 
 #[global_allocator]
@@ -53,8 +55,8 @@ fn a_channel_that_finds_no_memory_panics_and_is_not_in_the_journal() {
     assert!(journal.lines().eq(wanted), "{journal}");
 }
 
-/// Sends values to a broadcast and to a watch, and reads them. A call that finds no memory is made again. Returns the journal, and how many
-/// calls found none.
+/// Sends values to a broadcast and to a watch, and reads them. A call that finds no memory is made
+/// again. Returns the journal, and how many calls found none.
 fn played(refusal: Refusal) -> (String, u32) {
     const NO_MEMORY: &str = "yovanelum: no memory for a call";
     let recorder = Recorder::new();
@@ -79,7 +81,8 @@ fn played(refusal: Refusal) -> (String, u32) {
     (recorder.journal().unwrap(), refused)
 }
 
-/// The words of each line. A call that found no memory has used up a stamp, and the number of its value.
+/// The words of each line. A call that found no memory has used up a stamp, and the number of its
+/// value.
 fn words(journal: &str) -> Vec<Vec<&str>> {
     let lines = journal.lines().map(|line| line.split(' '));
     lines
@@ -92,7 +95,8 @@ fn words(journal: &str) -> Vec<Vec<&str>> {
 fn a_call_that_finds_no_memory_panics_and_leaves_no_entry() {
     let (wanted, refused) = played(Refusal::above(usize::MAX));
     assert_eq!(refused, 0);
-    // A channel's entries are the blocks above 48 KiB. They grow to 64, 128 and 256 KiB, each time by a send, since each second entry is one.
+    // A channel's entries are the blocks above 48 KiB. They grow to 64, 128 and 256 KiB, each time
+    // by a send, since each second entry is one.
     let (journal, refused) = played(first_above(48 << 10));
     assert_eq!(refused, 2 * 3);
     assert!(words(&journal) == words(&wanted), "the journals differ");
@@ -127,4 +131,66 @@ fn a_journal_that_finds_no_memory_is_an_error_and_can_be_asked_for_again() {
     }
     // At least one for the calls of each channel, one for them together, and one for the text.
     assert!(requests >= 4, "{requests}");
+}
+
+/// How many receivers are alive on a channel whose core has no room for a handle, unless it takes
+/// out the dropped ones.
+const ALIVE: u64 = 33_000;
+
+type Channel = (broadcast::Sender<u64>, Vec<broadcast::Receiver<u64>>);
+
+/// Creates such a channel.
+fn full_channel() -> Channel {
+    let _off = Recorder::off().enter();
+    let (tx, rx) = broadcast::channel(4);
+    let mut alive = vec![rx];
+    alive.extend((1..ALIVE).map(|_| tx.subscribe()));
+    (ALIVE + 1..65_536).for_each(|_| drop(tx.subscribe()));
+    (tx, alive)
+}
+
+/// Sends a value that each receiver receives, creates 70,000 handles more, and closes the channel.
+fn goes_on((tx, mut alive): Channel) {
+    assert_eq!(tx.send(7).unwrap(), alive.len());
+    (0..70_000).for_each(|_| drop(tx.subscribe()));
+    alive.push(tx.subscribe());
+    assert_eq!(tx.send(8).unwrap(), alive.len());
+    drop(tx);
+    assert_eq!(alive.pop().unwrap().try_recv(), Ok(8));
+    for rx in &mut alive {
+        assert_eq!((rx.try_recv(), rx.try_recv()), (Ok(7), Ok(8)));
+        assert_eq!(rx.try_recv(), Err(TryRecvError::Closed));
+    }
+}
+
+#[test]
+fn a_channel_goes_on_where_it_finds_no_memory_to_take_dropped_handles_out() {
+    let mut requests = 0;
+    loop {
+        let (tx, mut alive) = full_channel();
+        let refusal = Refusal {
+            least: 100 << 10,
+            ..Refusal::only(requests)
+        };
+        let (created, refused) = refusing(refusal, || tx.subscribe());
+        alive.push(created);
+        goes_on((tx, alive));
+        if refused == 0 {
+            break;
+        }
+        requests += 1;
+    }
+    // At least one for the numbers that the core has, one for those of the channel, and one for
+    // what the core returns.
+    assert!(requests >= 3, "{requests}");
+}
+
+#[test]
+#[cfg_attr(target_family = "wasm", ignore = "WebAssembly ends at the first panic")]
+fn a_handle_for_which_there_is_no_memory_is_not_created() {
+    let (tx, alive) = full_channel();
+    let said = panic_of(Refusal::above(100 << 10), || tx.subscribe());
+    assert_eq!(said.as_deref(), Some("yovanelum: no memory for a call"));
+    assert_eq!(tx.receiver_count(), alive.len());
+    goes_on((tx, alive));
 }

@@ -1,6 +1,8 @@
-//! Flaky programs of threads, recorded and replayed: each gives again the result that its journal is of, whatever the threads do meanwhile.
+//! Flaky programs of threads, recorded and replayed: each gives again the result that its journal
+//! is of, whatever the threads do meanwhile.
 //!
-//! `YOVANELUM_FREE_RUNS=200 YOVANELUM_REPLAYS=100 cargo test --release --test replay -- --nocapture` prints how often each fails.
+//! `YOVANELUM_FREE_RUNS=200 YOVANELUM_REPLAYS=100 cargo test --release --test replay --
+//! --nocapture` prints how often each fails.
 
 mod replay {
     pub mod harness;

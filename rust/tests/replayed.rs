@@ -1,4 +1,5 @@
-//! A test that is replayed by the variable `YOVANELUM_REPLAY`. Each test runs this program again for its part, as a process.
+//! A test that is replayed by the variable `YOVANELUM_REPLAY`. Each test runs this program again
+//! for its part, as a process.
 
 mod support;
 
@@ -76,7 +77,8 @@ fn ann_is_the_first() {
     }
 }
 
-/// A clerk bids by what a question returns, which leaves no entry. The receive comes before it, or after it where the variable says so.
+/// A clerk bids by what a question returns, which leaves no entry. The receive comes before it, or
+/// after it where the variable says so.
 fn a_question_decides() {
     let recorder = Recorder::for_test("ann_is_the_first");
     recorder.quiet_questions();
@@ -247,9 +249,10 @@ fn a_test_that_was_edited_parts_and_says_where() {
     ];
     // Out of order, either is the first.
     assert_eq!(&said[..1], &wanted[..1]);
-    let end = match succeeds {
-        true => "the test passed",
-        false => "the same failure",
+    let end = if succeeds {
+        "the test passed"
+    } else {
+        "the same failure"
     };
     assert_eq!(said[1], wanted[1].replace("the test passed", end));
 }
@@ -388,9 +391,10 @@ fn a_replay_tells_of_the_call_that_a_debugger_is_to_see() {
     let (succeeds, said) = part.replay(|part| {
         part.env(STOP, "4");
     });
-    let is_there = match cfg!(target_os = "linux") {
-        true => "no debugger is attached, so the replay goes on at call 4 of 9, `",
-        false => "",
+    let is_there = if cfg!(target_os = "linux") {
+        "no debugger is attached, so the replay goes on at call 4 of 9, `"
+    } else {
+        ""
     };
     let start = format!("yovanelum: {is_there}");
     assert!(!succeeds && said[0].starts_with(&start), "{said:#?}");
@@ -475,7 +479,8 @@ fn a_program_that_was_stopped_for_long_goes_on_in_order() {
             .status();
         assert!(sent.unwrap().success());
     };
-    // Ann waits for the turn of Bob, who waits for a line, which comes when the program was stopped for longer than she waits.
+    // Ann waits for the turn of Bob, who waits for a line, which comes when the program was stopped
+    // for longer than she waits.
     wait_for_ann(process, 'S');
     signal("-STOP");
     wait_for_ann(process, 'T');

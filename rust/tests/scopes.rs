@@ -1,4 +1,5 @@
-//! Whose recorder a channel belongs to: that of the thread which creates it, of its future, of the thread that it follows, or none.
+//! Whose recorder a channel belongs to: that of the thread which creates it, of its future, of the
+//! thread that it follows, or none.
 
 mod support;
 
@@ -159,7 +160,8 @@ fn a_guard_may_be_kept_for_as_long_as_its_thread() {
         static KEPT: std::cell::RefCell<Option<yovanelum::ForTest>> = const { std::cell::RefCell::new(None) };
     }
     let recorder = thread::spawn(|| {
-        // Initialized first, so it is dropped last: after the thread's variable with the recorders that it has entered.
+        // Initialized first, so it is dropped last: after the thread's variable with the recorders
+        // that it has entered.
         KEPT.with(|_| {});
         let test = Recorder::for_test("kept");
         let recorder = Recorder::clone(&test);
@@ -192,7 +194,8 @@ fn a_test_that_is_a_task_may_be_sent_and_keeps_its_journal() {
     assert!(failed.is_err());
     let path = support::kept_journal(&name);
     let journal = std::fs::read_to_string(&path).unwrap();
-    // The task's guard is dropped last, so the drops of the sender and the receiver are in the journal.
+    // The task's guard is dropped last, so the drops of the sender and the receiver are in the
+    // journal.
     assert!(journal.contains("recv 1 = value 0"), "{journal}");
     assert!(journal.contains("drop 0 = dropped"), "{journal}");
     assert_eq!(accepted(&recorder, &name), 4);

@@ -1,4 +1,5 @@
-//! Threads without async code: settings are changed while workers read them, and futures occur only within `block_on`.
+//! Threads without async code: settings are changed while workers read them, and futures occur only
+//! within `block_on`.
 
 mod support;
 

@@ -1,6 +1,8 @@
-//! The shim of Rattle's std, clause by clause: by cases, beside plain models in random order, and with each request for memory refused.
+//! The shim of Rattle's std, clause by clause: by cases, beside plain models in random order, and
+//! with each request for memory refused.
 //!
-//! The library has the shim in private, so its files are included here, as the program `ttd` includes them.
+//! The library has the shim in private, so its files are included here, as the program `ttd`
+//! includes them.
 
 mod support;
 

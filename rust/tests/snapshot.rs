@@ -255,7 +255,8 @@ fn receivers_past_the_first_65536_handles_are_there_too() {
     );
 }
 
-/// Two receivers, one of which has lost a value and one of which waits, with the lines where both were made, and where each received or waits.
+/// Two receivers, one of which has lost a value and one of which waits, with the lines where both
+/// were made, and where each received or waits.
 fn two_receivers(check: impl FnOnce(&Recorder, [u32; 4])) {
     let recorder = Recorder::new();
     let _entered = recorder.enter();

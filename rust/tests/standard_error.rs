@@ -1,4 +1,5 @@
-//! What is written to standard error. Each test runs this program again for its part, as a process whose output can be read.
+//! What is written to standard error. Each test runs this program again for its part, as a process
+//! whose output can be read.
 
 mod support;
 
@@ -7,13 +8,15 @@ use std::path::Path;
 use support::parts::{self, Folder, is_part, our_lines, replay_line};
 use yovanelum::{Recorder, broadcast};
 
-/// Returns whether the part of this test succeeds, and the lines of this crate that it writes to standard error.
+/// Returns whether the part of this test succeeds, and the lines of this crate that it writes to
+/// standard error.
 fn played(test: &str, folder: &Path, keep: Option<&str>) -> (bool, Vec<String>) {
     let (succeeds, said) = parts::play(test, folder, keep);
     (succeeds, our_lines(&said))
 }
 
-/// Returns the lines about a run of one send. Asserts that the journal, its names and the page with both exist.
+/// Returns the lines about a run of one send. Asserts that the journal, its names and the page with
+/// both exist.
 fn kept(name: &str, test: &str, folder: &Path, call: u64) -> Vec<String> {
     let path = parts::files(folder).join(format!("{name}.journal"));
     let journal = fs::read_to_string(&path).unwrap();
@@ -86,7 +89,8 @@ fn that_recording_ended_is_said_once() {
     );
 }
 
-/// Returns the lines that the part of this test writes. Asserts that the part succeeds, and that the first line is one of its own.
+/// Returns the lines that the part of this test writes. Asserts that the part succeeds, and that
+/// the first line is one of its own.
 fn told(test: &str) -> Vec<String> {
     let folder = Folder::new(test);
     let (succeeds, mut said) = played(test, &folder.0, None);

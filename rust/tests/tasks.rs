@@ -1,4 +1,5 @@
-//! Tasks of a runtime that have no name, told apart by their numbers. A program of its own, since `set_task_id` is for a process.
+//! Tasks of a runtime that have no name, told apart by their numbers. A program of its own, since
+//! `set_task_id` is for a process.
 
 mod support;
 
@@ -86,8 +87,8 @@ fn three_tasks_of_one_thread_are_told_apart() {
             first[0], first[1], first[2]
         );
         assert_eq!(member(&names, "tasks"), tasks);
-        // The send before; the first receive; the look; the two sends and the two drops; then the second receive and its drop, and of the
-        // other task the change, the look and the drop.
+        // The send before; the first receive; the look; the two sends and the two drops; then the
+        // second receive and its drop, and of the other task the change, the look and the drop.
         let of_receiver = [1, 1];
         let of_worker = [2, 2, 2];
         let wanted = [&[0, 1, 2, 3, 3, 3, 3][..], &of_receiver, &of_worker].concat();
@@ -113,7 +114,8 @@ fn a_named_future_in_a_task_has_its_name() {
         run(vec![clerk, mixed]);
         let wanted = r#"{"0": "runtime", "1": "clerk", "2": "task 2", "3": "inner"}"#;
         assert_eq!(member(&recorder.names(), "actors"), wanted);
-        // Of the thread are the drop of receiver 1 and two clones. Then come the send and the drop of each.
+        // Of the thread are the drop of receiver 1 and two clones. Then come the send and the drop
+        // of each.
         let of_mixed = [2, 2, 3, 3, 2, 2];
         assert_eq!(
             actors(&recorder),

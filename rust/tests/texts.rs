@@ -1,4 +1,5 @@
-//! Functions for the texts of values, and names: which channels they may be for, and how long they live.
+//! Functions for the texts of values, and names: which channels they may be for, and how long they
+//! live.
 
 mod support;
 

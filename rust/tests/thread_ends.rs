@@ -1,5 +1,5 @@
-//! What lives in thread locals, and is used and dropped when its thread ends. A panic there aborts the process, so each test runs this
-//! program again for its part.
+//! What lives in thread locals, and is used and dropped when its thread ends. A panic there aborts
+//! the process, so each test runs this program again for its part.
 
 mod support;
 
@@ -27,8 +27,8 @@ impl Drop for Last {
     }
 }
 
-/// Runs in a thread. What is stored in thread locals there is destroyed in the reverse order of its first use, and these locals are used
-/// before any of the crate's own.
+/// Runs in a thread. What is stored in thread locals there is destroyed in the reverse order of its
+/// first use, and these locals are used before any of the crate's own.
 fn in_a_thread(act: impl FnOnce() + Send + 'static) {
     let act = || {
         FOR_TEST.with_borrow(|_| {});

@@ -19,7 +19,8 @@ const LIMIT: Duration = Duration::from_millis(400);
 /// How many values each thread sends, at most.
 const MOST: u64 = 20_000;
 
-/// Repeats a call until it was made `MOST` times or the time is over. Returns how often it was made.
+/// Repeats a call until it was made `MOST` times or the time is over. Returns how often it was
+/// made.
 fn repeated(end: Instant, mut call: impl FnMut(u64)) -> u64 {
     let mut made = 0;
     while made < MOST && Instant::now() < end {
@@ -265,7 +266,8 @@ fn a_thread_that_waits_is_woken_also_where_something_parks_within_the_poll() {
             if answer.is_pending() && !has_parked {
                 has_parked = true;
                 tx.send(7).unwrap();
-                // Like other code that parks within a poll, this consumes the thread's one unpark token.
+                // Like other code that parks within a poll, this consumes the thread's one unpark
+                // token.
                 thread::park();
             }
             answer

@@ -1,11 +1,13 @@
-//! User code that runs during a call: clones, drops and texts of values, and wakers. None of it runs while the channel is locked, except
-//! closures that change a watch's value and the texts of what they changed.
+//! User code that runs during a call: clones, drops and texts of values, and wakers. None of it
+//! runs while the channel is locked, except closures that change a watch's value and the texts of
+//! what they changed.
 
 mod support;
 
 use std::future::Future;
 use std::panic::{AssertUnwindSafe, catch_unwind};
 use std::pin::pin;
+use std::sync::atomic::{AtomicU32, Ordering};
 use std::sync::{Arc, Mutex, OnceLock};
 use std::task::{Context, Wake, Waker};
 use support::in_time;
@@ -87,6 +89,43 @@ impl Clone for Receives {
         }
         Receives(self.0.clone())
     }
+}
+
+/// A waker that counts.
+#[derive(Default)]
+struct Counts(AtomicU32);
+
+impl Wake for Counts {
+    fn wake(self: Arc<Self>) {
+        self.0.fetch_add(1, Ordering::SeqCst);
+    }
+}
+
+/// A value whose drop panics.
+#[derive(Clone)]
+struct Falls;
+
+impl Drop for Falls {
+    fn drop(&mut self) {
+        panic!("a value falls");
+    }
+}
+
+#[test]
+#[cfg_attr(target_family = "wasm", ignore = "WebAssembly ends at the first panic")]
+fn who_waits_is_woken_where_the_drop_of_the_overwritten_value_panics() {
+    let woken = Arc::new(Counts::default());
+    let (tx, late) = broadcast::channel(1);
+    assert!(tx.send(Some(Falls)).is_ok());
+    let mut waiting = tx.subscribe();
+    let mut received = pin!(waiting.recv());
+    let waker = Waker::from(woken.clone());
+    let mut context = Context::from_waker(&waker);
+    assert!(received.as_mut().poll(&mut context).is_pending());
+    let sent = catch_unwind(AssertUnwindSafe(|| tx.send(None).is_ok()));
+    assert_eq!(sent.map_err(message), Err("a value falls".to_string()));
+    assert_eq!(woken.0.load(Ordering::SeqCst), 1);
+    assert_eq!((late.len(), tx.len()), (2, 1));
 }
 
 #[test]

@@ -60,7 +60,8 @@ fn waits_of<X, R>(
     receivers.iter_mut().map(wait).collect()
 }
 
-/// Lets four futures wait, cancels some, lets some be polled again, and calls `wake`. Returns whose wakers were woken, in order.
+/// Lets four futures wait, cancels some, lets some be polled again, and calls `wake`. Returns whose
+/// wakers were woken, in order.
 fn woken_of_four<'a, R: 'a>(
     mut futures: Vec<Waiting<'a, R>>,
     cancelled: &[usize],
@@ -156,7 +157,8 @@ fn message(panicked: Box<dyn std::any::Any + Send>) -> String {
     *panicked.downcast::<String>().unwrap()
 }
 
-/// Lets five futures wait, of which the wakers of two panic. Returns the message of the call that wakes them.
+/// Lets five futures wait, of which the wakers of two panic. Returns the message of the call that
+/// wakes them.
 fn message_of_wake<R>(mut futures: Vec<Waiting<'_, R>>, wake: impl FnOnce()) -> String {
     let woken = Woken::default();
     for (number, future) in futures.iter_mut().enumerate() {
@@ -194,7 +196,8 @@ fn a_waker_that_panics_leaves_nobody_asleep() {
     assert_eq!(message_of_wake(futures, || drop(tx)), "in waker 1");
 }
 
-/// A thread that panics drops its sender, and a waker panics then too. That is the end of neither the process nor the others' sleep.
+/// A thread that panics drops its sender, and a waker panics then too. That is the end of neither
+/// the process nor the others' sleep.
 #[test]
 #[cfg_attr(target_family = "wasm", ignore = "WebAssembly ends at the first panic")]
 fn a_waker_that_panics_during_a_panic_leaves_nobody_asleep() {

@@ -49,6 +49,14 @@ fn read_lines(process: &mut Child, count: usize) -> Vec<String> {
     ours.take(count).collect()
 }
 
+/// Starts the part of a test whose input and output are this test's. Its output is captured, as
+/// that of tests is.
+fn piped(test: &str, folder: &Folder) -> Child {
+    let mut part = started(test, &folder.0);
+    let part = part.stdin(Stdio::piped()).stdout(Stdio::piped());
+    part.stderr(Stdio::piped()).spawn().unwrap()
+}
+
 #[test]
 fn a_test_that_hangs_says_who_waits_and_goes_on() {
     if is_part() {
@@ -56,14 +64,7 @@ fn a_test_that_hangs_says_who_waits_and_goes_on() {
     }
     in_time(|| {
         let folder = Folder::new("hangs");
-        // Its output is captured, as that of tests is.
-        let test = "a_test_that_hangs_says_who_waits_and_goes_on";
-        let mut part = started(test, &folder.0)
-            .stdin(Stdio::piped())
-            .stdout(Stdio::piped())
-            .stderr(Stdio::piped())
-            .spawn()
-            .unwrap();
+        let mut part = piped("a_test_that_hangs_says_who_waits_and_goes_on", &folder);
         let said = read_lines(&mut part, 3);
         let path = files(&folder.0).join("hangs.journal");
         let wanted = [
@@ -103,12 +104,7 @@ fn a_test_that_hangs_where_no_call_waits_says_so() {
     }
     in_time(|| {
         let folder = Folder::new("computes");
-        let mut part = started("a_test_that_hangs_where_no_call_waits_says_so", &folder.0)
-            .stdin(Stdio::piped())
-            .stdout(Stdio::piped())
-            .stderr(Stdio::piped())
-            .spawn()
-            .unwrap();
+        let mut part = piped("a_test_that_hangs_where_no_call_waits_says_so", &folder);
         let said = read_lines(&mut part, 2);
         assert_eq!(said[1], "yovanelum: no call on its channels waits");
         drop(part.stdin.take());
@@ -143,15 +139,10 @@ fn a_thread_that_blocks_itself_by_its_own_look_says_so() {
     }
     in_time(|| {
         let folder = Folder::new("blocked");
-        let mut part = started(
+        let mut part = piped(
             "a_thread_that_blocks_itself_by_its_own_look_says_so",
-            &folder.0,
-        )
-        .stdin(Stdio::piped())
-        .stdout(Stdio::piped())
-        .stderr(Stdio::piped())
-        .spawn()
-        .unwrap();
+            &folder,
+        );
         let said = read_lines(&mut part, 2);
         let by = "a_thread_that_blocks_itself_by_its_own_look_says_so";
         let (file, sent_at) = (file!(), LOOK_IS_AT + 9);

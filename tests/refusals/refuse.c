@@ -1,7 +1,7 @@
 /* Loaded before a program, this refuses requests of the program by their numbers, from 1 on: the request for memory of the number REFUSE,
    the thread of REFUSE_THREAD, the read of REFUSE_READ, and the writes to standard output from REFUSE_WRITE on. Of a number that isn't set
    nothing is refused. With REFUSE_SHORT=1 each read and each write moves one byte. At the program's end this prints to standard error how
-   many requests, threads, reads and writes there were. */
+   many requests, threads, reads and writes there were, and how many requests and threads were refused. */
 #define _GNU_SOURCE
 #include <dlfcn.h>
 #include <errno.h>
@@ -18,7 +18,7 @@
 extern void *__libc_malloc(size_t size);
 extern void *__libc_realloc(void *block, size_t size);
 
-static atomic_ulong asked, asked_threads, asked_reads, asked_writes;
+static atomic_ulong asked, asked_threads, asked_reads, asked_writes, noted;
 static unsigned long refused, refused_thread, refused_read, refused_write, is_short;
 
 typedef int start_thread(pthread_t *, const pthread_attr_t *, void *(*)(void *), void *);
@@ -44,6 +44,7 @@ __attribute__((constructor)) static void begin(void) {
 
 static int is_refused(void) {
   if (atomic_fetch_add(&asked, 1) + 1 != refused) return 0;
+  atomic_fetch_add(&noted, 1);
   errno = ENOMEM;
   return 1;
 }
@@ -53,8 +54,9 @@ void *malloc(size_t size) { return is_refused() ? 0 : __libc_malloc(size); }
 void *realloc(void *block, size_t size) { return is_refused() ? 0 : __libc_realloc(block, size); }
 
 int pthread_create(pthread_t *thread, const pthread_attr_t *how, void *(*run)(void *), void *with) {
-  if (atomic_fetch_add(&asked_threads, 1) + 1 == refused_thread) return EAGAIN;
-  return start(thread, how, run, with);
+  if (atomic_fetch_add(&asked_threads, 1) + 1 != refused_thread) return start(thread, how, run, with);
+  atomic_fetch_add(&noted, 1);
+  return EAGAIN;
 }
 
 static ssize_t failed(void) {
@@ -81,9 +83,9 @@ static void leave(int status) {
 }
 
 __attribute__((destructor)) static void end(void) {
-  char line[128];
-  int length = snprintf(line, sizeof line, "requests: %lu\nthreads: %lu\nreads: %lu\nwrites: %lu\n", atomic_load(&asked),
-                        atomic_load(&asked_threads), atomic_load(&asked_reads), atomic_load(&asked_writes));
+  char line[160];
+  int length = snprintf(line, sizeof line, "requests: %lu\nthreads: %lu\nreads: %lu\nwrites: %lu\nrefused: %lu\n", atomic_load(&asked),
+                        atomic_load(&asked_threads), atomic_load(&asked_reads), atomic_load(&asked_writes), atomic_load(&noted));
   if (syscall(SYS_write, 2, line, length) != length) leave(70);
 }
 

@@ -36,7 +36,8 @@ class Block:
 
 @dataclasses.dataclass
 class Function:
-    """A function as it is written. `start` and `end` are its places in the text, its doc comments aside."""
+    """A function as it is written. `start` and `end` are its places in the text, its doc comments aside, and `lines` those of its body, without
+    comments and empty ones."""
 
     name: str
     block: Block
@@ -46,6 +47,7 @@ class Function:
     clauses: list
     start: int
     end: int
+    lines: int
 
 
 @dataclasses.dataclass
@@ -56,6 +58,8 @@ class File:
     text: str
     doc: str = ""
     functions: list = dataclasses.field(default_factory=list)
+    # What an `impl` or a `trait` says for contracts alone, as pairs of its block and the text: `ghost view = { .. };`.
+    ghosts: list = dataclasses.field(default_factory=list)
     imports: list = dataclasses.field(default_factory=list)
     # The public modules, the types and traits, of which some are public, and what `pub use` exports, as pairs of a path and the name that it gets.
     modules: list = dataclasses.field(default_factory=list)
@@ -133,8 +137,11 @@ class Reader:
 
     def ghost(self, i, block):
         end = self.source.next_of(i, ";")
+        text = self.source.between(i, end)
         if self.source.has(i + 1, "use"):
-            block.imports.append(self.source.between(i, end))
+            block.imports.append(text)
+        else:
+            self.file.ghosts.append((block, text))
         return end + 1
 
     def block(self, i):
@@ -143,7 +150,7 @@ class Reader:
         body = source.next_of(i, "{;")
         end = source.close_of(body)
         made = block_of(source, i, body)
-        if made.trait not in ("Model", "Drop"):
+        if made.trait != "Drop":
             self.items(body + 1, end, made)
         return end + 1
 
@@ -160,8 +167,13 @@ class Reader:
         named = block if block.name else Block(imports=[])
         written = self.written(first, at)
         self.file.functions.append(Function(source.text_at(i + 1), named, is_public, self.doc_above(start), written, self.commented(clauses),
-                                            source.code[start].start, source.code[end].end))
+                                            source.code[start].start, source.code[end].end, self.lines_inside(at, end)))
         return end + 1
+
+    def lines_inside(self, opening, closing):
+        """How many lines are between two tokens, without comments and empty ones."""
+        inside = self.source.text[self.source.code[opening].end : self.source.code[closing].start].split("\n")
+        return sum(1 for line in inside if line.strip() and not line.strip().startswith("//"))
 
     def written(self, first, at):
         """The signature and the clauses as they are written, with the indentation of the function taken away."""

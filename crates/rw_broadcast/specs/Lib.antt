@@ -2,6 +2,7 @@ pub mod Arithmetic
 pub mod Channel
 pub mod Record
 pub mod Shown
+pub mod Renaming
 pub mod Laws
 pub mod Soundness
 pub mod Machine

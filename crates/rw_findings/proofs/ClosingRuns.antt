@@ -346,13 +346,13 @@ module _ {V : Type 0} (at : ℕ → List (ChanShown V)) (es : List (WorldEntry V
 
   -- ---- lists
 
-  between : (c : ℕ) (test : ChanCall V → ChanReply V → Bool) (from to : ℕ) → from ≤ to
+  pub between : (c : ℕ) (test : ChanCall V → ChanReply V → Bool) (from to : ℕ) → from ≤ to
       → count_on c test (take from es) + count_between at es c test from to ≡ count_on c test (take to es)
   between c test from to within =
       ap (λ fs. count_on c test fs + count_between at es c test from to) (sym (take-take from to es within)) ∙ sum_by-take-drop _ (take to es) from
 
   -- the first closing is the only one
-  one_closing : (c a b : ℕ) → IsClosing at es c a → IsClosing at es c b → a ≡ b
+  pub one_closing : (c a b : ℕ) → IsClosing at es c a → IsClosing at es c b → a ≡ b
   one_closing c a b first second =
       elim (cases_order a b) [
         | inl same ↦ same

@@ -30,3 +30,5 @@ pub mod PeakPlaces
 pub mod PeakSteps
 pub mod PeakSums
 pub mod ValuePlaces
+pub mod OneList
+pub mod UniqueFindings

@@ -10,3 +10,4 @@ pub mod Following
 pub mod Lives
 pub mod Peaks
 pub mod Values
+pub mod Laws

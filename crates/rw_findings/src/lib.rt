@@ -14,6 +14,7 @@
 mod closings;
 mod following;
 mod handles;
+mod laws;
 mod lives;
 mod losses;
 mod peaks;
@@ -21,6 +22,7 @@ mod totals;
 mod values;
 
 pub use closings::{Closing, Closings, LateReader, closings_of};
+pub use laws::unique_findings;
 pub use lives::{Life, lives_of};
 pub use losses::{Loss, LossEnd, losses_of};
 pub use peaks::{Measure, Peaks, Stretches, peaks_of};

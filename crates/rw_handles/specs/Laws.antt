@@ -1,9 +1,10 @@
--- What each undoing restores, in the slots of a table.
+-- What each undoing restores, in the slots of a table, and which slots are renamings of others.
 use Rattle.std.specs.Prelude.{◌≡◌, ℕ, ◌-◌, List, [], ◌∷◌, ◌++◌, length, take, slice_get, slice_set, Some}
 use Rattle.rw_handles.specs.declared.kinds.Kind.{Kind}
 use Rattle.rw_handles.specs.declared.kinds.Slot.{Slot}
 use Rattle.rw_handles.specs.declared.kinds.Slot.TheVariants.{Live, Spent}
 use Rattle.rw_handles.specs.Slots.{with_value}
+use Rattle.rw_handles.specs.Renaming.{IsRenaming, live_ones, live_numbers, number_before}
 
 -- undoing a making gives the slots before it
 abbrev pub UnmakeUndoesMake : Type 0 → Type 0
@@ -23,3 +24,20 @@ with_value_at slots id x = slice_set slots id (with_value x (slice_get slots id)
 abbrev pub SetUndoesSet : Type 0 → Type 0
 SetUndoesSet X = (slots : List (Slot X)) (id : ℕ) (kind : Kind) (old new : X) → slice_get slots id ≡ Some (Live kind old)
     → with_value_at (with_value_at slots id new) id old ≡ slots
+
+-- the live handles alone are a renaming of all
+abbrev pub RenamesLiveOnes : Type 0 → Type 0
+RenamesLiveOnes X = (slots : List (Slot X)) → IsRenaming (number_before (live_numbers slots) (length slots)) (live_ones slots) slots
+
+-- a handle that is made in both leaves a renaming one
+abbrev pub KeepsRenamingAtMake : Type 0 → Type 0
+KeepsRenamingAtMake X = (to : ℕ → ℕ) (xs ys : List (Slot X)) (slot : Slot X) → IsRenaming to xs ys → IsRenaming to (xs ++ slot ∷ []) (ys ++ slot ∷ [])
+
+-- a handle that is written or dropped in both, too
+abbrev pub KeepsRenamingAtSet : Type 0 → Type 0
+KeepsRenamingAtSet X = (to : ℕ → ℕ) (xs ys : List (Slot X)) (h : ℕ) (slot : Slot X) → IsRenaming to xs ys
+    → IsRenaming to (slice_set xs h slot) (slice_set ys (to h) slot)
+
+-- one renaming after another is a renaming
+abbrev pub RenamesTwice : Type 0 → Type 0
+RenamesTwice X = (to onto : ℕ → ℕ) (xs ys zs : List (Slot X)) → IsRenaming to xs ys → IsRenaming onto ys zs → IsRenaming (λ h. onto (to h)) xs zs

@@ -34,6 +34,6 @@ pub fn put_small_number(out: &mut [u8; 256], at: usize, n: u32) -> usize
     ensures within { result ≤ at + 10 }
     ensures text { take result out.new ≡ take at out.old ++ decimal n }
 {
-    let mut buffer = Buffer::new();
-    put_bytes(out, at, buffer.format(n).as_bytes())
+    let mut digits = Buffer::new();
+    put_bytes(out, at, digits.format(n).as_bytes())
 }

@@ -5,8 +5,13 @@ use Rattle.std.proofs.lemmas.List.{append-nil, flat_map_more, take_more}
 use Rattle.rw_journal.specs.Run.{Run}
 use Rattle.rw_findings.specs.declared.peaks.measure.Measure.TheVariants.{Lag, Unread, Unseen}
 use Rattle.rw_findings.specs.declared.peaks.measure.Stretches.{Stretches}
-use Rattle.rw_page.specs.LifeLines.{AreLifeTexts, IsLifeText}
-use Rattle.rw_page.specs.PeakLines.{Appended, AreChannelTexts, IsChannelText, IsMeasureText}
+use Rattle.rw_page.specs.ClosingLines.{IsClosingText}
+use Rattle.rw_page.specs.FoundLines.{IsFoundText}
+use Rattle.rw_page.specs.LifeLines.{IsLifeText}
+use Rattle.rw_page.specs.PeakLines.{AreChannelTexts, IsChannelText, IsMeasureText}
+use Rattle.rw_page.specs.Texts.{Appended, AreTexts}
+use Rattle.rw_page.specs.TotalLines.{IsTotalText}
+use Rattle.rw_page.specs.ValueLines.{IsValueText}
 
 -- what is written for each of the first numbers, with one more
 range_more : (a n : ℕ) → range_with_len a (suc n) ≡ range_with_len a n ++ (a + n) ∷ []
@@ -27,6 +32,11 @@ pub written_more : (f : ℕ → List ℕ) (start out more : List ℕ) (n : ℕ) 
 written_more f start out more n so is =
     is ∙ ap (λ (o : List ℕ). o ++ f n) so ∙ append_assoc start (flat_map f (range_with_len 0 n)) (f n)
     ∙ ap (λ (t : List ℕ). start ++ t) (sym (numbers_more f n))
+
+-- four texts after another
+four_joined : (old a b c d : List ℕ) → old ++ a ++ b ++ c ++ d ≡ old ++ (a ++ b ++ c ++ d)
+four_joined old a b c d =
+    ap (λ (t : List ℕ). t ++ c ++ d) (append_assoc old a b) ∙ ap (λ (t : List ℕ). t ++ d) (append_assoc old (a ++ b) c) ∙ append_assoc old (a ++ b ++ c) d
 
 -- ---- texts that were appended
 
@@ -66,11 +76,32 @@ module _ (run : Run ℕ) (stretches : Stretches) where
     record { lag = lag.0; unread = unread.0; unseen = unseen.0; lag_is = lag.2; unread_is = unread.2; unseen_is = unseen.2; text_is = refl },
   )
 
--- ---- lives
+-- ---- texts of all channels
 
 -- one channel more
-pub lives_more : (run : Run ℕ) (n : ℕ) (old mid new : List ℕ) → Appended old mid (AreLifeTexts run n) → Appended mid new (IsLifeText run n)
-    → Appended old new (AreLifeTexts run (n + 1))
-lives_more run n old mid new first second =
-    subst (λ k. Appended old new (AreLifeTexts run k)) (sym (add-one n))
-    (appended_on old mid new (AreLifeTexts run n) (IsLifeText run n) (AreLifeTexts run (suc n)) (λ a b are is. (a, b, are, is, refl)) first second)
+pub texts_more : (Is : ℕ → List ℕ → Type 0) (n : ℕ) (old mid new : List ℕ) → Appended old mid (AreTexts Is n) → Appended mid new (Is n)
+    → Appended old new (AreTexts Is (n + 1))
+texts_more Is n old mid new first second =
+    subst (λ k. Appended old new (AreTexts Is k)) (sym (add-one n))
+    (appended_on old mid new (AreTexts Is n) (Is n) (AreTexts Is (suc n)) (λ a b are is. (a, b, are, is, refl)) first second)
+
+-- the four parts of what is found in a run
+pub four_parts : (run : Run ℕ) (old one two three new : List ℕ) → Appended old one (IsClosingText run) → Appended one two (IsTotalText run)
+    → Appended two three (AreTexts (IsLifeText run) (length run.specs)) → Appended three new (AreTexts (IsValueText run) (length run.specs))
+    → Appended old new (IsFoundText run)
+four_parts run old one two three new closings totals lives values = (
+  closings.0 ++ totals.0 ++ lives.0 ++ values.0,
+  values.1 ∙ ap (λ (t : List ℕ). t ++ values.0) (lives.1 ∙ ap (λ (t : List ℕ). t ++ lives.0) (totals.1 ∙ ap (λ (t : List ℕ). t ++ totals.0) closings.1))
+      ∙ four_joined old closings.0 totals.0 lives.0 values.0,
+  record {
+    closings = closings.0;
+    totals = totals.0;
+    lives = lives.0;
+    values = values.0;
+    closings_are = closings.2;
+    totals_are = totals.2;
+    lives_are = lives.2;
+    values_are = values.2;
+    text_is = refl;
+  },
+)

@@ -1,18 +1,12 @@
 -- The text of the lives of a run's handles.
-use Rattle.std.specs.Prelude.{◌≡◌, ℕ, zero, suc, nat_lt, if◌then◌else◌, List, [], ◌++◌, length}
-use Rattle.std.specs.Prelude.{Option, None, Some, slice_get, slice_index_or, Result, Ok, Err, codes}
+use Rattle.std.specs.Prelude.{◌≡◌, ℕ, nat_lt, if◌then◌else◌, List, [], ◌++◌, length, Option, None, Some, slice_get, slice_index_or, codes}
 use Rattle.std.specs.List.{flat_map, range_with_len}
 use Rattle.rw_handles.specs.declared.kinds.Kind.{Kind}
 use Rattle.rw_handles.specs.declared.kinds.Kind.TheVariants.{Sender, Receiver, Weak}
 use Rattle.rw_journal.specs.Run.{Run}
-use Rattle.rw_law.specs.Numbers.{numbers}
 use Rattle.rw_blocks.specs.Labels.{with_number}
 use Rattle.rw_findings.specs.Lives.{AreLives, Life}
-use Rattle.rw_text.specs.declared.faults.TextFault.{TextFault}
-use Rattle.rw_text.specs.Faults.{text_fault_line}
-use Rattle.rw_text.specs.Reading.{reading_of}
 use Rattle.rw_page.specs.Lines.{number_or_dash}
-use Rattle.rw_page.specs.Pages.{Holds, Lacks}
 
 abbrev pub kind_word : Kind → List ℕ
 kind_word Sender = codes " sender"
@@ -45,24 +39,3 @@ life_lines channel lives handles = flat_map (λ handle. life_line_at channel han
 -- the text is that of the lives of a channel's handles
 abbrev pub IsLifeText : Run ℕ → (channel : ℕ) → List ℕ → Type 0
 IsLifeText run channel text = (lives : List Life) × AreLives run channel lives × (text ≡ life_lines channel lives (length lives))
-
--- the text is that of the first channels, in order
-abbrev pub AreLifeTexts : Run ℕ → (channels : ℕ) → List ℕ → Type 0
-AreLifeTexts run zero text = text ≡ []
-AreLifeTexts run (suc channel) text = (front : List ℕ) × (last : List ℕ) × AreLifeTexts run channel front × IsLifeText run channel last × (text ≡ front ++ last)
-
--- the text is that of all channels of a run, or of a journal text's first fault
-abbrev pub IsLifeReport : Result (Run ℕ) TextFault → List ℕ → Type 0
-IsLifeReport (Ok run) text = AreLifeTexts run (length run.specs) text
-IsLifeReport (Err fault) text = text ≡ text_fault_line fault
-
--- the same of the run whose journal text the bytes are
-abbrev pub IsLifePage : List ℕ → List ℕ → Type 0
-IsLifePage journal text = IsLifeReport (reading_of numbers journal) text
-
--- the text is at the start of a buffer, or the buffer is too small for it
-abbrev pub HoldsLives : List ℕ → ℕ → List ℕ → Type 0
-HoldsLives buffer count journal = (text : List ℕ) × IsLifePage journal text × Holds buffer count text
-
-abbrev pub LacksLives : List ℕ → ℕ → List ℕ → Type 0
-LacksLives buffer count journal = (text : List ℕ) × IsLifePage journal text × Lacks buffer count text

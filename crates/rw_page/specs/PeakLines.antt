@@ -78,9 +78,3 @@ HoldsPeaks buffer count journal stretches channels = (text : List ℕ) × IsPeak
 
 abbrev pub LacksPeaks : List ℕ → ℕ → List ℕ → Stretches → List ℕ → Type 0
 LacksPeaks buffer count journal stretches channels = (text : List ℕ) × IsPeakPage journal stretches channels text × Lacks buffer count text
-
--- ---- inside
-
--- a text of this kind was appended
-abbrev pub Appended : (old new : List ℕ) → (List ℕ → Type 0) → Type 0
-Appended old new Is = (text : List ℕ) × (new ≡ old ++ text) × Is text

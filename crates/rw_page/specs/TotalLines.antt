@@ -1,8 +1,7 @@
 -- The text of a run's totals.
-use Rattle.std.specs.Prelude.{◌≡◌, ℕ, List, ◌++◌, Result, Ok, Err, codes}
+use Rattle.std.specs.Prelude.{◌≡◌, ℕ, List, ◌++◌, codes}
 use Rattle.std.specs.List.{flat_map}
 use Rattle.rw_journal.specs.Run.{Run}
-use Rattle.rw_law.specs.Numbers.{numbers}
 use Rattle.rw_blocks.specs.Labels.{with_number}
 use Rattle.rw_findings.specs.Totals.{AreTotals}
 use Rattle.rw_findings.specs.declared.totals.total.BroadcastCounts.{BroadcastCounts}
@@ -10,11 +9,7 @@ use Rattle.rw_findings.specs.declared.totals.total.WatchCounts.{WatchCounts}
 use Rattle.rw_findings.specs.declared.totals.total.Counts.{Counts}
 use Rattle.rw_findings.specs.declared.totals.total.Counts.TheVariants.{Broadcast, Watch}
 use Rattle.rw_findings.specs.declared.totals.total.Totals.{Totals}
-use Rattle.rw_text.specs.declared.faults.TextFault.{TextFault}
-use Rattle.rw_text.specs.Faults.{text_fault_line}
-use Rattle.rw_text.specs.Reading.{reading_of}
 use Rattle.rw_page.specs.Lines.{number_or_dash}
-use Rattle.rw_page.specs.Pages.{Holds, Lacks}
 
 -- a receiver of a channel of this kind
 abbrev pub receiver_words : List ℕ → (channel receiver : ℕ) → List ℕ
@@ -41,18 +36,6 @@ counts_line channel receiver (Watch counts) = watch_line channel receiver counts
 abbrev pub totals_line : Totals → List ℕ
 totals_line totals = counts_line totals.channel totals.receiver totals.counts
 
--- the text is that of a run's totals, a line each, or of a journal text's first fault
-abbrev pub IsTotalReport : Result (Run ℕ) TextFault → List ℕ → Type 0
-IsTotalReport (Ok run) text = (totals : List Totals) × AreTotals run totals × (text ≡ flat_map totals_line totals)
-IsTotalReport (Err fault) text = text ≡ text_fault_line fault
-
--- the same of the run whose journal text the bytes are
-abbrev pub IsTotalPage : List ℕ → List ℕ → Type 0
-IsTotalPage journal text = IsTotalReport (reading_of numbers journal) text
-
--- the text is at the start of a buffer, or the buffer is too small for it
-abbrev pub HoldsTotals : List ℕ → ℕ → List ℕ → Type 0
-HoldsTotals buffer count journal = (text : List ℕ) × IsTotalPage journal text × Holds buffer count text
-
-abbrev pub LacksTotals : List ℕ → ℕ → List ℕ → Type 0
-LacksTotals buffer count journal = (text : List ℕ) × IsTotalPage journal text × Lacks buffer count text
+-- the text is that of a run's totals, a line each
+abbrev pub IsTotalText : Run ℕ → List ℕ → Type 0
+IsTotalText run text = (totals : List Totals) × AreTotals run totals × (text ≡ flat_map totals_line totals)

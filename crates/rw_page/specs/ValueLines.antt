@@ -1,16 +1,11 @@
 -- The text of a channel's values.
-use Rattle.std.specs.Prelude.{◌≡◌, ℕ, List, [], ◌++◌, length, Option, None, Some, slice_get, Result, Ok, Err, codes}
+use Rattle.std.specs.Prelude.{◌≡◌, ℕ, List, [], ◌++◌, length, Option, None, Some, slice_get, codes}
 use Rattle.std.specs.List.{flat_map, range_with_len}
 use Rattle.rw_journal.specs.Run.{Run}
-use Rattle.rw_law.specs.Numbers.{numbers}
 use Rattle.rw_blocks.specs.Labels.{with_number}
 use Rattle.rw_findings.specs.Values.{AreValues}
 use Rattle.rw_findings.specs.declared.values.value.ChannelValue.{ChannelValue}
-use Rattle.rw_text.specs.declared.faults.TextFault.{TextFault}
-use Rattle.rw_text.specs.Faults.{text_fault_line}
-use Rattle.rw_text.specs.Reading.{reading_of}
 use Rattle.rw_page.specs.Lines.{number_or_dash}
-use Rattle.rw_page.specs.Pages.{Holds, Lacks}
 
 -- the line of a value: its channel and number, the value, the place since when it is there, and the place where it was overwritten
 unfoldable pub value_line : (channel number : ℕ) → ChannelValue ℕ → List ℕ
@@ -26,18 +21,6 @@ value_line_at channel number (Some value) = value_line channel number value
 abbrev pub value_lines : (channel : ℕ) → List (ChannelValue ℕ) → (count : ℕ) → List ℕ
 value_lines channel values count = flat_map (λ number. value_line_at channel number (slice_get values number)) (range_with_len 0 count)
 
--- the text is that of a channel's values, a line each, or of a journal text's first fault
-abbrev pub IsValueReport : Result (Run ℕ) TextFault → (channel : ℕ) → List ℕ → Type 0
-IsValueReport (Ok run) channel text = (values : List (ChannelValue ℕ)) × AreValues run channel values × (text ≡ value_lines channel values (length values))
-IsValueReport (Err fault) channel text = text ≡ text_fault_line fault
-
--- the same of the run whose journal text the bytes are
-abbrev pub IsValuePage : List ℕ → (channel : ℕ) → List ℕ → Type 0
-IsValuePage journal channel text = IsValueReport (reading_of numbers journal) channel text
-
--- the text is at the start of a buffer, or the buffer is too small for it
-abbrev pub HoldsValues : List ℕ → ℕ → List ℕ → (channel : ℕ) → Type 0
-HoldsValues buffer count journal channel = (text : List ℕ) × IsValuePage journal channel text × Holds buffer count text
-
-abbrev pub LacksValues : List ℕ → ℕ → List ℕ → (channel : ℕ) → Type 0
-LacksValues buffer count journal channel = (text : List ℕ) × IsValuePage journal channel text × Lacks buffer count text
+-- the text is that of a channel's values, a line each
+abbrev pub IsValueText : Run ℕ → (channel : ℕ) → List ℕ → Type 0
+IsValueText run channel text = (values : List (ChannelValue ℕ)) × AreValues run channel values × (text ≡ value_lines channel values (length values))

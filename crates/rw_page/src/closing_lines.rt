@@ -1,12 +1,13 @@
 //! The closings of a run as text.
 
-ghost use Rattle.std.specs.Prelude.{◌≡◌, ◌++◌, IfOk, OnOk};
+ghost use Rattle.std.specs.Prelude.{◌≡◌, ◌++◌, OnOk};
 ghost use Rattle.std.specs.List.{flat_map};
-ghost use Rattle.rw_page.specs.ClosingLines.{IsClosingPage, closing_line, late_line};
+ghost use Rattle.rw_page.specs.ClosingLines.{IsClosingText, closing_line, late_line};
+ghost use Rattle.rw_page.specs.Texts.{Appended};
 
 use crate::lines::{push_number_or_dash, push_with_number};
-use crate::pages::read_run;
 use rw_findings::{Closing, Closings, LateReader, closings_of};
+use rw_journal::Run;
 use rw_law::NoMemory;
 use std::alloc::{AllocError, Global};
 
@@ -52,17 +53,12 @@ fn push_readers(out: &mut Vec<u8>, readers: &[LateReader]) -> Result<(), AllocEr
     Ok(())
 }
 
-/// Returns a line for each closing of a run and each receiver that was there then, or the journal text's first fault.
-pub fn closings_page(alloc: Global, journal: &[u8]) -> Result<Vec<u8>, NoMemory>
-    ensures { IfOk result (λ text. IsClosingPage journal.now text.items) }
+/// Appends a line for each closing of a run, and for each receiver that was there then.
+pub fn push_closings_of(alloc: Global, out: &mut Vec<u8>, run: &Run<u64>) -> Result<(), NoMemory>
+    ensures { OnOk result (Appended out.old.items out.new.items (IsClosingText run.now)) }
 {
-    let run = match read_run(alloc, journal)? {
-        Ok(run) => run,
-        Err(line) => return Ok(line),
-    };
-    let Closings { channels, readers } = closings_of(alloc, &run)?;
-    let mut text = Vec::new(alloc);
-    push_closings(&mut text, &channels)?;
-    push_readers(&mut text, &readers)?;
-    Ok(text)
+    let Closings { channels, readers } = closings_of(alloc, run)?;
+    push_closings(out, &channels)?;
+    push_readers(out, &readers)?;
+    Ok(())
 }

@@ -2,10 +2,10 @@
 //!
 //! The main contract: an export returns 0 if its output fits into the buffer, and has then written it there, and 1 if it doesn't
 //! fit. At 2 there is no output, and nothing has changed. The output of `ttd_debug` is what commands write over the run of a journal
-//! text, that of `ttd_session` is a session's report, and that of `ttd_salvage` is what is left of a journal text. `ttd_losses`,
-//! `ttd_totals`, `ttd_closings`, `ttd_levels`, `ttd_lives` and `ttd_values` write a line for each loss, for each receiver's totals,
-//! for each closing, for each receiver's peaks, for each handle and for each value of a channel. For a journal text with a fault,
-//! the output is the line of its first fault.
+//! text, that of `ttd_session` is a session's report, and that of `ttd_salvage` is what is left of a journal text. `ttd_losses` and
+//! `ttd_levels` write a line for each loss and for each receiver's peaks. `ttd_found` writes all else that is found by one reading: a
+//! line for each closing, for each receiver's totals, for each handle and for each value. For a journal text with a fault, the output
+//! is the line of its first fault.
 //!
 //! `ttd_levels` always returns 2 above its limit, and `ttd_debug` and `ttd_session` do unless the bytes within theirs decide the
 //! output. No clause says where else an export returns 2: the code does where an allocation is refused.
@@ -13,6 +13,7 @@
 #![tactic(auto)]
 
 mod closing_lines;
+mod found_lines;
 mod life_lines;
 mod lines;
 mod loss_lines;
@@ -24,23 +25,17 @@ mod value_lines;
 
 ghost use Rattle.std.specs.Prelude.{◌≡◌, ◌≤◌, ◌<◌, ◌↔◌, length};
 ghost use Rattle.rw_console.specs.SessionReport.{report};
-ghost use Rattle.rw_page.specs.ClosingLines.{HoldsClosings, IsClosingPage, LacksClosings};
-ghost use Rattle.rw_page.specs.LifeLines.{HoldsLives, IsLifePage, LacksLives};
+ghost use Rattle.rw_page.specs.FoundLines.{HoldsFound, IsFoundPage, LacksFound};
 ghost use Rattle.rw_page.specs.LossLines.{HoldsLosses, IsLossPage, LacksLosses};
 ghost use Rattle.rw_page.specs.Pages.{Fits, Holds, IsWithin, Lacks, page_of};
 ghost use Rattle.rw_page.specs.PeakLines.{HoldsPeaks, IsPeakPage, LacksPeaks, stretches_of};
 ghost use Rattle.rw_page.specs.Salvages.{salvage_page};
-ghost use Rattle.rw_page.specs.TotalLines.{HoldsTotals, IsTotalPage, LacksTotals};
-ghost use Rattle.rw_page.specs.ValueLines.{HoldsValues, IsValuePage, LacksValues};
 
-use crate::closing_lines::closings_page;
-use crate::life_lines::lives_page;
+use crate::found_lines::found_page;
 use crate::loss_lines::losses_page;
 use crate::pages::{NO_ANSWER, debug_page, hand_over, session_page};
 use crate::peak_lines::peaks_page;
 use crate::salvages::salvage_page;
-use crate::total_lines::totals_page;
-use crate::value_lines::values_page;
 use rw_console::MOST_BYTES;
 use rw_findings::Stretches;
 use std::alloc::Global;
@@ -112,32 +107,19 @@ pub extern "C" fn ttd_losses(alloc: Global, journal: &[u8], out: &mut [u8], coun
     hand_over(losses_page(alloc, journal), out, count)
 }
 
-/// Reads a journal text, and writes a line for each receiver of its run with its totals to the start of `out`. Its
-/// return values are those of `ttd_salvage`.
+/// Reads a journal text, and writes all else that is found in its run to the start of `out`: a line for each closing and for each
+/// receiver that was there then, for each receiver's totals, for each handle, and for each value of each channel, in this order.
+/// Its return values are those of `ttd_salvage`.
 #[unsafe(no_mangle)]
-pub extern "C" fn ttd_totals(alloc: Global, journal: &[u8], out: &mut [u8], count: &mut u64) -> u8
+pub extern "C" fn ttd_found(alloc: Global, journal: &[u8], out: &mut [u8], count: &mut u64) -> u8
     ensures known { result ≤ 2 }
-    ensures answer { result ≡ 0 → HoldsTotals out.new count.new journal.now }
-    ensures room { result ≡ 1 → LacksTotals out.new count.new journal.now }
-    ensures fits { result < 2 → Fits (IsTotalPage journal.now) result out.old }
+    ensures answer { result ≡ 0 → HoldsFound out.new count.new journal.now }
+    ensures room { result ≡ 1 → LacksFound out.new count.new journal.now }
+    ensures fits { result < 2 → Fits (IsFoundPage journal.now) result out.old }
     ensures kept { 0 < result → out.new ≡ out.old }
     ensures none { result ≡ 2 → count.new ≡ count.old }
 {
-    hand_over(totals_page(alloc, journal), out, count)
-}
-
-/// Reads a journal text, and writes a line for each closing of its run, and for each receiver that was there then, to the start of `out`. Its
-/// return values are those of `ttd_salvage`.
-#[unsafe(no_mangle)]
-pub extern "C" fn ttd_closings(alloc: Global, journal: &[u8], out: &mut [u8], count: &mut u64) -> u8
-    ensures known { result ≤ 2 }
-    ensures answer { result ≡ 0 → HoldsClosings out.new count.new journal.now }
-    ensures room { result ≡ 1 → LacksClosings out.new count.new journal.now }
-    ensures fits { result < 2 → Fits (IsClosingPage journal.now) result out.old }
-    ensures kept { 0 < result → out.new ≡ out.old }
-    ensures none { result ≡ 2 → count.new ≡ count.old }
-{
-    hand_over(closings_page(alloc, journal), out, count)
+    hand_over(found_page(alloc, journal), out, count)
 }
 
 /// The greatest number of stretches that `ttd_levels` accepts.
@@ -176,38 +158,4 @@ pub extern "C" fn ttd_levels(
         count: stretches,
     };
     hand_over(peaks_page(alloc, journal, cut, channels), out, count)
-}
-
-/// Reads a journal text, and writes a line for each handle of its run to the start of `out`: when and by whom it was made, when it
-/// was dropped, and who called with it. Its return values are those of `ttd_salvage`.
-#[unsafe(no_mangle)]
-pub extern "C" fn ttd_lives(alloc: Global, journal: &[u8], out: &mut [u8], count: &mut u64) -> u8
-    ensures known { result ≤ 2 }
-    ensures answer { result ≡ 0 → HoldsLives out.new count.new journal.now }
-    ensures room { result ≡ 1 → LacksLives out.new count.new journal.now }
-    ensures fits { result < 2 → Fits (IsLifePage journal.now) result out.old }
-    ensures kept { 0 < result → out.new ≡ out.old }
-    ensures none { result ≡ 2 → count.new ≡ count.old }
-{
-    hand_over(lives_page(alloc, journal), out, count)
-}
-
-/// Reads a journal text, and writes a line for each value of a channel of its run to the start of `out`: since when the value is
-/// there, and where it was overwritten. Its return values are those of `ttd_salvage`.
-#[unsafe(no_mangle)]
-pub extern "C" fn ttd_values(
-    alloc: Global,
-    journal: &[u8],
-    channel: u32,
-    out: &mut [u8],
-    count: &mut u64,
-) -> u8
-    ensures known { result ≤ 2 }
-    ensures answer { result ≡ 0 → HoldsValues out.new count.new journal.now channel }
-    ensures room { result ≡ 1 → LacksValues out.new count.new journal.now channel }
-    ensures fits { result < 2 → Fits (IsValuePage journal.now channel) result out.old }
-    ensures kept { 0 < result → out.new ≡ out.old }
-    ensures none { result ≡ 2 → count.new ≡ count.old }
-{
-    hand_over(values_page(alloc, journal, channel), out, count)
 }

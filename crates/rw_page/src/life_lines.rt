@@ -1,11 +1,10 @@
 //! The lives of a run's handles as text.
 
-ghost use Rattle.std.specs.Prelude.{◌≡◌, ◌++◌, IfOk, OnOk, length};
-ghost use Rattle.rw_page.specs.LifeLines.{AreLifeTexts, IsLifePage, IsLifeText, caller_words, callers_words, kind_word, life_line, life_lines};
-ghost use Rattle.rw_page.specs.PeakLines.{Appended};
+ghost use Rattle.std.specs.Prelude.{◌≡◌, ◌++◌, OnOk, length};
+ghost use Rattle.rw_page.specs.LifeLines.{IsLifeText, caller_words, callers_words, kind_word, life_line, life_lines};
+ghost use Rattle.rw_page.specs.Texts.{Appended, AreTexts};
 
 use crate::lines::{push_number_or_dash, push_with_number};
-use crate::pages::read_run;
 use rw_findings::{Life, lives_of};
 use rw_handles::Kind;
 use rw_journal::Run;
@@ -82,25 +81,12 @@ fn push_channel(
     Ok(())
 }
 
-/// Appends the lives of the handles of all channels.
-fn push_channels(alloc: Global, out: &mut Vec<u8>, run: &Run<u64>) -> Result<(), NoMemory>
-    ensures { OnOk result (Appended out.old.items out.new.items (AreLifeTexts run.now (length run.now.specs))) }
+/// Appends the lives of the handles of all channels of a run.
+pub fn push_lives_of(alloc: Global, out: &mut Vec<u8>, run: &Run<u64>) -> Result<(), NoMemory>
+    ensures { OnOk result (Appended out.old.items out.new.items (AreTexts (IsLifeText run.now) (length run.now.specs))) }
 {
     'each_channel: for channel in 0..run.specs().len() {
         push_channel(alloc, out, run, channel as u32)?;
     }
     Ok(())
-}
-
-/// Returns a line for each handle of a run, or its journal text's first fault.
-pub fn lives_page(alloc: Global, journal: &[u8]) -> Result<Vec<u8>, NoMemory>
-    ensures { IfOk result (λ text. IsLifePage journal.now text.items) }
-{
-    let run = match read_run(alloc, journal)? {
-        Ok(run) => run,
-        Err(line) => return Ok(line),
-    };
-    let mut text = Vec::new(alloc);
-    push_channels(alloc, &mut text, &run)?;
-    Ok(text)
 }

@@ -2,8 +2,9 @@
 
 ghost use Rattle.std.specs.Prelude.{◌≡◌, ◌++◌, IfOk, OnOk, nat_lt, length, slice_index_or};
 ghost use Rattle.std.specs.List.{list_any};
-ghost use Rattle.rw_page.specs.PeakLines.{Appended, AreChannelTexts, IsChannelText, IsMeasureText, IsPeakPage};
+ghost use Rattle.rw_page.specs.PeakLines.{AreChannelTexts, IsChannelText, IsMeasureText, IsPeakPage};
 ghost use Rattle.rw_page.specs.PeakLines.{measure_word, peak_numbers, row_line, shown_row, shown_rows};
+ghost use Rattle.rw_page.specs.Texts.{Appended};
 
 use crate::lines::push_with_number;
 use crate::pages::read_run;

@@ -1,12 +1,13 @@
 //! The totals of a run as text.
 
-ghost use Rattle.std.specs.Prelude.{◌≡◌, ◌++◌, IfOk, OnOk};
+ghost use Rattle.std.specs.Prelude.{◌≡◌, ◌++◌, OnOk};
 ghost use Rattle.std.specs.List.{flat_map};
-ghost use Rattle.rw_page.specs.TotalLines.{IsTotalPage, broadcast_line, receiver_words, totals_line, watch_line};
+ghost use Rattle.rw_page.specs.Texts.{Appended};
+ghost use Rattle.rw_page.specs.TotalLines.{IsTotalText, broadcast_line, receiver_words, totals_line, watch_line};
 
 use crate::lines::{push_number_or_dash, push_with_number};
-use crate::pages::read_run;
 use rw_findings::{BroadcastCounts, Counts, Totals, WatchCounts, totals_of};
+use rw_journal::Run;
 use rw_law::NoMemory;
 use std::alloc::{AllocError, Global};
 
@@ -80,16 +81,11 @@ fn push_totals(out: &mut Vec<u8>, totals: &[Totals]) -> Result<(), AllocError>
     Ok(())
 }
 
-/// Returns a line for each receiver of a run with its totals, or the journal text's first fault.
-pub fn totals_page(alloc: Global, journal: &[u8]) -> Result<Vec<u8>, NoMemory>
-    ensures { IfOk result (λ text. IsTotalPage journal.now text.items) }
+/// Appends a line for each receiver of a run with its totals.
+pub fn push_totals_of(alloc: Global, out: &mut Vec<u8>, run: &Run<u64>) -> Result<(), NoMemory>
+    ensures { OnOk result (Appended out.old.items out.new.items (IsTotalText run.now)) }
 {
-    let run = match read_run(alloc, journal)? {
-        Ok(run) => run,
-        Err(line) => return Ok(line),
-    };
-    let totals = totals_of(alloc, &run)?;
-    let mut text = Vec::new(alloc);
-    push_totals(&mut text, &totals)?;
-    Ok(text)
+    let totals = totals_of(alloc, run)?;
+    push_totals(out, &totals)?;
+    Ok(())
 }

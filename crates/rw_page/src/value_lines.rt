@@ -1,11 +1,12 @@
 //! The values of a channel as text.
 
-ghost use Rattle.std.specs.Prelude.{◌≡◌, ◌++◌, IfOk, OnOk, length};
-ghost use Rattle.rw_page.specs.ValueLines.{IsValuePage, value_line, value_lines};
+ghost use Rattle.std.specs.Prelude.{◌≡◌, ◌++◌, OnOk, length};
+ghost use Rattle.rw_page.specs.Texts.{Appended, AreTexts};
+ghost use Rattle.rw_page.specs.ValueLines.{IsValueText, value_line, value_lines};
 
 use crate::lines::{push_number_or_dash, push_with_number};
-use crate::pages::read_run;
 use rw_findings::{ChannelValue, values_of};
+use rw_journal::Run;
 use rw_law::NoMemory;
 use std::alloc::{AllocError, Global};
 
@@ -41,16 +42,26 @@ fn push_values(
     Ok(())
 }
 
-/// Returns a line for each value of a channel, or the journal text's first fault.
-pub fn values_page(alloc: Global, journal: &[u8], channel: u32) -> Result<Vec<u8>, NoMemory>
-    ensures { IfOk result (λ text. IsValuePage journal.now channel text.items) }
+/// Appends the values of a channel.
+fn push_channel(
+    alloc: Global,
+    out: &mut Vec<u8>,
+    run: &Run<u64>,
+    channel: u32,
+) -> Result<(), NoMemory>
+    ensures { OnOk result (Appended out.old.items out.new.items (IsValueText run.now channel)) }
 {
-    let run = match read_run(alloc, journal)? {
-        Ok(run) => run,
-        Err(line) => return Ok(line),
-    };
-    let values = values_of(alloc, &run, channel)?;
-    let mut text = Vec::new(alloc);
-    push_values(&mut text, channel, &values)?;
-    Ok(text)
+    let values = values_of(alloc, run, channel)?;
+    push_values(out, channel, &values)?;
+    Ok(())
+}
+
+/// Appends the values of all channels of a run.
+pub fn push_values_of(alloc: Global, out: &mut Vec<u8>, run: &Run<u64>) -> Result<(), NoMemory>
+    ensures { OnOk result (Appended out.old.items out.new.items (AreTexts (IsValueText run.now) (length run.now.specs))) }
+{
+    'each_channel: for channel in 0..run.specs().len() {
+        push_channel(alloc, out, run, channel as u32)?;
+    }
+    Ok(())
 }

@@ -1,5 +1,6 @@
 pub mod Channel
 pub mod Inside
+pub mod Renaming
 pub mod Laws
 pub mod Machine
 pub mod Record

@@ -4,6 +4,7 @@ ghost use Rattle.rw_watch.specs.Record.{opening_record};
 ghost use Rattle.rw_watch.specs.Shown.{shown};
 
 mod readers;
+mod renumber;
 mod reversible;
 mod steps;
 

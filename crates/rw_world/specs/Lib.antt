@@ -7,6 +7,7 @@ pub mod Machines
 pub mod Openings
 pub mod Parts
 pub mod Records
+pub mod Renaming
 pub mod Row
 pub mod RowLaws
 pub mod Shapes

@@ -1,13 +1,15 @@
 //! Channels of either kind.
 
-ghost use Rattle.std.specs.Prelude.{◌≡◌};
+ghost use Rattle.std.specs.Prelude.{◌≡◌, IfOk, OnErr};
 ghost use Rattle.rw_world.specs.Channel.{handle_of, makes, new_handle, with_handle};
 ghost use Rattle.rw_world.specs.Machines.{handles_made, of_chan};
+ghost use Rattle.rw_world.specs.Renaming.{IsRenumbered};
 
 use crate::members::Member;
 use rw_broadcast::{BCall, BPatch, BReply, Broadcast};
 use rw_law::{NoMemory, Reversible};
 use rw_watch::{WCall, WPatch, WReply, Watch};
+use std::alloc::Global;
 
 /// A channel of this library: a broadcast or a watch.
 ///
@@ -98,13 +100,27 @@ impl<V: Copy> ChanReply<V> {
 }
 
 impl<V: Copy> Chan<V> {
-    /// Returns how many handles the channel has made.
+    /// Returns how many handles the channel has made, without those that `renumber` took out.
     pub fn made(&self) -> u32
         ensures { result ≡ handles_made (of_chan.shown self.now) }
     {
         match self {
             Chan::Broadcast(machine) => machine.made(),
             Chan::Watch(machine) => machine.made(),
+        }
+    }
+
+    /// Takes the numbers of dropped handles out. The live handles stay in order, and get the numbers 0, 1, 2, .. Returns the
+    /// number that each had before. By the law of renaming, each later call has the same reply as with the numbers before, but
+    /// for the number of a new handle. At an error nothing has changed.
+    pub fn renumber(&mut self, alloc: Global) -> Result<Vec<u32>, NoMemory>
+        ensures renumbered { IfOk result (λ before. IsRenumbered before.items (of_chan.shown self.old) (of_chan.shown self.new)) }
+        ensures limit { of_chan.reserved self.new ≡ of_chan.reserved self.old }
+        ensures same { OnErr result (self.new ≡ self.old) }
+    {
+        match self {
+            Chan::Broadcast(machine) => machine.renumber(alloc),
+            Chan::Watch(machine) => machine.renumber(alloc),
         }
     }
 

@@ -4,6 +4,7 @@ ghost use Rattle.rw_law.specs.Journal.{IsLegal, after_all};
 ghost use Rattle.rw_world.specs.Kinds.{channel_kind};
 ghost use Rattle.rw_world.specs.Channel.{no_channel, strays_at};
 ghost use Rattle.rw_world.specs.Commuting.{Commutes};
+ghost use Rattle.rw_world.specs.Renaming.{RepliesRenamed, RepliesRenamedThroughout};
 ghost use Rattle.rw_world.specs.Shapes.{KeepsShape, KeepsShapeThroughout, StraysByShape};
 ghost use Rattle.rw_world.specs.Parts.{IsLegalExactlyByParts};
 ghost use Rattle.rw_world.specs.Records.{RecordsAsDocumented, RepliesByRecords, ShowsAtPlaces, ShowsItsRecords, ShowsItsSteps};
@@ -46,6 +47,12 @@ pub fn machines<V: Copy>()
     ensures channels { AreLegalOfChannels (IsLegal ⟦<Chan<V> as Reversible>⟧) }
     ensures worlds { AreLegalOfWorlds (IsLegal ⟦<World<V> as Reversible>⟧) }
     ensures after { IsAfterOfWorlds (after_all ⟦<World<V> as Reversible>⟧) }
+{}
+
+/// With other numbers of handles, a channel has the same reply to each call, but for the number of a new handle.
+pub fn renamed<V: Copy>()
+    ensures step { RepliesRenamed V }
+    ensures throughout { RepliesRenamedThroughout V }
 {}
 
 /// The documented world: a world behaves as the records of its channels, which have all that was ever sent.

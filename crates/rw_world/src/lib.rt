@@ -16,7 +16,7 @@ mod rows;
 
 pub use channels::{Chan, ChanCall, ChanPatch, ChanReply};
 pub use kinds::ChannelKind;
-pub use laws::{commutes, documented, legal_by_parts, machines, shape, specified};
+pub use laws::{commutes, documented, legal_by_parts, machines, renamed, shape, specified};
 pub use members::Member;
 pub use opening::{MOST_CHANNELS, OpenFault, Spec, World, open, open_channel, refusal_of};
 pub use rows::{Row, RowCall};

@@ -80,7 +80,7 @@ function drawLabel({ pen, palette }, { text, width, isInside, untold, labelX }, 
 // Close up, a tick at each send that overwrote a value, with the count so far where it has room.
 /** @param {Drawing} drawing */
 function drawTicks({ pen, run, view, frame, palette }, loss, y, height) {
-  if (!run.values.has(loss.channel)) return;
+  if (!run.values.areThere) return;
   const sends = run.values.overwritten(loss.channel);
   const first = run.losses.firstOf(loss);
   pen.fillStyle = palette["on-dark"];

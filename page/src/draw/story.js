@@ -65,7 +65,7 @@ function label({ pen, frame, palette }, { x, y, word }) {
 export function drawStory(drawing, loss) {
   const { pen, run, frame, bands, palette } = drawing;
   const band = bands.find(({ channel }) => channel === loss.channel);
-  if (!band || !run.values.has(loss.channel)) return;
+  if (!band || !run.values.areThere) return;
   const steps = storyOf(run, loss).map(step => ({ ...step, row: band.rowOf.get(step.handle) })).filter(({ row }) => row !== undefined)
     .map(({ place, word, row }) => ({ word, row, x: Math.max(frame.left, Math.min(frame.middle(place), frame.right)), y: row.base - 5 }));
   dim(drawing, loss.channel, new Set(steps.map(({ row }) => row)));

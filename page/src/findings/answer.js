@@ -1,14 +1,20 @@
 // The answer: the account of the run, in the order and in the words of the report. Each step that it tells of is a link that walks there, and each
-// place in the sources one into the editor.
+// place in the sources one into the editor. Beside that are the changes that a receiver of a watch never looked at, and what the channel of a call that
+// waits has at the end.
 
-import { byId, element } from "../base/dom.js";
-import { countOf } from "../base/numbers.js";
+import { byId, element, quoted } from "../base/dom.js";
+import { countOf, grouped } from "../base/numbers.js";
 import { visible } from "../base/text.js";
+import { MARK_NAMES } from "../run/marks.js";
 import { sourceLink } from "./source_links.js";
 
 // How many panics are shown, and how many characters of what one says.
 const MOST_ENDS = 3;
 const MOST_TEXT = 300;
+
+// How many changes are listed that a receiver never looked at.
+const MOST_CHANGES = 3;
+const SENT = MARK_NAMES.indexOf("sent");
 
 // What the line of a call begins with. Accounts of earlier versions say `step 3`.
 const STEP = /^ {2}((?:call|step) \d+|the panic|the error|the end)/;
@@ -37,8 +43,32 @@ function lineOf(run, fact, text, index) {
   return element("bdi", { class: name ? "line step" : "line" }, ...parts);
 }
 
+// The calls that changed a watch while this receiver lived, and at whose values it never looked.
+function unlookedBy(run, channel, receiver) {
+  const { channels, handles, marks } = run.columns;
+  const { from, to } = run.lifeOf(channel, receiver);
+  const changes = new Set();
+  let last = 0;
+  for (let place = from + 1; place <= Math.min(to, run.lastPlace); place++) {
+    if (channels[place] !== channel) continue;
+    if (marks[place] === SENT) changes.add(last = place);
+    else if (handles[place] === receiver && run.entry(place).reply === "value") changes.delete(last);
+  }
+  return [...changes];
+}
+
+// The values of these changes, if they are as many as the fact says.
+function unlookedLine(run, { channel, receiver, changes }) {
+  const places = unlookedBy(run, channel, receiver);
+  if (places.length !== changes) return [];
+  const listed = places.slice(0, MOST_CHANGES).flatMap((place, i) => [i ? ", " : "", quoted(run.valueSent(place))]);
+  const more = places.length - MOST_CHANGES;
+  return [element("bdi", { class: "then" }, "  not looked at: ", ...listed, more > 0 ? ` and ${grouped(more)} more` : "")];
+}
+
 function factPart(run, fact) {
-  return element("section", { class: "fact", "data-kind": fact.kind }, ...fact.text.map((text, index) => lineOf(run, fact, text, index)));
+  const more = fact.kind === "unlooked" && !run.isBeginning ? unlookedLine(run, fact) : [];
+  return element("section", { class: "fact", "data-kind": fact.kind }, ...fact.text.map((text, index) => lineOf(run, fact, text, index)), ...more);
 }
 
 function paragraph(...children) {
@@ -60,8 +90,20 @@ function waitLine(run, { text, since, location }) {
   return element("bdi", { class: "line" }, "  ", go, ...withSource(run, rest, location, ", "));
 }
 
+// What the channel of a call that waits has at the end, so that one sees what it waits for in vain: the value of a watch, or whether a receiver has
+// something to read; and who could still send.
+function atTheEnd(run, { channel, handle }) {
+  const state = run.ending.channels[channel];
+  if (state === undefined) return [];
+  const receiver = state.receivers.find(it => it.handle === handle);
+  const has = state.kind === "watch" ? ["has ", quoted(run.names.value(channel, state.value))]
+    : [receiver === undefined ? `has ${countOf(state.receivers.length, "receiver")}` : `has ${receiver.unread === 0 ? "nothing" : grouped(receiver.unread - receiver.lag)} to read`];
+  const senders = state.senders.length === 0 ? "no sender" : countOf(state.senders.length, "sender");
+  return [element("bdi", { class: "then" }, `    \`${visible(run.names.channel(channel))}\` `, ...has, ` and ${senders} at the end`)];
+}
+
 function waitsPart(run, { waiting }) {
-  const waits = waiting.map(it => waitLine(run, it));
+  const waits = waiting.flatMap(it => [waitLine(run, it), ...atTheEnd(run, it)]);
   return waits.length > 0 ? [element("section", { class: "waits" }, element("b", {}, "still waiting:"), ...waits)] : [];
 }
 

@@ -14,7 +14,7 @@ const MOST_NAMED = 64;
 // reply `lagged` moves it past what it lost.
 function receivesOn(run, channel) {
   const { channels, handles, marks } = run.columns;
-  const { sends } = run.values.tables.get(channel);
+  const { sends } = run.values.tables[channel];
   const positions = run.lives[channel].map(({ from }) => countUpTo(sends, from));
   const received = new Map();
   for (let place = 1; place <= run.lastPlace; place++) {
@@ -41,7 +41,7 @@ function receivesOf(run, channel, number) {
 
 // What became of a value: where it was sent, received and overwritten, and the losses in which it was lost.
 export function lifeOfValue(run, channel, number) {
-  const { sends, overwritten } = run.values.tables.get(channel);
+  const { sends, overwritten } = run.values.tables[channel];
   const isLostIn = loss => run.losses.firstOf(loss) <= number && number < run.losses.firstOf(loss) + loss.lost;
   return {
     sent: sends[number], received: receivesOf(run, channel, number), lost: run.losses.on(channel).filter(isLostIn),

@@ -1,20 +1,23 @@
 // The page's address, as `#call=42&view=10-74&fold=0.3&filter=jobs&order=number&stop=lagging+0+2`, so that a link leads to a call and to what is in
-// view there; and the steps of the browser's history. Each step belongs to a run, by its key.
+// view there; and the steps of the browser's history. Each step belongs to a run, by its key. Where two runs are compared, `against` has the digest of
+// the other one's bytes, and the name of its file.
 
 const QUIET = 250;
 const VIEW = /^(\d+)-(\d+)$/;
 const NUMBER = /^\d+$/;
+const AGAINST = /^([0-9a-f]{14}) (.+)$/;
 
 let timer = 0;
 
-// Returns the place in an address, and what else it has: the columns in view, the folded bands, the filter, the channels' order, and the condition
-// of a stop. A place that is no number is the start.
+// Returns the place in an address, and what else it has: the columns in view, the folded bands, the filter, the channels' order, the condition of a
+// stop, and the run to compare with. A place that is no number is the start.
 /** @returns {Address} */
 export function readAddress(address) {
   const parts = new URLSearchParams(new URL(address).hash.slice(1));
   // Addresses of earlier pages have `place`.
   const place = parts.get("call") ?? parts.get("place");
   const view = VIEW.exec(parts.get("view") ?? "");
+  const against = AGAINST.exec(parts.get("against") ?? "");
   return {
     place: place === null && !parts.has("view") ? null : NUMBER.test(place ?? "") ? Number(place) : 0,
     view: view && [Number(view[1]), Number(view[2])],
@@ -22,13 +25,15 @@ export function readAddress(address) {
     filter: parts.get("filter"),
     order: parts.get("order"),
     stop: parts.get("stop"),
+    against: against && { digest: against[1], name: against[2] },
   };
 }
 
 /** @param {Address} address */
-export function hashOf({ place, view, fold, filter, order, stop }) {
+export function hashOf({ place, view, fold, filter, order, stop, against }) {
   const parts = new URLSearchParams({ call: String(place), view: view.join("-") });
-  for (const [name, text] of Object.entries({ fold, filter, order, stop })) if (text !== null) parts.set(name, text);
+  const other = against && `${against.digest} ${against.name}`;
+  for (const [name, text] of Object.entries({ fold, filter, order, stop, against: other })) if (text !== null) parts.set(name, text);
   return `#${parts}`;
 }
 

@@ -86,7 +86,7 @@ export class LossMoves {
   turnStory() {
     const { walk, losses } = this;
     const loss = losses.current;
-    if (!loss || !walk.run.values.has(loss.channel)) return;
+    if (!loss || !walk.run.values.areThere) return;
     walk.shown.isCause = !walk.shown.isCause;
     if (!walk.shown.isCause) return walk.render();
     const places = storyOf(walk.run, loss).map(({ place }) => place);

@@ -32,14 +32,14 @@ export class LossWalk {
     return this.run.losses.at(place).sort((a, b) => rank(b) - rank(a) || b.lost - a.lost);
   }
 
-  // Whether the values of the channels that lose some at the place are loaded.
+  // Whether the values of the losses at the place are loaded.
   get areNamed() {
-    return this.here.every(({ channel }) => this.run.values.has(channel));
+    return this.here.length === 0 || this.run.values.areThere;
   }
 
   // Loads them.
   async name() {
-    await Promise.all(this.here.map(({ channel }) => this.run.values.load(channel)));
+    if (this.here.length > 0) await this.run.find();
   }
 
   /** @returns {Loss | null} */

@@ -64,11 +64,12 @@ export class Walk {
 
   // Goes where an address leads, or without a place to where the account says. One with a place alone leaves folds and filter as they are.
   /** @param {Address} address */
-  restore({ place, view, fold, filter, order, stop }) {
+  restore({ place, view, fold, filter, order, stop, against }) {
     const { folds } = this.screen;
     this.searching.stop();
     this.isStarting = place === null && this.run.account === null;
     if (stop !== null) fieldOf("condition").value = this.shown.stop = stop;
+    this.shown.against = against;
     if (view !== null) {
       folds.text = fold ?? folds.first;
       fieldOf("filter").value = folds.filter = filter ?? "";
@@ -128,15 +129,18 @@ export class Walk {
     return Math.max(this.run.lastColumn, Math.ceil(this.shown.other?.compared.axis.lastColumn ?? 0));
   }
 
-  // Shows another run below this one, and goes to the first call that differs; or shows none any more.
-  compare(other, name = "") {
-    this.shown.other = other;
+  // Shows another run below this one, or none any more. `against` says which run that is. It goes to the first call that differs, unless the other run
+  // is that of the address, which has a place of its own.
+  /** @param {Address["against"]} against */
+  compare(other, against = null) {
+    const isOfAddress = this.shown.other === null && against?.digest === this.shown.against?.digest;
+    Object.assign(this.shown, { other, against });
     this.view.lastColumn = this.lastColumn;
-    showDifference(other?.compared ?? null, name);
+    showDifference(other?.compared ?? null, against?.name);
     this.view.show(this.view.from, this.view.width);
     this.screen.resize();
     const first = other?.compared.first;
-    if (first) this.jumpTo(Math.floor(first.here ?? other.compared.axis.at(first.there)));
+    if (first && !isOfAddress) this.jumpTo(Math.floor(first.here ?? other.compared.axis.at(first.there)));
     else this.render();
   }
 
@@ -347,7 +351,7 @@ export class Walk {
 
   // Shows the life of a value beside the picture, or no more.
   async showLife(value) {
-    if (value) await this.run.values.load(value.channel);
+    if (value) await this.run.find();
     if (this.isLeft) return;
     this.shown.life = value;
     this.render();

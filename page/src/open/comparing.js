@@ -9,6 +9,7 @@ import { Run } from "../run/run.js";
 import { readFiles } from "./file_choice.js";
 import { namesFor } from "./opener.js";
 import { wrongLine } from "./refusals.js";
+import { newKey, recallByEnd } from "./stored_runs.js";
 
 // The places of the calls that differ, or that have no partner.
 function placesWhere(numbers, is) {
@@ -24,12 +25,37 @@ function placed(found, other) {
   return { ...found, axis: new OtherAxis(partners, other.lastPlace), differing, differingThere: [...partnersOfThem, ...only].sort((a, b) => a - b) };
 }
 
+// The bytes as 14 hexadecimal digits, by which a link tells one run from another: two sums of them, each multiplied as FNV-1a does.
+export function digestOf(bytes) {
+  let low = 0x811c9dc5;
+  let high = 0x1b873593;
+  for (let i = 0; i < bytes.length; i++) {
+    low = Math.imul(low ^ bytes[i], 0x01000193);
+    high = Math.imul(high ^ bytes[i], 0x85ebca6b) + 1;
+  }
+  return ((high >>> 8).toString(16).padStart(6, "0") + (low >>> 0).toString(16).padStart(8, "0"));
+}
+
 export class Comparing {
-  // `newClient` starts a debugger. `page.walk` is the walk over the opened run.
-  constructor(page, newClient) {
+  // `newClient` starts a debugger, and `keep` keeps a run for a reload. `page.walk` is the walk over the opened run.
+  constructor(page, newClient, keep) {
     this.page = page;
     this.newClient = newClient;
+    this.keep = keep;
     this.client = null;
+  }
+
+  // Shows the comparison that an address tells of, or none. The other run is one that this browser has kept, or else a file to be chosen.
+  /** @param {Address["against"]} against */
+  async follow(against) {
+    const { walk } = this.page;
+    const shown = walk?.shown.other?.compared.digest;
+    if (!walk || against?.digest === shown) return;
+    if (against === null) return walk.compare(null);
+    const kept = await recallByEnd(against.digest).catch(() => undefined);
+    if (walk !== this.page.walk) return;
+    if (kept) return this.compare(kept);
+    tell("This link compares with ", outside(against.name), ", which this browser doesn't have: choose that file by “compare…”.");
   }
 
   // Takes the file of another run, with its names beside it.
@@ -52,8 +78,18 @@ export class Comparing {
     const found = await during(["comparing with ", outside(source.name)],
       () => walk.run.client.request("against", { journal, channels, lastPlace }, walk.run.names.parts, names.parts));
     if (walk !== this.page.walk) return;
-    const compared = placed(found, other);
-    walk.compare(new OtherPicture(other, walk.screen, compared), source.name);
+    const compared = { ...placed(found, other), digest: digestOf(source.bytes) };
+    this.show(new OtherPicture(other, walk.screen, compared), source);
+  }
+
+  // Shows the comparison, keeps the other run, and says so if that isn't the one of the link that was opened.
+  show(picture, source) {
+    const { walk } = this.page;
+    const wanted = walk.shown.other ? null : walk.shown.against;
+    const against = { digest: picture.compared.digest, name: source.name };
+    if (wanted && wanted.digest !== against.digest) tell(outside(source.name), " isn't the run that the link compares with.");
+    walk.compare(picture, against);
+    this.keep({ ...source, key: newKey(against.digest) });
   }
 
   // Opens the other run with a debugger of its own, or says why not.
@@ -70,7 +106,7 @@ export class Comparing {
     run.isWholeJournal = true;
     const names = source.names && namesFor(run, source.names, source.namesFile);
     if (names) run.rename(names);
-    run.closings = await this.client.request("closings");
+    await run.find();
     return run;
   }
 }

@@ -1,4 +1,5 @@
-// The runs that were dropped, in the browser's own storage, so that they survive a reload. Each has a key, which the page's history keeps.
+// The runs that were dropped, in the browser's own storage, so that they survive a reload. Each has a key, which the page's history keeps. The key of one
+// that another was compared with ends with the digest of its bytes.
 
 const STORE = "runs";
 const DAY = 24 * 60 * 60 * 1000;
@@ -40,8 +41,8 @@ async function tidy() {
   await inStore(store => store.delete(IDBKeyRange.upperBound(last)));
 }
 
-export function newKey() {
-  return `${Date.now()} ${Math.random().toString(36).slice(2)}`;
+export function newKey(end = Math.random().toString(36).slice(2)) {
+  return `${Date.now()} ${end}`;
 }
 
 export async function keep(key, source) {
@@ -52,4 +53,11 @@ export async function keep(key, source) {
 // Returns the run that was kept under a key, or undefined.
 export function recall(key) {
   return inStore(store => store.get(key));
+}
+
+// The same of the run whose key has this end.
+export async function recallByEnd(end) {
+  const keys = await inStore(store => store.getAllKeys());
+  const key = keys.find(it => it.endsWith(` ${end}`));
+  return key && recall(key);
 }

@@ -117,11 +117,6 @@ export class Losses {
     });
   }
 
-  // The channels whose receivers lost values.
-  get channels() {
-    return [...this.run.channels.keys()].filter(channel => this.byChannel[channel].length > 0);
-  }
-
   // Returns the nearest place where a loss begins or ends, after a place or before it, or null.
   next(place, isBack) {
     const index = isBack ? countUpTo(this.stops, place - 1) - 1 : countUpTo(this.stops, place);

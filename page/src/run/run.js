@@ -94,6 +94,8 @@ export class Run {
     this.totals = null;
     /** @type {Listed | null} */
     this.listed = null;
+    /** @type {Promise<void> | undefined} */
+    this.finding = undefined;
     this.receiverCounts = this.lives.map(lives => lives.filter(life => life.kind === "receiver").length);
     this.bindings = {};
     this.actorCount = this.columns.actorCount;
@@ -205,15 +207,23 @@ export class Run {
     }
   }
 
-  // Loads what is counted in the whole run, once, and goes on after each part of it, which is drawn then, and after the values of all channels. Each is
-  // asked for when the one before is there, so that a step waits for one of them at most. The values of channels where none was lost aren't needed.
+  // Loads what is found in the whole run, and goes on after each part of it, which is drawn then.
   async *findings() {
-    yield this.closings = await this.client.request("closings");
-    yield this.totals = await this.client.request("totals");
+    yield await this.find();
     yield await this.findAccount();
-    yield this.listed = new Listed(await this.client.request("lives"), this.lives, this.lastPlace + 1);
-    for (const channel of this.losses.channels) await this.values.load(channel);
-    yield;
+  }
+
+  // Loads what is found by one reading of the whole journal. It is asked for once.
+  find() {
+    this.finding ??= this.client.request("found").then(found => this.take(found));
+    return this.finding;
+  }
+
+  take({ closings, totals, lives, columns }) {
+    this.closings = closings;
+    this.totals = totals;
+    this.listed = new Listed(lives, this.lives, this.lastPlace + 1);
+    this.values.take(columns);
   }
 
   // Makes the account of a run whose names have none.
@@ -227,9 +237,11 @@ export class Run {
 
   // Loads what is found in the beginning of a run. Losses that are open at its end are left out, so their channels aren't known.
   async findBeginning() {
-    this.closings = await this.client.request("closings");
-    const channels = [...this.channels.keys()].filter(channel => this.channels[channel].kind === "broadcast");
-    await Promise.all(channels.map(channel => this.values.load(channel)));
+    this.finding = this.client.request("found").then(({ closings, columns }) => {
+      this.closings = closings;
+      this.values.take(columns);
+    });
+    await this.finding;
   }
 
   async statesAt(places) {

@@ -30,15 +30,17 @@ export class Shown {
     this.table = { isOpen: false, isAtFirst: true, key: "lost", isDown: true };
     /** @type {import("../draw/other_picture.js").OtherPicture | null} the run that this one is compared with */
     this.other = null;
+    /** @type {Address["against"]} which run that is, or would be if the browser had it */
+    this.against = null;
   }
 
   // What a link keeps, where the bands are folded as at first as this text says.
   /** @returns {Address} */
   address(folds, firstFolds) {
-    const { place, from, to, filter, isByNumber, stop } = this;
+    const { place, from, to, filter, isByNumber, stop, against } = this;
     return {
       place, view: [from, to], fold: folds === firstFolds ? null : folds, filter: filter || null, order: isByNumber ? "number" : null,
-      stop: stop === LAG ? null : stop,
+      stop: stop === LAG ? null : stop, against,
     };
   }
 }

@@ -1,5 +1,5 @@
-// The values of a run's broadcasts by number, from 0 on in the order of their sends, with the places where they were sent and overwritten. They are
-// loaded channel by channel, for those where a receiver lost some.
+// The values of a run's channels by number, with the places where they were sent and overwritten: those of a broadcast from 0 on in the order of their
+// sends.
 
 // Returns how many of these ascending numbers are at most this one.
 export function countUpTo(numbers, most) {
@@ -16,39 +16,39 @@ export function countUpTo(numbers, most) {
 export class Values {
   constructor(run) {
     this.run = run;
-    /** @type {Map<number, ValuePlaces>} */
-    this.tables = new Map();
-    this.loading = new Map();
+    /** @type {ValuePlaces[] | null} by channel, once they are loaded */
+    this.tables = null;
   }
 
-  // Whether a channel's values are loaded.
-  has(channel) {
-    return this.tables.has(channel);
+  // Whether they are loaded.
+  get areThere() {
+    return this.tables !== null;
   }
 
-  // Loads a channel's values. They are asked for once.
-  load(channel) {
-    if (!this.loading.has(channel)) this.loading.set(channel, this.ask(channel));
-    return this.loading.get(channel);
-  }
-
-  async ask(channel) {
-    this.tables.set(channel, await this.run.client.request("values", channel));
+  // Takes the values of all channels in columns.
+  /** @param {ValueColumns} columns */
+  take({ sends, overwritten, ends }) {
+    let start = 0;
+    this.tables = Array.from(ends, end => {
+      const table = { sends: sends.subarray(start, end), overwritten: overwritten.subarray(start, end) };
+      start = Math.max(start, end);
+      return table;
+    });
   }
 
   // How many values of a channel are overwritten up to a place.
   overwrittenUpTo(channel, place) {
-    return countUpTo(this.tables.get(channel).overwritten, place);
+    return countUpTo(this.tables[channel].overwritten, place);
   }
 
   // The places where the values of a channel were overwritten, in their order. Those that never were come last, past every place.
   overwritten(channel) {
-    return this.tables.get(channel).overwritten;
+    return this.tables[channel].overwritten;
   }
 
   // The place where a value was sent.
   sendOf(channel, number) {
-    return this.tables.get(channel).sends[number];
+    return this.tables[channel].sends[number];
   }
 
   // A value's text, from the call that sent it.

@@ -3,6 +3,8 @@
 const ANSWERED = 0;
 const TOO_SMALL = 1;
 const FIRST_ROOM = 1 << 20;
+// For each byte of input, how many more an export is likely to write. A listing is somewhat longer than its journal.
+const LIKELY = { ttd_session: 2, ttd_salvage: 1, ttd_levels: 1, ttd_found: 1 };
 const COUNT_SIZE = 8;
 
 export class Debugger {
@@ -25,7 +27,7 @@ export class Debugger {
   // failure the next call uses a fresh instance.
   call(name, inputs, numbers = []) {
     try {
-      return this.answer(this.exports[name], inputs, numbers);
+      return this.answer(name, inputs, numbers);
     } catch (error) {
       this.start();
       throw error;
@@ -40,12 +42,12 @@ export class Debugger {
     this.roomAt = this.take(this.room);
   }
 
-  answer(ask, inputs, numbers) {
-    // A listing is somewhat longer than its journal. If the room is too small, everything is computed twice.
-    const likely = inputs.reduce((sum, bytes) => sum + 2 * bytes.length, FIRST_ROOM);
+  answer(name, inputs, numbers) {
+    // If the room is too small, everything is computed twice.
+    const likely = inputs.reduce((sum, bytes) => sum + (LIKELY[name] ?? 0) * bytes.length, FIRST_ROOM);
     if (likely > this.room) this.widen(likely);
     const slices = inputs.flatMap(bytes => [this.put(bytes), BigInt(bytes.length)]);
-    const tried = () => ask(...slices, ...numbers, this.roomAt, BigInt(this.room), this.countAt);
+    const tried = () => this.exports[name](...slices, ...numbers, this.roomAt, BigInt(this.room), this.countAt);
     let status = tried();
     if (status === TOO_SMALL) {
       this.widen(this.count());

@@ -67,12 +67,44 @@ export function lossesIn(engine, journal, lastPlace) {
   });
 }
 
-// Returns the totals of each receiver, by channel, and then by its number.
+// Returns all else that is found in a run, by one reading of its journal text. The lines of each kind come after another, and each kind begins with other
+// letters.
+export function foundIn(engine, journal, count) {
+  const scanner = new Scanner(engine.call("ttd_found", [journal]));
+  return { closings: closingsIn(scanner, count), totals: totalsIn(scanner), lives: livesIn(scanner), columns: valuesIn(scanner, count) };
+}
+
+// Whether the next line begins with one of these letters.
+function isNext(scanner, ...letters) {
+  return letters.includes(String.fromCharCode(scanner.bytes[scanner.at]));
+}
+
+// The place from which on each of so many channels is closed, or null, and where each receiver that was there then was told so, or null, and how many
+// values it received from then on.
+/** @returns {Closings} */
+function closingsIn(scanner, count) {
+  const places = Array.from({ length: count }, () => null);
+  const told = Array.from({ length: count }, () => new Map());
+  const readOn = Array.from({ length: count }, () => new Map());
+  while (isNext(scanner, "c", "l")) {
+    const isClosing = scanner.word() === "closed";
+    const channel = scanner.number();
+    if (isClosing) {
+      places[channel] = scanner.number();
+    } else {
+      const receiver = scanner.number();
+      told[channel].set(receiver, scanner.numberOrNone());
+      readOn[channel].set(receiver, scanner.number());
+    }
+  }
+  return { places, told, readOn };
+}
+
+// The totals of each receiver, by channel, and then by its number.
 /** @returns {Totals[]} */
-export function totalsIn(engine, journal) {
-  const scanner = new Scanner(engine.call("ttd_totals", [journal]));
+function totalsIn(scanner) {
   const totals = [];
-  while (scanner.at < scanner.bytes.length) {
+  while (isNext(scanner, "b", "w")) {
     const isBroadcast = scanner.word() === "broadcast";
     const channel = scanner.number();
     const receiver = scanner.number();
@@ -95,46 +127,28 @@ function changesIn(scanner) {
   return { missed: scanner.number(), unlooked: scanner.number() };
 }
 
-// Returns the place from which on each of so many channels is closed, or null, and where each receiver that was there then was told so, or null, and
-// how many values it received from then on.
-/** @returns {Closings} */
-export function closingsIn(engine, journal, count) {
-  const scanner = new Scanner(engine.call("ttd_closings", [journal]));
-  const places = Array.from({ length: count }, () => null);
-  const told = Array.from({ length: count }, () => new Map());
-  const readOn = Array.from({ length: count }, () => new Map());
-  while (scanner.at < scanner.bytes.length) {
-    const isClosing = scanner.word() === "closed";
-    const channel = scanner.number();
-    if (isClosing) {
-      places[channel] = scanner.number();
-    } else {
-      const receiver = scanner.number();
-      told[channel].set(receiver, scanner.numberOrNone());
-      readOn[channel].set(receiver, scanner.number());
-    }
-    scanner.goBehind(LINE_END);
-  }
-  return { places, told, readOn };
+// The lines of the handles of all channels.
+function livesIn(scanner) {
+  const start = scanner.at;
+  while (isNext(scanner, "h")) scanner.skipBehind(LINE_END);
+  return scanner.bytes.slice(start, scanner.at);
 }
 
-// Returns the lines of the handles of all channels.
-export function livesIn(engine, journal) {
-  return engine.call("ttd_lives", [journal]);
-}
-
-// Returns where each value of a channel was sent and overwritten, by its number.
-export function valuesIn(engine, journal, channel) {
-  const scanner = new Scanner(engine.call("ttd_values", [journal], [channel]));
-  const count = scanner.bytes.reduce((lines, byte) => lines + Number(byte === LINE_END), 0);
-  const values = { sends: new Uint32Array(count), overwritten: new Uint32Array(count) };
-  for (let number = 0; number < count; number++) {
-    // Before the places are the word, the channel, the number and the value.
-    for (let part = 0; part < 4; part++) scanner.skipBehind(SPACE);
-    values.sends[number] = scanner.number();
-    values.overwritten[number] = scanner.numberOrNone() ?? NEVER;
+// The values of all channels in columns, one channel after the other: where each was sent and overwritten. `ends` has for each of so many channels the
+// index past its last value, or 0 if it has none.
+/** @returns {ValueColumns} */
+function valuesIn(scanner, count) {
+  const lines = scanner.bytes.subarray(scanner.at).reduce((lines, byte) => lines + Number(byte === LINE_END), 0);
+  const columns = { sends: new Uint32Array(lines), overwritten: new Uint32Array(lines), ends: new Uint32Array(count) };
+  for (let i = 0; i < lines; i++) {
+    scanner.skipBehind(SPACE);
+    columns.ends[scanner.number()] = i + 1;
+    // Before the places are the value's number and the value.
+    for (let part = 0; part < 2; part++) scanner.skipBehind(SPACE);
+    columns.sends[i] = scanner.number();
+    columns.overwritten[i] = scanner.numberOrNone() ?? NEVER;
   }
-  return values;
+  return columns;
 }
 
 // Returns the greatest levels of the receivers of some channels in stretches of `each` places from `from` on, with their spans. There is a line for

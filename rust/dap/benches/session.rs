@@ -1,5 +1,6 @@
-//! What an editor waits for, in processor time of the adapter: `cargo bench`, on Linux. It fails where something takes longer than it may, times what
-//! the variable `YOVANELUM_SLACK` says: a busy machine's processors are slower.
+//! What an editor waits for, in processor time of the adapter: `cargo bench`, on Linux. It fails
+//! where something takes longer than it may, times what the variable `YOVANELUM_SLACK` says: a busy
+//! machine's processors are slower.
 
 use serde_json::{Value, json};
 use std::cmp::Ordering;
@@ -14,7 +15,8 @@ use yovanelum::{Recorder, broadcast};
 const CAPACITY: usize = 1024;
 const LATE: usize = 2000;
 
-/// Saves a run of a sender and two receivers, of which one is late, and returns the line of the sends.
+/// Saves a run of a sender and two receivers, of which one is late, and returns the line of the
+/// sends.
 fn save(path: &Path, sends: usize) -> u32 {
     let recorder = Recorder::new();
     let _entered = recorder.enter();

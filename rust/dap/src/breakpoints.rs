@@ -1,4 +1,5 @@
-//! Breakpoints. Each is the sorted list of the places that it stops at, so the next one in either direction is a binary search.
+//! Breakpoints. Each is the sorted list of the places that it stops at, so the next one in either
+//! direction is a binary search.
 
 mod filters;
 mod kinds;
@@ -46,7 +47,8 @@ impl Breakpoints {
         self.sets.values().flatten()
     }
 
-    /// Replaces a set, and returns the answer. A breakpoint with an error is answered as one that isn't verified.
+    /// Replaces a set, and returns the answer. A breakpoint with an error is answered as one that
+    /// isn't verified.
     fn replace(&mut self, set: String, asked: Vec<Asked<'_>>, recording: &mut Recording) -> Answer {
         let (mut kept, mut told) = (vec![], vec![]);
         for one in asked {
@@ -140,13 +142,14 @@ impl Count {
 
 /// Returns the place of a sorted list that is nearest before or after this one.
 pub(crate) fn nearest(places: &[u32], place: u32, is_back: bool) -> Option<u32> {
-    match is_back {
-        true => places[..places.partition_point(|it| *it < place)]
+    if is_back {
+        places[..places.partition_point(|it| *it < place)]
             .last()
-            .copied(),
-        false => places
+            .copied()
+    } else {
+        places
             .get(places.partition_point(|it| *it <= place))
-            .copied(),
+            .copied()
     }
 }
 

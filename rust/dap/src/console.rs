@@ -123,9 +123,10 @@ impl Debuggee {
     fn searched(&mut self, condition: &str, is_back: bool) -> Answer<String> {
         let condition = self.condition(condition)?;
         let walk = self.recording.at(self.place);
-        let found = match is_back {
-            true => walk.find_back(&condition),
-            false => walk.find_forward(&condition),
+        let found = if is_back {
+            walk.find_back(&condition)
+        } else {
+            walk.find_forward(&condition)
         };
         let Some(hit) = found else {
             return Ok(format!("no hit, {}", self.place_line()));

@@ -1,4 +1,5 @@
-//! Expressions of names: `audit.lag > 0`, `closed orders`, `reply == "lagged 1"`. They read what is shown at a place, and run nothing.
+//! Expressions of names: `audit.lag > 0`, `closed orders`, `reply == "lagged 1"`. They read what is
+//! shown at a place, and run nothing.
 
 mod reading;
 mod tokens;
@@ -106,13 +107,15 @@ pub(crate) enum Expression {
 impl Expression {
     /// Reads an expression over the names of a run.
     pub(crate) fn read(text: &str, recording: &Recording) -> Answer<Expression> {
-        match text.len() > LONGEST {
-            true => Err(Refusal::new("an expression has more than 4,096 bytes")),
-            false => reading::read(text, recording),
+        if text.len() > LONGEST {
+            Err(Refusal::new("an expression has more than 4,096 bytes"))
+        } else {
+            reading::read(text, recording)
         }
     }
 
-    /// Returns the value at the walk's place, or `None` where it is of something that isn't alive there.
+    /// Returns the value at the walk's place, or `None` where it is of something that isn't alive
+    /// there.
     pub(crate) fn value(&self, recording: &Recording) -> Option<Value> {
         match self {
             Expression::Value(operand) => operand.value(recording),
@@ -263,7 +266,8 @@ impl fmt::Display for Value {
     }
 }
 
-/// Returns what a name stands for: a receiver, a channel, or an actor; or `channel0`, or the receiver of a number as `orders.receiver1`.
+/// Returns what a name stands for: a receiver, a channel, or an actor; or `channel0`, or the
+/// receiver of a number as `orders.receiver1`.
 pub(crate) fn thing_of(name: &str, recording: &Recording) -> Option<Thing> {
     recording.things.find(name)
 }

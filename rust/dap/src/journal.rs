@@ -1,14 +1,11 @@
 //! The files of a journal.
 
 use crate::{Answer, Refusal};
-use std::fs::{self, File};
-use std::io::{self, Read};
+use std::fs;
+use std::io;
 use std::path::{Path, PathBuf};
 use std::time::SystemTime;
-use yovanelum::debugger::recorded::test_of;
-
-/// How many bytes a journal or its names have at most, as for `ttd`.
-const MOST_BYTES: u64 = 268_435_456;
+use yovanelum::debugger::recorded::{read_whole, test_of};
 
 /// How many folders deep journals are below `target/yovanelum`, and how many files are looked at.
 const DEPTH: usize = 3;
@@ -59,16 +56,8 @@ impl Journal {
     }
 }
 
-fn read_whole(path: &Path) -> io::Result<Vec<u8>> {
-    let mut text = vec![];
-    let mut file = File::open(path)?.take(MOST_BYTES + 1);
-    match file.read_to_end(&mut text)? as u64 > MOST_BYTES {
-        true => Err(io::Error::other("it has more than 268,435,456 bytes")),
-        false => Ok(text),
-    }
-}
-
-/// Returns the newest journal below a target folder, of a test if one is named, and not older than this.
+/// Returns the newest journal below a target folder, of a test if one is named, and not older than
+/// this.
 pub(crate) fn newest(
     target: &Path,
     test: Option<&str>,
@@ -103,10 +92,10 @@ fn collect(folder: &Path, depth: usize, journals: &mut Vec<(SystemTime, PathBuf)
     }
 }
 
-/// Whether a journal is of the test of this name: that of its recorder, or cargo's with or without its modules.
+/// Whether a journal is of the test of this name: that of its recorder, or cargo's with or without
+/// its modules.
 fn is_of(journal: &Path, test: &str) -> bool {
-    let names = fs::read_to_string(journal.with_extension("names")).ok();
-    let Some((name, thread)) = names.and_then(|names| test_of(&names)) else {
+    let Some((name, thread)) = test_of(journal) else {
         return journal
             .file_stem()
             .is_some_and(|stem| stem.to_string_lossy() == test);

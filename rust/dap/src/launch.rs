@@ -79,7 +79,8 @@ impl Launch {
         })
     }
 
-    /// Returns the newest journal, of the test if one is named, that isn't older than this. Cargo is asked for its folder, if it may be run.
+    /// Returns the newest journal, of the test if one is named, that isn't older than this. Cargo
+    /// is asked for its folder, if it may be run.
     pub(crate) fn newest(&self, since: Option<SystemTime>, runs_cargo: bool) -> Answer<PathBuf> {
         let target = self.target(runs_cargo);
         let since = since.map(|since| since - COARSENESS);

@@ -1,7 +1,9 @@
-//! A debug adapter for recorded runs: an editor steps through the journal of a failing test, forwards and backwards.
+//! A debug adapter for recorded runs: an editor steps through the journal of a failing test,
+//! forwards and backwards.
 //!
-//! An actor is a thread, a call is a stop at its line in the sources, and what the channels hold is in the variables. The states are those of the
-//! proved core, by [`yovanelum::debugger`], and the words are those of the report.
+//! An actor is a thread, a call is a stop at its line in the sources, and what the channels hold is
+//! in the variables. The states are those of the proved core, by [`yovanelum::debugger`], and the
+//! words are those of the report.
 
 mod arguments;
 mod breakpoints;

@@ -54,9 +54,10 @@ fn length_in(line: &str) -> io::Result<Option<u64>> {
 fn body(input: &mut impl BufRead, length: u64) -> io::Result<Vec<u8>> {
     let mut bytes = vec![];
     input.take(length).read_to_end(&mut bytes)?;
-    match bytes.len() as u64 == length {
-        true => Ok(bytes),
-        false => Err(wrong("the stream ends in a message")),
+    if bytes.len() as u64 == length {
+        Ok(bytes)
+    } else {
+        Err(wrong("the stream ends in a message"))
     }
 }
 

@@ -15,7 +15,8 @@ pub(crate) const REAL_CALL: u64 = i32::MAX as u64;
 /// How many lines log points print in one move.
 const MOST_LINES: usize = 10_000;
 
-/// A run that is debugged: the place, the breakpoints, and what the client was shown at the last stop.
+/// A run that is debugged: the place, the breakpoints, and what the client was shown at the last
+/// stop.
 pub(crate) struct Debuggee {
     pub(crate) recording: Recording,
     pub(crate) bases: Bases,
@@ -128,12 +129,14 @@ impl Debuggee {
         ));
     }
 
-    /// Goes to the thread's own next or last call. A granularity of instructions is one place, whoever calls.
+    /// Goes to the thread's own next or last call. A granularity of instructions is one place,
+    /// whoever calls.
     pub(crate) fn step(&mut self, given: Arguments<'_>, is_back: bool) -> Answer {
         let actor = self.actor_of(given.need_number("threadId")?)?;
-        let one = match is_back {
-            true => self.place.checked_sub(1),
-            false => Some(self.place + 1).filter(|place| *place <= self.recording.len()),
+        let one = if is_back {
+            self.place.checked_sub(1)
+        } else {
+            Some(self.place + 1).filter(|place| *place <= self.recording.len())
         };
         let own = || nearest(self.recording.places_of_actor(actor), self.place, is_back);
         let found = match given.text("granularity")? {
@@ -147,18 +150,21 @@ impl Debuggee {
         Ok(Value::Null)
     }
 
-    /// Stops at the end of the run in a direction. The session goes on, so that the user can go back from there.
+    /// Stops at the end of the run in a direction. The session goes on, so that the user can go
+    /// back from there.
     fn end(&mut self, is_back: bool) {
-        match is_back {
-            true => self.go(0, Stop::saying("step", "the start of the run")),
-            false => self.go(
+        if is_back {
+            self.go(0, Stop::saying("step", "the start of the run"))
+        } else {
+            self.go(
                 self.recording.len(),
                 Stop::saying("step", "the end of the run"),
-            ),
+            )
         }
     }
 
-    /// Follows the value of the call: from a send to the receive of what it sent, and from a receive to its send. Without one, one place on.
+    /// Follows the value of the call: from a send to the receive of what it sent, and from a
+    /// receive to its send. Without one, one place on.
     pub(crate) fn step_in(&mut self, given: Arguments<'_>) -> Answer {
         self.actor_of(given.need_number("threadId")?)?;
         let chosen = given.number("targetId")?;
@@ -184,9 +190,10 @@ impl Debuggee {
     /// Goes to the next call of any actor.
     pub(crate) fn step_out(&mut self, given: Arguments<'_>) -> Answer {
         self.actor_of(given.need_number("threadId")?)?;
-        match self.place < self.recording.len() {
-            true => self.go(self.place + 1, Stop::of("step")),
-            false => self.end(false),
+        if self.place < self.recording.len() {
+            self.go(self.place + 1, Stop::of("step"))
+        } else {
+            self.end(false)
         }
         Ok(Value::Null)
     }
@@ -246,9 +253,12 @@ impl Debuggee {
     fn print_logs(&mut self, to: u32, is_back: bool) {
         let mut hits = vec![];
         for breakpoint in self.breakpoints.all().filter(|it| it.log.is_some()) {
-            let is_between = |place: &&u32| match is_back {
-                true => **place < self.place && **place >= to,
-                false => **place > self.place && **place <= to,
+            let is_between = |place: &&u32| {
+                if is_back {
+                    **place < self.place && **place >= to
+                } else {
+                    **place > self.place && **place <= to
+                }
             };
             hits.extend(
                 breakpoint

@@ -1,4 +1,5 @@
-//! The real call: the test is built, and the editor starts its own debugger on it, which stops before the call in a replay.
+//! The real call: the test is built, and the editor starts its own debugger on it, which stops
+//! before the call in a replay.
 
 use crate::arguments::Arguments;
 use crate::inbox::Incoming;
@@ -9,7 +10,8 @@ use serde_json::{Map, Value, json};
 use std::path::{Path, PathBuf};
 use std::sync::mpsc::Sender;
 
-/// What the program of a test is told beside the test's name, which may be one that is ignored unless it is asked for.
+/// What the program of a test is told beside the test's name, which may be one that is ignored
+/// unless it is asked for.
 const WORDS: [&str; 3] = ["--exact", "--include-ignored", "--nocapture"];
 
 /// The type of the debugger that the editor starts, unless the launch says otherwise.
@@ -115,7 +117,8 @@ impl Native {
         })
     }
 
-    /// Returns the program of the test's target, and the folder of its package, by cargo's messages.
+    /// Returns the program of the test's target, and the folder of its package, by cargo's
+    /// messages.
     fn program_of(&self, test: &Test, messages: &[u8]) -> Answer<(String, PathBuf)> {
         let lines = messages.split(|byte| *byte == b'\n');
         let messages = lines.filter_map(|line| serde_json::from_slice::<Value>(line).ok());
@@ -138,7 +141,8 @@ impl Native {
         }
     }
 
-    /// Returns the configuration that starts the editor's debugger. The members of the launch's own come last.
+    /// Returns the configuration that starts the editor's debugger. The members of the launch's own
+    /// come last.
     pub(crate) fn configuration(&self, start: &Start) -> Value {
         let mut own = match &self.launch.native {
             Value::String(of_type) => json!({"type": of_type}),
@@ -177,7 +181,8 @@ impl Native {
     }
 }
 
-/// Returns the kind of a target, its program and the folder of its package, if this message of cargo's is of the tests of this target.
+/// Returns the kind of a target, its program and the folder of its package, if this message of
+/// cargo's is of the tests of this target.
 fn program_in(message: &Value, target: &str) -> Option<(String, String, PathBuf)> {
     let is_test = message.get("profile")?.get("test")?.as_bool()?;
     let of = message.get("target")?;
@@ -216,13 +221,15 @@ impl Start {
 /// Returns a text as one word of a shell.
 fn quoted(text: &str) -> String {
     let is_plain = |c: char| c.is_ascii_alphanumeric() || "_-./:=+,@%".contains(c);
-    match !text.is_empty() && text.chars().all(is_plain) {
-        true => text.to_string(),
-        false => format!("'{}'", text.replace('\'', r"'\''")),
+    if !text.is_empty() && text.chars().all(is_plain) {
+        text.to_string()
+    } else {
+        format!("'{}'", text.replace('\'', r"'\''"))
     }
 }
 
-/// Returns how the launch says that the editor's debugger is started: the type of a configuration, or members of one.
+/// Returns how the launch says that the editor's debugger is started: the type of a configuration,
+/// or members of one.
 pub(crate) fn of_launch(given: Arguments<'_>) -> Answer<Value> {
     match given.value().get("nativeDebugger") {
         None | Some(Value::Null) => Ok(Value::Null),

@@ -15,7 +15,7 @@ pub(crate) type Places = Vec<u32>;
 const UNKNOWN: u32 = u32::MAX;
 
 /// A call that still waits at the end.
-pub(crate) struct Wait {
+pub(crate) struct WaitAtEnd {
     pub(crate) actor: u32,
     pub(crate) channel: u32,
     pub(crate) text: String,
@@ -47,7 +47,7 @@ pub(crate) struct Recording {
     pub(crate) sources: Sources,
     pub(crate) facts: Vec<Fact>,
     pub(crate) losses: Vec<Loss>,
-    pub(crate) waits: Vec<Wait>,
+    pub(crate) waits: Vec<WaitAtEnd>,
     /// Each receiver that was created, as channel and handle.
     pub(crate) receivers: BTreeSet<(u32, u32)>,
     /// What the names of receivers, channels and actors stand for.
@@ -252,7 +252,7 @@ fn losses_in(account: &Value) -> Vec<Loss> {
     list(account, "losses").iter().filter_map(loss).collect()
 }
 
-fn waits_in(account: &Value) -> Vec<Wait> {
+fn waits_in(account: &Value) -> Vec<WaitAtEnd> {
     let location = |wait: &Value| {
         let [file, line, column] = list(wait, "location") else {
             return None;
@@ -260,7 +260,7 @@ fn waits_in(account: &Value) -> Vec<Wait> {
         Some((file.as_str()?.to_string(), line.as_u64()?, column.as_u64()?))
     };
     let wait = |wait: &Value| {
-        Some(Wait {
+        Some(WaitAtEnd {
             actor: number(wait, "actor")? as u32,
             channel: number(wait, "channel")? as u32,
             text: wait.get("text")?.as_str()?.to_string(),

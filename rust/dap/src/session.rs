@@ -1,4 +1,5 @@
-//! A session with one client: requests in, and for each a response. Before a launch little is answered.
+//! A session with one client: requests in, and for each a response. Before a launch little is
+//! answered.
 
 use crate::arguments::Arguments;
 use crate::breakpoints::FILTERS;
@@ -66,7 +67,8 @@ struct Session<W> {
     is_over: bool,
 }
 
-/// Serves a client until it disconnects or its stream ends. Returns `false` if the stream had bytes that are no message.
+/// Serves a client until it disconnects or its stream ends. Returns `false` if the stream had bytes
+/// that are no message.
 pub fn serve(input: impl Read + Send + 'static, output: impl Write, options: Options) -> bool {
     let mut session = Session {
         inbox: Inbox::over(input),
@@ -354,7 +356,8 @@ impl<W: Write> Session<W> {
         }
     }
 
-    /// Runs a test, whose output is printed. A request to cancel, to terminate or to disconnect ends it.
+    /// Runs a test, whose output is printed. A request to cancel, to terminate or to disconnect
+    /// ends it.
     fn run_test(&mut self, launch: &Launch, test: &str) -> Answer<PathBuf> {
         let mut running = launch.start(test, &self.inbox.sender())?;
         if self.has_progress {
@@ -399,7 +402,8 @@ impl<W: Write> Session<W> {
     }
 }
 
-/// Whether a message ends the test that runs: it is one of those that need no answer of the test's, or there are no more.
+/// Whether a message ends the test that runs: it is one of those that need no answer of the test's,
+/// or there are no more.
 fn ends_test(incoming: &Incoming) -> bool {
     let Incoming::Message(bytes) = incoming else {
         return true;

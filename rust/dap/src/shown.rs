@@ -9,7 +9,8 @@ use crate::{Answer, Refusal};
 use serde_json::{Value, json};
 use yovanelum::debugger::Channel;
 
-/// How many frames are returned where the client doesn't say, and at most. The total is always said.
+/// How many frames are returned where the client doesn't say, and at most. The total is always
+/// said.
 const FRAMES: u64 = 200;
 const MOST_FRAMES: u64 = 10_000;
 
@@ -31,7 +32,8 @@ impl Debuggee {
         Ok(json!({"threads": threads.collect::<Vec<_>>()}))
     }
 
-    /// Returns the calls of an actor up to the place, the last one first. At the end, the call that it waits in is above them.
+    /// Returns the calls of an actor up to the place, the last one first. At the end, the call that
+    /// it waits in is above them.
     pub(crate) fn stack_trace(&mut self, given: Arguments<'_>) -> Answer {
         let actor = self.actor_of(given.need_number("threadId")?)?;
         let start = given.number("startFrame")?.unwrap_or(0);
@@ -73,9 +75,10 @@ impl Debuggee {
 
     fn frame_of_call(&mut self, place: u32, is_top: bool) -> Value {
         let call = self.call_text(place);
-        let (name, at) = match is_top {
-            true => (call, self.place),
-            false => (format!("call {place}: {call}"), place),
+        let (name, at) = if is_top {
+            (call, self.place)
+        } else {
+            (format!("call {place}: {call}"), place)
         };
         let mut frame = self.numbered(
             Frame {

@@ -36,7 +36,8 @@ impl Sources {
         }
     }
 
-    /// Finds all sources of a run. Returns a line for each that isn't here, or was changed since the run.
+    /// Finds all sources of a run. Returns a line for each that isn't here, or was changed since
+    /// the run.
     pub(crate) fn faults(&mut self, names: &Recorded) -> Vec<String> {
         if let Some(root) = names.root() {
             self.roots
@@ -92,7 +93,8 @@ impl Sources {
         self.found.keys().map(String::as_str)
     }
 
-    /// Returns a source as the protocol has it. One that isn't here has a reference, by which the editor asks for a text.
+    /// Returns a source as the protocol has it. One that isn't here has a reference, by which the
+    /// editor asks for a text.
     pub(crate) fn source(&self, file: &str) -> Value {
         let name = Path::new(file).file_name().unwrap_or_default();
         let name = name.to_string_lossy();

@@ -59,7 +59,8 @@ impl Debuggee {
     }
 }
 
-/// The number of a value that a call sent or received at a place: how many were sent before it, or the version of a watch.
+/// The number of a value that a call sent or received at a place: how many were sent before it, or
+/// the version of a watch.
 fn number_at(recording: &mut Recording, place: u32, entry: &Entry) -> Option<u64> {
     let channel = recording.at(place).channel(entry.channel())?;
     match (channel, entry.reply()) {

@@ -10,7 +10,8 @@ use std::collections::BTreeSet;
 const LAST_LINE: u32 = 100_000;
 
 impl Debuggee {
-    /// Returns the lines of the report, as events that the client prints. Those of calls can be followed to their places in the sources.
+    /// Returns the lines of the report, as events that the client prints. Those of calls can be
+    /// followed to their places in the sources.
     pub(crate) fn report_lines(&self) -> Vec<Value> {
         let lines = self.recording.names.report().lines();
         let lines = lines.map(|line| {

@@ -82,9 +82,10 @@ impl Debuggee {
             .recording
             .receivers
             .contains(&(entry.channel(), entry.handle()));
-        let by = match is_receiver {
-            true => names.receiver(entry.channel(), entry.handle()),
-            false => names.sender(entry.channel(), entry.handle()),
+        let by = if is_receiver {
+            names.receiver(entry.channel(), entry.handle())
+        } else {
+            names.sender(entry.channel(), entry.handle())
         };
         let mut variables = vec![
             variable("call", names.call(call.into(), &entry)),
@@ -106,20 +107,21 @@ impl Debuggee {
         let Some(count) = shown.map(|shown| shown.receivers().count()) else {
             return vec![];
         };
-        let mut variables = match count <= FEW {
-            true => self.receivers(
+        let mut variables = if count <= FEW {
+            self.receivers(
                 channel,
                 at,
                 Range {
                     start: 0,
                     count: MOST,
                 },
-            ),
-            false => vec![self.group(
+            )
+        } else {
+            vec![self.group(
                 variable("receivers", count.to_string()),
                 Group::Receivers(channel, at),
                 count,
-            )],
+            )]
         };
         variables.extend(self.contents(channel, at));
         variables.extend(self.senders(channel));
@@ -128,7 +130,8 @@ impl Debuggee {
         variables
     }
 
-    /// Returns the senders of a channel, where the walk is at the place. Weak ones are there if there are any.
+    /// Returns the senders of a channel, where the walk is at the place. Weak ones are there if
+    /// there are any.
     fn senders(&self, channel: u32) -> Vec<Value> {
         let Some(shown) = self.recording.walk().channel(channel) else {
             return vec![];

@@ -6,30 +6,8 @@ use serde_json::{Value, json};
 use std::fs;
 use std::io::Cursor;
 use std::path::Path;
-use support::{Folder, first_message, save_bus, this_file};
+use support::{Folder, Random, first_message, runs, save_bus, this_file};
 use yovanelum_dap::{Options, serve};
-
-/// How many streams there are: 10,000, or as many as the variable `YOVANELUM_RUNS` says.
-fn streams() -> u64 {
-    let wanted = std::env::var("YOVANELUM_RUNS").ok();
-    wanted.map_or(10_000, |wanted| wanted.parse().unwrap())
-}
-
-/// Random numbers from a seed (xorshift64*).
-struct Random(u64);
-
-impl Random {
-    fn below(&mut self, n: usize) -> usize {
-        self.0 ^= self.0 >> 12;
-        self.0 ^= self.0 << 25;
-        self.0 ^= self.0 >> 27;
-        (self.0.wrapping_mul(0x2545_F491_4F6C_DD1D) >> 33) as usize % n
-    }
-
-    fn of<'a, T>(&mut self, items: &'a [T]) -> &'a T {
-        &items[self.below(items.len())]
-    }
-}
 
 const COMMANDS: [&str; 37] = [
     "initialize",
@@ -288,8 +266,8 @@ fn each_request_of_a_random_stream_has_a_response() {
     let (journal, _) = save_bus(&folder, "bus");
     let before = contents(&folder.0);
     let (mut asked, mut answered) = (0, 0);
-    for seed in 1..=streams() {
-        let mut random = Random(seed.wrapping_mul(0x9E37_79B9_7F4A_7C15) | 1);
+    for seed in 1..=runs(10_000) {
+        let mut random = Random::new(seed);
         let values = Values { journal: &journal };
         let mut stream = vec![];
         // Most streams begin as those of editors do.
@@ -315,7 +293,8 @@ fn each_request_of_a_random_stream_has_a_response() {
             Options { runs_tests: false }
         ));
         let (all, right) = responses(&output);
-        // A byte that was changed may have made a request a response or an event, which have none, but seldom.
+        // A byte that was changed may have made a request a response or an event, which have none,
+        // but seldom.
         assert!(
             all <= requests.len() && all + 1 >= requests.len(),
             "seed {seed}: {all} responses to {}",
@@ -333,8 +312,8 @@ fn each_request_of_a_random_stream_has_a_response() {
 
 #[test]
 fn streams_that_are_no_messages_end_with_a_fault() {
-    for seed in 1..=streams() / 10 {
-        let mut random = Random(seed.wrapping_mul(0x9E37_79B9_7F4A_7C15) | 1);
+    for seed in 1..=runs(10_000) / 10 {
+        let mut random = Random::new(seed);
         let count = random.below(200);
         let bytes: Vec<u8> = (0..count)
             .map(|_| *random.of(b"Content-Length: 12\r\n\r\n{}x\xff"))

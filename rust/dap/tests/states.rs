@@ -1,4 +1,5 @@
-//! What the adapter shows of random runs is what the console of `ttd` shows, at each place and in both directions.
+//! What the adapter shows of random runs is what the console of `ttd` shows, at each place and in
+//! both directions.
 
 mod support;
 
@@ -7,30 +8,12 @@ use std::fs;
 use std::io::Write;
 use std::path::Path;
 use std::process::{Command, Stdio};
-use support::{Client, Folder};
+use support::{Client, Folder, Random, runs};
 use yovanelum::{Recorder, broadcast, named, watch};
-
-/// How many random runs are made: 1,000, or as many as the variable `YOVANELUM_RUNS` says.
-fn runs() -> u64 {
-    let wanted = std::env::var("YOVANELUM_RUNS").ok();
-    wanted.map_or(1000, |wanted| wanted.parse().unwrap())
-}
-
-/// Random numbers from a seed (xorshift64*).
-struct Random(u64);
-
-impl Random {
-    fn below(&mut self, n: usize) -> usize {
-        self.0 ^= self.0 >> 12;
-        self.0 ^= self.0 << 25;
-        self.0 ^= self.0 >> 27;
-        (self.0.wrapping_mul(0x2545_F491_4F6C_DD1D) >> 33) as usize % n
-    }
-}
 
 /// Makes random calls on a broadcast and a watch by two tasks, and saves them.
 fn save(folder: &Folder, seed: u64) -> std::path::PathBuf {
-    let mut random = Random(seed.wrapping_mul(0x9E37_79B9_7F4A_7C15) | 1);
+    let mut random = Random::new(seed);
     let recorder = Recorder::new();
     let _entered = recorder.enter();
     let (tx, rx) = broadcast::channel(1 + random.below(4));
@@ -79,7 +62,8 @@ fn console(ttd: &std::ffi::OsStr, journal: &Path, commands: &str) -> String {
     String::from_utf8(written).unwrap()
 }
 
-/// Walks by the adapter's steps, and returns what it shows, with the commands that show it in the console.
+/// Walks by the adapter's steps, and returns what it shows, with the commands that show it in the
+/// console.
 fn walked(client: &mut Client, calls: usize) -> (String, String) {
     let (mut shown, mut commands) = (String::new(), String::new());
     let mut look = |client: &mut Client, command: &str| {
@@ -110,7 +94,7 @@ fn random_runs_are_shown_as_by_the_console() {
         return;
     };
     let folder = Folder::new();
-    for seed in 1..=runs() {
+    for seed in 1..=runs(1000) {
         let journal = save(&folder, seed);
         let text = fs::read_to_string(&journal).unwrap();
         let calls = text.lines().filter(|line| line.contains(" = ")).count();

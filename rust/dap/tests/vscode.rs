@@ -1,4 +1,5 @@
-//! The extension of VS Code: its manifest says what VS Code needs, and what the adapter and the code of the extension have.
+//! The extension of VS Code: its manifest says what VS Code needs, and what the adapter and the
+//! code of the extension have.
 
 use serde_json::{Map, Value};
 use std::collections::BTreeSet;

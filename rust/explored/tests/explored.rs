@@ -1,5 +1,6 @@
-//! Bugs of order are found, and brought back by what the report names. Right programs pass. Each program is a test that is left out unless it is asked
-//! for; those that aren't run this program again to explore them.
+//! Bugs of order are found, and brought back by what the report names. Right programs pass. Each
+//! program is a test that is left out unless it is asked for; those that aren't run this program
+//! again to explore them.
 
 #[path = "explored/asked.rs"]
 mod asked;
@@ -109,7 +110,8 @@ impl Program {
         (ran.status.success(), said(&ran), json)
     }
 
-    /// Runs the program by an order, as a session does that looks for this condition, or for none. Returns its schedule.
+    /// Runs the program by an order, as a session does that looks for this condition, or for none.
+    /// Returns its schedule.
     pub fn schedule_for(&self, order: &str, condition: &str) -> String {
         let path = self.folder.join("one.schedule");
         let mut command = self.command();
@@ -146,7 +148,8 @@ pub struct Replayed {
 }
 
 impl Replayed {
-    /// Whether it has failed: by a panic, or where it is to hang, by that. One that is ended may be one that is slow, so it must not have diverged.
+    /// Whether it has failed: by a panic, or where it is to hang, by that. One that is ended may be
+    /// one that is slow, so it must not have diverged.
     pub fn fails(&self, hangs: bool) -> bool {
         let is_ended = hangs && self.code == Some(124) && !self.said.contains("diverges");
         is_ended || self.code == Some(101)
@@ -163,7 +166,8 @@ fn said(ran: &Output) -> String {
     String::from_utf8_lossy(&ran.stderr).into_owned()
 }
 
-/// Asserts that the bug of this program is found, that its report has these lines, and that the journal brings it back, or the schedule beside it.
+/// Asserts that the bug of this program is found, that its report has these lines, and that the
+/// journal brings it back, or the schedule beside it.
 fn assert_found(name: &'static str, lines: &[&str]) {
     assert_brought_back(name, lines, 10);
 }

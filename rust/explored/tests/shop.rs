@@ -57,7 +57,8 @@ fn the_guide_has_this_test_and_its_report() {
     let from = source.find("async fn the_config_is_applied").unwrap();
     let to = source.find("\n}\n").unwrap();
     assert!(manual.contains(&source[from..to]));
-    // The line before has the time and the number of the run, and those that follow it which way brings it back on a busy machine.
+    // The line before has the time and the number of the run, and those that follow it which way
+    // brings it back on a busy machine.
     let lines = found(&said);
     assert!(lines.len() >= 3, "{said}");
     for line in &lines[1..3] {

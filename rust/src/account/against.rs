@@ -1,6 +1,8 @@
-//! Two runs of one test, as one that failed and one that passed: their calls are aligned, and the first that differs is put into words.
+//! Two runs of one test, as one that failed and one that passed: their calls are aligned, and the
+//! first that differs is put into words.
 //!
-//! `docs/use/FORMATS.md` in the repository says what is aligned with what, and when a call differs. The page does the same.
+//! `docs/use/FORMATS.md` in the repository says what is aligned with what, and when a call differs.
+//! The page does the same.
 
 mod side;
 #[cfg(test)]
@@ -10,11 +12,11 @@ mod words;
 use super::visible;
 use crate::names::{Json, Names};
 use crate::run::Run;
-use side::{Call, Keys, Side};
+use side::{Keys, Side, SideCall};
 
 /// By what a call differs from the one that it is aligned with.
 #[derive(Clone, Copy, Debug, PartialEq, Eq)]
-pub(crate) enum Kind {
+pub(crate) enum DiffersBy {
     /// There is no such call in the other run.
     Missing,
     /// Its channel, its method or its handle is another one.
@@ -28,15 +30,15 @@ pub(crate) enum Kind {
     More,
 }
 
-impl Kind {
+impl DiffersBy {
     fn text(self) -> &'static str {
         match self {
-            Kind::Missing => "missing",
-            Kind::Other => "other",
-            Kind::Order => "order",
-            Kind::Value => "value",
-            Kind::Reply => "reply",
-            Kind::More => "more",
+            DiffersBy::Missing => "missing",
+            DiffersBy::Other => "other",
+            DiffersBy::Order => "order",
+            DiffersBy::Value => "value",
+            DiffersBy::Reply => "reply",
+            DiffersBy::More => "more",
         }
     }
 }
@@ -44,7 +46,7 @@ impl Kind {
 /// A call that differs, or that one of the runs alone has.
 #[derive(Clone, Copy, Debug, PartialEq, Eq)]
 pub(crate) struct Differing {
-    pub(crate) kind: Kind,
+    pub(crate) kind: DiffersBy,
     pub(crate) here: Option<u64>,
     pub(crate) there: Option<u64>,
 }
@@ -129,7 +131,7 @@ fn differing(here: &Side<'_>, there: &Side<'_>) -> Vec<Differing> {
     }
     let only = (1..).zip(has_partner).filter(|(_, has)| !has);
     found.extend(only.map(|(place, _)| Differing {
-        kind: Kind::More,
+        kind: DiffersBy::More,
         here: None,
         there: Some(place),
     }));
@@ -137,21 +139,21 @@ fn differing(here: &Side<'_>, there: &Side<'_>) -> Vec<Differing> {
 }
 
 fn kind_of(
-    (here, a): (&Side<'_>, &Call),
+    (here, a): (&Side<'_>, &SideCall),
     (there, partner): (&Side<'_>, Option<u64>),
-) -> Option<Kind> {
+) -> Option<DiffersBy> {
     let Some(partner) = partner else {
-        return Some(Kind::Missing);
+        return Some(DiffersBy::Missing);
     };
     let b = there.call(partner);
     if (a.channel, a.word, a.handle) != (b.channel, b.word, b.handle) {
-        return Some(Kind::Other);
+        return Some(DiffersBy::Other);
     }
     if (a.sends, a.is_closed) != (b.sends, b.is_closed) {
-        return Some(Kind::Order);
+        return Some(DiffersBy::Order);
     }
     if here.sent_key(a) != there.sent_key(b) {
-        return Some(Kind::Value);
+        return Some(DiffersBy::Value);
     }
-    (here.reply_key(a) != there.reply_key(b)).then_some(Kind::Reply)
+    (here.reply_key(a) != there.reply_key(b)).then_some(DiffersBy::Reply)
 }

@@ -1,6 +1,7 @@
-//! The closings of channels: who dropped the last sender, which receiver was told, and which were not.
+//! The closings of channels: who dropped the last sender, which receiver was told, and which were
+//! not.
 
-use super::fact::{Fact, Role, Step};
+use super::fact::{Fact, FactStep, Role};
 use super::{Context, visible};
 use crate::names::Json;
 use crate::run::{Closing, LateReader, Spec};
@@ -21,8 +22,9 @@ impl Closed {
     }
 }
 
-/// Returns the channels that had a receiver where they closed, in the order of the places: first those of which a receiver wasn't told. What
-/// closed after the end began is left out: that was the unwinding.
+/// Returns the channels that had a receiver where they closed, in the order of the places: first
+/// those of which a receiver wasn't told. What closed after the end began is left out: that was the
+/// unwinding.
 pub(super) fn found(context: &Context<'_>) -> Vec<Closed> {
     let closings = context.findings.closings().iter();
     let closings = closings.filter(|closing| context.failure.is_before_end(closing.place));
@@ -90,7 +92,7 @@ fn how_many_were_told(told: usize, all: usize) -> String {
 }
 
 /// Returns the first call that was told so.
-fn first_told(context: &Context<'_>, place: u64, after: &LateReader) -> Step {
+fn first_told(context: &Context<'_>, place: u64, after: &LateReader) -> FactStep {
     let naming = context.naming;
     let receiver = naming.receiver(after.channel, after.receiver).short;
     let actor = naming.actor(context.run.entry(place).actor.into());

@@ -3,7 +3,8 @@
 /// How many spaces are after each column but the last.
 const SPACES: [usize; 4] = [3, 3, 2, 3];
 
-/// A step of the run: which one, what was called, by whom, where, and what there is to say of it. What isn't known is empty.
+/// A step of the run: which one, what was called, by whom, where, and what there is to say of it.
+/// What isn't known is empty.
 pub(super) type Cells = [String; 5];
 
 fn length(text: &str) -> usize {

@@ -56,7 +56,7 @@ impl Role {
 
 /// A step of the run that a fact tells of: a call, or what ended the test or the run.
 #[derive(Debug)]
-pub(crate) struct Step {
+pub(crate) struct FactStep {
     pub(crate) place: u64,
     pub(crate) role: Role,
     pub(crate) actor: Option<u64>,
@@ -65,7 +65,7 @@ pub(crate) struct Step {
     pub(super) cells: Cells,
 }
 
-impl Step {
+impl FactStep {
     /// Which step it is, as `call 3` or `the panic`.
     pub(crate) fn name(&self) -> &str {
         &self.cells[0]
@@ -81,17 +81,19 @@ pub(crate) struct Fact {
     /// What else is known of it, by keys.
     pub(crate) members: Vec<(&'static str, Json)>,
     pub(crate) head: String,
-    pub(crate) steps: Vec<Step>,
+    pub(crate) steps: Vec<FactStep>,
     /// The line after the steps, if there is one.
     pub(crate) last: Option<String>,
-    /// The steps whose places in the sources are worth looking at, the one that is worth most first.
+    /// The steps whose places in the sources are worth looking at, the one that is worth most
+    /// first.
     pub(crate) sights: Vec<usize>,
     /// The call that is worth looking at.
     pub(crate) look: u64,
 }
 
 impl Fact {
-    /// Returns its lines. That of a step comes after the first line and those of the steps before it.
+    /// Returns its lines. That of a step comes after the first line and those of the steps before
+    /// it.
     pub(crate) fn text(&self) -> Vec<String> {
         let mut text = vec![self.head.clone()];
         text.extend(columns::aligned(self.steps.iter().map(|step| &step.cells)));
@@ -100,7 +102,7 @@ impl Fact {
     }
 
     /// Returns the steps with a known place in the sources, the one that is worth most first.
-    pub(crate) fn sights(&self) -> impl Iterator<Item = (&Step, &SourceLocation)> {
+    pub(crate) fn sights(&self) -> impl Iterator<Item = (&FactStep, &SourceLocation)> {
         let steps = self.sights.iter().map(|index| &self.steps[*index]);
         steps.filter_map(|step| Some((step, step.location.as_ref()?)))
     }

@@ -1,4 +1,5 @@
-//! How the test ended, as places of the run: its panics, which of them began the unwinding that ended it, or the error that it returned.
+//! How the test ended, as places of the run: its panics, which of them began the unwinding that
+//! ended it, or the error that it returned.
 
 use super::history::History;
 use crate::names::Names;
@@ -48,7 +49,8 @@ impl Failure {
         Failure { all, end }
     }
 
-    /// The panic or error that ended the test: what was dropped after it, its unwinding dropped, or what came of it.
+    /// The panic or error that ended the test: what was dropped after it, its unwinding dropped, or
+    /// what came of it.
     pub(super) fn end(&self) -> Option<&FailureAt> {
         self.end.map(|end| &self.all[end])
     }
@@ -66,7 +68,8 @@ impl Failure {
     }
 }
 
-/// Returns the first panic after which its actor made no other calls than drops. An actor that goes on has caught its panic.
+/// Returns the first panic after which its actor made no other calls than drops. An actor that goes
+/// on has caught its panic.
 fn unwinding(panics: &[FailureAt], history: &History) -> Option<usize> {
     panics.iter().position(|panic| {
         let actor = panic.actor;

@@ -13,7 +13,8 @@ pub(super) enum Finding {
 }
 
 impl Finding {
-    /// Returns what is found: losses, then changes of watches, then closings, each in their own order.
+    /// Returns what is found: losses, then changes of watches, then closings, each in their own
+    /// order.
     pub(super) fn all(context: &Context<'_>) -> Vec<Finding> {
         let losses = losses::found(context).into_iter().map(Finding::Loss);
         let watches = watches::found(context).into_iter();
@@ -24,8 +25,8 @@ impl Finding {
             .collect()
     }
 
-    /// Returns how many of these, which are in their order, are told in full: the first three. A close that each receiver learned of is one of them
-    /// only if nothing else was found.
+    /// Returns how many of these, which are in their order, are told in full: the first three. A
+    /// close that each receiver learned of is one of them only if nothing else was found.
     pub(super) fn told_in_full(found: &[Finding]) -> usize {
         let is_known =
             |finding: &Finding| matches!(finding, Finding::Closing(closed) if closed.is_known());

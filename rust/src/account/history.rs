@@ -1,8 +1,9 @@
-//! What happened to the handles of a run, and which actors used them. It passes over the entries once.
+//! What happened to the handles of a run, and which actors used them. It passes over the entries
+//! once.
 
 use crate::names::Names;
 use crate::reply::Reply;
-use crate::run::{Entry, Loss, Run, Spec};
+use crate::run::{Loss, Run, RunEntry, Spec};
 use crate::word::Word;
 
 /// The calls by which a receiver is told something.
@@ -21,7 +22,7 @@ const AWAITS: [Word; 3] = [Word::Changed, Word::HasChanged, Word::WaitFor];
 
 /// A send of a broadcast that reached a receiver, or a change of a watch.
 #[derive(Clone, Copy)]
-pub(super) struct Send {
+pub(super) struct SentValue {
     pub(super) place: u64,
     pub(super) value: u64,
 }
@@ -45,7 +46,7 @@ pub(super) struct ChannelHistory {
     /// How many values a broadcast retains.
     pub(super) retained: usize,
     /// The sends of a broadcast that reached a receiver, or the changes of a watch.
-    pub(super) sends: Vec<Send>,
+    pub(super) sends: Vec<SentValue>,
     handles: Vec<HandleHistory>,
 }
 
@@ -74,8 +75,8 @@ pub(super) struct History {
 }
 
 impl History {
-    /// Passes over the entries of a run, of which these are the losses in the order in which they begin. The names say which calls are those
-    /// of `wait_for`.
+    /// Passes over the entries of a run, of which these are the losses in the order in which they
+    /// begin. The names say which calls are those of `wait_for`.
     pub(super) fn of(run: &Run, losses: &[Loss], names: &Names) -> History {
         let mut history = History {
             channels: run.specs().iter().map(ChannelHistory::of).collect(),
@@ -97,7 +98,7 @@ impl History {
         history
     }
 
-    fn note(&mut self, place: u64, entry: &Entry) {
+    fn note(&mut self, place: u64, entry: &RunEntry) {
         let channel = &mut self.channels[entry.channel as usize];
         channel.note(place, entry);
         let receives = channel.is_receive(entry);
@@ -138,7 +139,8 @@ impl History {
             .map_or(0, |most| u64::from(*most) + 1)
     }
 
-    /// The place of a receiver's last receive before its loss, or 0. The loss is the one of this index.
+    /// The place of a receiver's last receive before its loss, or 0. The loss is the one of this
+    /// index.
     pub(super) fn received_before(&self, loss: usize) -> u64 {
         self.received[loss]
     }
@@ -159,7 +161,8 @@ impl History {
         self.actors.get(usize::try_from(actor).ok()?)
     }
 
-    /// Returns the actor that received by a receiver last, if it received by no other one and sent nothing on that channel.
+    /// Returns the actor that received by a receiver last, if it received by no other one and sent
+    /// nothing on that channel.
     pub(super) fn reader(&self, channel: u32, receiver: u32) -> Option<u32> {
         let user = self.channel(channel).handle(receiver)?.last_user?;
         let actor = &self.actors[user as usize];
@@ -169,7 +172,7 @@ impl History {
 }
 
 impl ActorHistory {
-    fn note(&mut self, place: u64, entry: &Entry, receives: bool, sends: bool) {
+    fn note(&mut self, place: u64, entry: &RunEntry, receives: bool, sends: bool) {
         if entry.word != Word::Drop {
             self.last_call = place;
         }
@@ -211,12 +214,13 @@ impl ChannelHistory {
         }
     }
 
-    fn note(&mut self, place: u64, entry: &Entry) {
+    fn note(&mut self, place: u64, entry: &RunEntry) {
         let sent = self.sends.len();
         match (entry.reply, entry.value) {
-            // The replies to the sends of a broadcast, and to the calls that change a watch and notify its receivers.
+            // The replies to the sends of a broadcast, and to the calls that change a watch and
+            // notify its receivers.
             (Reply::Sent(_) | Reply::Stored | Reply::Old(_) | Reply::Told(1), Some(value)) => {
-                self.sends.push(Send { place, value });
+                self.sends.push(SentValue { place, value });
             }
             (Reply::New(_), _) => {
                 let is_receiver = matches!(
@@ -246,7 +250,7 @@ impl ChannelHistory {
         self.handles.get(handle as usize)
     }
 
-    fn is_receive(&self, entry: &Entry) -> bool {
+    fn is_receive(&self, entry: &RunEntry) -> bool {
         let handle = self.handle(entry.handle);
         handle.is_some_and(|handle| handle.is_receiver) && RECEIVES.contains(&entry.word)
     }
@@ -265,13 +269,14 @@ impl ChannelHistory {
     }
 
     /// Returns the last change of a watch that came while a handle was alive.
-    pub(super) fn last_sent_to(&self, handle: u32) -> Option<&Send> {
+    pub(super) fn last_sent_to(&self, handle: u32) -> Option<&SentValue> {
         let until = self.handle(handle)?.sent_until;
         self.sends[..until.unwrap_or(self.sends.len())].last()
     }
 
-    /// Returns the sends of the values that were lost, if a send at this place overwrote the first of them.
-    pub(super) fn lost(&self, from: u64, count: u64) -> &[Send] {
+    /// Returns the sends of the values that were lost, if a send at this place overwrote the first
+    /// of them.
+    pub(super) fn lost(&self, from: u64, count: u64) -> &[SentValue] {
         let first = self.sends.partition_point(|send| send.place < from);
         let first = first.saturating_sub(self.retained);
         let last = (first + count as usize).min(self.sends.len());

@@ -1,7 +1,7 @@
 //! The account as JSON, which `yovanelum why --json` prints and a file of names has.
 
-use super::rest::Count;
-use super::{Account, Fact, Rest, Step, Wait};
+use super::rest::KindCount;
+use super::{Account, Fact, FactStep, Rest, WaitAtEnd};
 use crate::names::{Json, SourceLocation};
 use crate::run::{Loss, LossEnd};
 use std::fmt::Write;
@@ -10,7 +10,8 @@ use std::fmt::Write;
 const VERSION: u64 = 1;
 
 impl Account {
-    /// Returns the object, without an end of its last line. Each fact, each wait and each loss is on a line of its own.
+    /// Returns the object, without an end of its last line. Each fact, each wait and each loss is
+    /// on a line of its own.
     pub(crate) fn to_json(&self) -> String {
         let mut out = format!("{{\n  \"version\": {VERSION}");
         push_member(&mut out, "calls", &Json::number(self.calls));
@@ -80,7 +81,7 @@ fn fact(fact: &Fact) -> Json {
 }
 
 /// A step of a fact, with the index of its line.
-fn place(index: usize, step: &Step) -> Json {
+fn place(index: usize, step: &FactStep) -> Json {
     Json::object(vec![
         ("place", Json::number(step.place)),
         ("role", Json::text(step.role.word())),
@@ -91,7 +92,7 @@ fn place(index: usize, step: &Step) -> Json {
 }
 
 fn rest(rest: &Rest) -> Json {
-    let count = |count: &Count, of: &'static str, sum: &'static str| {
+    let count = |count: &KindCount, of: &'static str, sum: &'static str| {
         let members = [(of, count.of), (sum, count.sum)];
         Json::object(
             members
@@ -109,7 +110,7 @@ fn rest(rest: &Rest) -> Json {
     ])
 }
 
-fn wait(wait: &Wait) -> Json {
+fn wait(wait: &WaitAtEnd) -> Json {
     Json::object(vec![
         ("actor", Json::number(wait.actor)),
         ("channel", Json::number(wait.channel)),

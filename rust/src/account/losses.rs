@@ -1,8 +1,9 @@
-//! The losses of a run: which receiver lost how many values, which send began it, and whether the receiver was told.
+//! The losses of a run: which receiver lost how many values, which send began it, and whether the
+//! receiver was told.
 
-use super::fact::{Fact, Role, Step};
+use super::fact::{Fact, FactStep, Role};
 use super::failure::FailureAt;
-use super::history::Send;
+use super::history::SentValue;
 use super::naming::Called;
 use super::{Context, visible};
 use crate::names::Json;
@@ -46,31 +47,31 @@ pub(super) struct Lost {
 
 /// How a loss ended, as the account tells it.
 #[derive(Clone, Copy)]
-enum End {
+enum ToldEnd {
     Told(u64),
     Dropped(u64),
     Failure(FailureAt),
     Open,
 }
 
-impl End {
+impl ToldEnd {
     /// A drop after the end began tells nothing: the test had failed before.
-    fn of(context: &Context<'_>, loss: &Loss) -> End {
+    fn of(context: &Context<'_>, loss: &Loss) -> ToldEnd {
         let failure = context.failure;
         match (loss.end, failure.end()) {
-            (LossEnd::Told(place), _) => End::Told(place),
-            (LossEnd::Dropped(place), _) if failure.is_before_end(place) => End::Dropped(place),
-            (_, Some(end)) if loss.from <= end.place => End::Failure(*end),
-            _ => End::Open,
+            (LossEnd::Told(place), _) => ToldEnd::Told(place),
+            (LossEnd::Dropped(place), _) if failure.is_before_end(place) => ToldEnd::Dropped(place),
+            (_, Some(end)) if loss.from <= end.place => ToldEnd::Failure(*end),
+            _ => ToldEnd::Open,
         }
     }
 
     fn word(self) -> &'static str {
         match self {
-            End::Told(_) => "told",
-            End::Dropped(_) => "dropped",
-            End::Failure(_) => "failure",
-            End::Open => "open",
+            ToldEnd::Told(_) => "told",
+            ToldEnd::Dropped(_) => "dropped",
+            ToldEnd::Failure(_) => "failure",
+            ToldEnd::Open => "open",
         }
     }
 }
@@ -112,14 +113,16 @@ fn rank(context: &Context<'_>, told_last: &[u64], loss: &Loss, is_waited_for: bo
     }
     let receiver = context.history.channel(loss.channel).handle(loss.receiver);
     let was_used = receiver.is_some_and(|receiver| receiver.last_user.is_some());
-    match was_used || is_waited_for {
-        true => Rank::Untold,
-        false => Rank::Held,
+    if was_used || is_waited_for {
+        Rank::Untold
+    } else {
+        Rank::Held
     }
 }
 
 impl Lost {
-    /// Adds a loss of the same receiver. It is the one that is told if it comes first, or if neither was told and it is greater.
+    /// Adds a loss of the same receiver. It is the one that is told if it comes first, or if
+    /// neither was told and it is greater.
     fn add(&mut self, other: Lost) {
         self.count += other.count;
         self.losses += 1;
@@ -138,7 +141,7 @@ pub(super) fn fact(context: &Context<'_>, lost: &Lost) -> Fact {
     let loss = &lost.told;
     let receiver = naming.receiver(loss.channel, loss.receiver);
     let values = history.channel(loss.channel).lost(loss.from, loss.lost);
-    let end = End::of(context, loss);
+    let end = ToldEnd::of(context, loss);
     Fact {
         order: lost.rank.order(),
         kind: "loss",
@@ -150,7 +153,7 @@ pub(super) fn fact(context: &Context<'_>, lost: &Lost) -> Fact {
         ],
         last: Some(format!("  lost: {}", naming.values(loss.channel, values))),
         sights: match end {
-            End::Told(_) => vec![1, 0],
+            ToldEnd::Told(_) => vec![1, 0],
             _ => vec![0, 1],
         },
         look: loss.from,
@@ -161,7 +164,7 @@ fn members(
     context: &Context<'_>,
     lost: &Lost,
     receiver: &Called,
-    end: End,
+    end: ToldEnd,
 ) -> Vec<(&'static str, Json)> {
     let loss = &lost.told;
     let sent = context.history.channel(loss.channel).sent_to(loss.receiver);
@@ -215,7 +218,7 @@ fn capacity(context: &Context<'_>, channel: u32) -> String {
 }
 
 /// Returns the send that overwrote the first value.
-fn cause(context: &Context<'_>, loss: &Loss, values: &[Send], receiver: &Called) -> Step {
+fn cause(context: &Context<'_>, loss: &Loss, values: &[SentValue], receiver: &Called) -> FactStep {
     let naming = context.naming;
     let entry = context.run.entry(loss.from);
     let sent = naming.value(loss.channel, entry.value.unwrap_or(0));
@@ -227,7 +230,7 @@ fn cause(context: &Context<'_>, loss: &Loss, values: &[Send], receiver: &Called)
 }
 
 /// Returns how the loss ended, with the last value that the receiver received.
-fn end_step(context: &Context<'_>, lost: &Lost, end: End) -> Step {
+fn end_step(context: &Context<'_>, lost: &Lost, end: ToldEnd) -> FactStep {
     let what = |said: &str| match lost.rank {
         Rank::Held => "held, never read".to_string(),
         _ => said.to_string(),
@@ -237,15 +240,15 @@ fn end_step(context: &Context<'_>, lost: &Lost, end: End) -> Step {
         _ => last_receive(context, lost),
     };
     match end {
-        End::Told(place) => {
+        ToldEnd::Told(place) => {
             let what = format!("told: lagged {}", lost.told.lost);
             context.step(place, Role::Told, what, last)
         }
-        End::Dropped(place) => {
+        ToldEnd::Dropped(place) => {
             context.step(place, Role::Dropped, what("dropped: never told"), last)
         }
-        End::Failure(failure) => context.failure_step(failure, what("not told"), last),
-        End::Open => context.end_step(what("not told"), last),
+        ToldEnd::Failure(failure) => context.failure_step(failure, what("not told"), last),
+        ToldEnd::Open => context.end_step(what("not told"), last),
     }
 }
 

@@ -1,10 +1,11 @@
-//! What the text calls the things of a run: by their names, and by their numbers where they have none.
+//! What the text calls the things of a run: by their names, and by their numbers where they have
+//! none.
 
-use super::history::{History, Send};
+use super::history::{History, SentValue};
 use super::visible;
 use crate::names::{Names, SourceLocation};
 use crate::reply::Reply;
-use crate::run::Entry;
+use crate::run::RunEntry;
 use crate::word::Word;
 
 /// The names of a run.
@@ -17,7 +18,8 @@ pub(super) struct Naming<'a> {
 pub(super) struct Called {
     /// As `auditor`, or `receiver 2`.
     pub(super) short: String,
-    /// The same where it is first named, as `auditor` between backquotes, or `receiver 2 (created at tests/bus.rs:9)`.
+    /// The same where it is first named, as `auditor` between backquotes, or
+    /// `receiver 2 (created at tests/bus.rs:9)`.
     pub(super) full: String,
 }
 
@@ -61,7 +63,8 @@ impl<'a> Naming<'a> {
         }
     }
 
-    /// Returns what a receiver is called: by its own name, else by the actor that reads by it and does nothing else, else by its number.
+    /// Returns what a receiver is called: by its own name, else by the actor that reads by it and
+    /// does nothing else, else by its number.
     pub(super) fn receiver(&self, channel: u32, receiver: u32) -> Called {
         let own = self.names.handles.get(&channel.into());
         if let Some(name) = own.and_then(|handles| handles.get(&receiver.into())) {
@@ -106,24 +109,26 @@ impl<'a> Naming<'a> {
     }
 
     /// Returns the values of these sends, on one line.
-    pub(super) fn values(&self, channel: u32, sends: &[Send]) -> String {
+    pub(super) fn values(&self, channel: u32, sends: &[SentValue]) -> String {
         visible::list(sends, |send| self.value(channel, send.value))
     }
 
     /// Returns the value that a call returned, or nothing.
-    pub(super) fn returned(&self, entry: &Entry) -> String {
+    pub(super) fn returned(&self, entry: &RunEntry) -> String {
         match entry.reply {
             Reply::Value(value) => self.value(entry.channel, value),
             _ => String::new(),
         }
     }
 
-    /// Returns the word of the call that led to this place. Two calls that wait have the word of others in a journal.
-    pub(super) fn word(&self, place: u64, entry: &Entry) -> Word {
+    /// Returns the word of the call that led to this place. Two calls that wait have the word of
+    /// others in a journal.
+    pub(super) fn word(&self, place: u64, entry: &RunEntry) -> Word {
         let index = self.history.index_on_channel(place) as u32;
-        match self.names.matching.is_waited(entry.channel, index) {
-            true => entry.word.marked(),
-            false => entry.word,
+        if self.names.matching.is_waited(entry.channel, index) {
+            entry.word.marked()
+        } else {
+            entry.word
         }
     }
 

@@ -2,25 +2,25 @@
 
 use super::finding::Finding;
 use super::visible::counted;
-use super::watches::What;
+use super::watches::Unreceived;
 
-/// How many receivers or channels there are of a kind, and how many values or changes they have together.
+/// How many receivers or channels there are of a kind, and how many values or changes they have
+/// together.
 #[derive(Clone, Copy, Debug, Default)]
-pub(super) struct Count {
+pub(super) struct KindCount {
     /// How many were told in full.
     told: u64,
     pub(super) of: u64,
     pub(super) sum: u64,
 }
 
-impl Count {
+impl KindCount {
     fn add(&mut self, is_told: bool, sum: u64) {
-        match is_told {
-            true => self.told += 1,
-            false => {
-                self.of += 1;
-                self.sum += sum;
-            }
+        if is_told {
+            self.told += 1
+        } else {
+            self.of += 1;
+            self.sum += sum;
         }
     }
 
@@ -47,10 +47,10 @@ impl Count {
 pub(crate) struct Rest {
     /// How many facts are told in full.
     pub(crate) after: usize,
-    pub(super) losses: Count,
-    pub(super) unlooked: Count,
-    pub(super) unmarked: Count,
-    pub(super) closings: Count,
+    pub(super) losses: KindCount,
+    pub(super) unlooked: KindCount,
+    pub(super) unmarked: KindCount,
+    pub(super) closings: KindCount,
 }
 
 impl Rest {
@@ -64,7 +64,7 @@ impl Rest {
             let (count, sum) = match finding {
                 Finding::Loss(lost) => (&mut rest.losses, lost.count),
                 Finding::Closing(_) => (&mut rest.closings, 0),
-                Finding::Overlooked(it) if it.what == What::Looked => {
+                Finding::Overlooked(it) if it.what == Unreceived::Looked => {
                     (&mut rest.unlooked, it.count)
                 }
                 Finding::Overlooked(it) => (&mut rest.unmarked, it.count),

@@ -1,4 +1,5 @@
-//! The words of the account for any place of a run: what a debugger shows is called as in the report.
+//! The words of the account for any place of a run: what a debugger shows is called as in the
+//! report.
 
 use super::Account;
 use super::history::History;
@@ -6,7 +7,7 @@ use super::naming::Naming;
 use super::visible;
 use crate::names::{Names, SourceLocation};
 use crate::reply::Reply;
-use crate::run::{Entry, Run, TextFault};
+use crate::run::{Run, RunEntry, TextFault};
 
 /// What a run's things are called. It doesn't keep the run itself, which a debugger has.
 pub(crate) struct Saying {
@@ -47,7 +48,8 @@ impl Saying {
         }
     }
 
-    /// Returns what a handle is called: a receiver as in the report, and a sender by its name or number.
+    /// Returns what a handle is called: a receiver as in the report, and a sender by its name or
+    /// number.
     pub(crate) fn handle(&self, channel: u32, handle: u32, is_receiver: bool) -> String {
         if is_receiver {
             return self.naming().receiver(channel, handle).short;
@@ -70,12 +72,12 @@ impl Saying {
     }
 
     /// Returns tokio's name of the method that was called, or `drop`.
-    pub(crate) fn method(&self, place: u64, entry: &Entry) -> &'static str {
+    pub(crate) fn method(&self, place: u64, entry: &RunEntry) -> &'static str {
         self.naming().word(place, entry).method()
     }
 
     /// Returns the call that led to a place, as `prices.send("103 EUR")`.
-    pub(crate) fn call(&self, place: u64, entry: &Entry) -> String {
+    pub(crate) fn call(&self, place: u64, entry: &RunEntry) -> String {
         let naming = self.naming();
         let value = entry.value.map(|value| naming.value(entry.channel, value));
         let method = format!(
@@ -87,7 +89,7 @@ impl Saying {
     }
 
     /// Returns what a call returned, as `lagged 3` or `value "103 EUR"`. The word is the journal's.
-    pub(crate) fn reply(&self, entry: &Entry, word: &str) -> String {
+    pub(crate) fn reply(&self, entry: &RunEntry, word: &str) -> String {
         match entry.reply {
             Reply::Value(value) | Reply::Old(value) | Reply::NoReceivers(value) => {
                 format!("{word} {}", self.value(entry.channel, value))
@@ -100,7 +102,8 @@ impl Saying {
         }
     }
 
-    /// Returns where the call of a channel was made that led to a place, as an index into the locations.
+    /// Returns where the call of a channel was made that led to a place, as an index into the
+    /// locations.
     pub(crate) fn location(&self, channel: u32, place: u64) -> Option<usize> {
         let calls = self.names.calls.get(&channel.into())?;
         *calls.get(self.history.index_on_channel(place))?

@@ -3,7 +3,8 @@
 use super::Account;
 use crate::names::Names;
 
-/// Returns the account of a run: its channels, its entries with the stamps 1, 2, 3, .., and the names beside it.
+/// Returns the account of a run: its channels, its entries with the stamps 1, 2, 3, .., and the
+/// names beside it.
 fn account(channels: &[&str], entries: &[&str], names: &str) -> Account {
     let mut text = format!("ttd-journal 2\n{}\nsteps\n", channels.join("\n"));
     for (entry, stamp) in entries.iter().zip(1..) {
@@ -27,7 +28,8 @@ fn orders(account: &Account) -> Vec<u8> {
     account.facts.iter().map(|fact| fact.order).collect()
 }
 
-/// Four receivers lose values of a broadcast of one: actor 1 is told by `d` and then by `c`, actor 2 by `b`, and `a` is dropped untold.
+/// Four receivers lose values of a broadcast of one: actor 1 is told by `d` and then by `c`, actor
+/// 2 by `b`, and `a` is dropped untold.
 const FOUR: [&str; 12] = [
     "0 0 subscribe 0 = new 2",
     "0 0 subscribe 0 = new 3",
@@ -109,7 +111,8 @@ fn a_drop_after_the_panic_is_no_end_of_a_loss() {
 
 #[test]
 fn a_panic_that_was_caught_is_not_the_end() {
-    // Actor 0 panics before it sends, so it has caught that. Its drop of `a` comes before its second panic.
+    // Actor 0 panics before it sends, so it has caught that. Its drop of `a` comes before its
+    // second panic.
     let panics = r#""panics": [{"text": "", "location": null, "actor": 0, "since": 3},
         {"text": "", "location": null, "actor": 0, "since": 11}]}"#;
     let found = account(&["broadcast 1"], &FOUR, &format!("{FOUR_NAMES}{panics}"));
@@ -211,8 +214,9 @@ fn a_close_that_each_receiver_was_told_of_is_counted_beside_other_facts() {
 
 #[test]
 fn a_look_and_a_mark_are_two_facts() {
-    // Receiver 1 looks at the values 1 and 2 by `borrow`, and asks whether there is a new one. Receiver 2 does the same, but never asks.
-    // Receiver 3 awaits changes, and looks at the value once more was stored.
+    // Receiver 1 looks at the values 1 and 2 by `borrow`, and asks whether there is a new one.
+    // Receiver 2 does the same, but never asks. Receiver 3 awaits changes, and looks at the value
+    // once more was stored.
     let entries = [
         "0 0 subscribe 0 = new 2",
         "0 0 subscribe 0 = new 3",

@@ -5,7 +5,7 @@ use crate::names::{HeldBy, SourceLocation, WaitingCall};
 
 /// A call that waits.
 #[derive(Debug)]
-pub(crate) struct Wait {
+pub(crate) struct WaitAtEnd {
     pub(super) actor: u64,
     pub(super) channel: u64,
     pub(super) handle: u64,
@@ -18,17 +18,17 @@ pub(crate) struct Wait {
 }
 
 /// Returns the calls that wait on channels of the run.
-pub(super) fn all(context: &Context<'_>) -> Vec<Wait> {
+pub(super) fn all(context: &Context<'_>) -> Vec<WaitAtEnd> {
     let channels = context.run.specs().len() as u64;
     let calls = context.names.waiting.iter();
     let calls = calls.filter(|call| call.channel < channels);
     calls.map(|call| wait(context, call)).collect()
 }
 
-fn wait(context: &Context<'_>, call: &WaitingCall) -> Wait {
+fn wait(context: &Context<'_>, call: &WaitingCall) -> WaitAtEnd {
     let since = context.run.place_of_stamp(call.since);
     let location = call.location.and_then(|index| context.naming.source(index));
-    Wait {
+    WaitAtEnd {
         actor: call.actor,
         channel: call.channel,
         handle: call.handle,

@@ -1,8 +1,9 @@
 //! The changes of watches that a receiver never looked at, or never marked as seen.
 //!
-//! A look and a mark are two facts. `borrow` looks and marks nothing, `changed` marks and looks at nothing, and `borrow_and_update` does both.
+//! A look and a mark are two facts. `borrow` looks and marks nothing, `changed` marks and looks at
+//! nothing, and `borrow_and_update` does both.
 
-use super::fact::{Fact, Role, Step};
+use super::fact::{Fact, FactStep, Role};
 use super::{Context, visible};
 use crate::names::Json;
 use crate::run::{Counts, Totals};
@@ -10,14 +11,14 @@ use std::cmp::Reverse;
 
 /// What a receiver never did with some of the changes that came to it.
 #[derive(Clone, Copy, Debug, PartialEq, Eq)]
-pub(super) enum What {
+pub(super) enum Unreceived {
     Looked,
     Marked,
 }
 
 /// A receiver that never looked at some of the changes, or never marked them.
 pub(super) struct Overlooked {
-    pub(super) what: What,
+    pub(super) what: Unreceived,
     pub(super) count: u64,
     channel: u32,
     receiver: u32,
@@ -45,7 +46,7 @@ fn was_used(context: &Context<'_>, it: &Overlooked) -> bool {
 fn unlooked(totals: &Totals) -> Option<Overlooked> {
     match totals.counts {
         Counts::Watch(counts) if counts.unlooked > 0 => Some(Overlooked {
-            what: What::Looked,
+            what: Unreceived::Looked,
             count: counts.unlooked,
             channel: totals.channel,
             receiver: totals.receiver,
@@ -54,7 +55,8 @@ fn unlooked(totals: &Totals) -> Option<Overlooked> {
     }
 }
 
-/// Returns the receiver if it asked for new versions, and looked at some that it never marked: `changed` tells of them once more.
+/// Returns the receiver if it asked for new versions, and looked at some that it never marked:
+/// `changed` tells of them once more.
 fn unmarked(context: &Context<'_>, totals: &Totals) -> Option<Overlooked> {
     let Counts::Watch(counts) = totals.counts else {
         return None;
@@ -65,7 +67,7 @@ fn unmarked(context: &Context<'_>, totals: &Totals) -> Option<Overlooked> {
     let handle = context.history.channel(channel).handle(receiver)?;
     let has_others = counts.missed > counts.unlooked;
     (handle.awaits && has_others).then_some(Overlooked {
-        what: What::Marked,
+        what: Unreceived::Marked,
         count: counts.missed,
         channel,
         receiver,
@@ -85,8 +87,8 @@ pub(super) fn fact(context: &Context<'_>, overlooked: &Overlooked) -> Fact {
     let of = visible::counted(came, "change");
     let changes = format!("{count} of {of} of {}", context.naming.channel(channel));
     let (order, kind, said) = match what {
-        What::Looked => (5, "unlooked", format!("never looked at {changes}")),
-        What::Marked => (6, "unmarked", format!("never marked {changes} as seen")),
+        Unreceived::Looked => (5, "unlooked", format!("never looked at {changes}")),
+        Unreceived::Marked => (6, "unmarked", format!("never marked {changes} as seen")),
     };
     let steps = steps(context, channel, receiver);
     let mut sights: Vec<_> = (0..steps.len()).collect();
@@ -109,8 +111,9 @@ pub(super) fn fact(context: &Context<'_>, overlooked: &Overlooked) -> Fact {
     }
 }
 
-/// Returns the last change that came to a receiver, and its last look if it ever looked, in their order.
-fn steps(context: &Context<'_>, channel: u32, receiver: u32) -> Vec<Step> {
+/// Returns the last change that came to a receiver, and its last look if it ever looked, in their
+/// order.
+fn steps(context: &Context<'_>, channel: u32, receiver: u32) -> Vec<FactStep> {
     let history = context.history.channel(channel);
     let change = history.last_sent_to(receiver);
     let change = change.map(|send| (send.place, Role::Change));
@@ -126,7 +129,7 @@ fn steps(context: &Context<'_>, channel: u32, receiver: u32) -> Vec<Step> {
 }
 
 /// Returns a call with its value, and what it was to the receiver.
-fn step(context: &Context<'_>, place: u64, role: Role) -> Step {
+fn step(context: &Context<'_>, place: u64, role: Role) -> FactStep {
     let naming = context.naming;
     let entry = context.run.entry(place);
     let value = entry.value.map(|value| naming.value(entry.channel, value));

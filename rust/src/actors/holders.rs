@@ -1,6 +1,6 @@
 //! Who has an actor's number: threads and named futures, as long as they are alive.
 
-use super::NAME;
+use super::caller::future;
 use std::collections::HashSet;
 use std::sync::{Arc, Weak};
 
@@ -20,8 +20,7 @@ pub(super) enum Holder {
 impl Holder {
     /// Returns the named future that this thread polls or drops, or else the thread.
     pub(super) fn current() -> Holder {
-        let future = NAME.try_with(|name| name.borrow().as_ref().map(Arc::downgrade));
-        match future.ok().flatten() {
+        match future() {
             Some(future) => Holder::Future(future),
             // At the end of a thread it may be gone already.
             None => match ALIVE.try_with(Arc::downgrade) {

@@ -1,6 +1,7 @@
 //! The command `ttd`: the repository's proved program, compiled from its sources.
 //!
-//! `source` is the proved source with its contracts as comments. `shim` replaces Rattle's std by Rust's.
+//! `source` is the proved source with its contracts as comments. `shim` replaces Rattle's std by
+//! Rust's.
 
 #[path = "../large_pages.rs"]
 mod large_pages;

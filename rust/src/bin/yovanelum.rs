@@ -1,4 +1,5 @@
-//! The command `yovanelum`: says why values were lost in the run of a journal, writes the page that draws the run, and starts the debug adapter.
+//! The command `yovanelum`: says why values were lost in the run of a journal, writes the page that
+//! draws the run, and starts the debug adapter.
 
 use std::env;
 use std::ffi::OsString;
@@ -23,7 +24,8 @@ fn main() -> ExitCode {
     ExitCode::from(status)
 }
 
-/// Starts the adapter that is beside this program, or else that of the PATH, and ends with its status.
+/// Starts the adapter that is beside this program, or else that of the PATH, and ends with its
+/// status.
 fn start_adapter(words: &[OsString]) -> ExitCode {
     match Command::new(adapter()).args(words).status() {
         Ok(status) => ExitCode::from(status.code().map_or(1, |code| code as u8)),

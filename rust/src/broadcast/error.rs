@@ -28,7 +28,8 @@ impl<T> fmt::Display for SendError<T> {
 
 impl<T: fmt::Debug> Error for SendError<T> {}
 
-/// Error returned by [`Receiver::recv`](super::Receiver::recv) and [`Receiver::blocking_recv`](super::Receiver::blocking_recv).
+/// Error returned by [`Receiver::recv`](super::Receiver::recv) and
+/// [`Receiver::blocking_recv`](super::Receiver::blocking_recv).
 ///
 /// # Examples
 ///
@@ -55,10 +56,11 @@ impl<T: fmt::Debug> Error for SendError<T> {}
 /// ```
 #[derive(Debug, PartialEq, Eq, Clone)]
 pub enum RecvError {
-    /// Every sender has been dropped, and everything that was sent has been received. As in tokio, no value will ever be sent again.
+    /// Every sender has been dropped, and everything that was sent has been received. As in tokio,
+    /// no value will ever be sent again.
     Closed,
-    /// The receiver lagged, and this many values were overwritten before it received them. As in tokio, the next receive returns the oldest
-    /// value that is still retained.
+    /// The receiver lagged, and this many values were overwritten before it received them. As in
+    /// tokio, the next receive returns the oldest value that is still retained.
     Lagged(u64),
 }
 
@@ -93,10 +95,11 @@ impl Error for RecvError {}
 pub enum TryRecvError {
     /// There is no value to receive now. As in tokio, a sender is still alive and may send one.
     Empty,
-    /// Every sender has been dropped, and everything that was sent has been received. As in tokio, no value will ever be sent again.
+    /// Every sender has been dropped, and everything that was sent has been received. As in tokio,
+    /// no value will ever be sent again.
     Closed,
-    /// The receiver lagged, and this many values were overwritten before it received them. As in tokio, the next receive returns the oldest
-    /// value that is still retained.
+    /// The receiver lagged, and this many values were overwritten before it received them. As in
+    /// tokio, the next receive returns the oldest value that is still retained.
     Lagged(u64),
 }
 

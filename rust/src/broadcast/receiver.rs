@@ -17,9 +17,10 @@ use std::task::{Context, Poll};
 
 /// The receiving half of a broadcast channel.
 ///
-/// It gets a clone of each value that is sent while it is alive, in the order of the sends, unless it lags. As in tokio, it is not `Clone`:
-/// [`Sender::subscribe`](super::Sender::subscribe) and [`resubscribe`](Receiver::resubscribe) create receivers. When it is dropped, the
-/// values that it alone had yet to receive are dropped too.
+/// It gets a clone of each value that is sent while it is alive, in the order of the sends, unless
+/// it lags. As in tokio, it is not `Clone`: [`Sender::subscribe`](super::Sender::subscribe) and
+/// [`resubscribe`](Receiver::resubscribe) create receivers. When it is dropped, the values that it
+/// alone had yet to receive are dropped too.
 ///
 /// # Examples
 ///
@@ -49,8 +50,9 @@ pub struct Receiver<T> {
 impl<T> Receiver<T> {
     /// Returns the number of values that were sent to this receiver and that it has yet to receive.
     ///
-    /// As in tokio, overwritten values are counted until a receive returns `Lagged`. If the number is greater than the capacity, rounded up
-    /// to a power of two, the next receive returns `Lagged`.
+    /// As in tokio, overwritten values are counted until a receive returns `Lagged`. If the number
+    /// is greater than the capacity, rounded up to a power of two, the next receive returns
+    /// `Lagged`.
     ///
     /// # Examples
     ///
@@ -74,7 +76,8 @@ impl<T> Receiver<T> {
         )
     }
 
-    /// Returns `true` if this receiver has received everything that was sent to it, as in tokio: if [`len`](Receiver::len) is 0.
+    /// Returns `true` if this receiver has received everything that was sent to it, as in tokio: if
+    /// [`len`](Receiver::len) is 0.
     ///
     /// # Examples
     ///
@@ -93,7 +96,8 @@ impl<T> Receiver<T> {
         self.len() == 0
     }
 
-    /// Returns `true` if both receivers belong to the same channel, as in tokio. It is not recorded.
+    /// Returns `true` if both receivers belong to the same channel, as in tokio. It is not
+    /// recorded.
     ///
     /// # Examples
     ///
@@ -109,7 +113,8 @@ impl<T> Receiver<T> {
         self.handle.same_channel(&other.handle)
     }
 
-    /// Returns the number of senders that are alive, as in tokio. Weak senders are not counted. It is not recorded.
+    /// Returns the number of senders that are alive, as in tokio. Weak senders are not counted. It
+    /// is not recorded.
     ///
     /// # Examples
     ///
@@ -145,7 +150,8 @@ impl<T> Receiver<T> {
 
     /// Returns `true` if the channel is closed.
     ///
-    /// As in tokio, the channel is closed when every sender has been dropped. There may still be values to receive. It is not recorded.
+    /// As in tokio, the channel is closed when every sender has been dropped. There may still be
+    /// values to receive. It is not recorded.
     ///
     /// # Examples
     ///
@@ -185,9 +191,11 @@ impl<T> Receiver<T> {
 }
 
 impl<T: Clone> Receiver<T> {
-    /// Creates a receiver of the same channel, which receives the values that are sent after this call.
+    /// Creates a receiver of the same channel, which receives the values that are sent after this
+    /// call.
     ///
-    /// As in tokio, it receives none of the values that this receiver has yet to receive. This receiver is unchanged.
+    /// As in tokio, it receives none of the values that this receiver has yet to receive. This
+    /// receiver is unchanged.
     ///
     /// # Examples
     ///
@@ -215,18 +223,20 @@ impl<T: Clone> Receiver<T> {
 
     /// Receives the next value, and waits for one if there is none.
     ///
-    /// Returns a clone of the value. As in tokio, a receiver that lags is moved to the oldest value that is still retained, and the next
-    /// receive returns that value, unless it has been overwritten too.
+    /// Returns a clone of the value. As in tokio, a receiver that lags is moved to the oldest value
+    /// that is still retained, and the next receive returns that value, unless it has been
+    /// overwritten too.
     ///
     /// # Cancel safety
     ///
-    /// As in tokio, nothing has been received if the future is dropped before it completes, for example by `select!`. A receive that is
-    /// dropped is not recorded.
+    /// As in tokio, nothing has been received if the future is dropped before it completes, for
+    /// example by `select!`. A receive that is dropped is not recorded.
     ///
     /// # Errors
     ///
     /// - [`RecvError::Lagged`] if values were overwritten before this receiver received them.
-    /// - [`RecvError::Closed`] if every sender has been dropped and everything that was sent has been received.
+    /// - [`RecvError::Closed`] if every sender has been dropped and everything that was sent has
+    ///   been received.
     ///
     /// # Examples
     ///
@@ -274,7 +284,8 @@ impl<T: Clone> Receiver<T> {
         received_by(received.await)
     }
 
-    /// [`recv`](Receiver::recv) without a future. Between polls the caller holds the state of the call.
+    /// [`recv`](Receiver::recv) without a future. Between polls the caller holds the state of the
+    /// call.
     pub(crate) fn poll_recv(
         &mut self,
         called_at: CallSite,
@@ -298,13 +309,15 @@ impl<T: Clone> Receiver<T> {
 
     /// Receives the next value if there is one, without waiting.
     ///
-    /// Returns a clone of the value. As in tokio, a receiver that lags is moved to the oldest value that is still retained.
+    /// Returns a clone of the value. As in tokio, a receiver that lags is moved to the oldest value
+    /// that is still retained.
     ///
     /// # Errors
     ///
     /// - [`TryRecvError::Empty`] if there is no value now. Nothing has changed.
     /// - [`TryRecvError::Lagged`] if values were overwritten before this receiver received them.
-    /// - [`TryRecvError::Closed`] if every sender has been dropped and everything that was sent has been received.
+    /// - [`TryRecvError::Closed`] if every sender has been dropped and everything that was sent has
+    ///   been received.
     ///
     /// # Examples
     ///
@@ -337,8 +350,8 @@ impl<T: Clone> Receiver<T> {
 
     /// Receives the next value, and blocks the current thread until there is one.
     ///
-    /// As in tokio, it is [`recv`](Receiver::recv) for code that is not asynchronous. Unlike tokio, it does not panic within a runtime: it
-    /// blocks the thread there.
+    /// As in tokio, it is [`recv`](Receiver::recv) for code that is not asynchronous. Unlike tokio,
+    /// it does not panic within a runtime: it blocks the thread there.
     ///
     /// # Errors
     ///
@@ -379,9 +392,10 @@ impl<T> Drop for Receiver<T> {
     fn drop(&mut self) {
         let mut channel = self.handle.lock_at(Word::Drop, None);
         let values = &self.handle.channel.values;
-        let unread = match channel.guarded(values).has_unread() {
-            true => channel.core().unread(self.handle.number),
-            false => 0,
+        let unread = if channel.guarded(values).has_unread() {
+            channel.core().unread(self.handle.number)
+        } else {
+            0
         };
         let slot = self.handle.slot;
         let (wakers, _) = channel.drop_handle(Kind::Receiver, slot, CoreChannel::broadcast_drop);

@@ -13,8 +13,9 @@ use std::task::Poll;
 
 /// The sending half of a broadcast channel.
 ///
-/// [`channel`](super::channel) and [`Sender::new`] create the first sender, `clone` and [`WeakSender::upgrade`] create further ones. As in
-/// tokio, a sender may be used from many threads: each method needs only `&self`. The channel is closed when the last sender is dropped.
+/// [`channel`](super::channel) and [`Sender::new`] create the first sender, `clone` and
+/// [`WeakSender::upgrade`] create further ones. As in tokio, a sender may be used from many
+/// threads: each method needs only `&self`. The channel is closed when the last sender is dropped.
 ///
 /// # Examples
 ///
@@ -39,10 +40,12 @@ pub struct Sender<T> {
 }
 
 impl<T> Sender<T> {
-    /// Creates a broadcast channel with this capacity and without a receiver, and returns its first sender.
+    /// Creates a broadcast channel with this capacity and without a receiver, and returns its first
+    /// sender.
     ///
-    /// As in tokio, this is [`channel`](super::channel) without the receiver: [`subscribe`](Sender::subscribe) creates one. The journal
-    /// begins with the drop of receiver 1, so the first receiver that is created has the number 2.
+    /// As in tokio, this is [`channel`](super::channel) without the receiver:
+    /// [`subscribe`](Sender::subscribe) creates one. The journal begins with the drop of receiver
+    /// 1, so the first receiver that is created has the number 2.
     ///
     /// # Panics
     ///
@@ -71,13 +74,14 @@ impl<T> Sender<T> {
     ///
     /// The call never waits. If the channel is full, the value overwrites the oldest one.
     ///
-    /// As in tokio, `Ok` does not mean that a receiver will get the value, since receivers may be dropped or lag before. `Err` does not
-    /// mean that later sends will fail, since [`subscribe`](Sender::subscribe) may create a receiver.
+    /// As in tokio, `Ok` does not mean that a receiver will get the value, since receivers may be
+    /// dropped or lag before. `Err` does not mean that later sends will fail, since
+    /// [`subscribe`](Sender::subscribe) may create a receiver.
     ///
     /// # Errors
     ///
-    /// Returns [`SendError`] with the value if the channel has no receiver. The channel is then unchanged: the value is not stored, and a
-    /// receiver that is created later does not get it.
+    /// Returns [`SendError`] with the value if the channel has no receiver. The channel is then
+    /// unchanged: the value is not stored, and a receiver that is created later does not get it.
     ///
     /// # Examples
     ///
@@ -95,13 +99,15 @@ impl<T> Sender<T> {
     /// ```
     #[track_caller]
     pub fn send(&self, value: T) -> Result<usize, SendError<T>> {
-        match self.handle.channel.has_text_of() {
-            true => self.send_with_text(value),
-            false => self.send_with(value, None),
+        if self.handle.channel.has_text_of() {
+            self.send_with_text(value)
+        } else {
+            self.send_with(value, None)
         }
     }
 
-    /// Sends a value with its text. It is apart, so that what is sent without one carries nothing of it.
+    /// Sends a value with its text. It is apart, so that what is sent without one carries nothing
+    /// of it.
     #[cold]
     #[track_caller]
     fn send_with_text(&self, value: T) -> Result<usize, SendError<T>> {
@@ -120,14 +126,15 @@ impl<T> Sender<T> {
         };
         let values = channel.guarded(&self.handle.channel.values);
         let overwritten = values.push(number, value, receivers);
-        channel.unlock_and_wake(WaitFor::Value);
-        drop(overwritten);
+        // As in tokio, the overwritten value is dropped before those who wait are woken.
+        channel.unlock_drop_and_wake(overwritten, WaitFor::Value);
         Ok(receivers as usize)
     }
 
     /// Creates a receiver, which receives the values that are sent after this call.
     ///
-    /// As in tokio, it receives none of the values that were sent before. Other receivers are not affected.
+    /// As in tokio, it receives none of the values that were sent before. Other receivers are not
+    /// affected.
     ///
     /// # Examples
     ///
@@ -155,7 +162,8 @@ impl<T> Sender<T> {
 
     /// Creates a weak sender, which does not keep the channel open.
     ///
-    /// As in tokio, the channel is closed when the last `Sender` is dropped, even if weak senders are left. This sender can still be used.
+    /// As in tokio, the channel is closed when the last `Sender` is dropped, even if weak senders
+    /// are left. This sender can still be used.
     ///
     /// # Examples
     ///
@@ -184,8 +192,9 @@ impl<T> Sender<T> {
 
     /// Returns the number of queued values.
     ///
-    /// As in tokio, a value is queued until every receiver that was alive at its send has received it or was dropped, or until it is
-    /// overwritten. Unlike [`Receiver::len`], the number does not include overwritten values.
+    /// As in tokio, a value is queued until every receiver that was alive at its send has received
+    /// it or was dropped, or until it is overwritten. Unlike [`Receiver::len`], the number does not
+    /// include overwritten values.
     ///
     /// # Examples
     ///
@@ -231,8 +240,8 @@ impl<T> Sender<T> {
 
     /// Returns the number of receivers that are alive.
     ///
-    /// As in tokio, these are the receivers that a value is sent to, and not all of them need to get it: a receiver may be dropped or lag
-    /// before.
+    /// As in tokio, these are the receivers that a value is sent to, and not all of them need to
+    /// get it: a receiver may be dropped or lag before.
     ///
     /// # Examples
     ///
@@ -272,9 +281,10 @@ impl<T> Sender<T> {
 
     /// Waits until the channel has no receiver.
     ///
-    /// As in tokio, the future completes when the number of receivers reaches zero; [`subscribe`](Sender::subscribe) may create a receiver
-    /// again. If there is none at the call, it completes at once. If the future is dropped before it completes, nothing has changed. It is
-    /// recorded when it completes, as a [`receiver_count`](Sender::receiver_count) of 0.
+    /// As in tokio, the future completes when the number of receivers reaches zero;
+    /// [`subscribe`](Sender::subscribe) may create a receiver again. If there is none at the call,
+    /// it completes at once. If the future is dropped before it completes, nothing has changed. It
+    /// is recorded when it completes, as a [`receiver_count`](Sender::receiver_count) of 0.
     ///
     /// # Examples
     ///
@@ -301,7 +311,8 @@ impl<T> Sender<T> {
             })
     }
 
-    /// Returns the number of senders that are alive, as in tokio. Weak senders are not counted. It is not recorded.
+    /// Returns the number of senders that are alive, as in tokio. Weak senders are not counted. It
+    /// is not recorded.
     ///
     /// # Examples
     ///

@@ -12,7 +12,8 @@ pub(super) enum Value<T> {
 }
 
 impl<T: Clone> Value<T> {
-    /// Returns a clone, also for the last receiver, as in tokio. The original is dropped with its last `Value`.
+    /// Returns a clone, also for the last receiver, as in tokio. The original is dropped with its
+    /// last `Value`.
     #[inline]
     pub(super) fn cloned(self) -> T {
         match self {
@@ -26,22 +27,24 @@ impl<T: Clone> Value<T> {
 pub(super) struct Values<T> {
     // Rounded up to a power of two.
     capacity: usize,
-    // Grows with each send up to the capacity. From then on it is a ring, in which the newest value overwrites the oldest.
-    slots: Vec<Slot<T>>,
+    // Grows with each send up to the capacity. From then on it is a ring, in which the newest value
+    // overwrites the oldest.
+    slots: Vec<ValueSlot<T>>,
     // The index of the oldest slot.
     first: usize,
 }
 
-struct Slot<T> {
+struct ValueSlot<T> {
     // The number of the value in the core.
     number: u64,
-    // How many receivers have yet to receive the value. At 0 the value is dropped, as in tokio, and its slot stays until it is overwritten.
-    // The core could compute this only from every handle, so it is counted here.
+    // How many receivers have yet to receive the value. At 0 the value is dropped, as in tokio, and
+    // its slot stays until it is overwritten. The core could compute this only from every handle,
+    // so it is counted here.
     receivers: u64,
     value: Option<Value<T>>,
 }
 
-impl<T> Slot<T> {
+impl<T> ValueSlot<T> {
     /// Returns the value for one receiver, and counts one receiver less.
     fn receive(&mut self) -> Option<Value<T>> {
         self.receivers -= 1;
@@ -53,7 +56,8 @@ impl<T> Slot<T> {
 }
 
 impl<T> Values<T> {
-    /// Creates an empty store of as many values as the channel retains. Memory is allocated as they are sent.
+    /// Creates an empty store of as many values as the channel retains. Memory is allocated as they
+    /// are sent.
     pub(super) fn new(capacity: usize) -> Values<T> {
         Values {
             capacity: capacity.next_power_of_two(),
@@ -62,7 +66,8 @@ impl<T> Values<T> {
         }
     }
 
-    /// Stores a value that was sent to this many receivers. Returns the value that it overwrites, to be dropped while no lock is held.
+    /// Stores a value that was sent to this many receivers. Returns the value that it overwrites,
+    /// to be dropped while no lock is held.
     #[inline(always)]
     pub(super) fn push(&mut self, number: u64, value: T, receivers: u64) -> Option<Value<T>> {
         let value = match receivers {
@@ -70,7 +75,7 @@ impl<T> Values<T> {
             _ => Value::Shared(Arc::new(Reentrant::new(value))),
         };
         if self.slots.len() < self.capacity {
-            self.slots.push(Slot {
+            self.slots.push(ValueSlot {
                 number,
                 receivers,
                 value: Some(value),
@@ -97,9 +102,10 @@ impl<T> Values<T> {
         (self.first + age) & (self.capacity - 1)
     }
 
-    /// Returns the slot of the value with this number. Numbers rise by one, or by more where sends failed in between.
+    /// Returns the slot of the value with this number. Numbers rise by one, or by more where sends
+    /// failed in between.
     #[inline]
-    fn slot_of(&mut self, number: u64) -> &mut Slot<T> {
+    fn slot_of(&mut self, number: u64) -> &mut ValueSlot<T> {
         let oldest = self.slots[self.first].number;
         let guess = self.index_at((number - oldest) as usize);
         match self.slots.get(guess) {
@@ -110,7 +116,7 @@ impl<T> Values<T> {
 
     /// Finds the slot of the value with this number by binary search.
     #[cold]
-    fn search(&mut self, number: u64) -> &mut Slot<T> {
+    fn search(&mut self, number: u64) -> &mut ValueSlot<T> {
         let (newer, older) = self.slots.split_at_mut(self.first);
         match older.binary_search_by_key(&number, |slot| slot.number) {
             Ok(index) => &mut older[index],
@@ -121,8 +127,9 @@ impl<T> Values<T> {
         }
     }
 
-    /// Whether some receiver has yet to receive the newest value. If none has, none has yet to receive any value: who has an older one to receive
-    /// was there when the newest was sent, and receives in order.
+    /// Whether some receiver has yet to receive the newest value. If none has, none has yet to
+    /// receive any value: who has an older one to receive was there when the newest was sent, and
+    /// receives in order.
     #[inline]
     pub(super) fn has_unread(&self) -> bool {
         let newest = match self.first {
@@ -132,7 +139,8 @@ impl<T> Values<T> {
         newest.is_some_and(|slot| slot.receivers > 0)
     }
 
-    /// Removes a dropped receiver from the counts of its unread values. Returns the values that no receiver has yet to receive.
+    /// Removes a dropped receiver from the counts of its unread values. Returns the values that no
+    /// receiver has yet to receive.
     #[inline]
     pub(super) fn drop_receiver(&mut self, unread: u64) -> Vec<Value<T>> {
         match unread {
@@ -141,7 +149,8 @@ impl<T> Values<T> {
         }
     }
 
-    /// As [`drop_receiver`](Values::drop_receiver), of a receiver that has yet to receive something.
+    /// As [`drop_receiver`](Values::drop_receiver), of a receiver that has yet to receive
+    /// something.
     fn remove_unread(&mut self, unread: u64) -> Vec<Value<T>> {
         let count = self.slots.len();
         let mut unwanted = Vec::new();

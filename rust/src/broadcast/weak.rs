@@ -9,8 +9,9 @@ use std::fmt;
 
 /// A sender that does not keep the channel open.
 ///
-/// As in tokio, the channel is closed when every [`Sender`] has been dropped, also if weak senders are left. To send,
-/// [`upgrade`](WeakSender::upgrade) a weak sender to a sender. [`Sender::downgrade`] and `clone` create weak senders.
+/// As in tokio, the channel is closed when every [`Sender`] has been dropped, also if weak senders
+/// are left. To send, [`upgrade`](WeakSender::upgrade) a weak sender to a sender.
+/// [`Sender::downgrade`] and `clone` create weak senders.
 ///
 /// # Examples
 ///
@@ -36,8 +37,8 @@ pub struct WeakSender<T> {
 impl<T> WeakSender<T> {
     /// Creates a sender of the channel, or returns `None` if every sender has been dropped.
     ///
-    /// As in tokio, it returns `Some` if another sender is alive. Once it has returned `None`, it always will: a closed channel stays
-    /// closed. The weak sender itself is unchanged.
+    /// As in tokio, it returns `Some` if another sender is alive. Once it has returned `None`, it
+    /// always will: a closed channel stays closed. The weak sender itself is unchanged.
     ///
     /// # Examples
     ///
@@ -66,7 +67,8 @@ impl<T> WeakSender<T> {
         })
     }
 
-    /// Returns the number of senders that are alive, as in tokio. Weak senders are not counted. It is not recorded.
+    /// Returns the number of senders that are alive, as in tokio. Weak senders are not counted. It
+    /// is not recorded.
     ///
     /// # Examples
     ///
@@ -83,7 +85,8 @@ impl<T> WeakSender<T> {
         self.handle.count(CoreChannel::senders)
     }
 
-    /// Returns the number of weak senders that are alive, this one included, as in tokio. It is not recorded.
+    /// Returns the number of weak senders that are alive, this one included, as in tokio. It is not
+    /// recorded.
     ///
     /// # Examples
     ///

@@ -9,7 +9,8 @@ use crate::word::Word;
 use std::task::{Context, Poll};
 
 impl RecordedChannel {
-    /// Returns the gate before which this call waits, if there is one, with the call as it comes there.
+    /// Returns the gate before which this call waits, if there is one, with the call as it comes
+    /// there.
     fn at_gate(&self, handle: u32, word: Word, called_at: CallSite) -> Option<(&Turns, Coming)> {
         let replayed = self.replayed.as_ref()?;
         replayed.at_gate(handle, word, self.recorder.actor(called_at), called_at)
@@ -47,8 +48,8 @@ impl RecordedChannel {
         }
     }
 
-    /// Blocks until the turn of a call by the handle with this number, which is made here in the source. It is called before any lock is
-    /// acquired, that of a watch's value too.
+    /// Blocks until the turn of a call by the handle with this number, which is made here in the
+    /// source. It is called before any lock is acquired, that of a watch's value too.
     #[cfg_attr(debug_assertions, inline(never))]
     #[cfg_attr(not(debug_assertions), inline)]
     pub(crate) fn pass(&self, handle: u32, word: Word, called_at: CallSite) -> Permit<'_> {
@@ -58,16 +59,16 @@ impl RecordedChannel {
         }
     }
 
-    /// Blocks until the turn of the first call that a closure which changes a watch makes, or of the change if it makes none. The change itself
-    /// then waits for its own turn.
+    /// Blocks until the turn of the first call that a closure which changes a watch makes, or of
+    /// the change if it makes none. The change itself then waits for its own turn.
     pub(crate) fn pass_to_modify(&self, handle: u32, called_at: CallSite) {
         if let Some((turns, coming)) = self.at_gate(handle, Word::Modify, called_at) {
             turns.pass_to_modify(coming);
         }
     }
 
-    /// Polls a call that waits: it is pending until its turn. The caller holds the ticket between polls, and leaves by it if there is no further
-    /// one.
+    /// Polls a call that waits: it is pending until its turn. The caller holds the ticket between
+    /// polls, and leaves by it if there is no further one.
     #[inline]
     pub(crate) fn poll_pass(
         &self,
@@ -83,14 +84,16 @@ impl RecordedChannel {
         }
     }
 
-    /// Whether a call that may wait is pending, since its task has used up its budget. In a replay its turn decides, and there is no budget: the
-    /// call before which the recorded task gave way comes later there, too.
+    /// Whether a call that may wait is pending, since its task has used up its budget. In a replay
+    /// its turn decides, and there is no budget: the call before which the recorded task gave way
+    /// comes later there, too.
     #[inline]
     pub(crate) fn gives_way(&self, context: &Context<'_>) -> bool {
         self.replayed.is_none() && budget::gives_way(context)
     }
 
-    /// Whether questions leave no entry. A replay, which doesn't order them then, notes that this one is asked here in the source.
+    /// Whether questions leave no entry. A replay, which doesn't order them then, notes that this
+    /// one is asked here in the source.
     #[inline]
     pub(crate) fn is_quiet(&self, handle: u32, word: Word, called_at: CallSite) -> bool {
         let is_quiet = self.recorder.is_quiet();

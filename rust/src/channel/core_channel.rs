@@ -1,41 +1,48 @@
-//! A channel of the core: one machine, or several if the channel makes more handles than a machine does.
+//! A channel of the core: one machine, or several if more handles are alive than a machine makes.
 //!
-//! A machine makes 65,536 handles. When a channel asks for one more, a further machine is opened beside the first, and makes it. From then
-//! on each send is made in all machines, and each receive in the one that made the receiver. So each receiver gets what was sent since it
-//! was created, and a machine's answer on its own handles is the channel's. Counts are sums. For the senders of other machines each machine
-//! has a sender that stands for them. It is dropped when the last sender of the channel is.
+//! A machine makes 65,536 handles. Once a channel isn't recorded, dropped handles are taken out of
+//! it, and those that are alive get the first numbers there. Each keeps the number that this crate
+//! knows it by, from which a table leads to that in the machine ([`Numbers`]).
 //!
-//! The journal of a channel is that of its first machine. Its recording ends before a further one is opened.
+//! Where more handles are alive, a further machine is opened beside the first, and makes them. From
+//! then on each send is made in all machines, and each receive in the one that made the receiver.
+//! So each receiver gets what was sent since it was created, and a machine's answer on its own
+//! handles is the channel's. Counts are sums. For the senders of other machines each machine has a
+//! sender that stands for them. It is dropped when the last sender of the channel is. Further
+//! machines are dropped once no handle of theirs is alive.
+//!
+//! The journal of a channel is that of its first machine. Its recording ends before that one is
+//! full.
 
+mod room;
 #[cfg(test)]
 mod tests;
 
 use super::machine::{MOST_HANDLES, Machine, made};
+use super::numbers::Numbers;
 use crate::backend::{Caller, OpenFault, Recording, Spec};
 use crate::reply::Reply;
 use std::iter;
 
-/// A channel of the core. The number of a handle is its number in its machine, and above these 16 bits the number of the machine.
+/// A channel of the core.
 pub(crate) struct CoreChannel {
     // How many handles each machine makes.
     most: u32,
     first: Machine,
-    // The machines 1, 2, .. A machine whose handles are all dropped is dropped too, and its number is used again.
+    // The machines 1, 2, .. A machine whose handles are all dropped is dropped too, and its number
+    // is used again.
     further: Vec<Option<Machine>>,
-    // The number of the machine that creates handles, once the first one is full.
+    // The number of the machine that creates handles, where there are several.
     newest: usize,
+    numbers: Numbers,
 }
 
 /// A call by the number of a handle, such as [`CoreChannel::broadcast_subscribe`].
 pub(crate) type Call = fn(&mut CoreChannel, Caller, u32) -> Reply;
 
-/// A call by the number of a sender, which sends the value with a number, such as [`CoreChannel::broadcast_send`].
+/// A call by the number of a sender, which sends the value with a number, such as
+/// [`CoreChannel::broadcast_send`].
 pub(crate) type Send = fn(&mut CoreChannel, Caller, u32, u64) -> Reply;
-
-/// Returns the number of a handle's machine, and its number there.
-fn parts_of(handle: u32) -> (usize, u32) {
-    ((handle / MOST_HANDLES) as usize, handle % MOST_HANDLES)
-}
 
 impl CoreChannel {
     /// Opens a broadcast with sender 0 and receiver 1.
@@ -54,12 +61,17 @@ impl CoreChannel {
             first: Machine::first(Recording::open(spec)?, most),
             further: Vec::new(),
             newest: 0,
+            numbers: Numbers::of_machine(),
         })
     }
 
     /// Ends recording: later calls are made as before, and leave no entry.
     pub(crate) fn end(&mut self) {
-        self.first.core.end();
+        if self.first.core.is_recorded() {
+            self.first.core.end();
+            self.numbers.keep(self.first.made());
+            self.first.set_next_look();
+        }
     }
 
     /// How many entries the journal has.
@@ -72,10 +84,16 @@ impl CoreChannel {
         &mut self.first.core
     }
 
-    /// Whether the channel has created as many handles as a journal can name.
+    /// Whether the channel, which is recorded, has created as many handles as a journal can name.
     #[inline]
     pub(crate) fn has_named_all(&self) -> bool {
-        self.first.is_full()
+        !self.first.has_room()
+    }
+
+    /// How many handles the channel had created before this one, which no other handle of it has in
+    /// common.
+    pub(crate) fn nth(&self, handle: u32) -> u64 {
+        self.numbers.nth(handle)
     }
 
     /// Returns the capacity that a broadcast was opened with.
@@ -101,7 +119,8 @@ impl CoreChannel {
         self.machines().map(Machine::receivers).sum()
     }
 
-    /// How many values a broadcast retains for some receiver. They are the last ones that were sent, in each machine.
+    /// How many values a broadcast retains for some receiver. They are the last ones that were
+    /// sent, in each machine.
     pub(crate) fn queued(&mut self) -> u64 {
         let queued = self.machines().map(|machine| machine.core.queued());
         queued.max().unwrap_or_default()
@@ -125,28 +144,26 @@ impl CoreChannel {
     }
 
     fn machine(&mut self, number: usize) -> &mut Machine {
-        match number {
-            0 => &mut self.first,
-            _ => {
-                let machine = self.further[number - 1].as_mut();
-                machine.expect("a machine with a live handle")
-            }
-        }
+        machine(&mut self.first, &mut self.further, number)
     }
 
     /// Returns the machine of a handle, and the handle's number there.
     #[inline]
     fn machine_of(&mut self, handle: u32) -> (&mut Machine, u32) {
-        match handle {
-            0..MOST_HANDLES => (&mut self.first, handle),
-            _ => self.further_machine_of(handle),
+        if !self.numbers.are_own() {
+            (&mut self.first, handle)
+        } else {
+            self.machine_of_own(handle)
         }
     }
 
-    #[cold]
-    fn further_machine_of(&mut self, handle: u32) -> (&mut Machine, u32) {
-        let (number, handle) = parts_of(handle);
-        (self.machine(number), handle)
+    /// As [`machine_of`](CoreChannel::machine_of), where handles have numbers of their own. It
+    /// isn't inlined, nor are those like it below, so that the call of a channel that is recorded
+    /// is.
+    #[inline(never)]
+    fn machine_of_own(&mut self, handle: u32) -> (&mut Machine, u32) {
+        let place = self.numbers.place(handle);
+        (self.machine(place.machine), place.handle)
     }
 
     /// Makes a call of a sender in all machines, and folds their replies.
@@ -157,35 +174,39 @@ impl CoreChannel {
         call: impl Fn(&mut Recording, u32) -> Reply,
         fold: fn(Reply, Reply) -> Reply,
     ) -> Reply {
-        if self.further.is_empty() {
+        if !self.numbers.are_own() {
             call(&mut self.first.core, sender)
         } else {
-            self.call_several(sender, call, fold)
+            self.call_all_by_own(sender, call, fold)
         }
     }
 
-    /// As [`call_all`](CoreChannel::call_all), where there are several machines. The sender's own is the first. It isn't inlined, so that
-    /// the call of a channel with one machine is.
-    #[cold]
+    /// As [`call_all`](CoreChannel::call_all), where handles have numbers of their own. The
+    /// sender's machine is the first.
     #[inline(never)]
-    fn call_several(
+    fn call_all_by_own(
         &mut self,
         sender: u32,
         call: impl Fn(&mut Recording, u32) -> Reply,
         fold: fn(Reply, Reply) -> Reply,
     ) -> Reply {
-        let (own, number) = parts_of(sender);
-        let reply = call(&mut self.machine(own).core, number);
+        let place = self.numbers.place(sender);
+        let reply = call(&mut self.machine(place.machine).core, place.handle);
+        if self.further.is_empty() {
+            return reply;
+        }
         let first = iter::once(Some(&mut self.first));
         let all = first.chain(self.further.iter_mut().map(Option::as_mut));
-        let others = all.enumerate().filter(|(number, _)| *number != own);
+        let others = all.enumerate();
+        let others = others.filter(|(number, _)| *number != place.machine);
         let others = others.filter_map(|(_, machine)| machine);
         others.fold(reply.expect_made(), |reply, machine| {
             fold(reply, made(machine.by_sender(&call)))
         })
     }
 
-    /// Makes a call that creates a handle: in the first machine by the caller, or else in the newest one by a handle that stands for it.
+    /// Makes a call that creates a handle: by the caller, or in a machine of others by a handle
+    /// that stands for it.
     #[inline(always)]
     fn create(
         &mut self,
@@ -193,59 +214,11 @@ impl CoreChannel {
         by_caller: impl FnOnce(&mut Recording, u32) -> Reply,
         by_other: impl FnOnce(&mut Machine) -> Reply,
     ) -> Reply {
-        if !self.first.is_full() {
-            let reply = by_caller(&mut self.first.core, caller);
-            return self.first.count_made(reply);
+        if self.numbers.are_own() || !self.first.has_room() {
+            return self.create_by_own(caller, by_caller, by_other);
         }
-        self.create_further(by_other)
-    }
-
-    /// As [`create`](CoreChannel::create), where the first machine is full.
-    #[cold]
-    #[inline(never)]
-    fn create_further(&mut self, by_other: impl FnOnce(&mut Machine) -> Reply) -> Reply {
-        let number = self.machine_with_room();
-        let machine = self.machine(number);
-        let reply = by_other(machine);
-        match machine.count_made(reply) {
-            Reply::New(handle) => Reply::New(number as u64 * u64::from(MOST_HANDLES) + handle),
-            reply => reply,
-        }
-    }
-
-    /// Returns the number of the newest machine. A further one is opened if that one is full, or if it can't create handles of a channel
-    /// that was closed since.
-    #[cold]
-    fn machine_with_room(&mut self) -> usize {
-        if self.further.is_empty() {
-            self.first.core.end();
-            self.first.find_sender();
-        }
-        let is_closed = self.senders() == 0;
-        let before = self.newest;
-        if before == 0 || !has_room(self.machine(before), is_closed) {
-            let spec = self.first.core.spec();
-            let machine = Machine::further(spec, self.most, is_closed);
-            self.newest = self.add(machine);
-            self.drop_if_unused(before);
-        }
-        self.newest
-    }
-
-    /// Adds a further machine, and returns its number.
-    fn add(&mut self, machine: Machine) -> usize {
-        let free = self.further.iter().position(Option::is_none);
-        let index = free.unwrap_or_else(|| {
-            self.further.push(None);
-            self.further.len() - 1
-        });
-        // So many machines, each with a live handle, would need 64 GiB.
-        assert!(
-            index < 65_535,
-            "yovanelum: a channel has machines for 4294967296 handles"
-        );
-        self.further[index] = Some(machine);
-        index + 1
+        let reply = by_caller(&mut self.first.core, caller);
+        self.first.count_made(reply)
     }
 
     /// Makes the call that drops a handle.
@@ -257,34 +230,30 @@ impl CoreChannel {
     ) -> Reply {
         let (machine, number) = self.machine_of(handle);
         let reply = machine.drop_handle(number, drop);
-        if !self.further.is_empty() {
-            self.settle_drop(handle);
+        if self.numbers.are_own() && reply == Reply::Dropped {
+            self.remove(handle);
         }
         reply
     }
+}
 
-    /// Drops what the drop of this handle has left without use: the senders that stand for others, or the handle's machine.
-    #[cold]
-    fn settle_drop(&mut self, handle: u32) {
-        if self.senders() == 0 {
-            self.machines().for_each(Machine::close);
-        }
-        self.drop_if_unused(parts_of(handle).0);
-    }
-
-    /// Drops a machine if no handle of it is alive. The first one stays, since it has the journal, and the newest, since it has room.
-    fn drop_if_unused(&mut self, number: usize) {
-        if number != 0 && number != self.newest && self.machine(number).is_unused() {
-            self.further[number - 1] = None;
+/// Returns the machine with this number.
+fn machine<'a>(
+    first: &'a mut Machine,
+    further: &'a mut [Option<Machine>],
+    number: usize,
+) -> &'a mut Machine {
+    match number {
+        0 => first,
+        _ => {
+            let machine = further[number - 1].as_mut();
+            machine.expect("a machine with a live handle")
         }
     }
 }
 
-fn has_room(machine: &Machine, is_closed: bool) -> bool {
-    !machine.is_full() && machine.is_for_closed() == is_closed
-}
-
-/// The reply to a send, of those of two machines. One without receivers has none who could get the value.
+/// The reply to a send, of those of two machines. One without receivers has none who could get the
+/// value.
 fn sent(one: Reply, other: Reply) -> Reply {
     match (one, other) {
         (Reply::Sent(one), Reply::Sent(other)) => Reply::Sent(one + other),
@@ -333,7 +302,8 @@ calls_of_one_machine! {
     watch_borrow watch_update watch_has_changed watch_changed watch_mark_changed watch_mark_unchanged
 }
 
-/// Calls of a sender that concern all receivers, each with the function that folds the replies of two machines.
+/// Calls of a sender that concern all receivers, each with the function that folds the replies of
+/// two machines.
 macro_rules! calls_of_all_machines {
     ($($method:ident($($arg:ident: $type:ty),*) by $fold:ident;)*) => {
         impl CoreChannel {
@@ -454,9 +424,10 @@ impl CoreChannel {
                 );
                 if let Reply::New(_) = reply {
                     let clone = reply.new_handle();
-                    match is_seen {
-                        true => made(machine.core.watch_mark_unchanged(caller, clone)),
-                        false => made(machine.core.watch_mark_changed(caller, clone)),
+                    if is_seen {
+                        made(machine.core.watch_mark_unchanged(caller, clone))
+                    } else {
+                        made(machine.core.watch_mark_changed(caller, clone))
                     };
                 }
                 reply

@@ -3,10 +3,12 @@
 use super::CallSite;
 use crate::actors::{self, CallerNumber};
 
-/// Who has made the last of some calls, and where. If the next one is by the same caller, its name isn't copied again.
+/// Who has made the last of some calls, and where. If the next one is by the same caller, its name
+/// isn't copied again.
 pub(crate) struct LastCaller {
     number: CallerNumber,
-    // The caller's name, or nothing before the first call. It is written into the same memory each time.
+    // The caller's name, or nothing before the first call. It is written into the same memory each
+    // time.
     name: String,
     called_at: CallSite,
 }

@@ -20,7 +20,8 @@ const BLOCK: usize = 4096;
 /// How many blocks there are of that size. The one after them has room for the rest of a recording.
 const SMALL_BLOCKS: usize = 16;
 
-/// How many call sites that block has room for: as many as a recording has calls. What isn't written needs only addresses.
+/// How many call sites that block has room for: as many as a recording has calls. What isn't
+/// written needs only addresses.
 const LARGE_BLOCK: usize = 1_048_576;
 
 /// A list of call sites. It grows by blocks, so what is in a whole block is never copied.
@@ -51,7 +52,8 @@ impl CallSites {
         }
     }
 
-    /// Allocates the block after the last one. Where there are many calls it asks for large pages, since else each 512th call is a page fault.
+    /// Allocates the block after the last one. Where there are many calls it asks for large pages,
+    /// since else each 512th call is a page fault.
     fn next_block(&self) -> Vec<CallSite> {
         if self.whole.len() + 1 < SMALL_BLOCKS {
             return Vec::with_capacity(BLOCK);

@@ -12,15 +12,16 @@ use crate::recorder::Shared;
 use crate::replay::Permit;
 use crate::reply::Reply;
 use crate::wait::{Awaited, Look, Method, Wait, WaitFor, now};
-use crate::wakers::Wakers;
+use crate::wakers::{WakeAtEnd, Wakers};
 use crate::word::Word;
 use std::sync::MutexGuard;
 
 /// A channel whose lock is held, for the calls of one actor by one handle.
 ///
-/// What each recorded call does is inlined into its caller. What only a replay does, a value with a text, a future that waits, or the end of
-/// a recording is in functions of its own. Where debug assertions are on, nothing is inlined into another package: that of a test may be
-/// compiled without optimisation, and this one with it.
+/// What each recorded call does is inlined into its caller. What only a replay does, a value with a
+/// text, a future that waits, or the end of a recording is in functions of its own. Where debug
+/// assertions are on, nothing is inlined into another package: that of a test may be compiled
+/// without optimisation, and this one with it.
 pub(crate) struct LockedChannel<'a> {
     pub(crate) state: MutexGuard<'a, ChannelState>,
     channel: &'a RecordedChannel,
@@ -34,7 +35,8 @@ pub(crate) struct LockedChannel<'a> {
 }
 
 impl RecordedChannel {
-    /// Locks the channel for a call by the handle with this number, which is made here in the source, once its turn has come.
+    /// Locks the channel for a call by the handle with this number, which is made here in the
+    /// source, once its turn has come.
     #[cfg_attr(debug_assertions, inline(never))]
     #[cfg_attr(not(debug_assertions), inline)]
     pub(crate) fn lock(&self, handle: u32, word: Word, called_at: CallSite) -> LockedChannel<'_> {
@@ -63,7 +65,8 @@ impl RecordedChannel {
         }
     }
 
-    /// Stores by whom and where the next call is made, if this recorder is to record it, and returns the clock's number for it.
+    /// Stores by whom and where the next call is made, if this recorder is to record it, and
+    /// returns the clock's number for it.
     #[inline(always)]
     fn tick(
         &self,
@@ -72,19 +75,21 @@ impl RecordedChannel {
         (actor, called_at): (Actor, CallSite),
     ) -> u64 {
         if state.is_recorded {
-            match recorder.has_ended() {
-                true => self.end_recording(state),
-                // It is added before the call, so that nothing of the reply has to be stored meanwhile.
-                false => {
-                    state.locations.of_calls.push(called_at);
-                    state.actors |= actor.bit();
-                }
+            if recorder.has_ended() {
+                self.end_recording(state)
+            } else {
+                // It is added before the call, so that nothing of the reply has to be stored
+                // meanwhile.
+
+                state.locations.of_calls.push(called_at);
+                state.actors |= actor.bit();
             }
         }
         recorder.tick()
     }
 
-    /// Ends the recording of this channel, whose state this is. A replay no longer orders its calls.
+    /// Ends the recording of this channel, whose state this is. A replay no longer orders its
+    /// calls.
     #[cold]
     fn end_recording(&self, state: &mut ChannelState) {
         state.end_recording();
@@ -102,8 +107,10 @@ impl RecordedChannel {
         }
     }
 
-    /// Notes that the receiver with this number, in this slot, was told here that it has lost values. Returns the event.
-    // What is cold gets what it needs, and not a `LockedChannel`, which would be stored in memory for it at each call.
+    /// Notes that the receiver with this number, in this slot, was told here that it has lost
+    /// values. Returns the event.
+    // What is cold gets what it needs, and not a `LockedChannel`, which would be stored in memory
+    // for it at each call.
     #[cold]
     #[inline(never)]
     fn note_lag(
@@ -126,8 +133,9 @@ impl RecordedChannel {
         Event::close(&self.recorder, || Close::new(state))
     }
 
-    /// Ends a call that has left no entry and replied so, and returns its reply. A call for which the journal had no room wasn't made: the
-    /// recording of all channels ends at it, and it is made now.
+    /// Ends a call that has left no entry and replied so, and returns its reply. A call for which
+    /// the journal had no room wasn't made: the recording of all channels ends at it, and it is
+    /// made now.
     #[cold]
     fn end_unrecorded(
         &self,
@@ -150,7 +158,8 @@ impl RecordedChannel {
     }
 }
 
-/// Lets the next call of a replay come, since the one with this permit is made. `text` is that of the value that it has sent.
+/// Lets the next call of a replay come, since the one with this permit is made. `text` is that of
+/// the value that it has sent.
 #[cold]
 fn tell_made(mut permit: Permit<'_>, is_recorded: bool, text: Option<&str>) {
     if is_recorded {
@@ -167,8 +176,8 @@ impl<'a> LockedChannel<'a> {
         self.call_core(&None, move |core, caller| call(core, caller, handle))
     }
 
-    /// Makes a call that creates a handle of this kind, and returns its slot with the reply. If a journal can't name that handle, the recording
-    /// of this channel ends before.
+    /// Makes a call that creates a handle of this kind, and returns its slot with the reply. If a
+    /// journal can't name that handle, the recording of this channel ends before.
     #[cfg_attr(debug_assertions, inline(never))]
     #[cfg_attr(not(debug_assertions), inline(always))]
     pub(crate) fn create(&mut self, kind: Kind, call: Call) -> (Reply, Slot) {
@@ -187,7 +196,8 @@ impl<'a> LockedChannel<'a> {
         (reply, slot)
     }
 
-    /// Makes a call that passes a new value to the core, by the value's number, and stores its text. Returns the number with the reply.
+    /// Makes a call that passes a new value to the core, by the value's number, and stores its
+    /// text. Returns the number with the reply.
     #[cfg_attr(debug_assertions, inline(never))]
     #[cfg_attr(not(debug_assertions), inline(always))]
     pub(crate) fn send(&mut self, text: Option<String>, call: Send) -> (u64, Reply) {
@@ -207,8 +217,9 @@ impl<'a> LockedChannel<'a> {
         (number, reply)
     }
 
-    /// Makes a call. It gets the recorder's next number under the channel's lock, so stamps differ and are in the order of the calls: on
-    /// each channel, and on several channels if one call returned before the other began. `text` is that of the value that it sends.
+    /// Makes a call. It gets the recorder's next number under the channel's lock, so stamps differ
+    /// and are in the order of the calls: on each channel, and on several channels if one call
+    /// returned before the other began. `text` is that of the value that it sends.
     // Where it isn't inlined, the core's call is one by a pointer.
     #[inline(always)]
     fn call_core(
@@ -258,7 +269,8 @@ impl<'a> LockedChannel<'a> {
         state.receivers.receive(slot, self.called_at, stamp);
     }
 
-    /// Notes that the receiver in this slot was told that it has lost values. Returns the event, to be dropped once the channel is unlocked.
+    /// Notes that the receiver in this slot was told that it has lost values. Returns the event, to
+    /// be dropped once the channel is unlocked.
     pub(crate) fn note_lag(&mut self, slot: Slot, lost: u64) -> Event {
         let (state, receiver) = (&mut *self.state, (self.handle, slot));
         self.channel.note_lag(state, receiver, self.called_at, lost)
@@ -286,7 +298,8 @@ impl<'a> LockedChannel<'a> {
         self.permit.would_wait();
     }
 
-    /// Lists a call of the handle, which is of this kind, among those that wait since this time of the clock. Returns its number there.
+    /// Lists a call of the handle, which is of this kind, among those that wait since this time of
+    /// the clock. Returns its number there.
     pub(crate) fn list_wait(
         &mut self,
         kind: Kind,
@@ -311,7 +324,8 @@ impl<'a> LockedChannel<'a> {
         self.channel.recorder.0.is_some()
     }
 
-    /// Notes this call as the look with this number. The numbers of looks that were noted before are below it, or one less.
+    /// Notes this call as the look with this number. The numbers of looks that were noted before
+    /// are below it, or one less.
     #[inline]
     pub(crate) fn note_look(&mut self, number: usize) {
         let (actor, called_at) = (self.actor, self.called_at);
@@ -327,8 +341,9 @@ impl<'a> LockedChannel<'a> {
         self.state.looks.get(number).copied()
     }
 
-    /// Makes the call that drops the handle. Returns the futures that wait for it: those of receivers if it was the last sender, and those
-    /// of senders if it was the last receiver. The event is to be dropped once they are woken.
+    /// Makes the call that drops the handle. Returns the futures that wait for it: those of
+    /// receivers if it was the last sender, and those of senders if it was the last receiver. The
+    /// event is to be dropped once they are woken.
     #[cfg_attr(debug_assertions, inline(never))]
     #[cfg_attr(not(debug_assertions), inline(always))]
     pub(crate) fn drop_handle(&mut self, kind: Kind, slot: Slot, call: Call) -> (Wakers, Event) {
@@ -345,9 +360,10 @@ impl<'a> LockedChannel<'a> {
             }
             Kind::Receiver => {
                 self.state.receivers.remove(slot);
-                let wakers = match self.state.receivers.is_empty() {
-                    true => self.remove_wakers(WaitFor::NoReceiver),
-                    false => Wakers::default(),
+                let wakers = if self.state.receivers.is_empty() {
+                    self.remove_wakers(WaitFor::NoReceiver)
+                } else {
+                    Wakers::default()
                 };
                 (wakers, Event::default())
             }
@@ -394,6 +410,27 @@ impl<'a> LockedChannel<'a> {
         let wakers = self.remove_wakers(wait_for);
         drop(self);
         wakers.wake();
+    }
+
+    /// Unlocks the channel, drops a value, and then wakes the futures that wait for this. They are
+    /// woken also if the drop panics.
+    #[cfg_attr(debug_assertions, inline(never))]
+    #[cfg_attr(not(debug_assertions), inline(always))]
+    pub(crate) fn unlock_drop_and_wake<V>(mut self, dropped: V, wait_for: WaitFor) {
+        if self.has_waiting(wait_for) {
+            self.unlock_drop_and_wake_each(dropped, wait_for);
+        } else {
+            drop(self);
+            drop(dropped);
+        }
+    }
+
+    #[cold]
+    fn unlock_drop_and_wake_each<V>(mut self, dropped: V, wait_for: WaitFor) {
+        let wakers = WakeAtEnd(self.remove_wakers(wait_for));
+        drop(self);
+        drop(dropped);
+        drop(wakers);
     }
 
     /// Removes the futures that wait for this, and returns their wakers.

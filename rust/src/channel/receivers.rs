@@ -14,11 +14,12 @@ impl Slot {
     pub(crate) const FIRST: Slot = Slot(0);
 }
 
-/// What is known of a receiver, besides what the core knows. It is written at each receive, so it shares no cache line with that of another channel,
-/// which another thread writes.
+/// What is known of a receiver, besides what the core knows. It is written at each receive, so it
+/// shares no cache line with that of another channel, which another thread writes.
 #[repr(align(64))]
 pub(crate) struct LiveReceiver {
-    /// Its number as a handle. A slot without a receiver has `NO_NUMBER`, and in `lost` the next such slot, or `NO_SLOT`.
+    /// Its number as a handle. A slot without a receiver has `NO_NUMBER`, and in `lost` the next
+    /// such slot, or `NO_SLOT`.
     pub(crate) number: u32,
     pub(crate) made_at: CallSite,
     /// Where it last received a value.
@@ -32,8 +33,8 @@ pub(crate) struct LiveReceiver {
 /// A number that no handle has, since a channel has no place for so many.
 const NO_NUMBER: u32 = u32::MAX;
 
-/// The receivers of a channel that are alive. A slot is used again once its receiver is dropped, so the list is as long as there were
-/// receivers at one time.
+/// The receivers of a channel that are alive. A slot is used again once its receiver is dropped, so
+/// the list is as long as there were receivers at one time.
 pub(crate) struct Receivers {
     slots: Vec<LiveReceiver>,
     // The slot that is used next, if one is free.
@@ -95,7 +96,8 @@ impl Receivers {
         }
     }
 
-    /// Frees the memory of many slots. Where few receivers are left of many, none of them may be moved. Here none is left.
+    /// Frees the memory of many slots. Where few receivers are left of many, none of them may be
+    /// moved. Here none is left.
     #[cold]
     fn remove_slots(&mut self) {
         if self.slots.len() > 64 {

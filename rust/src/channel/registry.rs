@@ -1,4 +1,5 @@
-//! The channels of the process whose senders or receivers are alive, for those who ask what is on all of them.
+//! The channels of the process whose senders or receivers are alive, for those who ask what is on
+//! all of them.
 
 use super::ChannelState;
 use crate::lock::lock;
@@ -65,7 +66,8 @@ impl Drop for Registered {
     }
 }
 
-/// Returns the channels whose senders or receivers are alive, in the order of their creation: all, or those of the recorder with this number.
+/// Returns the channels whose senders or receivers are alive, in the order of their creation: all,
+/// or those of the recorder with this number.
 pub(crate) fn all(of_recorder: Option<u64>) -> Vec<Arc<Mutex<ChannelState>>> {
     let all = lock(&ALL);
     let entries = all.slots.iter().flatten();

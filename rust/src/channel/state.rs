@@ -5,6 +5,7 @@ use super::last_caller::LastCaller;
 use super::locations::{CallSite, Locations};
 use super::receivers::Receivers;
 use crate::explore::{Known, KnownReceiver};
+use crate::handle::Kind;
 use crate::names::Maker;
 use crate::queue::Queue;
 use crate::wait::{Look, Pending, Wait, WaitFor};
@@ -31,19 +32,23 @@ pub(crate) struct ChannelState {
     pub(crate) last_send: LastCaller,
     waiting_for_value: WakerQueue,
     waiting_for_no_receiver: WakerQueue,
-    // The calls that wait. A call stays here from its first poll to its end, also while it is woken and not yet polled again.
+    // The calls that wait. A call stays here from its first poll to its end, also while it is woken
+    // and not yet polled again.
     pub(crate) waits: Queue<Wait>,
-    // Of a watch, the looks at its value by their numbers. One that has ended stays until the next look with its number.
+    // Of a watch, the looks at its value by their numbers. One that has ended stays until the next
+    // look with its number.
     pub(super) looks: Vec<Look>,
     pub(crate) name: Option<String>,
-    // The names of senders and receivers by their numbers: of those that the journal names, and of the others that are alive.
+    // The names of senders and receivers by their numbers: of those that the journal names, and of
+    // the others that are alive.
     pub(crate) handle_names: BTreeMap<u64, String>,
     // The texts of values by their numbers.
     pub(crate) texts: BTreeMap<u64, String>,
     pub(crate) locations: Locations,
     // Who has made the channel, if it has a recorder.
     pub(crate) made_by: Option<Maker>,
-    // The entries of calls that wait and whose words don't say so: how many entries are before each.
+    // The entries of calls that wait and whose words don't say so: how many entries are before
+    // each.
     pub(crate) waited: Vec<u64>,
     // The drops that were made by the drop of a named future, in the same way.
     pub(crate) cancelled: Vec<u64>,
@@ -78,9 +83,10 @@ impl ChannelState {
 
     /// Returns the index of the entry that the call before has left, if it is recorded.
     pub(super) fn last_entry(&mut self) -> Option<u64> {
-        match self.is_recorded {
-            true => self.core.entries().checked_sub(1),
-            false => None,
+        if self.is_recorded {
+            self.core.entries().checked_sub(1)
+        } else {
+            None
         }
     }
 
@@ -91,7 +97,8 @@ impl ChannelState {
         }
     }
 
-    /// Stores where a handle was made, if the journal names it. Handles are made in the order of their numbers.
+    /// Stores where a handle was made, if the journal names it. Handles are made in the order of
+    /// their numbers.
     #[inline]
     pub(crate) fn store_making(&mut self, made_at: CallSite) {
         if self.is_recorded {
@@ -134,11 +141,17 @@ impl ChannelState {
         }
     }
 
-    /// Returns the name of the receiver with this number, or its kind and its number.
-    pub(crate) fn receiver_name(&self, number: u32) -> String {
-        match self.handle_names.get(&number.into()) {
-            Some(name) => name.clone(),
-            None => format!("receiver {number}"),
+    /// Returns the name of the handle with this number, or its kind and how many handles the
+    /// channel had created before it, which is its number in the journal.
+    pub(crate) fn handle_name(&self, kind: Kind, number: u32) -> String {
+        if let Some(name) = self.handle_names.get(&number.into()) {
+            return name.clone();
+        }
+        let nth = self.core.nth(number);
+        match kind {
+            Kind::Sender => format!("sender {nth}"),
+            Kind::WeakSender => format!("weak sender {nth}"),
+            Kind::Receiver => format!("receiver {nth}"),
         }
     }
 
@@ -160,7 +173,8 @@ impl ChannelState {
         }
     }
 
-    /// How many values the receiver with this number has yet to receive: of a watch, 1 if it hasn't seen the value.
+    /// How many values the receiver with this number has yet to receive: of a watch, 1 if it hasn't
+    /// seen the value.
     pub(crate) fn unread(&mut self, number: u32) -> u64 {
         match self.core.capacity() {
             Some(_) => self.core.unread(number),
@@ -191,7 +205,8 @@ impl ChannelState {
         }
     }
 
-    /// Returns the numbers of actors that are needed: those of stored calls, of calls that wait, and of looks. Each is a bit.
+    /// Returns the numbers of actors that are needed: those of stored calls, of calls that wait,
+    /// and of looks. Each is a bit.
     pub(crate) fn stored_actors(&self) -> u64 {
         let waits = self.waits.items().map(|wait| wait.actor);
         let looks = self.looks.iter().map(|look| look.actor);
@@ -214,14 +229,16 @@ impl ChannelState {
         }
     }
 
-    /// Stores the text of the value that the channel was opened with, if no other was passed to the core yet.
+    /// Stores the text of the value that the channel was opened with, if no other was passed to the
+    /// core yet.
     pub(crate) fn store_first_text(&mut self, text: String) {
         if self.value_count == 1 && self.is_recorded {
             self.texts.insert(0, text);
         }
     }
 
-    /// Ends the wait of a call, if it waits, and returns its waker, to be dropped while no lock is held.
+    /// Ends the wait of a call, if it waits, and returns its waker, to be dropped while no lock is
+    /// held.
     #[inline]
     pub(crate) fn end_wait(&mut self, wait_for: WaitFor, pending: &mut Pending) -> Option<Waker> {
         if let Some(listed) = pending.listed.take() {

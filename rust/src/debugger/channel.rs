@@ -27,9 +27,11 @@ pub struct Watch<'a>(&'a core_watch::Watch<u64>);
 pub struct BroadcastReceiver {
     /// How many values were sent before the one that it receives next, if that is still retained.
     pub position: u64,
-    /// How many values it has yet to receive, those included that were overwritten and that no `Lagged` has passed over yet.
+    /// How many values it has yet to receive, those included that were overwritten and that no
+    /// `Lagged` has passed over yet.
     pub unread: u64,
-    /// How many of these are no longer retained. If there are any, its next receive returns `Lagged` with this number.
+    /// How many of these are no longer retained. If there are any, its next receive returns
+    /// `Lagged` with this number.
     pub lag: u64,
 }
 
@@ -51,7 +53,8 @@ impl<'a> Channel<'a> {
         }
     }
 
-    /// How many handles have been created. They have the numbers from 0 on: sender 0 and receiver 1 came with the channel.
+    /// How many handles have been created. They have the numbers from 0 on: sender 0 and receiver 1
+    /// came with the channel.
     ///
     /// ```
     /// # use yovanelum::debugger::Walk;
@@ -136,7 +139,8 @@ impl<'a> Channel<'a> {
 }
 
 impl<'a> Broadcast<'a> {
-    /// How many values it retains: the least power of two that is at least the capacity that it was created with.
+    /// How many values it retains: the least power of two that is at least the capacity that it was
+    /// created with.
     ///
     /// ```
     /// # use yovanelum::debugger::{Channel, Walk};

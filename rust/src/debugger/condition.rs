@@ -7,11 +7,13 @@ use std::error::Error;
 use std::fmt;
 use std::str::FromStr;
 
-/// A condition to search a run for. It is read from the text that the console of `ttd` takes, and has that text.
+/// A condition to search a run for. It is read from the text that the console of `ttd` takes, and
+/// has that text.
 ///
-/// The hits of a condition on calls, which are [`actor`](Condition::actor), [`channel`](Condition::channel) and [`reply`](Condition::reply),
-/// are the places that such a call leads to. The others are on states: a hit is a place where the condition holds, and didn't one place
-/// before. A condition with a number that names nothing has no hit.
+/// The hits of a condition on calls, which are [`actor`](Condition::actor),
+/// [`channel`](Condition::channel) and [`reply`](Condition::reply), are the places that such a call
+/// leads to. The others are on states: a hit is a place where the condition holds, and didn't one
+/// place before. A condition with a number that names nothing has no hit.
 ///
 /// ```
 /// use yovanelum::debugger::Condition;

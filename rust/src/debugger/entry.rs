@@ -5,7 +5,8 @@ use crate::source::rw_recording::{Entry as CoreEntry, World};
 use crate::source::rw_words::{ReplyWord, write_entry};
 use std::fmt;
 
-/// A recorded call: who made it, on which channel, and what it returned. Its text is that of a journal's line.
+/// A recorded call: who made it, on which channel, and what it returned. Its text is that of a
+/// journal's line.
 ///
 /// ```
 /// use yovanelum::debugger::Walk;
@@ -37,8 +38,8 @@ impl Entry {
         Some((self.channel(), made))
     }
 
-    pub(super) fn decoded(&self) -> run::Entry {
-        run::Entry::of(&self.0)
+    pub(super) fn decoded(&self) -> run::RunEntry {
+        run::RunEntry::of(&self.0)
     }
 
     /// The number of the clock at which it was made. Stamps rise along a run.
@@ -78,7 +79,8 @@ impl Entry {
             .unwrap_or_default()
     }
 
-    /// The number that it returned, if there is one: of a value, of a new handle, or how many. A flag is 1 or 0.
+    /// The number that it returned, if there is one: of a value, of a new handle, or how many. A
+    /// flag is 1 or 0.
     pub fn returned(&self) -> Option<u64> {
         self.decoded().reply.number()
     }

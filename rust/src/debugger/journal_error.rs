@@ -4,7 +4,8 @@ use crate::run::{self, TextFault};
 use std::error::Error;
 use std::fmt;
 
-/// Why a journal text is refused: the first error in it, or that there was no memory. Its text is that of `ttd check`.
+/// Why a journal text is refused: the first error in it, or that there was no memory. Its text is
+/// that of `ttd check`.
 ///
 /// ```
 /// use yovanelum::debugger::Walk;
@@ -16,7 +17,8 @@ use std::fmt;
 pub struct JournalError(pub(super) TextFault);
 
 impl JournalError {
-    /// The line that is wrong, counted from 1. A truncated text has none, and neither has missing memory.
+    /// The line that is wrong, counted from 1. A truncated text has none, and neither has missing
+    /// memory.
     ///
     /// ```
     /// # use yovanelum::debugger::Walk;
@@ -33,7 +35,8 @@ impl JournalError {
         }
     }
 
-    /// Whether the text ends too early and has no other error, so that [`Walk::salvage`](super::Walk::salvage) opens what is there.
+    /// Whether the text ends too early and has no other error, so that
+    /// [`Walk::salvage`](super::Walk::salvage) opens what is there.
     ///
     /// ```
     /// # use yovanelum::debugger::Walk;

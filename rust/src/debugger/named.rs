@@ -1,4 +1,5 @@
-//! Conditions by names, as `lagging audit`: what a debugger and a search take where the console of `ttd` takes numbers.
+//! Conditions by names, as `lagging audit`: what a debugger and a search take where the console of
+//! `ttd` takes numbers.
 //!
 //! It is for `yovanelum-dap` and for exploring, and changes with them.
 
@@ -68,7 +69,8 @@ pub struct Things {
     channels: Vec<(String, bool)>,
     receivers: BTreeMap<(u32, u32), String>,
     actors: BTreeMap<u32, String>,
-    /// The only actor that made calls by each receiver without a name of its own, as far as that is known.
+    /// The only actor that made calls by each receiver without a name of its own, as far as that is
+    /// known.
     users: BTreeMap<(u32, u32), String>,
     by_name: BTreeMap<String, Thing>,
 }
@@ -81,29 +83,30 @@ impl FromStr for NamedCondition {
         let known = WORDS.iter().find(|(known, ..)| *known == word);
         let (word, sort, has_count) = *known.ok_or(NoCondition)?;
         let rest = rest.trim();
-        let (name, count) = match has_count {
-            true => {
-                let (name, count) = rest.rsplit_once(' ').ok_or(NoCondition)?;
-                (name.trim(), Some(count.parse().map_err(|_| NoCondition)?))
-            }
-            false => (rest, None),
+        let (name, count) = if has_count {
+            let (name, count) = rest.rsplit_once(' ').ok_or(NoCondition)?;
+            (name.trim(), Some(count.parse().map_err(|_| NoCondition)?))
+        } else {
+            (rest, None)
         };
         let name = name.trim_matches('`');
         let is_reply = || Condition::reply(name).is_some();
-        match name.is_empty() || sort == Sort::Reply && !is_reply() {
-            true => Err(NoCondition),
-            false => Ok(NamedCondition {
+        if name.is_empty() || sort == Sort::Reply && !is_reply() {
+            Err(NoCondition)
+        } else {
+            Ok(NamedCondition {
                 word,
                 sort,
                 name: name.to_string(),
                 count,
-            }),
+            })
         }
     }
 }
 
 impl NamedCondition {
-    /// Returns the condition by the numbers of a run. Returns `None` if its name is none there. Numbers are taken as they are.
+    /// Returns the condition by the numbers of a run. Returns `None` if its name is none there.
+    /// Numbers are taken as they are.
     pub fn by_numbers(&self, things: &Things) -> Option<Condition> {
         if self.sort == Sort::Reply {
             return Condition::reply(&self.name);
@@ -195,7 +198,8 @@ impl Things {
         things
     }
 
-    /// A name that several things have is that of a receiver before a channel, and of a channel before an actor.
+    /// A name that several things have is that of a receiver before a channel, and of a channel
+    /// before an actor.
     fn named(
         channels: Vec<(String, bool)>,
         receivers: BTreeMap<(u32, u32), String>,
@@ -225,7 +229,8 @@ impl Things {
         self.by_name.keys().map(String::as_str)
     }
 
-    /// Returns what a name stands for: a receiver, a channel, or an actor; or `channel0`, or the receiver of a number as `orders.receiver1`.
+    /// Returns what a name stands for: a receiver, a channel, or an actor; or `channel0`, or the
+    /// receiver of a number as `orders.receiver1`.
     pub fn find(&self, name: &str) -> Option<Thing> {
         if let Some(thing) = self.by_name.get(&*visible::name(name)) {
             return Some(*thing);
@@ -347,9 +352,10 @@ impl Things {
 
     /// Returns the name of a receiver, with that of its channel where it has none of its own.
     fn name_of(&self, channel: u32, handle: u32, name: &str) -> String {
-        match *name == format!("receiver {handle}") {
-            true => format!("{}.receiver{handle}", self.channels[channel as usize].0),
-            false => name.to_string(),
+        if *name == format!("receiver {handle}") {
+            format!("{}.receiver{handle}", self.channels[channel as usize].0)
+        } else {
+            name.to_string()
         }
     }
 }

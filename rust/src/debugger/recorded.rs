@@ -1,15 +1,17 @@
-//! What the debug adapter `yovanelum-dap` needs of a journal beside the walk: its names, and the words of the report.
+//! What the debug adapter `yovanelum-dap` needs of a journal beside the walk: its names, and the
+//! words of the report.
 //!
 //! It is for that program alone, and changes with it.
 
 use super::{Entry, JournalError, Walk};
 use crate::account::Saying;
-use crate::names::{Names, checksum};
+use crate::names::{Names, checksum, test_beside};
 use crate::report::Report;
 use crate::run::{Run, TextFault};
+use std::path::Path;
 
 pub use super::named::{NamedCondition, Thing, Things};
-pub use crate::names::SourceLocation;
+pub use crate::names::{SourceLocation, read_whole};
 
 /// A journal with its names, and what was found in its run.
 pub struct Recorded {
@@ -49,7 +51,8 @@ pub struct Test<'a> {
 }
 
 impl Opened {
-    /// Opens a journal text with the text of its names, if there is one. One that is truncated is salvaged.
+    /// Opens a journal text with the text of its names, if there is one. One that is truncated is
+    /// salvaged.
     ///
     /// # Errors
     ///
@@ -62,14 +65,10 @@ impl Opened {
             }
             read => (read.map_err(JournalError)?, None),
         };
-        let read = names.map(|names| {
-            let names = Names::read(&names)?;
-            let of = names.ending.journal;
-            // The names of a journal that was truncated since can't be told from those of another one.
-            match cut_off.is_none() && of.is_some_and(|sum| sum != checksum(text)) {
-                true => Err("it has the names of another journal".to_string()),
-                false => Ok(names),
-            }
+        // The names of a journal that was truncated since can't be told from those of another one.
+        let read = names.map(|names| match cut_off {
+            None => Names::of_journal(&names, text),
+            Some(_) => Names::read(&names),
         });
         let (names, names_fault) = match read {
             Some(Ok(names)) => (names, None),
@@ -136,7 +135,8 @@ impl Recorded {
         self.saying.text(channel, value)
     }
 
-    /// Returns tokio's name of the method whose call led to a place, or `drop`. The entry is that of the place.
+    /// Returns tokio's name of the method whose call led to a place, or `drop`. The entry is that
+    /// of the place.
     pub fn method(&self, place: u64, entry: &Entry) -> &'static str {
         self.saying.method(place, &entry.decoded())
     }
@@ -190,9 +190,9 @@ pub fn checksum_of(bytes: &[u8]) -> u64 {
     checksum(bytes)
 }
 
-/// Returns which test made the run that these names are of.
-pub fn test_of(names: &str) -> Option<(String, String)> {
-    let names = Names::read(names).ok()?;
-    let test = names.ending.test?;
+/// Returns which test made the run of the journal at this path, if the names beside it say so: its
+/// name, and its thread's.
+pub fn test_of(journal: &Path) -> Option<(String, String)> {
+    let test = test_beside(journal)?;
     Some((test.name, test.thread))
 }

@@ -3,7 +3,8 @@
 use super::{Broadcast, Channel, Walk, Watch};
 use std::fmt;
 
-/// What all channels are at the place of a walk. It is printed as the `state` of the console of `ttd`.
+/// What all channels are at the place of a walk. It is printed as the `state` of the console of
+/// `ttd`.
 #[derive(Clone, Copy)]
 pub struct State<'a>(pub(super) &'a Walk);
 

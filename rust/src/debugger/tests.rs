@@ -15,28 +15,20 @@ fn shown(walk: &Walk) -> String {
     format!("{}{step}\n", walk.state())
 }
 
-/// Walks from the end to the start and back, and returns what is shown at each place, and the commands that show it in the console.
+/// A command of the console, and the method that does the same.
+type Move = (&'static str, fn(&mut Walk) -> bool);
+
+/// Walks from the end to the start and back, and returns what is shown at each place, and the
+/// commands that show it in the console.
 fn walked(walk: &mut Walk) -> (String, String) {
     let (mut shows, mut commands) = (shown(walk), "state\nstep\n".to_string());
-    while walk.back() {
-        commands.push_str("back\nstate\nstep\n");
-        let _ = write!(
-            shows,
-            "place {} of {}\n{}",
-            walk.place(),
-            walk.len(),
-            shown(walk)
-        );
-    }
-    while walk.forward() {
-        commands.push_str("forward\nstate\nstep\n");
-        let _ = write!(
-            shows,
-            "place {} of {}\n{}",
-            walk.place(),
-            walk.len(),
-            shown(walk)
-        );
+    let moves: [Move; 2] = [("back", Walk::back), ("forward", Walk::forward)];
+    for (command, step) in moves {
+        while step(walk) {
+            let _ = write!(commands, "{command}\nstate\nstep\n");
+            let (place, len) = (walk.place(), walk.len());
+            let _ = write!(shows, "place {place} of {len}\n{}", shown(walk));
+        }
     }
     (shows, commands)
 }
@@ -61,7 +53,8 @@ fn random_condition(random: &mut Random) -> Condition {
     }
 }
 
-/// Goes to random places and searches from there. Returns what the console answers, and the commands.
+/// Goes to random places and searches from there. Returns what the console answers, and the
+/// commands.
 fn searched(walk: &mut Walk, random: &mut Random) -> (String, String) {
     let (mut answers, mut commands) = (String::new(), String::new());
     for _ in 0..8 {
@@ -69,9 +62,10 @@ fn searched(walk: &mut Walk, random: &mut Random) -> (String, String) {
         assert!(walk.go_to(from));
         let condition: Condition = random_condition(random).to_string().parse().unwrap();
         let is_back = random.below(2) == 0;
-        let (word, found) = match is_back {
-            true => ("rback", walk.find_back(&condition)),
-            false => ("rforward", walk.find_forward(&condition)),
+        let (word, found) = if is_back {
+            ("rback", walk.find_back(&condition))
+        } else {
+            ("rforward", walk.find_forward(&condition))
         };
         let _ = writeln!(commands, "goto {from}\n{word} {condition}");
         let len = walk.len();
@@ -175,7 +169,8 @@ fn hits_are_counted_up_to_the_place() {
         assert!(walk.go_to(here));
         let hits = walk.hits_so_far(&condition);
         assert_eq!(walk.place(), here);
-        // Counted from the other end: each hit is found from the one above it. The place itself may be one.
+        // Counted from the other end: each hit is found from the one above it. The place itself may
+        // be one.
         let mut backwards = 0;
         if walk.forward() || walk.is_empty() {
             while walk.find_back(&condition).is_some() {

@@ -6,8 +6,8 @@ use crate::channel::ChannelState;
 use std::fmt;
 use std::panic::Location;
 
-/// A channel whose last sender was dropped, as [`on_close`](crate::on_close) and [`Recorder::on_close`](crate::Recorder::on_close) pass it to
-/// their closure.
+/// A channel whose last sender was dropped, as [`on_close`](crate::on_close) and
+/// [`Recorder::on_close`](crate::Recorder::on_close) pass it to their closure.
 ///
 /// With `Display` it is one line.
 ///
@@ -54,7 +54,8 @@ impl Close {
         }
     }
 
-    /// Returns the name of the channel, or `channel at src/main.rs:9` with the place of its creation if it has none.
+    /// Returns the name of the channel, or `channel at src/main.rs:9` with the place of its
+    /// creation if it has none.
     pub fn channel(&self) -> &str {
         &self.channel.name
     }
@@ -64,17 +65,20 @@ impl Close {
         self.channel.made_at
     }
 
-    /// Returns the capacity that a broadcast channel was created with, and `None` for a watch channel.
+    /// Returns the capacity that a broadcast channel was created with, and `None` for a watch
+    /// channel.
     pub fn capacity(&self) -> Option<usize> {
         self.channel.capacity
     }
 
-    /// Returns the name of the thread, task or [`named`](crate::named) future that dropped the last sender.
+    /// Returns the name of the thread, task or [`named`](crate::named) future that dropped the last
+    /// sender.
     pub fn closed_by(&self) -> &str {
         &self.closed_by
     }
 
-    /// Returns how many values were sent on the channel. The one that a watch channel was created with is not among them.
+    /// Returns how many values were sent on the channel. The one that a watch channel was created
+    /// with is not among them.
     pub fn sent(&self) -> u64 {
         self.sent
     }
@@ -84,12 +88,14 @@ impl Close {
         self.receivers
     }
 
-    /// Returns how many values the receiver that is most behind has yet to receive. On a watch channel it is 1 at most.
+    /// Returns how many values the receiver that is most behind has yet to receive. On a watch
+    /// channel it is 1 at most.
     pub fn unread(&self) -> u64 {
         self.unread
     }
 
-    /// Returns the name of the thread, task or [`named`](crate::named) future that sent last, if anything was sent.
+    /// Returns the name of the thread, task or [`named`](crate::named) future that sent last, if
+    /// anything was sent.
     pub fn sender(&self) -> Option<&str> {
         self.channel.sender.as_deref()
     }
@@ -101,8 +107,8 @@ impl Close {
 }
 
 impl fmt::Display for Close {
-    /// Formats it as in ``prices` was closed by exchange after 120 values, with 2 receivers, of which one has 16 to receive; the last send was
-    /// by exchange at src/exchange.rs:20``.
+    /// Formats it as in ``prices` was closed by exchange after 120 values, with 2 receivers, of
+    /// which one has 16 to receive; the last send was by exchange at src/exchange.rs:20``.
     fn fmt(&self, f: &mut fmt::Formatter<'_>) -> fmt::Result {
         let (channel, closed_by, sent) = (self.channel(), &self.closed_by, values(self.sent));
         write!(f, "`{channel}` was closed by {closed_by} after {sent}")?;

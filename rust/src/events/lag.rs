@@ -2,6 +2,7 @@
 
 use super::{ChannelOf, values};
 use crate::channel::{CallSite, ChannelState, Slot};
+use crate::handle::Kind;
 use std::fmt;
 use std::panic::Location;
 
@@ -44,7 +45,8 @@ pub struct Lag {
 }
 
 impl Lag {
-    /// Describes the receiver with this number and this slot, which lagged by so many values, as a receive here returned.
+    /// Describes the receiver with this number and this slot, which lagged by so many values, as a
+    /// receive here returned.
     pub(crate) fn new(
         state: &mut ChannelState,
         (number, slot): (u32, Slot),
@@ -55,7 +57,7 @@ impl Lag {
         let receiver = state.receivers.get(slot);
         Lag {
             channel: ChannelOf::new(state),
-            receiver: state.receiver_name(number),
+            receiver: state.handle_name(Kind::Receiver, number),
             receiver_made_at: receiver.made_at,
             received_at,
             lost,
@@ -64,7 +66,8 @@ impl Lag {
         }
     }
 
-    /// Returns the name of the channel, or `channel at src/main.rs:9` with the place of its creation if it has none.
+    /// Returns the name of the channel, or `channel at src/main.rs:9` with the place of its
+    /// creation if it has none.
     pub fn channel(&self) -> &str {
         &self.channel.name
     }
@@ -79,7 +82,8 @@ impl Lag {
         self.channel.capacity.unwrap_or_default()
     }
 
-    /// Returns the name of the receiver, or `receiver 1` with its number in the channel if it has none.
+    /// Returns the name of the receiver, or `receiver 1` with its number in the channel if it has
+    /// none.
     pub fn receiver(&self) -> &str {
         &self.receiver
     }
@@ -89,7 +93,8 @@ impl Lag {
         self.receiver_made_at
     }
 
-    /// Returns where the receive was called that returned `Lagged`. For a stream, it is where the stream was created.
+    /// Returns where the receive was called that returned `Lagged`. For a stream, it is where the
+    /// stream was created.
     pub fn received_at(&self) -> Option<&'static Location<'static>> {
         self.received_at
     }
@@ -121,8 +126,8 @@ impl Lag {
 }
 
 impl fmt::Display for Lag {
-    /// Formats it as in ``audit` lost 17 values of `prices` (capacity 16), 34 in all, and has 16 to receive; the last send was by exchange at
-    /// src/exchange.rs:20``.
+    /// Formats it as in ``audit` lost 17 values of `prices` (capacity 16), 34 in all, and has 16 to
+    /// receive; the last send was by exchange at src/exchange.rs:20``.
     fn fmt(&self, f: &mut fmt::Formatter<'_>) -> fmt::Result {
         let (receiver, channel, capacity) = (&self.receiver, self.channel(), self.capacity());
         let lost = values(self.lost);

@@ -1,4 +1,5 @@
-//! What a test is explored for, if not for a failure alone: a condition by names, and what a run says of it.
+//! What a test is explored for, if not for a failure alone: a condition by names, and what a run
+//! says of it.
 
 use crate::debugger::named::{NamedCondition, Things};
 use crate::debugger::{Walk, recorded};
@@ -52,16 +53,18 @@ pub(super) fn condition() -> Option<NamedCondition> {
 pub(super) fn unknown_in_words(condition: &NamedCondition, names: &[String]) -> String {
     let quoted: Vec<_> = names.iter().map(|name| format!("`{name}`")).collect();
     let sort = condition.sort.plural();
-    match quoted.is_empty() {
-        true => format!("`{condition}` names nothing: there are no {sort}"),
-        false => format!(
+    if quoted.is_empty() {
+        format!("`{condition}` names nothing: there are no {sort}")
+    } else {
+        format!(
             "`{condition}` names nothing: the {sort} are {}",
             crate::account::visible::first(&quoted, NAMES_SAID, ", ")
-        ),
+        )
     }
 }
 
-/// Says whether the run of this recorder met the condition of the variable, up to this stamp. Returns the call that met it first.
+/// Says whether the run of this recorder met the condition of the variable, up to this stamp.
+/// Returns the call that met it first.
 pub(crate) fn answer(recorder: &Shared, last: u64) -> Option<u64> {
     let condition = condition()?;
     // A panic in a drop while a panic unwinds would end the process.

@@ -2,7 +2,7 @@
 
 use super::asked::FOR;
 use super::guide::Guide;
-use super::order::{Kind, Order};
+use super::order::{Order, OrderKind};
 use super::random::{Random, hashed};
 use super::schedule::{Schedule, Step, What};
 use std::collections::HashMap;
@@ -38,28 +38,30 @@ impl Chooser {
     ///
     /// # Errors
     ///
-    /// Returns an error if it follows a file that can't be read, or is to be guided and isn't told where.
+    /// Returns an error if it follows a file that can't be read, or is to be guided and isn't told
+    /// where.
     pub(super) fn new(order: &Order) -> io::Result<Chooser> {
         Ok(match &order.kind {
-            Kind::Steps(steps) => Chooser::Steps {
+            OrderKind::Steps(steps) => Chooser::Steps {
                 steps: steps.clone(),
                 at: 0,
             },
-            Kind::Random(seed) => Chooser::Random(Random::new(*seed)),
-            Kind::Pct { depth, seed, steps } => Chooser::Pct(Pct::new(*depth, *seed, *steps)),
-            Kind::Pos(seed) => Chooser::Pos {
+            OrderKind::Random(seed) => Chooser::Random(Random::new(*seed)),
+            OrderKind::Pct { depth, seed, steps } => Chooser::Pct(Pct::new(*depth, *seed, *steps)),
+            OrderKind::Pos(seed) => Chooser::Pos {
                 random: Random::new(*seed),
                 priorities: HashMap::new(),
             },
-            Kind::Guided { seed, steps } => {
+            OrderKind::Guided { seed, steps } => {
                 let guide = Guide::new(*seed, *steps);
                 Chooser::Guided(guide.ok_or_else(|| io::Error::other(format!("{FOR} isn't set")))?)
             }
-            Kind::File(path) => Chooser::Follow(Follow::new(Schedule::of_file(path)?.steps)),
+            OrderKind::File(path) => Chooser::Follow(Follow::new(Schedule::of_file(path)?.steps)),
         })
     }
 
-    /// Returns the index of the one who is let go. The first candidate is the one who goes on without a switch.
+    /// Returns the index of the one who is let go. The first candidate is the one who goes on
+    /// without a switch.
     pub(super) fn choose(&mut self, candidates: &[Candidate]) -> usize {
         match self {
             Chooser::Steps { steps, at } => {
@@ -86,7 +88,8 @@ impl Chooser {
     }
 }
 
-/// Chooses the one whose call has the highest priority. Those of its channel, whose order with it matters, get new ones.
+/// Chooses the one whose call has the highest priority. Those of its channel, whose order with it
+/// matters, get new ones.
 fn by_sampling(
     random: &mut Random,
     priorities: &mut HashMap<u64, u64>,

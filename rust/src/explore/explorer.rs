@@ -1,13 +1,15 @@
-//! The gate of a run that is explored: each call stands before it, and each poll of a named task, until it is let go.
+//! The gate of a run that is explored: each call stands before it, and each poll of a named task,
+//! until it is let go.
 //!
-//! When all other threads of the process sleep, one of those who stand is let go, and goes on until it stands again or sleeps elsewhere. Nobody
-//! specific is waited for, so the gate itself has no deadlock.
+//! When all other threads of the process sleep, one of those who stand is let go, and goes on until
+//! it stands again or sleeps elsewhere. Nobody specific is waited for, so the gate itself has no
+//! deadlock.
 
 use super::chooser::Chooser;
-use super::looks::Call;
+use super::looks::CallInSource;
 use super::order::Order;
-use super::schedule::{End, Schedule};
-use super::state::State;
+use super::schedule::{RunEnd, Schedule};
+use super::state::ExplorerState;
 use super::threads::this_thread;
 use crate::actors;
 use crate::lock::lock;
@@ -33,7 +35,7 @@ thread_local! {
 
 /// What a poll comes to.
 #[derive(Clone, Copy, PartialEq, Eq)]
-enum Polled {
+enum PollOutcome {
     Goes,
     Held,
     /// It is held, and its task wakes itself.
@@ -42,7 +44,7 @@ enum Polled {
 
 /// The gate of a run that is explored.
 pub(crate) struct Explorer {
-    pub(super) state: Mutex<State>,
+    pub(super) state: Mutex<ExplorerState>,
     /// How many threads have come, and have yet to lock the state.
     entering: AtomicUsize,
     pub(super) helper: Condvar,
@@ -57,7 +59,7 @@ impl Explorer {
     pub(super) fn new(order: &Order, is_time_offered: bool) -> io::Result<Explorer> {
         let chooser = Chooser::new(order)?;
         Ok(Explorer {
-            state: Mutex::new(State::new(order, chooser, is_time_offered)),
+            state: Mutex::new(ExplorerState::new(order, chooser, is_time_offered)),
             entering: AtomicUsize::new(0),
             helper: Condvar::new(),
             is_over: AtomicBool::new(false),
@@ -74,8 +76,9 @@ impl Explorer {
         self.channels.fetch_add(1, Ordering::Relaxed)
     }
 
-    /// Locks the state for a caller. While one waits for the lock, nobody is chosen: its thread would seem to sleep.
-    fn enter(&self) -> MutexGuard<'_, State> {
+    /// Locks the state for a caller. While one waits for the lock, nobody is chosen: its thread
+    /// would seem to sleep.
+    fn enter(&self) -> MutexGuard<'_, ExplorerState> {
         self.entering.fetch_add(1, Ordering::SeqCst);
         let state = lock(&self.state);
         self.entering.fetch_sub(1, Ordering::SeqCst);
@@ -111,16 +114,17 @@ impl Explorer {
         !self.is_over()
     }
 
-    /// Notes that this call is made now, which has passed here. Nobody else goes on before it is made. `has_unread` says whether its receiver has
-    /// anything to receive.
+    /// Notes that this call is made now, which has passed here. Nobody else goes on before it is
+    /// made. `has_unread` says whether its receiver has anything to receive.
     pub(crate) fn goes(&self, coming: &Coming, has_unread: bool) {
         let mut state = self.enter();
         let who = who(&mut state);
-        state.looks.goes(&who, Call::of(coming), has_unread);
+        state.looks.goes(&who, CallInSource::of(coming), has_unread);
     }
 
-    /// Whether the poll of the future with this name is held back. Then its task is woken later. `task` is its own, and has its name from the first
-    /// poll on. One that is polled by another named future goes with that one.
+    /// Whether the poll of the future with this name is held back. Then its task is woken later.
+    /// `task` is its own, and has its name from the first poll on. One that is polled by another
+    /// named future goes with that one.
     pub(crate) fn holds(
         &self,
         task: &mut Option<Arc<str>>,
@@ -130,52 +134,58 @@ impl Explorer {
         if self.is_over() || is_in_task() {
             return false;
         }
-        // Wakers run code of the runtime where they are cloned and dropped, so nothing is locked there.
+        // Wakers run code of the runtime where they are cloned and dropped, so nothing is locked
+        // there.
         let waker = context.waker().clone();
         let mut state = self.enter();
         let who = task.get_or_insert_with(|| state.numbered(name)).clone();
         TASK.set(Some(who.clone()));
         state.moved();
         let (polled, left) = self.poll(&mut state, &who, waker);
-        if polled != Polled::Goes {
+        if polled != PollOutcome::Goes {
             self.keep_awake(&state);
         }
         drop(state);
         match left {
             // It wakes itself at once, so that its runtime has something to do.
-            Some(waker) if polled == Polled::HeldAwake => waker.wake(),
+            Some(waker) if polled == PollOutcome::HeldAwake => waker.wake(),
             left => drop(left),
         }
-        polled != Polled::Goes
+        polled != PollOutcome::Goes
     }
 
     /// Returns what the poll of a task comes to, and a waker that is used no longer.
-    fn poll(&self, state: &mut State, who: &Arc<str>, waker: Waker) -> (Polled, Option<Waker>) {
+    fn poll(
+        &self,
+        state: &mut ExplorerState,
+        who: &Arc<str>,
+        waker: Waker,
+    ) -> (PollOutcome, Option<Waker>) {
         let this = this_thread();
         let Some(index) = state.poll_of(who) else {
             let stand = state.add(who.clone(), None);
             if stand.spins {
-                return (Polled::HeldAwake, Some(waker));
+                return (PollOutcome::HeldAwake, Some(waker));
             }
-            return (Polled::Held, stand.waker.replace(waker));
+            return (PollOutcome::Held, stand.waker.replace(waker));
         };
         let stand = &mut state.stands[index];
         if stand.is_chosen {
-            return (Polled::Goes, state.take_poll(index));
+            return (PollOutcome::Goes, state.take_poll(index));
         }
         stand.thread = this;
         stand.rounds += 1;
         if !stand.spins {
-            return (Polled::Held, stand.waker.replace(waker));
+            return (PollOutcome::Held, stand.waker.replace(waker));
         }
         if state.only_holds(this) {
             self.try_choose(state);
             let index = state.poll_of(who);
             if let Some(index) = index.filter(|index| state.stands[*index].is_chosen) {
-                return (Polled::Goes, state.take_poll(index));
+                return (PollOutcome::Goes, state.take_poll(index));
             }
         }
-        (Polled::HeldAwake, Some(waker))
+        (PollOutcome::HeldAwake, Some(waker))
     }
 
     /// Leaves the gate, since this task is dropped. Its drop makes its calls under its name.
@@ -192,7 +202,7 @@ impl Explorer {
     }
 
     /// Lets one go, if all others sleep.
-    pub(super) fn try_choose(&self, state: &mut State) {
+    pub(super) fn try_choose(&self, state: &mut ExplorerState) {
         if self.entering.load(Ordering::SeqCst) > 0 {
             return;
         }
@@ -204,7 +214,7 @@ impl Explorer {
     }
 
     /// Lets one go while the other threads sleep at these places, or run on.
-    pub(super) fn choose(&self, state: &mut State, rest: &[super::threads::Sleeper]) {
+    pub(super) fn choose(&self, state: &mut ExplorerState, rest: &[super::threads::Sleeper]) {
         state.choose(rest);
         if state.is_too_long() {
             self.open(state);
@@ -214,14 +224,14 @@ impl Explorer {
         }
     }
 
-    fn keep_awake(&self, state: &State) {
+    fn keep_awake(&self, state: &ExplorerState) {
         if state.is_helper_idle {
             self.helper.notify_one();
         }
     }
 
     /// Lets all go from now on.
-    fn open(&self, state: &mut State) {
+    fn open(&self, state: &mut ExplorerState) {
         self.is_over.store(true, Ordering::Release);
         for stand in &mut state.stands {
             stand.own.notify_all();
@@ -232,7 +242,7 @@ impl Explorer {
     }
 
     /// Lets all go from now on, and returns what the run has been.
-    pub(super) fn end(&self, end: End) -> Schedule {
+    pub(super) fn end(&self, end: RunEnd) -> Schedule {
         let mut state = lock(&self.state);
         self.open(&mut state);
         state.schedule.end = end;
@@ -249,15 +259,16 @@ pub(super) struct InTask {
 
 impl InTask {
     pub(super) fn new(task: &Arc<str>) -> InTask {
-        match is_in_task() {
-            true => InTask {
+        if is_in_task() {
+            InTask {
                 was_in_task: IS_IN_TASK.get(),
                 before: TASK.with_borrow(Clone::clone),
-            },
-            false => InTask {
+            }
+        } else {
+            InTask {
                 was_in_task: IS_IN_TASK.replace(true),
                 before: TASK.replace(Some(task.clone())),
-            },
+            }
         }
     }
 }
@@ -275,7 +286,7 @@ fn is_in_task() -> bool {
 }
 
 /// Returns who calls: the outermost task, or the thread.
-fn who(state: &mut State) -> Arc<str> {
+fn who(state: &mut ExplorerState) -> Arc<str> {
     if is_in_task() {
         if let Some(task) = TASK.with_borrow(Clone::clone) {
             return task;

@@ -10,7 +10,7 @@ use super::random::{Random, hashed};
 use super::run;
 use super::schedule::What;
 use crate::debugger::named::{NamedCondition, Sort};
-use call::Call;
+use call::StandingCall;
 use std::collections::{HashMap, HashSet};
 use std::sync::Arc;
 
@@ -41,7 +41,8 @@ enum Effect {
     First,
 }
 
-/// Lets those go first who bring the condition nearer, and holds those who lead away from it. A seed says at which choices it is chance instead.
+/// Lets those go first who bring the condition nearer, and holds those who lead away from it. A
+/// seed says at which choices it is chance instead.
 pub(super) struct Guide {
     condition: NamedCondition,
     look: fn() -> Vec<Known>,
@@ -140,7 +141,7 @@ impl Guide {
                 let Some(channel) = known else {
                     return Effect::None;
                 };
-                self.effect_of_call(&Call {
+                self.effect_of_call(&StandingCall {
                     who: &candidate.who,
                     word,
                     handle: *handle,
@@ -164,7 +165,8 @@ impl Guide {
         }
     }
 
-    /// Whether it is the caller of the condition's name, and the receiver by which it is to receive isn't known yet.
+    /// Whether it is the caller of the condition's name, and the receiver by which it is to receive
+    /// isn't known yet.
     fn is_to_begin(&self, who: &str, channels: &[Known]) -> bool {
         matches!(
             self.condition.sort,
@@ -174,22 +176,24 @@ impl Guide {
             && !channels.iter().any(|channel| self.has_receiver(channel))
     }
 
-    /// Whether the condition is met by a send of this caller if it stands there while the receivers go.
+    /// Whether the condition is met by a send of this caller if it stands there while the receivers
+    /// go.
     fn is_to_stand_at_send(&self, who: &str) -> bool {
         let is_of_send =
             self.condition.sort == Sort::Reply && self.condition.name == "no-receivers";
         is_of_send && self.habits.get(who).is_some_and(|habit| habit.leads_away)
     }
 
-    fn effect_of_call(&mut self, call: &Call<'_>) -> Effect {
+    fn effect_of_call(&mut self, call: &StandingCall<'_>) -> Effect {
         match self.condition.sort {
             Sort::Reply if !call.sends() && self.is_to_stand_at_send(call.who) => Effect::First,
             Sort::Actor => self.of_actor(call.who),
             Sort::Reply => call.effect_on_reply(&self.condition.name),
             Sort::Channel | Sort::Broadcast | Sort::Watch => {
-                match is_channel(&self.condition.name, call.channel) {
-                    true => call.effect_on_channel(self.condition.word),
-                    false => Effect::None,
+                if is_channel(&self.condition.name, call.channel) {
+                    call.effect_on_channel(self.condition.word)
+                } else {
+                    Effect::None
                 }
             }
             Sort::BroadcastReceiver | Sort::WatchReceiver => self.effect_on_receiver(call),
@@ -197,13 +201,14 @@ impl Guide {
     }
 
     fn of_actor(&self, who: &str) -> Effect {
-        match who == self.condition.name {
-            true => Effect::Nearer,
-            false => Effect::None,
+        if who == self.condition.name {
+            Effect::Nearer
+        } else {
+            Effect::None
         }
     }
 
-    fn effect_on_receiver(&mut self, call: &Call<'_>) -> Effect {
+    fn effect_on_receiver(&mut self, call: &StandingCall<'_>) -> Effect {
         let is_of_watch = self.condition.sort == Sort::WatchReceiver;
         if call.channel.is_watch != is_of_watch {
             return Effect::None;
@@ -219,10 +224,12 @@ impl Guide {
                 _ => Effect::None,
             };
         }
-        match call.sends() && self.has_receiver(call.channel) {
-            true => Effect::Nearer,
-            false if by_name && self.read_by_name.is_empty() => Effect::First,
-            false => Effect::None,
+        if call.sends() && self.has_receiver(call.channel) {
+            Effect::Nearer
+        } else if by_name && self.read_by_name.is_empty() {
+            Effect::First
+        } else {
+            Effect::None
         }
     }
 

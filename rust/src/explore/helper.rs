@@ -1,7 +1,8 @@
-//! The thread that wakes tasks, and that lets one go where the last one to run has fallen asleep elsewhere.
+//! The thread that wakes tasks, and that lets one go where the last one to run has fallen asleep
+//! elsewhere.
 
 use super::Explorer;
-use super::state::State;
+use super::state::ExplorerState;
 use crate::lock::lock;
 use std::panic::{self, AssertUnwindSafe};
 use std::sync::atomic::Ordering;
@@ -56,9 +57,10 @@ impl Helper {
                 self.look(&mut state);
                 let still = state.moved_at.elapsed();
                 drop(state);
-                match still < Duration::from_micros(200) {
-                    true => thread::yield_now(),
-                    false => thread::sleep(Duration::from_micros(50)),
+                if still < Duration::from_micros(200) {
+                    thread::yield_now()
+                } else {
+                    thread::sleep(Duration::from_micros(50))
                 }
             } else {
                 self.look_for_hang(&mut state);
@@ -71,7 +73,7 @@ impl Helper {
         }
     }
 
-    fn wake(&self, mut state: MutexGuard<'_, State>) {
+    fn wake(&self, mut state: MutexGuard<'_, ExplorerState>) {
         let wakers = mem::take(&mut state.wakers);
         state.waking = wakers.len();
         drop(state);
@@ -83,7 +85,7 @@ impl Helper {
     }
 
     /// Lets one go if all others sleep, or if one runs on and on.
-    fn look(&self, state: &mut State) {
+    fn look(&self, state: &mut ExplorerState) {
         let before = state.schedule.steps.len();
         self.explorer.try_choose(state);
         let still = state.moved_at.elapsed();
@@ -100,7 +102,7 @@ impl Helper {
     }
 
     /// Ends the process if all wait forever, and nobody stands.
-    fn look_for_hang(&mut self, state: &mut State) {
+    fn look_for_hang(&mut self, state: &mut ExplorerState) {
         let rest = state.rest();
         let is_quiet = !state.schedule.by_clock
             && rest.is_some_and(|rest| !rest.iter().any(super::threads::Sleeper::is_timed))
@@ -115,7 +117,7 @@ impl Helper {
 }
 
 /// Whether a thread that doesn't stand has run for long since something moved.
-fn runs_on(state: &mut State) -> bool {
+fn runs_on(state: &mut ExplorerState) -> bool {
     let blocked = state.stands.iter();
     let blocked = blocked.filter(|stand| stand.call.is_some() && !stand.is_chosen);
     let blocked: Vec<_> = blocked.map(|stand| stand.thread).collect();

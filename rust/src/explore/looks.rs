@@ -1,4 +1,5 @@
-//! Callers that only look, again and again, while nothing changes. They are set aside until a channel of theirs does.
+//! Callers that only look, again and again, while nothing changes. They are set aside until a
+//! channel of theirs does.
 
 use crate::channel::CallSite;
 use crate::replay::Coming;
@@ -18,19 +19,19 @@ const LOOKS_KEPT: usize = 16;
 pub(super) struct Looks {
     /// How often each channel was changed.
     versions: HashMap<u32, u64>,
-    by_caller: HashMap<Arc<str>, Vec<Look>>,
+    by_caller: HashMap<Arc<str>, Vec<RepeatedLook>>,
 }
 
 /// A look: which call it is, and what it has seen.
-struct Look {
-    call: Call,
+struct RepeatedLook {
+    call: CallInSource,
     version: u64,
     times: u32,
 }
 
 /// A call that is made at one place in the source, by one handle.
 #[derive(Clone, Copy, PartialEq, Eq)]
-pub(super) struct Call {
+pub(super) struct CallInSource {
     channel: u32,
     handle: u32,
     word: Word,
@@ -38,10 +39,10 @@ pub(super) struct Call {
     at: usize,
 }
 
-impl Call {
-    pub(super) fn of(coming: &Coming) -> Call {
+impl CallInSource {
+    pub(super) fn of(coming: &Coming) -> CallInSource {
         let address = |at: CallSite| at.map_or(0, |at| ptr::from_ref(at).addr());
-        Call {
+        CallInSource {
             channel: coming.channel,
             handle: coming.handle,
             word: coming.word,
@@ -50,25 +51,27 @@ impl Call {
     }
 
     /// What the call is to others. `has_unread` says whether its receiver has anything to receive.
-    fn effect(self, has_unread: bool) -> Effect {
+    fn effect(self, has_unread: bool) -> EffectOnOthers {
         match self.word {
-            Word::TryRecv if !has_unread => Effect::Look,
+            Word::TryRecv if !has_unread => EffectOnOthers::Look,
             Word::Borrow
             | Word::HasChanged
             | Word::ReceiverLen
             | Word::SenderLen
             | Word::ReceiverCount
-            | Word::IsClosed => Effect::Look,
-            Word::Recv if !has_unread => Effect::Waits,
-            Word::Changed | Word::Closed | Word::WaitFor | Word::NoReceiver => Effect::Waits,
-            _ => Effect::Changes,
+            | Word::IsClosed => EffectOnOthers::Look,
+            Word::Recv if !has_unread => EffectOnOthers::Waits,
+            Word::Changed | Word::Closed | Word::WaitFor | Word::NoReceiver => {
+                EffectOnOthers::Waits
+            }
+            _ => EffectOnOthers::Changes,
         }
     }
 }
 
 /// What a call is to others.
 #[derive(Clone, Copy, PartialEq, Eq)]
-enum Effect {
+enum EffectOnOthers {
     /// It changes nothing, and would return the same again.
     Look,
     /// It waits, or changes nothing but what its own receiver has seen.
@@ -78,12 +81,12 @@ enum Effect {
 
 impl Looks {
     /// Notes that a caller makes a call.
-    pub(super) fn goes(&mut self, who: &Arc<str>, call: Call, has_unread: bool) {
+    pub(super) fn goes(&mut self, who: &Arc<str>, call: CallInSource, has_unread: bool) {
         let effect = call.effect(has_unread);
-        if effect == Effect::Changes {
+        if effect == EffectOnOthers::Changes {
             *self.versions.entry(call.channel).or_default() += 1;
         }
-        if effect != Effect::Look {
+        if effect != EffectOnOthers::Look {
             self.by_caller.remove(who);
             return;
         }
@@ -93,7 +96,7 @@ impl Looks {
         match found {
             Some(index) if looks[index].version == version => looks[index].times += 1,
             Some(index) => (looks[index].version, looks[index].times) = (version, 1),
-            None if looks.len() < LOOKS_KEPT => looks.push(Look {
+            None if looks.len() < LOOKS_KEPT => looks.push(RepeatedLook {
                 call,
                 version,
                 times: 1,
@@ -107,8 +110,9 @@ impl Looks {
         self.versions.get(&channel).copied().unwrap_or_default()
     }
 
-    /// Whether a caller looks again and again, at what hasn't changed since. If it has come with a call, this is that call.
-    pub(super) fn is_idle(&self, who: &Arc<str>, call: Option<Call>) -> bool {
+    /// Whether a caller looks again and again, at what hasn't changed since. If it has come with a
+    /// call, this is that call.
+    pub(super) fn is_idle(&self, who: &Arc<str>, call: Option<CallInSource>) -> bool {
         let Some(looks) = self.by_caller.get(who) else {
             return false;
         };
@@ -127,8 +131,8 @@ impl Looks {
 mod tests {
     use super::*;
 
-    fn call(channel: u32, word: Word) -> Call {
-        Call {
+    fn call(channel: u32, word: Word) -> CallInSource {
+        CallInSource {
             channel,
             handle: 1,
             word,

@@ -3,20 +3,21 @@
 use std::fmt;
 use std::path::PathBuf;
 
-/// By what the choices of a run are made. Its text names it, as `s12.1` or `p2.17.40`, and is read again by [`Order::read`].
+/// By what the choices of a run are made. Its text names it, as `s12.1` or `p2.17.40`, and is read
+/// again by [`Order::read`].
 #[derive(Clone, Debug, PartialEq, Eq, Hash)]
 pub(super) struct Order {
-    pub(super) kind: Kind,
-    /// Whether time is offered as a choice where a runtime waits for a timer. Else the test's own runtime is kept busy while tasks are held, so that
-    /// a paused clock stands still.
+    pub(super) kind: OrderKind,
+    /// Whether time is offered as a choice where a runtime waits for a timer. Else the test's own
+    /// runtime is kept busy while tasks are held, so that a paused clock stands still.
     pub(super) has_timers: bool,
 }
 
 /// The kinds of orders.
 #[derive(Clone, Debug, PartialEq, Eq, Hash)]
-pub(super) enum Kind {
-    /// Whoever went last goes on, and where it can't, the first by name. At these steps it is another one instead, by its number among those who
-    /// stand.
+pub(super) enum OrderKind {
+    /// Whoever went last goes on, and where it can't, the first by name. At these steps it is
+    /// another one instead, by its number among those who stand.
     Steps(Vec<(u32, u32)>),
     /// Each with the same chance.
     Random(u64),
@@ -24,7 +25,8 @@ pub(super) enum Kind {
     Pct { depth: u32, seed: u64, steps: u32 },
     /// Partial-order sampling: each call has a priority of its own.
     Pos(u64),
-    /// What brings the condition nearer that the test is explored for. So many steps have others to choose.
+    /// What brings the condition nearer that the test is explored for. So many steps have others to
+    /// choose.
     Guided { seed: u64, steps: u32 },
     /// Those of a schedule's file, as far as they can be made.
     File(PathBuf),
@@ -42,19 +44,19 @@ impl Order {
         let numbers = || rest.split('.').map(|number| number.parse::<u64>().ok());
         let numbers = || numbers().collect::<Option<Vec<_>>>();
         let kind = match first {
-            's' => Kind::Steps(steps(rest)?),
-            'r' => Kind::Random(rest.parse().ok()?),
-            'o' => Kind::Pos(rest.parse().ok()?),
-            'f' => Kind::File(PathBuf::from(rest.strip_prefix(':')?)),
+            's' => OrderKind::Steps(steps(rest)?),
+            'r' => OrderKind::Random(rest.parse().ok()?),
+            'o' => OrderKind::Pos(rest.parse().ok()?),
+            'f' => OrderKind::File(PathBuf::from(rest.strip_prefix(':')?)),
             'g' => match numbers()?[..] {
-                [seed, steps] => Kind::Guided {
+                [seed, steps] => OrderKind::Guided {
                     seed,
                     steps: steps.try_into().ok()?,
                 },
                 _ => return None,
             },
             'p' => match numbers()?[..] {
-                [depth, seed, steps] if (1..100).contains(&depth) => Kind::Pct {
+                [depth, seed, steps] if (1..100).contains(&depth) => OrderKind::Pct {
                     depth: depth as u32,
                     seed,
                     steps: steps.try_into().ok()?,
@@ -69,13 +71,13 @@ impl Order {
     /// Returns the name of its strategy.
     pub(super) fn strategy(&self) -> &'static str {
         match &self.kind {
-            Kind::Steps(_) => "search",
-            Kind::Random(_) => "random",
-            Kind::Pct { depth: 2, .. } => "PCT 2",
-            Kind::Pct { .. } => "PCT 3",
-            Kind::Pos(_) => "POS",
-            Kind::Guided { .. } => "guided",
-            Kind::File(_) => "schedule",
+            OrderKind::Steps(_) => "search",
+            OrderKind::Random(_) => "random",
+            OrderKind::Pct { depth: 2, .. } => "PCT 2",
+            OrderKind::Pct { .. } => "PCT 3",
+            OrderKind::Pos(_) => "POS",
+            OrderKind::Guided { .. } => "guided",
+            OrderKind::File(_) => "schedule",
         }
     }
 }
@@ -96,15 +98,15 @@ impl fmt::Display for Order {
     fn fmt(&self, f: &mut fmt::Formatter<'_>) -> fmt::Result {
         f.write_str(if self.has_timers { "t" } else { "" })?;
         match &self.kind {
-            Kind::Steps(steps) => {
+            OrderKind::Steps(steps) => {
                 let steps: Vec<_> = steps.iter().map(|(at, to)| format!("{at}.{to}")).collect();
                 write!(f, "s{}", steps.join("-"))
             }
-            Kind::Random(seed) => write!(f, "r{seed}"),
-            Kind::Pct { depth, seed, steps } => write!(f, "p{depth}.{seed}.{steps}"),
-            Kind::Pos(seed) => write!(f, "o{seed}"),
-            Kind::Guided { seed, steps } => write!(f, "g{seed}.{steps}"),
-            Kind::File(path) => write!(f, "f:{}", path.display()),
+            OrderKind::Random(seed) => write!(f, "r{seed}"),
+            OrderKind::Pct { depth, seed, steps } => write!(f, "p{depth}.{seed}.{steps}"),
+            OrderKind::Pos(seed) => write!(f, "o{seed}"),
+            OrderKind::Guided { seed, steps } => write!(f, "g{seed}.{steps}"),
+            OrderKind::File(path) => write!(f, "f:{}", path.display()),
         }
     }
 }

@@ -1,8 +1,9 @@
 //! The processor that a process runs on.
 #![allow(unsafe_code)]
 
-/// Lets all threads of this process run on one processor alone: the one with this number among those that the process may use, which are counted
-/// round. Where the system has no such call, nothing changes.
+/// Lets all threads of this process run on one processor alone: the one with this number among
+/// those that the process may use, which are counted round. Where the system has no such call,
+/// nothing changes.
 pub(super) fn pin_to(number: usize) {
     #[cfg(all(target_os = "linux", not(miri)))]
     linux::pin_to(number);
@@ -54,7 +55,8 @@ mod linux {
         }
         let mut mask = [0u64; PROCESSORS / 64];
         mask[processor / 64] |= 1 << (processor % 64);
-        // SAFETY: the mask is alive during the call, which reads as many bytes of it as it has. What it does to a thread changes no memory.
+        // SAFETY: the mask is alive during the call, which reads as many bytes of it as it has.
+        // What it does to a thread changes no memory.
         unsafe { sched_setaffinity(thread, size_of_val(&mask), mask.as_ptr()) };
     }
 

@@ -3,7 +3,7 @@
 use super::asked::{ANSWER, Answer};
 use super::order::Order;
 use super::run::{ORDER, PROCESSOR, SCHEDULE, SESSION, TARGET};
-use super::schedule::{End, Schedule};
+use super::schedule::{RunEnd, Schedule};
 use super::settings::RUNS;
 use super::threads::{Asked, Sleeper, Threads};
 use crate::atomic::AtomicU64;
@@ -48,7 +48,7 @@ pub(super) enum By<'a> {
 #[derive(Debug)]
 pub(super) struct Ran {
     pub(super) schedule: Option<Schedule>,
-    pub(super) failure: Option<Failure>,
+    pub(super) failure: Option<FailureMark>,
     /// What it says of the condition, if it is asked for one.
     pub(super) answer: Option<Answer>,
     /// The folder in which the files of a test that fails are, as in cargo's target folder.
@@ -57,11 +57,12 @@ pub(super) struct Ran {
     pub(super) said: String,
 }
 
-/// By what a failure is known again: where the first panic was, that all wait forever, or what the process said last.
+/// By what a failure is known again: where the first panic was, that all wait forever, or what the
+/// process said last.
 #[derive(Clone, Debug, PartialEq, Eq)]
-pub(super) struct Failure(pub(super) String);
+pub(super) struct FailureMark(pub(super) String);
 
-impl Failure {
+impl FailureMark {
     /// Whether the run passes, and meets the condition.
     pub(super) fn is_met(&self) -> bool {
         self.0 == MET
@@ -149,14 +150,15 @@ impl TestProgram {
         let is_met = matches!(said_of, Some(Answer::Met(_)));
         Ok(Ran {
             schedule,
-            failure: failure.or(is_met.then(|| Failure(MET.to_string()))),
+            failure: failure.or(is_met.then(|| FailureMark(MET.to_string()))),
             answer: said_of,
             target,
             said,
         })
     }
 
-    /// Runs a command to its end. Returns its status, what it has said, and why it was ended, if it was.
+    /// Runs a command to its end. Returns its status, what it has said, and why it was ended, if it
+    /// was.
     fn waited_for(
         &self,
         mut command: Command,
@@ -186,7 +188,8 @@ impl TestProgram {
     }
 }
 
-/// Returns the number of the processor that the first runs of this process use. Sessions beside each other begin at different ones.
+/// Returns the number of the processor that the first runs of this process use. Sessions beside
+/// each other begin at different ones.
 fn first_processor() -> usize {
     process::id() as usize
 }
@@ -203,10 +206,10 @@ fn failure(
     was_ended: Option<&str>,
     said: &str,
     schedule: Option<&Schedule>,
-) -> Option<Failure> {
-    let is_hung = schedule.is_some_and(|schedule| schedule.end == End::Hung);
+) -> Option<FailureMark> {
+    let is_hung = schedule.is_some_and(|schedule| schedule.end == RunEnd::Hung);
     if is_hung || was_ended.is_some() {
-        return Some(Failure(was_ended.unwrap_or(HANGS).to_string()));
+        return Some(FailureMark(was_ended.unwrap_or(HANGS).to_string()));
     }
     if status.success() {
         return None;
@@ -215,7 +218,7 @@ fn failure(
     let panic = lines.find_map(|line| Some(line.split_once(" panicked at ")?.1));
     let error = || said.lines().find(|line| line.starts_with("Error: "));
     let text = panic.or_else(error).map(str::to_string);
-    Some(Failure(text.unwrap_or_else(|| status.to_string())))
+    Some(FailureMark(text.unwrap_or_else(|| status.to_string())))
 }
 
 /// Ends processes that run too long, and replays that hang, as long as there is a session.
@@ -290,6 +293,6 @@ mod tests {
         let program = TestProgram::new(test, crate::temporary::path("no-end")).unwrap();
         let order = Order::read("s").unwrap();
         let ran = program.run(&By::Order(&order), 0, Duration::from_millis(100));
-        assert_eq!(ran.unwrap().failure, Some(Failure(NO_END.to_string())));
+        assert_eq!(ran.unwrap().failure, Some(FailureMark(NO_END.to_string())));
     }
 }

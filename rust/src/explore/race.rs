@@ -7,7 +7,8 @@ use std::fmt::Write as _;
 const SWITCHES_TOLD: usize = 3;
 const CALLS_TOLD: usize = 3;
 
-/// Returns the lines that say what the switches of a failing order are: which caller was held, before which call, and what others did meanwhile.
+/// Returns the lines that say what the switches of a failing order are: which caller was held,
+/// before which call, and what others did meanwhile.
 pub(super) fn in_words(schedule: &Schedule) -> String {
     let switches: Vec<usize> = places(schedule, |step| step.turn == Turn::Switch);
     let mut lines = String::new();
@@ -104,9 +105,10 @@ fn push(said: &mut String, start: &str, call: &Step, schedule: &Schedule, file: 
         None => write!(said, "{start}channel {channel}.{}", method(word)),
     };
     if let Some((of, line)) = &call.at {
-        let _ = match of == file {
-            true => write!(said, " (:{line})"),
-            false => write!(said, " ({of}:{line})"),
+        let _ = if of == file {
+            write!(said, " (:{line})")
+        } else {
+            write!(said, " ({of}:{line})")
         };
         file.clone_from(of);
     }

@@ -1,9 +1,9 @@
 //! A run that is explored, in a process of its own, or one that follows a schedule.
 
 use super::guide::Known;
-use super::order::{Kind, Order};
+use super::order::{Order, OrderKind};
 use super::random::hashed;
-use super::schedule::{End, Schedule};
+use super::schedule::{RunEnd, Schedule};
 use super::task::is_over_facade;
 use super::{Explorer, helper, pin, settings};
 use crate::lock::lock;
@@ -29,19 +29,19 @@ pub(super) const TARGET: &str = "YOVANELUM_EXPLORE_TARGET";
 pub(super) const PROCESSOR: &str = "YOVANELUM_EXPLORE_PROCESSOR";
 
 /// The run of this process, if there is one.
-static RUN: OnceLock<Run> = OnceLock::new();
+static RUN: OnceLock<ExploredRun> = OnceLock::new();
 
-struct Run {
+struct ExploredRun {
     explorer: Explorer,
     /// Where the schedule is written.
     schedule: Option<PathBuf>,
     /// The schedule that a replay follows, with its number of steps.
     followed: Option<(PathBuf, usize)>,
-    test: Mutex<Option<Test>>,
+    test: Mutex<Option<TestOfRun>>,
 }
 
 /// The test of a run.
-struct Test {
+struct TestOfRun {
     recorder: Weak<Shared>,
     /// Writes its files where it hangs, and says who waits.
     report_hung: Box<dyn Fn() + Send>,
@@ -67,7 +67,7 @@ pub(super) fn begin() -> bool {
     };
     let order = Order::read(&text).unwrap_or_else(|| panic!("yovanelum: {ORDER} is `{text}`"));
     let processor = env::var(PROCESSOR).ok().and_then(|text| text.parse().ok());
-    let begun = start(&order, processor, |explorer| Run {
+    let begun = start(&order, processor, |explorer| ExploredRun {
         explorer,
         schedule: env::var_os(SCHEDULE).map(PathBuf::from),
         followed: None,
@@ -90,7 +90,7 @@ pub(super) fn is_of_session() -> bool {
 fn start(
     order: &Order,
     processor: Option<usize>,
-    run: impl FnOnce(Explorer) -> Run,
+    run: impl FnOnce(Explorer) -> ExploredRun,
 ) -> io::Result<()> {
     pin::pin_to(processor.unwrap_or_default());
     let explorer = Explorer::new(order, settings::is_time_offered())?;
@@ -99,7 +99,8 @@ fn start(
     helper::start(&run.explorer)
 }
 
-/// Follows the schedule beside this journal, if there is one of the same run. Returns `true` if there is.
+/// Follows the schedule beside this journal, if there is one of the same run. Returns `true` if
+/// there is.
 ///
 /// # Errors
 ///
@@ -116,11 +117,11 @@ pub(crate) fn follow(journal: &Path) -> io::Result<bool> {
         return Ok(false);
     }
     let order = Order {
-        kind: Kind::File(path.clone()),
+        kind: OrderKind::File(path.clone()),
         has_timers: Order::read(&schedule.order).is_some_and(|order| order.has_timers),
     };
     let followed = Some((path, schedule.steps.len()));
-    start(&order, None, |explorer| Run {
+    start(&order, None, |explorer| ExploredRun {
         explorer,
         schedule: None,
         followed,
@@ -140,7 +141,8 @@ pub(crate) fn followed() -> Option<&'static Path> {
     Some(path)
 }
 
-/// Returns the folder in which this process writes the files of its test, in place of cargo's target folder, if it is one that is explored.
+/// Returns the folder in which this process writes the files of its test, in place of cargo's
+/// target folder, if it is one that is explored.
 pub(crate) fn target_folder() -> Option<PathBuf> {
     env::var_os(TARGET)
         .filter(|_| is_of_session())
@@ -157,7 +159,7 @@ pub(super) fn channels() -> Vec<Known> {
 /// Notes the recorder of the test, and what writes its files if it hangs.
 pub(crate) fn watch(recorder: Weak<Shared>, report_hung: impl Fn() + Send + 'static) {
     if let Some(run) = RUN.get() {
-        *lock(&run.test) = Some(Test {
+        *lock(&run.test) = Some(TestOfRun {
             recorder,
             report_hung: Box::new(report_hung),
         });
@@ -167,9 +169,10 @@ pub(crate) fn watch(recorder: Weak<Shared>, report_hung: impl Fn() + Send + 'sta
 /// Ends the run with its test, and writes its schedule, or says how it was followed.
 pub(crate) fn end(recorder: &Recorder, has_failed: bool) {
     let Some(run) = RUN.get() else { return };
-    let end = match has_failed {
-        true => End::Failed,
-        false => End::Passed,
+    let end = if has_failed {
+        RunEnd::Failed
+    } else {
+        RunEnd::Passed
     };
     let mut schedule = run.explorer.end(end);
     schedule.note(&recorder.0);
@@ -183,9 +186,9 @@ pub(crate) fn end(recorder: &Recorder, has_failed: bool) {
 /// Says how a schedule of so many steps was followed.
 fn said(followed: &Schedule, steps: usize) -> String {
     let end = match followed.end {
-        End::Passed => "the test passed",
-        End::Failed => "the test failed",
-        End::Hung => "the test hangs",
+        RunEnd::Passed => "the test passed",
+        RunEnd::Failed => "the test failed",
+        RunEnd::Hung => "the test hangs",
     };
     match followed.diverged.map(|at| at as usize) {
         Some(at) if at < steps => format!(
@@ -212,7 +215,7 @@ impl Schedule {
     }
 }
 
-impl Run {
+impl ExploredRun {
     fn write(&self, schedule: &Schedule) {
         let written = self
             .schedule
@@ -226,7 +229,7 @@ impl Run {
 
 /// Ends the process, whose threads all wait forever: writes its files, and says who waits.
 pub(super) fn end_hung(schedule: &mut Schedule) -> ! {
-    schedule.end = End::Hung;
+    schedule.end = RunEnd::Hung;
     if let Some(run) = RUN.get() {
         if let Some(test) = &*lock(&run.test) {
             if let Some(recorder) = test.recorder.upgrade() {

@@ -50,7 +50,7 @@ pub(super) enum What {
 
 /// How a run has ended, as far as its own process knows.
 #[derive(Clone, Copy, Debug, PartialEq, Eq)]
-pub(super) enum End {
+pub(super) enum RunEnd {
     Passed,
     Failed,
     /// Everybody waits forever.
@@ -61,7 +61,7 @@ pub(super) enum End {
 #[derive(Clone, Debug, PartialEq, Eq)]
 pub(crate) struct Schedule {
     pub(super) order: String,
-    pub(super) end: End,
+    pub(super) end: RunEnd,
     /// Whether the runtime of the test was seen to wait for a timer.
     pub(super) has_timers: bool,
     /// How many choices were made while a thread ran.
@@ -87,7 +87,7 @@ impl Schedule {
     pub(super) fn new(order: String) -> Schedule {
         Schedule {
             order,
-            end: End::Passed,
+            end: RunEnd::Passed,
             has_timers: false,
             restless: 0,
             unnamed: 0,
@@ -124,9 +124,9 @@ impl Schedule {
     /// Returns the text of its file.
     pub(super) fn text(&self) -> String {
         let end = match self.end {
-            End::Passed => "passed",
-            End::Failed => "failed",
-            End::Hung => "hung",
+            RunEnd::Passed => "passed",
+            RunEnd::Failed => "failed",
+            RunEnd::Hung => "hung",
         };
         let mut text = format!("{FIRST_LINE}\norder {}\nend {end}\n", self.order);
         let marks = [
@@ -190,9 +190,10 @@ impl Schedule {
             let step = Step::read(line).ok_or_else(|| format!("line {number}: `{line}`"))?;
             read.steps.push(step);
         }
-        match rest == Some(read.steps.len()) {
-            true => Ok(read),
-            false => Err("it ends too early".to_string()),
+        if rest == Some(read.steps.len()) {
+            Ok(read)
+        } else {
+            Err("it ends too early".to_string())
         }
     }
 
@@ -202,9 +203,9 @@ impl Schedule {
             "order" => self.order = rest.to_string(),
             "end" => {
                 self.end = match rest {
-                    "passed" => End::Passed,
-                    "failed" => End::Failed,
-                    "hung" => End::Hung,
+                    "passed" => RunEnd::Passed,
+                    "failed" => RunEnd::Failed,
+                    "hung" => RunEnd::Hung,
                     _ => return None,
                 }
             }
@@ -339,7 +340,7 @@ mod tests {
         };
         let mut schedule = Schedule::new("s1.1".to_string());
         schedule.has_timers = true;
-        schedule.end = End::Hung;
+        schedule.end = RunEnd::Hung;
         schedule.nothing = Some("no channel".to_string());
         schedule.diverged = Some(4);
         schedule.journal = Some(0xab);

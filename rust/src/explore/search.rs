@@ -1,6 +1,7 @@
-//! Which order a run is made by, one after the other: a search of those with no switch and with one, and then seeds of the other strategies.
+//! Which order a run is made by, one after the other: a search of those with no switch and with
+//! one, and then seeds of the other strategies.
 
-use super::order::{Kind, Order};
+use super::order::{Order, OrderKind};
 use super::schedule::{Schedule, Turn};
 use super::settings::From;
 use std::collections::VecDeque;
@@ -29,7 +30,8 @@ pub(super) struct Search {
     /// Whether there were more orders than are kept.
     is_cut: bool,
     next_seed: u64,
-    /// The next seed of the strategy that is guided, if there is one, and how many orders were handed out since its last one.
+    /// The next seed of the strategy that is guided, if there is one, and how many orders were
+    /// handed out since its last one.
     next_guided: Option<u64>,
     since_guided: u64,
     /// An order to begin with.
@@ -73,7 +75,8 @@ impl Search {
         }
     }
 
-    /// Returns the order of the next run, or `None` if there is none. Whoever gets the first one runs it before others ask.
+    /// Returns the order of the next run, or `None` if there is none. Whoever gets the first one
+    /// runs it before others ask.
     pub(super) fn next(&mut self) -> Option<Task> {
         self.left = self.left.checked_sub(1)?;
         if let Some(order) = self.first.take() {
@@ -96,7 +99,7 @@ impl Search {
                 self.left_of_search -= 1;
                 self.in_flight[switches] += 1;
                 return Some(Task {
-                    order: self.order(Kind::Steps(steps)),
+                    order: self.order(OrderKind::Steps(steps)),
                     switches: Some(switches),
                 });
             }
@@ -105,18 +108,18 @@ impl Search {
         self.next_seed += 1;
         let steps = self.choices;
         let kind = match seed % 4 {
-            0 => Kind::Random(seed),
-            1 => Kind::Pct {
+            0 => OrderKind::Random(seed),
+            1 => OrderKind::Pct {
                 depth: 2,
                 seed,
                 steps,
             },
-            2 => Kind::Pct {
+            2 => OrderKind::Pct {
                 depth: 3,
                 seed,
                 steps,
             },
-            _ => Kind::Pos(seed),
+            _ => OrderKind::Pos(seed),
         };
         Some(Task {
             order: self.order(kind),
@@ -134,10 +137,10 @@ impl Search {
         self.since_guided = 0;
         self.next_guided = Some(seed + 1);
         let steps = self.choices;
-        Some(self.order(Kind::Guided { seed, steps }))
+        Some(self.order(OrderKind::Guided { seed, steps }))
     }
 
-    fn order(&self, kind: Kind) -> Order {
+    fn order(&self, kind: OrderKind) -> Order {
         Order {
             kind,
             has_timers: self.has_timers,
@@ -146,9 +149,10 @@ impl Search {
 
     /// Adds what was learned by a run that has passed.
     pub(super) fn passed(&mut self, task: &Task, schedule: &Schedule) {
-        self.choices = match self.has_begun {
-            true => self.choices.max(schedule.choices() as u32),
-            false => (schedule.choices() as u32).max(1),
+        self.choices = if self.has_begun {
+            self.choices.max(schedule.choices() as u32)
+        } else {
+            (schedule.choices() as u32).max(1)
         };
         self.has_begun = true;
         let finds_timers = schedule.has_timers && !self.has_timers;
@@ -166,7 +170,7 @@ impl Search {
             return;
         }
         self.passed[switches] += 1;
-        if let Kind::Steps(steps) = &task.order.kind {
+        if let OrderKind::Steps(steps) = &task.order.kind {
             self.branch(steps, switches, schedule);
         }
     }
@@ -201,7 +205,8 @@ impl Search {
         done.last().filter(|_| self.passed[0] > 0)
     }
 
-    /// Returns how many orders are yet to be tried that have this many switches, as far as they are known.
+    /// Returns how many orders are yet to be tried that have this many switches, as far as they are
+    /// known.
     pub(super) fn waiting(&self, switches: usize) -> usize {
         self.waiting[switches].len() + self.in_flight[switches]
     }
@@ -212,7 +217,8 @@ mod tests {
     use super::super::schedule::{Step, What};
     use super::*;
 
-    /// The schedule of two callers with one call each behind the choice of the first one: who goes first is free, and that is all.
+    /// The schedule of two callers with one call each behind the choice of the first one: who goes
+    /// first is free, and that is all.
     fn schedule(turns: &[(u32, Turn)]) -> Schedule {
         let mut schedule = Schedule::new(String::new());
         schedule.steps = turns

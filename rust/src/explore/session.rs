@@ -1,12 +1,14 @@
 //! The test's own process, which runs its program again and again.
 
 use super::asked::{Answer, unknown_in_words};
+use super::counts::{AskedCondition, Counts};
+use super::failing_order::FailingOrder;
 use super::process::{By, Ran, TIME_OF_RUN, TestProgram};
+use super::progress::Progress;
 use super::schedule::Schedule;
 use super::search::{Search, Task};
 use super::settings::{From, RUNS, Settings};
 use super::shorten::{Failing, Shortening};
-use super::told::{Asked, Counts, Found, Progress};
 use crate::lock::lock;
 use crate::program::Program;
 use crate::recorder::files;
@@ -82,7 +84,8 @@ fn path_of_test(name: &str) -> Option<String> {
     }
 }
 
-/// Returns the path of the only test of this program whose function has this name. A program without a harness runs instead, and explores nothing.
+/// Returns the path of the only test of this program whose function has this name. A program
+/// without a harness runs instead, and explores nothing.
 fn listed(name: &str) -> Option<String> {
     let mut command = Command::new(env::current_exe().ok()?);
     let listed = command
@@ -158,9 +161,12 @@ impl Session {
         self.progress.clear();
         let found = lock(&self.found).take();
         let has_nothing = lock(&self.counts).have_nothing();
-        let found = found.map(|(task, ran)| match has_nothing {
-            true => self.report_nothing(&task, ran),
-            false => self.report(task, ran),
+        let found = found.map(|(task, ran)| {
+            if has_nothing {
+                self.report_nothing(&task, ran)
+            } else {
+                self.report(task, ran)
+            }
         });
         let (counts, search) = (lock(&self.counts), lock(&self.search));
         let elapsed = self.began.elapsed();
@@ -180,12 +186,12 @@ impl Session {
     }
 
     /// Returns what is looked for, and says so if there was nothing of its name.
-    fn asked(&self) -> Option<Asked> {
+    fn asked(&self) -> Option<AskedCondition> {
         let condition = self.settings.condition.as_ref()?;
         let there = lock(&self.there);
         // Without an answer of any run, nothing is known.
         let is_there = there.is_any || !there.is_answered;
-        Some(Asked {
+        Some(AskedCondition {
             text: condition.to_string(),
             is_there,
             unknown: (!is_there).then(|| {
@@ -254,7 +260,8 @@ impl Session {
         lock(&self.found).get_or_insert((task, ran));
     }
 
-    /// Ends with a run that has written no schedule: its process was ended, or the test makes no recorder when it is run alone.
+    /// Ends with a run that has written no schedule: its process was ended, or the test makes no
+    /// recorder when it is run alone.
     fn end_without_schedule(&self, task: Task, ran: Ran) -> bool {
         if ran.failure.is_none() {
             self.is_over.store(true, Ordering::Relaxed);
@@ -268,23 +275,24 @@ impl Session {
     }
 
     /// Reports a failing run where none has recorded anything, so that nothing brings it back.
-    fn report_nothing(&self, task: &Task, ran: Ran) -> Found {
+    fn report_nothing(&self, task: &Task, ran: Ran) -> FailingOrder {
         let failure = ran.failure.unwrap_or_else(|| unreachable!("it has failed"));
         let nothing = lock(&self.counts).nothing_in_words(&self.name, Some(&failure));
         let said = self.without_folder(&ran.said, &ran.target);
         replay::say(&format!("{nothing}\n{}", said.trim_end()));
-        Found::without_schedule(&task.order, &failure)
+        FailingOrder::without_schedule(&task.order, &failure)
     }
 
-    /// Looks for the fewest switches, tries what brings the failure back, puts the files where they are looked for, and reports all.
-    fn report(&self, task: Task, mut ran: Ran) -> Found {
+    /// Looks for the fewest switches, tries what brings the failure back, puts the files where they
+    /// are looked for, and reports all.
+    fn report(&self, task: Task, mut ran: Ran) -> FailingOrder {
         let (order, took) = (task.order.clone(), self.began.elapsed());
         let failure = ran
             .failure
             .clone()
             .unwrap_or_else(|| unreachable!("it has failed"));
         let Some(schedule) = ran.schedule.take() else {
-            let found = Found::without_schedule(&order, &failure);
+            let found = FailingOrder::without_schedule(&order, &failure);
             replay::say(&format!(
                 "{}: {} failed: {}\n{}",
                 self.name, order, failure.0, ran.said
@@ -300,7 +308,7 @@ impl Session {
             let shortening = Shortening::new(&self.program, 0, failure.clone());
             failing = shortening.shorten(failing);
         }
-        let mut found = Found::new(&failing, task, failure);
+        let mut found = FailingOrder::new(&failing, task, failure);
         let journal = journal_in(&failing.ran.target);
         if let Some(journal) = &journal {
             found.by_journal = self.tries(&By::Journal(journal), &found);
@@ -326,7 +334,7 @@ impl Session {
     }
 
     /// Returns how often a run fails in the same way.
-    fn tries(&self, by: &By<'_>, found: &Found) -> usize {
+    fn tries(&self, by: &By<'_>, found: &FailingOrder) -> usize {
         let again = |_: &usize| {
             let ran = self.program.run(by, 0, TIME_OF_TRY);
             ran.is_ok_and(|ran| ran.failure.as_ref() == Some(&found.failure))
@@ -334,9 +342,9 @@ impl Session {
         (0..TRIES).filter(again).count()
     }
 
-    /// Puts the files of a run where those of its test are. The schedule is among them where it brings the failure back more often than the
-    /// journal.
-    fn put(&self, journal: &Path, failing: &Failing, found: &mut Found) {
+    /// Puts the files of a run where those of its test are. The schedule is among them where it
+    /// brings the failure back more often than the journal.
+    fn put(&self, journal: &Path, failing: &Failing, found: &mut FailingOrder) {
         let Ok(below) = journal.strip_prefix(&failing.ran.target) else {
             return;
         };
@@ -362,7 +370,8 @@ impl Session {
     }
 }
 
-/// Replaces the files of a test, of which this is the journal, by those of a run with another one. Returns the journal that was written.
+/// Replaces the files of a test, of which this is the journal, by those of a run with another one.
+/// Returns the journal that was written.
 fn replace(path: &Path, of_run: &Path, schedule: Option<&Schedule>) -> io::Result<PathBuf> {
     let beside = |extension| match fs::read(of_run.with_extension(extension)) {
         Err(error) if error.kind() == io::ErrorKind::NotFound => Ok(None),
@@ -382,7 +391,8 @@ fn replace(path: &Path, of_run: &Path, schedule: Option<&Schedule>) -> io::Resul
     )
 }
 
-/// Returns lines in which the files of a test are those of this journal, which may be another one than they say.
+/// Returns lines in which the files of a test are those of this journal, which may be another one
+/// than they say.
 fn with_files_of(journal: &Path, named: &Path, lines: String) -> String {
     let stem = |path: &Path| Some(path.file_stem()?.to_string_lossy().into_owned());
     match (stem(named), stem(journal)) {

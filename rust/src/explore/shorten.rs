@@ -1,7 +1,7 @@
 //! A failing order, brought to fewer switches by a search near it.
 
-use super::order::{Kind, Order};
-use super::process::{By, Failure, Ran, TIME_OF_RUN, TestProgram};
+use super::order::{Order, OrderKind};
+use super::process::{By, FailureMark, Ran, TIME_OF_RUN, TestProgram};
 use super::schedule::{Schedule, Step, Turn};
 use std::fs;
 use std::time::{Duration, Instant};
@@ -21,7 +21,7 @@ pub(super) struct Failing {
 pub(super) struct Shortening<'a> {
     program: &'a TestProgram,
     processor: usize,
-    failure: Failure,
+    failure: FailureMark,
     runs: usize,
     began: Instant,
 }
@@ -30,7 +30,7 @@ impl<'a> Shortening<'a> {
     pub(super) fn new(
         program: &'a TestProgram,
         processor: usize,
-        failure: Failure,
+        failure: FailureMark,
     ) -> Shortening<'a> {
         Shortening {
             program,
@@ -41,7 +41,8 @@ impl<'a> Shortening<'a> {
         }
     }
 
-    /// Returns the one with the fewest switches that is found. Its order is one of steps where those alone bring the failure back.
+    /// Returns the one with the fewest switches that is found. Its order is one of steps where
+    /// those alone bring the failure back.
     pub(super) fn shorten(mut self, mut best: Failing) -> Failing {
         while best.schedule.switches() > 1 {
             let candidates = nearer(&best.schedule.steps);
@@ -55,12 +56,13 @@ impl<'a> Shortening<'a> {
             }
         }
         let order = Order {
-            kind: Kind::Steps(best.schedule.other_steps()),
+            kind: OrderKind::Steps(best.schedule.other_steps()),
             has_timers: best.order.has_timers,
         };
-        match order == best.order {
-            true => best,
-            false => self.run(&order).unwrap_or(best),
+        if order == best.order {
+            best
+        } else {
+            self.run(&order).unwrap_or(best)
         }
     }
 
@@ -75,7 +77,7 @@ impl<'a> Shortening<'a> {
         wanted.steps = steps;
         fs::write(&path, wanted.text()).ok()?;
         let order = Order {
-            kind: Kind::File(path),
+            kind: OrderKind::File(path),
             has_timers,
         };
         let failing = self.run(&order)?;
@@ -98,8 +100,8 @@ impl<'a> Shortening<'a> {
     }
 }
 
-/// Returns orders near this one that may have fewer switches: those that end behind an earlier switch, and those without one of them, in which
-/// the one that is held goes on.
+/// Returns orders near this one that may have fewer switches: those that end behind an earlier
+/// switch, and those without one of them, in which the one that is held goes on.
 fn nearer(steps: &[Step]) -> Vec<Vec<Step>> {
     let numbered = steps.iter().enumerate();
     let switches = numbered.filter(|(_, step)| step.turn == Turn::Switch);
@@ -109,7 +111,8 @@ fn nearer(steps: &[Step]) -> Vec<Vec<Step>> {
     ends.chain(without).collect()
 }
 
-/// Returns the steps in another order, where what the one does next who is held at this step comes before the others.
+/// Returns the steps in another order, where what the one does next who is held at this step comes
+/// before the others.
 fn without_switch(steps: &[Step], at: usize) -> Option<Vec<Step>> {
     let (before, after) = steps.split_at(at);
     let held = before.iter().rev().find(|step| !step.is_time())?;

@@ -1,7 +1,7 @@
 //! Who stands before the gate, and how the next one is chosen. The explorer locks it.
 
 use super::chooser::{Candidate, Chooser};
-use super::looks::{Call, Looks};
+use super::looks::{CallInSource, Looks};
 use super::order::Order;
 use super::schedule::{Schedule, Step, Turn, What};
 use super::threads::{Asked, SOON, Sleeper, ThreadId, Threads, this_thread};
@@ -15,8 +15,8 @@ use std::time::{Duration, Instant};
 /// How many are let go in a run before all go on in any order.
 const MOST_STEPS: usize = 50_000;
 
-/// How often what is held comes round before its runtime is taken to have nothing else to do. A runtime of tokio looks at its timers, and at the
-/// tasks that have yielded, every 61 polls.
+/// How often what is held comes round before its runtime is taken to have nothing else to do. A
+/// runtime of tokio looks at its timers, and at the tasks that have yielded, every 61 polls.
 const ROUNDS: usize = 128;
 
 /// The name of time where it is chosen. No caller is first by name before it.
@@ -32,14 +32,15 @@ pub(super) struct Stand {
     pub(super) is_chosen: bool,
     /// What its thread waits for, where a call blocks it.
     pub(super) own: Arc<Condvar>,
-    /// What wakes its task. A task without one wakes itself at once, so that its runtime isn't idle.
+    /// What wakes its task. A task without one wakes itself at once, so that its runtime isn't
+    /// idle.
     pub(super) waker: Option<Waker>,
     /// How often it has come round since something else happened on its thread.
     pub(super) rounds: usize,
     pub(super) spins: bool,
 }
 
-pub(super) struct State {
+pub(super) struct ExplorerState {
     pub(super) stands: Vec<Stand>,
     pub(super) chooser: Chooser,
     pub(super) schedule: Schedule,
@@ -67,12 +68,12 @@ pub(super) struct State {
     names: HashMap<String, u32>,
 }
 
-impl State {
-    pub(super) fn new(order: &Order, chooser: Chooser, is_time_offered: bool) -> State {
+impl ExplorerState {
+    pub(super) fn new(order: &Order, chooser: Chooser, is_time_offered: bool) -> ExplorerState {
         let threads = Threads::of_this_process();
         let mut schedule = Schedule::new(order.to_string());
         schedule.by_clock = threads.is_by_clock();
-        State {
+        ExplorerState {
             stands: Vec::new(),
             chooser,
             schedule,
@@ -169,12 +170,13 @@ impl State {
             return true;
         }
         let chosen = self.stands.iter().filter(|stand| stand.is_chosen);
-        let spinning: Vec<ThreadId> = match chosen.clone().any(|stand| stand.call.is_some()) {
-            true => return true,
-            false => chosen
+        let spinning: Vec<ThreadId> = if chosen.clone().any(|stand| stand.call.is_some()) {
+            return true;
+        } else {
+            chosen
                 .filter(|stand| stand.spins)
                 .map(|stand| stand.thread)
-                .collect(),
+                .collect()
         };
         spinning
             .into_iter()
@@ -183,16 +185,20 @@ impl State {
 
     /// Whether this thread sleeps, for what no task of it is polled.
     fn is_asleep(&mut self, thread: ThreadId) -> bool {
-        let asked = |other| match other == thread && other != this_thread() {
-            true => Asked::Sleeps,
-            false => Asked::Nothing,
+        let asked = |other| {
+            if other == thread && other != this_thread() {
+                Asked::Sleeps
+            } else {
+                Asked::Nothing
+            }
         };
         let still = Duration::ZERO;
         let sleepers = self.threads.sleepers(still, asked);
         sleepers.is_some_and(|sleepers| !sleepers.is_empty())
     }
 
-    /// Returns where the other threads sleep, if all do that don't stand. They have been looked at twice, and have slept at the same places.
+    /// Returns where the other threads sleep, if all do that don't stand. They have been looked at
+    /// twice, and have slept at the same places.
     pub(super) fn rest(&mut self) -> Option<Vec<Sleeper>> {
         if self.is_one_on_the_way() {
             return None;
@@ -258,10 +264,12 @@ impl State {
         self.schedule.steps.push(Step {
             chosen: chosen as u32,
             count: candidates.len() as u32,
-            turn: match could_go_on {
-                false => Turn::Free,
-                true if Some(who) == last => Turn::Same,
-                true => Turn::Switch,
+            turn: if !could_go_on {
+                Turn::Free
+            } else if Some(who) == last {
+                Turn::Same
+            } else {
+                Turn::Switch
             },
             what: what.clone(),
             at: self.place_of(*number),
@@ -296,7 +304,8 @@ impl State {
         }
     }
 
-    /// Returns who may be let go. The first one goes on without a switch: the one that went last, or else the first by name.
+    /// Returns who may be let go. The first one goes on without a switch: the one that went last,
+    /// or else the first by name.
     fn candidates(&self, rest: &[Sleeper]) -> Vec<Candidate> {
         let is_stuck = |stand: &Stand| {
             let sleeps = || rest.iter().any(|sleeper| sleeper.thread == stand.thread);
@@ -309,7 +318,7 @@ impl State {
             return Vec::new();
         }
         let is_idle = |stand: &Stand| {
-            let call = stand.call.as_ref().map(Call::of);
+            let call = stand.call.as_ref().map(CallInSource::of);
             self.looks.is_idle(&stand.who, call)
         };
         let is_any_busy = standing.iter().any(|stand| !is_idle(stand));
@@ -319,15 +328,14 @@ impl State {
         let mut all: Vec<Candidate> = standing.into_iter().map(candidate).collect();
         all.sort_by(|a, b| (&a.who, a.number).cmp(&(&b.who, b.number)));
         let is_time_near = self.is_time_near(rest);
-        let first = match is_any_busy {
-            true => all
-                .iter()
-                .position(|one| Some(&one.who) == self.last.as_ref()),
+        let first = if is_any_busy {
+            all.iter()
+                .position(|one| Some(&one.who) == self.last.as_ref())
+        } else {
             // They take turns.
-            false => {
-                let went_at = |index: &usize| self.went_at.get(&all[*index].who);
-                (0..all.len()).min_by_key(went_at)
-            }
+
+            let went_at = |index: &usize| self.went_at.get(&all[*index].who);
+            (0..all.len()).min_by_key(went_at)
         };
         let first = first.unwrap_or(0);
         all[..=first].rotate_right(1);
@@ -348,7 +356,8 @@ impl State {
         self.is_time_offered && rest.iter().any(is_near)
     }
 
-    /// Waits until one of those who sleep does something else. A wait that doesn't end is no longer offered.
+    /// Waits until one of those who sleep does something else. A wait that doesn't end is no longer
+    /// offered.
     fn let_time_pass(&mut self, rest: &[Sleeper]) {
         let began = Instant::now();
         while began.elapsed() < SOON + SOON / 5 {

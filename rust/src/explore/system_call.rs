@@ -1,4 +1,5 @@
-//! In which system call a thread waits, by the line that Linux has for it: `running`, or the number of the call with its arguments.
+//! In which system call a thread waits, by the line that Linux has for it: `running`, or the number
+//! of the call with its arguments.
 
 /// What a thread does.
 #[derive(Clone, Copy, Debug, PartialEq, Eq)]
@@ -100,7 +101,8 @@ impl Numbers {
         }
     }
 
-    /// Returns until when this call waits, if it waits for time. A number of milliseconds below 0 stands for no time.
+    /// Returns until when this call waits, if it waits for time. A number of milliseconds below 0
+    /// stands for no time.
     fn timer(&self, number: i64, arguments: [u64; 6]) -> Option<Timer> {
         let at = |address: u64, is_of_clock| {
             (address != 0).then_some(Timer::At {
@@ -155,7 +157,8 @@ mod tests {
         assert_eq!(X86_64.doing("-1 0x7ffd 0x7f"), NO_TIME);
     }
 
-    // The lines are those that Linux 6.1 has for a `sleep`, a condition variable without and with a time, a read, and runtimes of tokio.
+    // The lines are those that Linux 6.1 has for a `sleep`, a condition variable without and with a
+    // time, a read, and runtimes of tokio.
     #[test]
     fn waits_are_told_by_their_numbers_and_arguments() {
         let line = "230 0x0 0x0 0x7ffc1000 0x7ffc1000 0x0 0x0 0x7ffc0fe0 0x7f12\n";

@@ -1,4 +1,5 @@
-//! Tasks without a name of their own, as they stand in a run that is explored: by the place at which they are spawned.
+//! Tasks without a name of their own, as they stand in a run that is explored: by the place at
+//! which they are spawned.
 
 use super::explorer::InTask;
 use super::run::current;
@@ -11,7 +12,7 @@ use std::sync::atomic::{AtomicBool, Ordering};
 use std::task::{Context, Poll};
 
 /// The type of futures that have a name, as the compiler writes it.
-const NAMED: &str = "yovanelum::actors::Named<";
+const NAMED: &str = "yovanelum::actors::named::Named<";
 
 /// Whether the package that stands for tokio has spawned a task.
 static IS_OVER_FACADE: AtomicBool = AtomicBool::new(false);
@@ -29,8 +30,8 @@ pub fn is_explored() -> bool {
     current().is_some()
 }
 
-/// Wraps the future of a task that is spawned where the caller is called, so that a run that is explored chooses when it is polled. One that has a
-/// name goes by that.
+/// Wraps the future of a task that is spawned where the caller is called, so that a run that is
+/// explored chooses when it is polled. One that has a name goes by that.
 ///
 /// No part of what this crate promises: it is for the package that stands for tokio.
 #[doc(hidden)]

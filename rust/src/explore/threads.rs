@@ -1,4 +1,5 @@
-//! The threads of a process, and whether they all sleep. Linux says so itself. Elsewhere, they are taken to sleep when nothing has moved for a while.
+//! The threads of a process, and whether they all sleep. Linux says so itself. Elsewhere, they are
+//! taken to sleep when nothing has moved for a while.
 
 use super::random::hashed;
 use super::system_call::{self, Doing, Timer};
@@ -77,7 +78,8 @@ struct Thread {
 }
 
 impl Threads {
-    /// The threads of this process. Those that are there already aren't waited for by time, but the current one.
+    /// The threads of this process. Those that are there already aren't waited for by time, but the
+    /// current one.
     pub(super) fn of_this_process() -> Threads {
         let mut threads = Threads::of(Path::new("/proc/self"));
         threads.list(Some(this_thread()));
@@ -100,7 +102,8 @@ impl Threads {
         !self.is_told
     }
 
-    /// Returns where the threads sleep that are looked at, or `None` if one of them runs that may not. Nothing has moved for this time.
+    /// Returns where the threads sleep that are looked at, or `None` if one of them runs that may
+    /// not. Nothing has moved for this time.
     pub(crate) fn sleepers(
         &mut self,
         still: Duration,
@@ -134,7 +137,8 @@ impl Threads {
         Some(sleepers)
     }
 
-    /// Lists the threads again if there are others than before. In the first list, all but this one are of others.
+    /// Lists the threads again if there are others than before. In the first list, all but this one
+    /// are of others.
     fn list(&mut self, first: Option<ThreadId>) {
         let Some(link_count) = link_count(&self.folder) else {
             return;
@@ -158,7 +162,8 @@ impl Threads {
         }
     }
 
-    /// Whether a thread has run for so long since this move, in time of a processor. One that only waits for a processor hasn't.
+    /// Whether a thread has run for so long since this move, in time of a processor. One that only
+    /// waits for a processor hasn't.
     pub(super) fn does_one_run_on(
         &mut self,
         at_move: u64,
@@ -236,9 +241,12 @@ impl Sleeper {
             Some(Timer::At {
                 address,
                 is_of_clock,
-            }) => time_at(address).map(|time| match is_of_clock {
-                true => time.saturating_sub(uptime().unwrap_or(time)),
-                false => time,
+            }) => time_at(address).map(|time| {
+                if is_of_clock {
+                    time.saturating_sub(uptime().unwrap_or(time))
+                } else {
+                    time
+                }
             }),
         };
         left.is_none_or(|left| left <= SOON)
@@ -251,7 +259,8 @@ fn is_ours(folder: &Path) -> bool {
     name.is_ok_and(|name| name.starts_with(OURS))
 }
 
-/// Returns how many links the folder of threads has, which is another number when there is another thread.
+/// Returns how many links the folder of threads has, which is another number when there is another
+/// thread.
 fn link_count(folder: &Path) -> Option<u64> {
     #[cfg(unix)]
     {
@@ -279,7 +288,8 @@ fn read_at_start<'a>(file: &File, buffer: &'a mut [u8]) -> Option<&'a str> {
     }
 }
 
-/// Returns the time that stands at this address of this process, which may be one that is no longer there.
+/// Returns the time that stands at this address of this process, which may be one that is no longer
+/// there.
 fn time_at(address: u64) -> Option<Duration> {
     #[cfg(unix)]
     {
@@ -327,9 +337,12 @@ mod tests {
     fn asleep(threads: &mut Threads, thread: ThreadId) -> Sleeper {
         let began = Instant::now();
         while began.elapsed() < Duration::from_secs(30) {
-            let asked = |other| match other == thread {
-                true => Asked::Sleeps,
-                false => Asked::Nothing,
+            let asked = |other| {
+                if other == thread {
+                    Asked::Sleeps
+                } else {
+                    Asked::Nothing
+                }
             };
             let sleepers = threads.sleepers(Duration::ZERO, asked);
             if let Some([sleeper]) = sleepers.as_deref() {

@@ -1,4 +1,5 @@
-//! What the names say of the test itself: which test it was, how it ended, what wasn't recorded, and of which sources and journal they are.
+//! What the names say of the test itself: which test it was, how it ended, what wasn't recorded,
+//! and of which sources and journal they are.
 
 use super::json::Json;
 use super::reading::{list, number, object, optional_index, optional_text, text_of};
@@ -10,11 +11,13 @@ use std::fmt::Write;
 #[derive(Clone, Debug, Default, PartialEq, Eq)]
 pub(crate) struct TestId {
     pub(crate) package: String,
-    /// The build target: the name of a file in `tests/`, or that of the library, a program or an example.
+    /// The build target: the name of a file in `tests/`, or that of the library, a program or an
+    /// example.
     pub(crate) target: String,
     /// The name that its recorder was given.
     pub(crate) name: String,
-    /// The name of the thread that made its recorder, which is the name that cargo knows the test by.
+    /// The name of the thread that made its recorder, which is the name that cargo knows the test
+    /// by.
     pub(crate) thread: String,
 }
 
@@ -46,9 +49,11 @@ pub(crate) struct Unrecorded {
     pub(crate) channels: u64,
     /// How many channels left the run for later ones.
     pub(crate) left: u64,
-    /// Whether recording ended before the test did, since a channel had made as many calls as a journal takes.
+    /// Whether recording ended before the test did, since a channel had made as many calls as a
+    /// journal takes.
     pub(crate) calls: bool,
-    /// How many channels made more handles than a journal names, so that their recording ended then.
+    /// How many channels made more handles than a journal names, so that their recording ended
+    /// then.
     pub(crate) handles: u64,
     /// How many channels were left out, since the thread that ended the process had locked them.
     pub(crate) locked: u64,
@@ -81,7 +86,8 @@ pub(crate) struct Ending {
 pub(crate) fn checksum(bytes: &[u8]) -> u64 {
     let add = |hash: u64, byte: u64| (hash ^ byte).wrapping_mul(0x0100_0000_01b3);
     let mut hash = 0xcbf2_9ce4_8422_2325;
-    // Eight bytes at a time: a test builds this without optimization, and a journal may have some 30 million bytes.
+    // Eight bytes at a time: a test builds this without optimization, and a journal may have some
+    // 30 million bytes.
     let words = bytes.chunks_exact(8);
     let rest = words.remainder();
     for word in words {
@@ -201,7 +207,8 @@ fn push_sources(out: &mut String, sources: &BTreeMap<String, u64>) {
     out.push('}');
 }
 
-/// Appends a checksum as 16 hexadecimal digits in quotation marks, since a JSON number loses the last of 64 bits in many readers.
+/// Appends a checksum as 16 hexadecimal digits in quotation marks, since a JSON number loses the
+/// last of 64 bits in many readers.
 fn push_checksum(out: &mut String, sum: u64) {
     let _ = write!(out, "\"{sum:016x}\"");
 }

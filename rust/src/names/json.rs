@@ -69,7 +69,7 @@ fn push_members(out: &mut String, members: &[(String, Json)]) {
 ///
 /// Returns what is wrong with it, with the line.
 pub(super) fn read(text: &str) -> Result<Json, String> {
-    let mut reader = Reader {
+    let mut reader = JsonReader {
         chars: text.chars().peekable(),
         line: 1,
     };
@@ -83,12 +83,12 @@ pub(super) fn read(text: &str) -> Result<Json, String> {
     document.map_err(|fault| format!("line {}: {fault}", reader.line))
 }
 
-struct Reader<'a> {
+struct JsonReader<'a> {
     chars: Peekable<Chars<'a>>,
     line: usize,
 }
 
-impl Reader<'_> {
+impl JsonReader<'_> {
     fn next(&mut self) -> Result<char, String> {
         let next = self.chars.next().ok_or("it ends too early")?;
         self.line += usize::from(next == '\n');
@@ -112,9 +112,10 @@ impl Reader<'_> {
     }
 
     fn expect(&mut self, wanted: char) -> Result<(), String> {
-        match self.reads(wanted) {
-            true => Ok(()),
-            false => Err(format!("`{wanted}` is missing")),
+        if self.reads(wanted) {
+            Ok(())
+        } else {
+            Err(format!("`{wanted}` is missing"))
         }
     }
 

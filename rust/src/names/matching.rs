@@ -1,4 +1,5 @@
-//! What the names say for a replay, which matches the calls and channels of another run with those of the journal.
+//! What the names say for a replay, which matches the calls and channels of another run with those
+//! of the journal.
 
 use super::json::Json;
 use super::reading::{by_number, list, number, optional_text};
@@ -20,8 +21,9 @@ pub(crate) struct Matching {
     pub(crate) made_by: BTreeMap<u64, Maker>,
     /// The actors that nobody named: threads and tasks without a name.
     pub(crate) unnamed: BTreeSet<u64>,
-    /// By channel, the entries of the `closed` of a broadcast and of looks by `wait_for`: how many entries of the channel are before each. The
-    /// journal has the same words for calls that don't wait.
+    /// By channel, the entries of the `closed` of a broadcast and of looks by `wait_for`: how many
+    /// entries of the channel are before each. The journal has the same words for calls that don't
+    /// wait.
     pub(crate) waited: BTreeMap<u64, Vec<u64>>,
     /// By channel, the drops that were made by the drop of a named future, in the same way.
     pub(crate) cancelled: BTreeMap<u64, Vec<u64>>,
@@ -32,7 +34,8 @@ pub(crate) struct Matching {
 }
 
 impl Matching {
-    /// Whether an entry of a channel is of a call that waits, of two whose words the journal has for others too.
+    /// Whether an entry of a channel is of a call that waits, of two whose words the journal has
+    /// for others too.
     pub(crate) fn is_waited(&self, channel: u32, index: u32) -> bool {
         let waited = self.waited.get(&channel.into());
         waited.is_some_and(|entries| entries.binary_search(&index.into()).is_ok())

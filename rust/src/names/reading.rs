@@ -1,11 +1,13 @@
-//! Reads a file of names, of this version or an earlier one. What a reader doesn't know is left out.
+//! Reads a file of names, of this version or an earlier one. What a reader doesn't know is left
+//! out.
 
 use super::json::{self, Json};
-use super::{HeldBy, Names, SourceLocation, VERSION, WaitingCall, checksum};
+use super::{HeldBy, Names, SourceLocation, VERSION, WaitingCall};
 use std::collections::BTreeMap;
 
 impl Names {
-    /// Reads the text of a file of names. Keys that are not known are left out, and so are keys that are missing.
+    /// Reads the text of a file of names. Keys that are not known are left out, and so are keys
+    /// that are missing.
     ///
     /// # Errors
     ///
@@ -37,27 +39,9 @@ impl Names {
         }
         Ok(names)
     }
-}
 
-impl Names {
-    /// Passes on the text of a file of names that is beside this journal.
-    ///
-    /// # Errors
-    ///
-    /// Returns what is wrong if the text says that it is of another journal.
-    pub(crate) fn beside(text: String, journal: &[u8]) -> Result<String, &'static str> {
-        let of = Names::read(&text)
-            .ok()
-            .and_then(|names| names.ending.journal);
-        match of.is_some_and(|sum| sum != checksum(journal)) {
-            true => Err("it has the names of another journal"),
-            false => Ok(text),
-        }
-    }
-}
-
-impl Names {
-    /// Returns the text of a file of names with this account of its run. What else it has stays, also what isn't known here.
+    /// Returns the text of a file of names with this account of its run. What else it has stays,
+    /// also what isn't known here.
     ///
     /// # Errors
     ///
@@ -79,11 +63,12 @@ fn of_key(key: &str, fault: String) -> String {
 /// Refuses a version that may mean something else by the same keys.
 fn version(value: Json) -> Result<(), String> {
     let version: u64 = number(value)?;
-    match version > VERSION {
-        true => Err(format!(
+    if version > VERSION {
+        Err(format!(
             "{version} is later than {VERSION}, the last one that this program reads"
-        )),
-        false => Ok(()),
+        ))
+    } else {
+        Ok(())
     }
 }
 

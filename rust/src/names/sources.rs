@@ -13,7 +13,8 @@ const MOST_SOURCES: usize = 256;
 const MOST_BYTES: u64 = 16_777_216;
 
 impl Names {
-    /// Adds the folder that the paths of sources are relative to, and the checksums of those that can be read below it.
+    /// Adds the folder that the paths of sources are relative to, and the checksums of those that
+    /// can be read below it.
     pub(crate) fn add_sources(&mut self) {
         let files: BTreeSet<_> = self.locations.iter().map(|at| at.file.as_str()).collect();
         let Some(root) = Program::this().root_of(files.iter().map(Path::new)) else {

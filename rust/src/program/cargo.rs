@@ -1,6 +1,6 @@
 //! How cargo was told to build this program: what a later command has to say for the same build.
 
-use super::{Kind, Program};
+use super::{Program, TargetKind};
 use std::path::Path;
 use std::sync::OnceLock;
 use std::{env, fs};
@@ -90,7 +90,7 @@ pub(crate) struct CargoRun {
 impl CargoRun {
     /// Returns what is known of the cargo that runs this program.
     pub(crate) fn of(program: &Program) -> CargoRun {
-        let is_doc = program.target.kind == Kind::Doc;
+        let is_doc = program.target.kind == TargetKind::Doc;
         let of_target = VARIABLES
             .into_iter()
             .filter(|name| is_doc || *name != "RUSTDOCFLAGS");
@@ -100,9 +100,10 @@ impl CargoRun {
         });
         // `cargo run` becomes the program that it runs, so it isn't above it.
         let above = command_lines_above().find_map(|words| CargoRun::read(&words));
-        let verb = match program.target.is_test {
-            true => "test",
-            false => "run",
+        let verb = if program.target.is_test {
+            "test"
+        } else {
+            "run"
         };
         let by_build = || CargoRun {
             verb: verb.to_string(),
@@ -169,11 +170,13 @@ impl CargoRun {
     }
 }
 
-/// Returns a variable with its value as somebody would write it. In one of them, a character that isn't shown stands between the flags.
+/// Returns a variable with its value as somebody would write it. In one of them, a character that
+/// isn't shown stands between the flags.
 fn for_a_shell(name: &str, value: String) -> (String, String) {
-    match name == "CARGO_ENCODED_RUSTFLAGS" && !value.contains(' ') {
-        true => ("RUSTFLAGS".to_string(), value.replace('\x1f', " ")),
-        false => (name.to_string(), value),
+    if name == "CARGO_ENCODED_RUSTFLAGS" && !value.contains(' ') {
+        ("RUSTFLAGS".to_string(), value.replace('\x1f', " "))
+    } else {
+        (name.to_string(), value)
     }
 }
 
@@ -184,14 +187,15 @@ fn is_joined(word: &str) -> bool {
         .any(|short| word.starts_with(short))
 }
 
-/// Returns the options that are known without cargo's command line: the profile by the folder of the program, and the patch of tokio unless a
-/// manifest has it.
+/// Returns the options that are known without cargo's command line: the profile by the folder of
+/// the program, and the patch of tokio unless a manifest has it.
 fn options_by_build(program: &Program) -> Vec<String> {
     let mut options = vec![];
     let folder = program.path.parent().map(|folder| {
-        match folder.ends_with("deps") || folder.ends_with("examples") {
-            true => folder.parent().unwrap_or(folder),
-            false => folder,
+        if folder.ends_with("deps") || folder.ends_with("examples") {
+            folder.parent().unwrap_or(folder)
+        } else {
+            folder
         }
     });
     let profile = folder.filter(|folder| folder.starts_with(&program.target_folder));
@@ -218,10 +222,12 @@ fn options_by_build(program: &Program) -> Vec<String> {
     options
 }
 
-/// How many processes above this one are looked at. Above a test in documentation are two of it and rustdoc's.
+/// How many processes above this one are looked at. Above a test in documentation are two of it and
+/// rustdoc's.
 const LOOKED_AT: usize = 6;
 
-/// Returns the command lines of the processes above this one, the nearest first, where the system shows them as files.
+/// Returns the command lines of the processes above this one, the nearest first, where the system
+/// shows them as files.
 fn command_lines_above() -> impl Iterator<Item = Vec<String>> {
     let mut process = parent();
     let lines = std::iter::from_fn(move || {
@@ -250,7 +256,8 @@ fn parent() -> Option<u32> {
     None
 }
 
-/// Returns the number of the parent in what the system says of a process. The name before it is in brackets, and may have brackets itself.
+/// Returns the number of the parent in what the system says of a process. The name before it is in
+/// brackets, and may have brackets itself.
 fn parent_in(stat: &str) -> Option<u32> {
     let (_, after_name) = stat.rsplit_once(')')?;
     let parent: u32 = after_name.split_whitespace().nth(1)?.parse().ok()?;

@@ -9,12 +9,14 @@ const MARKS: [&str; 2] = [".rustc_info.json", "CACHEDIR.TAG"];
 /// How many folders above a program are looked at. Cargo puts it seven below at most.
 const LOOKED_AT: usize = 7;
 
-/// The variables that name the folders in which the system looks for shared libraries, to which cargo adds those of the build.
+/// The variables that name the folders in which the system looks for shared libraries, to which
+/// cargo adds those of the build.
 const LIBRARY_PATHS: [&str; 3] = ["LD_LIBRARY_PATH", "DYLD_FALLBACK_LIBRARY_PATH", "PATH"];
 
-/// Returns the folder of the build that the program with this path is from. A test in documentation is built elsewhere, so the folder is then
-/// that of the libraries beside which cargo runs it, or the one that the variable `CARGO_TARGET_DIR` names, or the folder `target` of this
-/// package or of its workspace.
+/// Returns the folder of the build that the program with this path is from. A test in documentation
+/// is built elsewhere, so the folder is then that of the libraries beside which cargo runs it, or
+/// the one that the variable `CARGO_TARGET_DIR` names, or the folder `target` of this package or of
+/// its workspace.
 pub(super) fn of_build(program: &Path, here: &Path) -> PathBuf {
     let of_program = || marked_above(program);
     let of_libraries = || {

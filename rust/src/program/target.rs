@@ -5,7 +5,7 @@ use std::{env, fs};
 
 /// What kind of target it is.
 #[derive(Clone, Copy, Debug, PartialEq, Eq)]
-pub(crate) enum Kind {
+pub(crate) enum TargetKind {
     Lib,
     Bin,
     Test,
@@ -13,14 +13,15 @@ pub(crate) enum Kind {
     Bench,
     /// A test in the documentation of a library.
     Doc,
-    /// One whose sources are where cargo doesn't look by itself, or a program that cargo hasn't made.
+    /// One whose sources are where cargo doesn't look by itself, or a program that cargo hasn't
+    /// made.
     Other,
 }
 
 /// A build target of a package.
 #[derive(Clone, Debug, PartialEq, Eq)]
 pub(crate) struct Target {
-    pub(crate) kind: Kind,
+    pub(crate) kind: TargetKind,
     pub(crate) name: String,
     /// Whether the program is a test harness, or another that `cargo test` runs.
     pub(crate) is_test: bool,
@@ -38,7 +39,7 @@ impl Target {
         if stem == "rust_out" {
             let name = env::var("CARGO_CRATE_NAME").unwrap_or_else(|_| stem.to_string());
             return Target {
-                kind: Kind::Doc,
+                kind: TargetKind::Doc,
                 name,
                 is_test: true,
             };
@@ -46,8 +47,8 @@ impl Target {
         let (name, hash) = name_and_hash(&stem);
         let Some(_) = hash else {
             let kind = match program.parent() {
-                Some(folder) if folder.ends_with("examples") => Kind::Example,
-                _ => Kind::Bin,
+                Some(folder) if folder.ends_with("examples") => TargetKind::Example,
+                _ => TargetKind::Bin,
             };
             return Target {
                 kind,
@@ -59,7 +60,7 @@ impl Target {
             Some(root) => of_source(root, package, name),
             None => of_folder(package_folder, name),
         };
-        let (kind, name) = found.unwrap_or((Kind::Other, name.to_string()));
+        let (kind, name) = found.unwrap_or((TargetKind::Other, name.to_string()));
         Target {
             kind,
             name,
@@ -67,16 +68,17 @@ impl Target {
         }
     }
 
-    /// Returns the name of the folder that the files of its tests are in. No two targets of a package have the same.
+    /// Returns the name of the folder that the files of its tests are in. No two targets of a
+    /// package have the same.
     pub(crate) fn folder_name(&self) -> String {
         let kind = match self.kind {
-            Kind::Lib => return "lib".to_string(),
-            Kind::Doc => return "doc".to_string(),
-            Kind::Bin => "bin",
-            Kind::Test => "test",
-            Kind::Example => "example",
-            Kind::Bench => "bench",
-            Kind::Other => "target",
+            TargetKind::Lib => return "lib".to_string(),
+            TargetKind::Doc => return "doc".to_string(),
+            TargetKind::Bin => "bin",
+            TargetKind::Test => "test",
+            TargetKind::Example => "example",
+            TargetKind::Bench => "bench",
+            TargetKind::Other => "target",
         };
         format!("{kind}-{}", self.name)
     }
@@ -84,20 +86,20 @@ impl Target {
     /// Returns the words by which cargo chooses it.
     pub(crate) fn words(&self) -> Vec<String> {
         let flag = match self.kind {
-            Kind::Lib => return vec!["--lib".to_string()],
-            Kind::Doc => return vec!["--doc".to_string()],
-            Kind::Other => return vec![],
-            Kind::Bin => "--bin",
-            Kind::Test => "--test",
-            Kind::Example => "--example",
-            Kind::Bench => "--bench",
+            TargetKind::Lib => return vec!["--lib".to_string()],
+            TargetKind::Doc => return vec!["--doc".to_string()],
+            TargetKind::Other => return vec![],
+            TargetKind::Bin => "--bin",
+            TargetKind::Test => "--test",
+            TargetKind::Example => "--example",
+            TargetKind::Bench => "--bench",
         };
         vec![flag.to_string(), self.name.clone()]
     }
 }
 
-/// Splits the stem of a program in the folder `deps` into the name of its crate and the hash that cargo appends. One that cargo has put
-/// elsewhere under its own name has no hash.
+/// Splits the stem of a program in the folder `deps` into the name of its crate and the hash that
+/// cargo appends. One that cargo has put elsewhere under its own name has no hash.
 fn name_and_hash(stem: &str) -> (&str, Option<&str>) {
     match stem.rsplit_once('-') {
         Some((name, hash)) if hash.len() == 16 && hash.bytes().all(|b| b.is_ascii_hexdigit()) => {
@@ -107,7 +109,8 @@ fn name_and_hash(stem: &str) -> (&str, Option<&str>) {
     }
 }
 
-/// Returns the root file of the program's crate: the first source in the file that the compiler has left beside the program.
+/// Returns the root file of the program's crate: the first source in the file that the compiler has
+/// left beside the program.
 pub(super) fn crate_root(program: &Path) -> Option<PathBuf> {
     let stem = program.file_stem()?.to_str()?;
     name_and_hash(stem).1?;
@@ -115,7 +118,8 @@ pub(super) fn crate_root(program: &Path) -> Option<PathBuf> {
     first_source(&beside).map(PathBuf::from)
 }
 
-/// Returns the first source in a text that has the rules of `make`: a file, a colon, and the files that it depends on.
+/// Returns the first source in a text that has the rules of `make`: a file, a colon, and the files
+/// that it depends on.
 fn first_source(text: &str) -> Option<String> {
     let (_, sources) = text.lines().next()?.split_once(": ")?;
     // A blank in a name stands behind a backslash.
@@ -124,9 +128,9 @@ fn first_source(text: &str) -> Option<String> {
     Some(first.replace('\0', " "))
 }
 
-/// Returns the target of a package whose root file is this, by where cargo looks for it. A target that the manifest gives another name has that
-/// of its program.
-fn of_source(root: &Path, package: Option<&str>, program: &str) -> Option<(Kind, String)> {
+/// Returns the target of a package whose root file is this, by where cargo looks for it. A target
+/// that the manifest gives another name has that of its program.
+fn of_source(root: &Path, package: Option<&str>, program: &str) -> Option<(TargetKind, String)> {
     let mut parts = root.components().rev().map(|part| match part {
         Component::Normal(name) => name.to_str().unwrap_or_default(),
         _ => "",
@@ -137,8 +141,8 @@ fn of_source(root: &Path, package: Option<&str>, program: &str) -> Option<(Kind,
         parts.next().unwrap_or_default(),
     );
     let (kind, name) = match (above, folder, file) {
-        (_, "src", "lib") => (Kind::Lib, program),
-        (_, "src", "main") => (Kind::Bin, package.unwrap_or(program)),
+        (_, "src", "lib") => (TargetKind::Lib, program),
+        (_, "src", "main") => (TargetKind::Bin, package.unwrap_or(program)),
         (_, folder, file) if kind_of(folder).is_some() => (kind_of(folder)?, file),
         (folder, name, "main") => (kind_of(folder)?, name),
         _ => return None,
@@ -148,19 +152,19 @@ fn of_source(root: &Path, package: Option<&str>, program: &str) -> Option<(Kind,
 }
 
 /// Returns the kind of the targets that cargo finds in a folder with this name.
-fn kind_of(folder: &str) -> Option<Kind> {
+fn kind_of(folder: &str) -> Option<TargetKind> {
     Some(match folder {
-        "tests" => Kind::Test,
-        "examples" => Kind::Example,
-        "benches" => Kind::Bench,
-        "bin" => Kind::Bin,
+        "tests" => TargetKind::Test,
+        "examples" => TargetKind::Example,
+        "benches" => TargetKind::Bench,
+        "bin" => TargetKind::Bin,
         _ => return None,
     })
 }
 
-/// Returns the target of the program with this name, where its root file isn't known: the test in `tests/` that has the name, if no other target
-/// of the package may have it.
-fn of_folder(package_folder: &Path, name: &str) -> Option<(Kind, String)> {
+/// Returns the target of the program with this name, where its root file isn't known: the test in
+/// `tests/` that has the name, if no other target of the package may have it.
+fn of_folder(package_folder: &Path, name: &str) -> Option<(TargetKind, String)> {
     let files = fs::read_dir(package_folder.join("tests")).ok()?;
     let named = files.filter_map(|file| {
         let path = file.ok()?.path();
@@ -169,30 +173,35 @@ fn of_folder(package_folder: &Path, name: &str) -> Option<(Kind, String)> {
         (is_target && stem.replace('-', "_") == name).then_some(stem)
     });
     let mut named = named;
-    Some((Kind::Test, named.next()?))
+    Some((TargetKind::Test, named.next()?))
 }
 
 #[cfg(test)]
 mod tests {
     use super::*;
 
-    fn of(root: &str, program: &str) -> Option<(Kind, String)> {
+    fn of(root: &str, program: &str) -> Option<(TargetKind, String)> {
         of_source(Path::new(root), Some("my-shop"), program)
     }
 
     #[test]
     fn a_target_is_known_by_where_its_root_file_is() {
         for (root, program, kind, name) in [
-            ("src/lib.rs", "my_shop", Kind::Lib, "my_shop"),
-            ("shop/src/main.rs", "my_shop", Kind::Bin, "my-shop"),
-            ("shop/src/bin/till.rs", "till", Kind::Bin, "till"),
-            ("src/bin/till/main.rs", "till", Kind::Bin, "till"),
-            ("/ws/shop/tests/my-bus.rs", "my_bus", Kind::Test, "my-bus"),
-            ("tests/bus/main.rs", "bus", Kind::Test, "bus"),
-            ("tests/tests.rs", "tests", Kind::Test, "tests"),
-            ("examples/demo.rs", "demo", Kind::Example, "demo"),
-            ("benches/speed.rs", "speed", Kind::Bench, "speed"),
-            ("tests/other.rs", "named", Kind::Test, "named"),
+            ("src/lib.rs", "my_shop", TargetKind::Lib, "my_shop"),
+            ("shop/src/main.rs", "my_shop", TargetKind::Bin, "my-shop"),
+            ("shop/src/bin/till.rs", "till", TargetKind::Bin, "till"),
+            ("src/bin/till/main.rs", "till", TargetKind::Bin, "till"),
+            (
+                "/ws/shop/tests/my-bus.rs",
+                "my_bus",
+                TargetKind::Test,
+                "my-bus",
+            ),
+            ("tests/bus/main.rs", "bus", TargetKind::Test, "bus"),
+            ("tests/tests.rs", "tests", TargetKind::Test, "tests"),
+            ("examples/demo.rs", "demo", TargetKind::Example, "demo"),
+            ("benches/speed.rs", "speed", TargetKind::Bench, "speed"),
+            ("tests/other.rs", "named", TargetKind::Test, "named"),
         ] {
             assert_eq!(of(root, program), Some((kind, name.to_string())), "{root}");
         }
@@ -217,18 +226,22 @@ mod tests {
             is_test: true,
         };
         let targets = [
-            (target(Kind::Lib, "shop"), "lib", "--lib"),
-            (target(Kind::Doc, "shop"), "doc", "--doc"),
-            (target(Kind::Bin, "shop"), "bin-shop", "--bin shop"),
-            (target(Kind::Test, "shop"), "test-shop", "--test shop"),
-            (target(Kind::Test, "lib"), "test-lib", "--test lib"),
+            (target(TargetKind::Lib, "shop"), "lib", "--lib"),
+            (target(TargetKind::Doc, "shop"), "doc", "--doc"),
+            (target(TargetKind::Bin, "shop"), "bin-shop", "--bin shop"),
+            (target(TargetKind::Test, "shop"), "test-shop", "--test shop"),
+            (target(TargetKind::Test, "lib"), "test-lib", "--test lib"),
             (
-                target(Kind::Example, "shop"),
+                target(TargetKind::Example, "shop"),
                 "example-shop",
                 "--example shop",
             ),
-            (target(Kind::Bench, "shop"), "bench-shop", "--bench shop"),
-            (target(Kind::Other, "shop"), "target-shop", ""),
+            (
+                target(TargetKind::Bench, "shop"),
+                "bench-shop",
+                "--bench shop",
+            ),
+            (target(TargetKind::Other, "shop"), "target-shop", ""),
         ];
         for (target, folder, words) in targets {
             assert_eq!(target.folder_name(), folder);
@@ -242,17 +255,17 @@ mod tests {
         let demo = of("/ws/target/debug/examples/demo");
         assert_eq!(
             (demo.kind, demo.name.as_str(), demo.is_test),
-            (Kind::Example, "demo", false)
+            (TargetKind::Example, "demo", false)
         );
         let shop = of("/ws/target/debug/my-shop");
         assert_eq!(
             (shop.kind, shop.name.as_str(), shop.is_test),
-            (Kind::Bin, "my-shop", false)
+            (TargetKind::Bin, "my-shop", false)
         );
         let other = of("/ws/target/debug/deps/bus-11d456fd1e430ec6");
         assert_eq!(
             (other.kind, other.name.as_str(), other.is_test),
-            (Kind::Other, "bus", true)
+            (TargetKind::Other, "bus", true)
         );
     }
 }

@@ -1,4 +1,5 @@
-//! The recorder that a new channel belongs to: the one that is entered on its thread, else the one that is installed, else none.
+//! The recorder that a new channel belongs to: the one that is entered on its thread, else the one
+//! that is installed, else none.
 
 use super::Recorder;
 use super::test_run::PATIENCE;
@@ -39,7 +40,8 @@ impl Stack {
         let index = entries.iter().position(|(other, _)| *other == number);
         let removed = index.map(|index| entries.remove(index));
         drop(entries);
-        // This may drop the recorder, and with it wakers, which may run user code. So nothing is locked here.
+        // This may drop the recorder, and with it wakers, which may run user code. So nothing is
+        // locked here.
         drop(removed);
     }
 
@@ -60,24 +62,28 @@ impl Stack {
     }
 }
 
-/// Whether the recorder with this number is entered on this thread, or installed. It is called where a thread panics.
+/// Whether the recorder with this number is entered on this thread, or installed. It is called
+/// where a thread panics.
 pub(super) fn is_entered(id: u64) -> bool {
     let entered = ENTERED.try_with(|entered| entered.try_borrow().ok().map(|it| it.clone()));
     let is_here = entered.ok().flatten().is_some_and(|stack| stack.has(id));
     is_here || INSTALLED.has(id)
 }
 
-/// Returns the recorders that are entered on this thread. At the end of a thread, they may be gone: then nothing is entered.
+/// Returns the recorders that are entered on this thread. At the end of a thread, they may be gone:
+/// then nothing is entered.
 fn of_this_thread() -> Arc<Stack> {
     let stack = ENTERED.try_with(|entered| entered.borrow().clone());
     stack.unwrap_or_default()
 }
 
 impl Recorder {
-    /// Returns the recorder that a channel would belong to if this thread created it now, or `None` if it would not be recorded.
+    /// Returns the recorder that a channel would belong to if this thread created it now, or `None`
+    /// if it would not be recorded.
     ///
-    /// This is the recorder that is entered on this thread ([`enter`](Recorder::enter), [`for_test`](Recorder::for_test),
-    /// [`scope`](Recorder::scope)), or else the one that is installed for the process ([`install`](Recorder::install)).
+    /// This is the recorder that is entered on this thread ([`enter`](Recorder::enter),
+    /// [`for_test`](Recorder::for_test), [`scope`](Recorder::scope)), or else the one that is
+    /// installed for the process ([`install`](Recorder::install)).
     ///
     /// # Examples
     ///
@@ -103,10 +109,12 @@ impl Recorder {
         of_this_thread().last().or_else(|| INSTALLED.last())
     }
 
-    /// Enters the recorder on this thread: channels that the thread creates belong to it until the returned guard is dropped.
+    /// Enters the recorder on this thread: channels that the thread creates belong to it until the
+    /// returned guard is dropped.
     ///
-    /// If several recorders are entered, the one that was entered last is used. Channels that were created before are not affected. Other
-    /// threads are not affected either, not even those that this thread spawns: see [`on_thread_start`](Recorder::on_thread_start).
+    /// If several recorders are entered, the one that was entered last is used. Channels that were
+    /// created before are not affected. Other threads are not affected either, not even those that
+    /// this thread spawns: see [`on_thread_start`](Recorder::on_thread_start).
     ///
     /// # Examples
     ///
@@ -135,12 +143,13 @@ impl Recorder {
         }
     }
 
-    /// Installs the recorder for the process, until the returned guard is dropped: channels that any thread creates belong to it, unless a
-    /// recorder is entered on that thread.
+    /// Installs the recorder for the process, until the returned guard is dropped: channels that
+    /// any thread creates belong to it, unless a recorder is entered on that thread.
     ///
-    /// If several recorders are installed, the one that was installed last is used. So two tests that run side by side in one process must
-    /// not both install theirs: [`scope`](Recorder::scope) and [`on_thread_start`](Recorder::on_thread_start) keep the channels of such
-    /// tests apart.
+    /// If several recorders are installed, the one that was installed last is used. So two tests
+    /// that run side by side in one process must not both install theirs:
+    /// [`scope`](Recorder::scope) and [`on_thread_start`](Recorder::on_thread_start) keep the
+    /// channels of such tests apart.
     ///
     /// # Examples
     ///
@@ -166,12 +175,14 @@ impl Recorder {
         }
     }
 
-    /// Returns a function that enters the recorder on the thread that calls it, until that thread ends.
+    /// Returns a function that enters the recorder on the thread that calls it, until that thread
+    /// ends.
     ///
-    /// It is for the builder of a runtime: with it, what the tasks of that runtime create belongs to this recorder, whichever of its
-    /// threads they run on, and nothing else does. So several tests in one process can have a runtime with many threads each. The thread
-    /// that calls the runtime's `block_on` is none of these. There [`for_test`](Recorder::for_test) or [`enter`](Recorder::enter) enters
-    /// the recorder.
+    /// It is for the builder of a runtime: with it, what the tasks of that runtime create belongs
+    /// to this recorder, whichever of its threads they run on, and nothing else does. So several
+    /// tests in one process can have a runtime with many threads each. The thread that calls the
+    /// runtime's `block_on` is none of these. There [`for_test`](Recorder::for_test) or
+    /// [`enter`](Recorder::enter) enters the recorder.
     ///
     /// # Examples
     ///
@@ -214,11 +225,13 @@ impl Recorder {
     }
 }
 
-/// Returns a function by which other threads follow this one: a recorder that is entered here is then entered there too, whether it was
-/// entered before or is entered later, and until it is left here.
+/// Returns a function by which other threads follow this one: a recorder that is entered here is
+/// then entered there too, whether it was entered before or is entered later, and until it is left
+/// here.
 ///
-/// This is [`Recorder::on_thread_start`] for code that builds a runtime before there is a recorder. A thread that has entered a recorder
-/// of its own uses that one. A thread follows one other thread at a time, and leaves what it has entered itself where it begins to follow.
+/// This is [`Recorder::on_thread_start`] for code that builds a runtime before there is a recorder.
+/// A thread that has entered a recorder of its own uses that one. A thread follows one other thread
+/// at a time, and leaves what it has entered itself where it begins to follow.
 ///
 /// # Examples
 ///
@@ -253,10 +266,12 @@ pub fn follow_this_thread() -> impl Fn() + Clone + Send + Sync + 'static {
     }
 }
 
-/// Guard returned by [`Recorder::enter`], which enters the recorder on this thread until it is dropped.
+/// Guard returned by [`Recorder::enter`], which enters the recorder on this thread until it is
+/// dropped.
 ///
-/// Guards may be dropped in any order. Of the recorders whose guards are alive, the one that was entered last gets the channels. A guard
-/// cannot be sent to another thread, since other tasks may run on this one while it is held. For a future, use [`Recorder::scope`].
+/// Guards may be dropped in any order. Of the recorders whose guards are alive, the one that was
+/// entered last gets the channels. A guard cannot be sent to another thread, since other tasks may
+/// run on this one while it is held. For a future, use [`Recorder::scope`].
 ///
 /// # Examples
 ///
@@ -276,7 +291,8 @@ pub fn follow_this_thread() -> impl Fn() + Clone + Send + Sync + 'static {
 /// ```
 pub struct Entered {
     number: u64,
-    // Of the thread that has entered the recorder. So a guard that is dropped at the end of its thread needs no variable of the thread.
+    // Of the thread that has entered the recorder. So a guard that is dropped at the end of its
+    // thread needs no variable of the thread.
     stack: Arc<Stack>,
     // A raw pointer is not `Send`, so a guard stays on its thread.
     _not_send: PhantomData<*const ()>,
@@ -294,10 +310,11 @@ impl std::fmt::Debug for Entered {
     }
 }
 
-/// Guard returned by [`Recorder::install`], which installs the recorder for the process until it is dropped.
+/// Guard returned by [`Recorder::install`], which installs the recorder for the process until it is
+/// dropped.
 ///
-/// Guards may be dropped in any order, and on any thread. Of the recorders whose guards are alive, the one that was installed last gets the
-/// channels.
+/// Guards may be dropped in any order, and on any thread. Of the recorders whose guards are alive,
+/// the one that was installed last gets the channels.
 ///
 /// # Examples
 ///

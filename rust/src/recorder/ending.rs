@@ -1,8 +1,9 @@
-//! What is written and printed at the end of a failing test: the journal, the names, the page with both inside, and the report.
+//! What is written and printed at the end of a failing test: the journal, the names, the page with
+//! both inside, and the report.
 
 use super::files::{self, file_name};
 use super::replaying::REPLAYED;
-use super::run::{Run, Saved};
+use super::run::{RunSoFar, Saved};
 use super::test_run::{PATIENCE, TestRun};
 use super::{Shared, replay_line};
 use crate::explore;
@@ -15,15 +16,17 @@ use std::io;
 use std::path::{Path, PathBuf};
 use std::sync::Mutex;
 
-/// Locked while the files of a test are written. A watchdog may write those of a test that fails at the same time.
+/// Locked while the files of a test are written. A watchdog may write those of a test that fails at
+/// the same time.
 pub(super) static WRITING: Mutex<()> = Mutex::new(());
 
-/// The page, which comes with the sources of this crate. It isn't part of the program, which would get a third of a megabyte larger.
+/// The page, which comes with the sources of this crate. It isn't part of the program, which would
+/// get a third of a megabyte larger.
 const PAGE: &str = concat!(env!("CARGO_MANIFEST_DIR"), "/built/yovanelum.html");
 
 impl TestRun {
-    /// Writes the files of this test, and prints the report. What can't be written is said in one line. `call` is where to look, if that isn't
-    /// where the report says.
+    /// Writes the files of this test, and prints the report. What can't be written is said in one
+    /// line. `call` is where to look, if that isn't where the report says.
     pub(super) fn report(&self, recorder: &Shared, has_failed: bool, call: Option<u64>) {
         let _writing = lock(&WRITING);
         let lines = self.lines_on(&recorder.run(), recorder, has_failed, call);
@@ -31,7 +34,8 @@ impl TestRun {
         eprint!("{lines}");
     }
 
-    /// Says so if nothing was recorded in a test that passes. The harness shows it with `--nocapture`.
+    /// Says so if nothing was recorded in a test that passes. The harness shows it with
+    /// `--nocapture`.
     pub(super) fn say_if_nothing(&self, recorder: &Shared) {
         if recorder.has_nothing() {
             // In one call, and so that the harness captures it.
@@ -39,7 +43,8 @@ impl TestRun {
         }
     }
 
-    /// Writes the files of this test at once, since the process ends, and returns the report. What this thread has locked is left out.
+    /// Writes the files of this test at once, since the process ends, and returns the report. What
+    /// this thread has locked is left out.
     pub(super) fn write_before_process_ends(&self) -> Option<String> {
         let recorder = self.recorder.upgrade()?;
         let _writing = try_lock_for(&WRITING, PATIENCE);
@@ -62,7 +67,7 @@ impl TestRun {
     /// Writes the files of this test, and returns the report on it.
     fn lines_on(
         &self,
-        run: &Run<'_>,
+        run: &RunSoFar<'_>,
         recorder: &Shared,
         has_failed: bool,
         call: Option<u64>,
@@ -99,15 +104,18 @@ impl TestRun {
         format!("{}{more}", report.text(look, has_colours))
     }
 
-    /// Says that nothing was recorded, unless others do: the end of a replay, and the session of the runs that it explores.
+    /// Says that nothing was recorded, unless others do: the end of a replay, and the session of
+    /// the runs that it explores.
     fn nothing_in_words(&self, recorder: &Shared) -> String {
-        match recorder.gate.is_some() || explore::current().is_some() {
-            true => String::new(),
-            false => format!("yovanelum: {}\n", recorder.nothing_line(&self.name)),
+        if recorder.gate.is_some() || explore::current().is_some() {
+            String::new()
+        } else {
+            format!("yovanelum: {}\n", recorder.nothing_line(&self.name))
         }
     }
 
-    /// Returns the file for the journal of this test, or of its replay, which doesn't replace the one that it reads.
+    /// Returns the file for the journal of this test, or of its replay, which doesn't replace the
+    /// one that it reads.
     pub(super) fn journal_path(&self, recorder: &Shared) -> PathBuf {
         let folder = files::folder();
         let name = file_name(&self.name);
@@ -116,14 +124,16 @@ impl TestRun {
             return folder.join(format!("{name}.journal"));
         };
         let path = folder.join(format!("{name}{REPLAYED}.journal"));
-        match read.with_extension("journal").file_name() == path.file_name() {
-            true => folder.join(format!("{name}{REPLAYED}{REPLAYED}.journal")),
-            false => path,
+        if read.with_extension("journal").file_name() == path.file_name() {
+            folder.join(format!("{name}{REPLAYED}{REPLAYED}.journal"))
+        } else {
+            path
         }
     }
 }
 
-/// Returns the line that says how to compare a run with the one whose calls it was to make again, if it diverged from that.
+/// Returns the line that says how to compare a run with the one whose calls it was to make again,
+/// if it diverged from that.
 fn compare_line(path: &Path, recorder: &Shared) -> String {
     let gate = recorder.gate.as_ref();
     match gate.filter(|gate| gate.has_diverged()) {
@@ -136,8 +146,9 @@ fn not_written(path: &Path, error: &io::Error) -> String {
     format!("yovanelum: {} isn't written: {error}\n", path.display())
 }
 
-/// Writes the journal, and beside it the names and the page with both inside. Returns the journal's path, which is another one beside this one where a
-/// process that runs the same test has written this one, and where to look. If one can't be written, all are as before.
+/// Writes the journal, and beside it the names and the page with both inside. Returns the journal's
+/// path, which is another one beside this one where a process that runs the same test has written
+/// this one, and where to look. If one can't be written, all are as before.
 pub(super) fn write(
     path: &Path,
     journal: &str,

@@ -4,14 +4,17 @@ use super::Recorder;
 use crate::events::{Close, Lag};
 
 impl Recorder {
-    /// Calls a closure each time a receiver of this recorder's channels lags. Returns the recorder, for the next call.
+    /// Calls a closure each time a receiver of this recorder's channels lags. Returns the recorder,
+    /// for the next call.
     ///
-    /// The closure is called by the receive that returns `Lagged`, before it returns. It replaces one that was set before. While it runs there is
-    /// no lock of this crate, so it may use any channel, also this one. A panic in it is one of the receive, which has then counted the values
-    /// as lost: so a test fails where somebody lags, if the closure panics.
+    /// The closure is called by the receive that returns `Lagged`, before it returns. It replaces
+    /// one that was set before. While it runs there is no lock of this crate, so it may use any
+    /// channel, also this one. A panic in it is one of the receive, which has then counted the
+    /// values as lost: so a test fails where somebody lags, if the closure panics.
     ///
-    /// The recorder holds the closure until it is dropped with its clones and guards. From then on, and for a recorder without a closure, the one
-    /// of the process is called, if there is one: [`yovanelum::on_lag`](crate::on_lag).
+    /// The recorder holds the closure until it is dropped with its clones and guards. From then on,
+    /// and for a recorder without a closure, the one of the process is called, if there is one:
+    /// [`yovanelum::on_lag`](crate::on_lag).
     ///
     /// # Examples
     ///
@@ -34,10 +37,12 @@ impl Recorder {
         self
     }
 
-    /// Calls a closure each time the last sender of one of this recorder's channels is dropped. Returns the recorder, for the next call.
+    /// Calls a closure each time the last sender of one of this recorder's channels is dropped.
+    /// Returns the recorder, for the next call.
     ///
-    /// The closure is called by the drop, once those who wait are woken. What [`on_lag`](Recorder::on_lag) says of the closure is so here too. A
-    /// panic in it is one of the drop. If the thread panics already, that one goes on.
+    /// The closure is called by the drop, once those who wait are woken. What
+    /// [`on_lag`](Recorder::on_lag) says of the closure is so here too. A panic in it is one of the
+    /// drop. If the thread panics already, that one goes on.
     ///
     /// # Examples
     ///

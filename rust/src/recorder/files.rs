@@ -16,10 +16,12 @@ use std::path::{Path, PathBuf};
 use std::sync::atomic::Ordering;
 use std::{fs, io, process};
 
-/// What each file of a test is: what its name ends with, and its bytes. `None` stands for a file that is to be gone.
+/// What each file of a test is: what its name ends with, and its bytes. `None` stands for a file
+/// that is to be gone.
 pub(crate) type Files<'a> = [(&'a str, Option<&'a [u8]>)];
 
-/// Returns the folder for the files of the tests of this program. No other program of the build has the same.
+/// Returns the folder for the files of the tests of this program. No other program of the build has
+/// the same.
 pub(super) fn folder() -> PathBuf {
     let program = Program::this();
     let package = program.package.as_deref().unwrap_or("no package");
@@ -30,8 +32,9 @@ pub(super) fn folder() -> PathBuf {
         .join(file_name(&program.target.folder_name()))
 }
 
-/// Replaces the files of a test, of which this is the journal, and returns the journal that was written. It is another one, beside this one, where a
-/// process that runs the same test at the same time has written this one.
+/// Replaces the files of a test, of which this is the journal, and returns the journal that was
+/// written. It is another one, beside this one, where a process that runs the same test at the same
+/// time has written this one.
 ///
 /// All are written before the first one is replaced, so if one can't be written, all are as before.
 ///
@@ -101,7 +104,7 @@ impl Drop for Written<'_> {
 }
 
 /// Returns a path beside this one that nobody else writes to.
-fn beside(path: &Path) -> PathBuf {
+pub(super) fn beside(path: &Path) -> PathBuf {
     static NEXT: AtomicU64 = AtomicU64::new(0);
     let number = NEXT.fetch_add(1, Ordering::Relaxed);
     let mut name = path.file_name().unwrap_or_default().to_os_string();
@@ -109,7 +112,8 @@ fn beside(path: &Path) -> PathBuf {
     path.with_file_name(name)
 }
 
-/// Returns the number of this process. WebAssembly has none, and to ask for it would panic. A random number is in its place there.
+/// Returns the number of this process. WebAssembly has none, and to ask for it would panic. A
+/// random number is in its place there.
 fn process_number() -> u64 {
     if cfg!(target_family = "wasm") {
         RandomState::new().build_hasher().finish()

@@ -12,30 +12,40 @@ use std::{env, panic, thread};
 impl Recorder {
     /// Creates a recorder for a test, and enters it on this thread until the result is dropped.
     ///
-    /// If the thread panics while the result is alive, or the environment variable `YOVANELUM_KEEP` is set, the drop of the result prints a
-    /// report on standard error, of 22 lines at most: which receiver lost values, which send overwrote the first of them, whether it was
-    /// told, and which calls still wait. It writes the journal to `yovanelum/PACKAGE/BUILD/NAME.journal` in the build's folder `target`, the
-    /// names to `NAME.names` beside it, and the page that draws the run to `NAME.html`. `BUILD` is the build target, such as `lib` or `test-bus`.
-    /// The last lines of the report are the page's address and the command that replays the run. If a file cannot be written, all three are as
-    /// before, and one line says why. What can't be in the name of a file is written as `%` and hexadecimal digits.
+    /// If the thread panics while the result is alive, or the environment variable `YOVANELUM_KEEP`
+    /// is set, the drop of the result prints a report on standard error: which receiver lost
+    /// values, which send overwrote the first of them, whether it was told, and which calls still
+    /// wait. It writes the journal to `yovanelum/PACKAGE/BUILD/NAME.journal` in the build's folder
+    /// `target`, the names to `NAME.names` beside it, and the page that draws the run to
+    /// `NAME.html`. `BUILD` is the build target, such as `lib` or `test-bus`. The last lines of the
+    /// report are the page's address and the command that replays the run. If a file cannot be
+    /// written, all three are as before, and one line says why. What can't be in the name of a file
+    /// is written as `%` and hexadecimal digits.
     ///
-    /// A hook for panics, which the first recorder of a process sets and which calls the previous hook, notes the text and the place of each
-    /// panic of the test. If the process ends with a panic, as after a second one in a drop or with `panic = "abort"`, the hook writes the files
+    /// A hook for panics, which the first recorder of a process sets and which calls the previous
+    /// hook, notes the text and the place of each panic of the test. If the process ends with a
+    /// panic, as after a second one in a drop or with `panic = "abort"`, the hook writes the files
     /// and the report.
     ///
-    /// If no channel was created under it, one line says so with the likely cause, also where the test passes, and there is no report.
+    /// If no channel was created under it, one line says so with the likely cause, also where the
+    /// test passes, and there is no report.
     ///
-    /// Else nothing is written or printed if the test passes, or if the result was created while its thread was panicking already. Nor is it if the
-    /// process ends otherwise, as by [`process::exit`](std::process::exit).
+    /// Else nothing is written or printed if the test passes, or if the result was created while
+    /// its thread was panicking already. Nor is it if the process ends otherwise, as by
+    /// [`process::exit`](std::process::exit).
     ///
-    /// Make it the first variable of the test. It is then dropped last, and the drops of senders and receivers are in the journal.
+    /// Make it the first variable of the test. It is then dropped last, and the drops of senders
+    /// and receivers are in the journal.
     ///
-    /// What other threads create does not belong to it. For the threads of a runtime use [`on_thread_start`](Recorder::on_thread_start), for
-    /// a task [`scope`](Recorder::scope), and if no other test runs in the process [`install`](Recorder::install). A test that is itself a
-    /// task, which may move from thread to thread, uses `scope` and [`save_on_panic`](Recorder::save_on_panic).
+    /// What other threads create does not belong to it. For the threads of a runtime use
+    /// [`on_thread_start`](Recorder::on_thread_start), for a task [`scope`](Recorder::scope), and
+    /// if no other test runs in the process [`install`](Recorder::install). A test that is itself a
+    /// task, which may move from thread to thread, uses `scope` and
+    /// [`save_on_panic`](Recorder::save_on_panic).
     ///
-    /// A test that returns an `Err` does not panic. [`save_on_err`](ForTest::save_on_err) is given its result. If a test passes, cargo shows the
-    /// report of `YOVANELUM_KEEP` only with `-- --nocapture`.
+    /// A test that returns an `Err` does not panic. [`save_on_err`](ForTest::save_on_err) is given
+    /// its result. If a test passes, cargo shows the report of `YOVANELUM_KEEP` only with
+    /// `-- --nocapture`.
     ///
     /// # Examples
     ///
@@ -57,11 +67,11 @@ impl Recorder {
         }
     }
 
-    /// Writes the journal and prints the report when the returned guard is dropped, if the thread that drops it panics or the environment
-    /// variable `YOVANELUM_KEEP` is set.
+    /// Writes the journal and prints the report when the returned guard is dropped, if the thread
+    /// that drops it panics or the environment variable `YOVANELUM_KEEP` is set.
     ///
-    /// It is the part of [`for_test`](Recorder::for_test) that writes: the same files, and the same report on standard error. The guard
-    /// enters no thread, so it may be sent.
+    /// It is the part of [`for_test`](Recorder::for_test) that writes: the same files, and the same
+    /// report on standard error. The guard enters no thread, so it may be sent.
     ///
     /// # Examples
     ///
@@ -105,8 +115,9 @@ impl Recorder {
 
 /// A recorder for a test, returned by [`Recorder::for_test`].
 ///
-/// It dereferences to the [`Recorder`], which is entered on this thread until this is dropped. If the test has panicked, the drop writes
-/// the journal and prints the report. It cannot be sent to another thread. [`SaveOnPanic`] can.
+/// It dereferences to the [`Recorder`], which is entered on this thread until this is dropped. If
+/// the test has panicked, the drop writes the journal and prints the report. It cannot be sent to
+/// another thread. [`SaveOnPanic`] can.
 ///
 /// # Examples
 ///
@@ -127,10 +138,11 @@ pub struct ForTest {
 }
 
 impl ForTest {
-    /// Passes on the result of a test that returns one. If it is an `Err`, the drop of the recorder writes the journal and prints the report,
-    /// as after a panic.
+    /// Passes on the result of a test that returns one. If it is an `Err`, the drop of the recorder
+    /// writes the journal and prints the report, as after a panic.
     ///
-    /// It does not panic, so the test returns its error as before. What `?` returns earlier isn't seen, so wrap the whole body.
+    /// It does not panic, so the test returns its error as before. What `?` returns earlier isn't
+    /// seen, so wrap the whole body.
     ///
     /// # Examples
     ///
@@ -165,7 +177,8 @@ impl Deref for ForTest {
     }
 }
 
-/// Guard returned by [`Recorder::save_on_panic`], which writes the journal and prints the report if it is dropped by a thread that panics.
+/// Guard returned by [`Recorder::save_on_panic`], which writes the journal and prints the report if
+/// it is dropped by a thread that panics.
 ///
 /// # Examples
 ///
@@ -248,7 +261,8 @@ impl Drop for SaveOnPanic {
         explore::end(&self.recorder, has_failed);
         let met = explore::answer(&self.recorder.0, last);
         if self.is_wanted() || met.is_some() && explore::is_run_of_search() {
-            // A panic in a drop while a panic unwinds would end the process, and with it all other tests.
+            // A panic in a drop while a panic unwinds would end the process, and with it all other
+            // tests.
             let call = met.filter(|_| !has_failed);
             let report = || self.test.report(&self.recorder.0, has_failed, call);
             let _ = panic::catch_unwind(AssertUnwindSafe(report));

@@ -6,8 +6,9 @@ use crate::handle::Kind;
 
 /// A sender or a receiver, of either kind of channel.
 ///
-/// [`Recorder::name`], [`Recorder::show`], [`Recorder::of`] and their kin accept any. It is implemented for the senders and receivers of
-/// [`broadcast`](crate::broadcast) and [`watch`](crate::watch), weak senders included, and cannot be implemented for other types.
+/// [`Recorder::name`], [`Recorder::show`], [`Recorder::of`] and their kin accept any. It is
+/// implemented for the senders and receivers of [`broadcast`](crate::broadcast) and
+/// [`watch`](crate::watch), weak senders included, and cannot be implemented for other types.
 ///
 /// [`Recorder::name`]: super::Recorder::name
 /// [`Recorder::show`]: super::Recorder::show
@@ -40,7 +41,8 @@ pub trait Handle {
     /// The type of the channel's values.
     type Value;
 
-    // `RecordedHandle` has no public path. So no other crate can write this method, or implement the trait.
+    // `RecordedHandle` has no public path. So no other crate can write this method, or implement
+    // the trait.
     #[doc(hidden)]
     fn recorded(&self) -> RecordedHandle<'_>;
 

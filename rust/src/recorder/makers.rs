@@ -5,7 +5,8 @@ use std::collections::{HashMap, HashSet};
 /// How many makers there are before those are forgotten whose channels have left the run.
 const MANY: usize = 256;
 
-/// A maker that has made one of the last channels isn't forgotten: that channel may be about to enter the run.
+/// A maker that has made one of the last channels isn't forgotten: that channel may be about to
+/// enter the run.
 const RECENT: u64 = 128;
 
 /// How many channels each caller has made, by the name of the caller.

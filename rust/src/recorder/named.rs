@@ -7,17 +7,21 @@ use crate::lock::lock;
 use std::sync::Arc;
 
 impl Recorder {
-    /// Names a receiver, or the channel of a sender, and replaces an earlier name. Returns the recorder, for the next call.
+    /// Names a receiver, or the channel of a sender, and replaces an earlier name. Returns the
+    /// recorder, for the next call.
     ///
-    /// A receiver has a name of its own. The channel has that of its senders, weak senders included, since a program knows a channel by what
-    /// it sends on. [`name_channel`](Recorder::name_channel) names the channel of a receiver, and [`name_handle`](Recorder::name_handle) one
-    /// of several senders.
+    /// A receiver has a name of its own. The channel has that of its senders, weak senders
+    /// included, since a program knows a channel by what it sends on.
+    /// [`name_channel`](Recorder::name_channel) names the channel of a receiver, and
+    /// [`name_handle`](Recorder::name_handle) one of several senders.
     ///
-    /// The page shows the names instead of the journal's numbers, and so does what a failing test prints.
+    /// The page shows the names instead of the journal's numbers, and so does what a failing test
+    /// prints.
     ///
     /// # Panics
     ///
-    /// Panics if the channel belongs to another recorder, or to none. A recorder that is off accepts those that belong to none.
+    /// Panics if the channel belongs to another recorder, or to none. A recorder that is off
+    /// accepts those that belong to none.
     ///
     /// # Examples
     ///
@@ -41,7 +45,8 @@ impl Recorder {
         }
     }
 
-    /// Names the channel of this sender or receiver, and replaces an earlier name. Returns the recorder, for the next call.
+    /// Names the channel of this sender or receiver, and replaces an earlier name. Returns the
+    /// recorder, for the next call.
     ///
     /// # Panics
     ///
@@ -67,7 +72,8 @@ impl Recorder {
         self
     }
 
-    /// Names this sender, weak sender or receiver, and replaces an earlier name. Returns the recorder, for the next call.
+    /// Names this sender, weak sender or receiver, and replaces an earlier name. Returns the
+    /// recorder, for the next call.
     ///
     /// The name is that of the one handle, and not of its clones.
     ///
@@ -97,26 +103,31 @@ impl Recorder {
         self
     }
 
-    /// Records a text of each value that is sent on the channel from now on. Returns the recorder, for the next call.
+    /// Records a text of each value that is sent on the channel from now on. Returns the recorder,
+    /// for the next call.
     ///
-    /// In the journal values are numbers: 0, 1, 2, … in the order in which they were sent on the channel, and on a watch channel 0 is the
-    /// value that it was created with. The texts show what the values were, also after they have been dropped. The first value of a watch
-    /// channel has its text too, if no other was sent before this call. If a channel has a function already, the new one is not used.
+    /// In the journal values are numbers: 0, 1, 2, … in the order in which they were sent on the
+    /// channel, and on a watch channel 0 is the value that it was created with. The texts show what
+    /// the values were, also after they have been dropped. The first value of a watch channel has
+    /// its text too, if no other was sent before this call. If a channel has a function already,
+    /// the new one is not used.
     ///
-    /// A text of more than 4096 bytes is cut, unless [`cut_texts_at`](Recorder::cut_texts_at) says otherwise.
+    /// A text of more than 4096 bytes is cut, unless [`cut_texts_at`](Recorder::cut_texts_at) says
+    /// otherwise.
     ///
-    /// The recorder holds the function until the channel is dropped, or the recorder with its clones and guards. So a sender that the
-    /// function holds keeps the channel open until then, as each sender that is alive does. A [`WeakSender`](crate::broadcast::WeakSender)
-    /// does not.
+    /// The recorder holds the function until the channel is dropped, or the recorder with its
+    /// clones and guards. So a sender that the function holds keeps the channel open until then, as
+    /// each sender that is alive does. A [`WeakSender`](crate::broadcast::WeakSender) does not.
     ///
-    /// The function runs before the channel is locked, and a panic in it is one of the call that sends. Only for a value that is in a watch
-    /// channel already (the first one, or one that a closure has changed) it runs while that value is locked. There it must neither look at
-    /// the value of that channel nor send on it.
+    /// The function runs before the channel is locked, and a panic in it is one of the call that
+    /// sends. Only for a value that is in a watch channel already (the first one, or one that a
+    /// closure has changed) it runs while that value is locked. There it must neither look at the
+    /// value of that channel nor send on it.
     ///
     /// # Panics
     ///
-    /// As [`name`](Recorder::name). Panics if the function panics for the first value of a watch channel, or waits for the lock of that value
-    /// by a send. The channel then has no function.
+    /// As [`name`](Recorder::name). Panics if the function panics for the first value of a watch
+    /// channel, or waits for the lock of that value by a send. The channel then has no function.
     ///
     /// # Examples
     ///
@@ -142,10 +153,12 @@ impl Recorder {
         self
     }
 
-    /// Cuts the texts of values that have more than this many bytes, from now on. Returns the recorder, for the next call.
+    /// Cuts the texts of values that have more than this many bytes, from now on. Returns the
+    /// recorder, for the next call.
     ///
-    /// Unless this is called, a text has 4096 bytes at most. Of a longer one, the names have its beginning, and how long it is. The texts of all
-    /// values are in the names and in the page, which would not be opened if it was too large.
+    /// Unless this is called, a text has 4096 bytes at most. Of a longer one, the names have its
+    /// beginning, and how long it is. The texts of all values are in the names and in the page,
+    /// which would not be opened if it was too large.
     ///
     /// # Examples
     ///
@@ -165,7 +178,8 @@ impl Recorder {
         self
     }
 
-    /// Returns the channel. Panics if it belongs to another recorder, or to none: its names aren't beside the journal of this one.
+    /// Returns the channel. Panics if it belongs to another recorder, or to none: its names aren't
+    /// beside the journal of this one.
     #[track_caller]
     fn expect_own<'a>(&self, channel: &'a RecordedChannel) -> &'a RecordedChannel {
         let belongs_to = match &channel.recorder.0 {

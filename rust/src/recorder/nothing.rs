@@ -1,14 +1,12 @@
-//! What is said of a recorder under which no channel was created: nothing was recorded, and the likely cause.
+//! What is said of a recorder under which no channel was created: nothing was recorded, and the
+//! likely cause.
 
-use super::Shared;
 use super::run::ITS_CHANNELS;
+use super::{Shared, facade};
 use crate::channel::CallSite;
-use std::path::Path;
+use crate::program::is_patched;
 use std::sync::OnceLock;
 use std::sync::atomic::{AtomicBool, Ordering};
-
-/// The package that stands for tokio, which a checkout has beside this one.
-const FACADE: &str = concat!(env!("CARGO_MANIFEST_DIR"), "/tokio-recorded");
 
 /// Whether a channel of this crate was created in this process.
 static IS_SWAPPED: AtomicBool = AtomicBool::new(false);
@@ -41,20 +39,14 @@ pub(crate) fn likely_cause() -> String {
             at.file(),
             at.line()
         ),
-        (None, true) => "the test created no channel that belongs to its recorder".to_string(),
-        (None, false) => format!(
-            "are tokio's channels swapped? With the patch: cargo test --config 'patch.crates-io.tokio.path=\"{}\"'",
-            facade()
-        ),
-    }
-}
-
-/// Returns the path of the package that stands for tokio, as users of a published package have it if this has none.
-fn facade() -> String {
-    match Path::new(FACADE).exists() {
-        // A backslash is no character of a path in TOML.
-        true => FACADE.replace('\\', "/"),
-        false => "../yovanelum/rust/tokio-recorded".to_string(),
+        (None, is_swapped) if is_swapped || is_patched() => {
+            "the test created no channel that belongs to its recorder".to_string()
+        }
+        (None, _) => {
+            let offer = facade::offer();
+            let offer = offer.unwrap_or_else(|error| format!("A patch isn't written: {error}"));
+            format!("are tokio's channels swapped? {offer}")
+        }
     }
 }
 

@@ -1,4 +1,5 @@
-//! The hook that notes the panics of tests, and writes the files of a test where a panic ends the process.
+//! The hook that notes the panics of tests, and writes the files of a test where a panic ends the
+//! process.
 
 use super::test_run::{self, TestRun};
 use crate::lock::lock;
@@ -8,8 +9,8 @@ use std::panic::{self, PanicHookInfo};
 use std::sync::{Arc, Mutex};
 use std::{mem, thread};
 
-/// The texts of the panics by which the standard library ends the process: after a second one in a drop, and in a function that can't unwind. Their
-/// place is in the standard library.
+/// The texts of the panics by which the standard library ends the process: after a second one in a
+/// drop, and in a function that can't unwind. Their place is in the standard library.
 const LAST_TEXTS: [&str; 2] = [
     "panic in a destructor during cleanup",
     "panic in a function that cannot unwind",
@@ -17,9 +18,10 @@ const LAST_TEXTS: [&str; 2] = [
 
 static IS_INSTALLED: Mutex<bool> = Mutex::new(false);
 
-/// Installs the hook for the process, once. It calls the hook that was there: after it has noted the panic and has written what is to be written, since
-/// that hook may end the process, and before it prints, since that hook prints what the panic says. The harness's hook ends the process, so what is printed
-/// is before it.
+/// Installs the hook for the process, once. It calls the hook that was there: after it has noted
+/// the panic and has written what is to be written, since that hook may end the process, and before
+/// it prints, since that hook prints what the panic says. The harness's hook ends the process, so
+/// what is printed is before it.
 pub(super) fn install() {
     // A thread that panics can't set a hook.
     if thread::panicking() || mem::replace(&mut *lock(&IS_INSTALLED), true) {
@@ -44,13 +46,15 @@ struct Ended {
 
 impl Ended {
     fn print(self) {
-        // What a test prints is shown when it has ended, and that won't be. If standard error is closed, nobody reads it.
+        // What a test prints is shown when it has ended, and that won't be. If standard error is
+        // closed, nobody reads it.
         let _ = io::stderr().write_all(self.lines.as_bytes());
         self.run.end_replay_before_process_ends();
     }
 }
 
-/// Notes a panic for each test that its thread belongs to, and writes its files if the process ends. A panic in here would end the process.
+/// Notes a panic for each test that its thread belongs to, and writes its files if the process
+/// ends. A panic in here would end the process.
 fn note(info: &PanicHookInfo<'_>) -> Vec<Ended> {
     let is_last = is_last(info);
     let runs = TestRun::of_this_thread();

@@ -1,9 +1,10 @@
-//! The line that says how to make the calls of a journal again: a command for the shell, to be run in the folder in which cargo was run.
+//! The line that says how to make the calls of a journal again: a command for the shell, to be run
+//! in the folder in which cargo was run.
 
 use super::replaying::REPLAY;
 use super::test_run::TestRun;
 use crate::explore::FOR;
-use crate::program::{CargoRun, Kind, Program};
+use crate::program::{CargoRun, Program, TargetKind};
 use std::env;
 use std::path::Path;
 
@@ -23,9 +24,10 @@ pub(super) fn of(journal: &Path, test: &TestRun) -> String {
         Some(package) if program.is_run_by_cargo => {
             let run = CargoRun::of(program);
             words.extend(cargo_words(&run, package, &program.target.words()));
-            let behind = of_harness.unwrap_or(match program.target.is_test {
-                true => vec![],
-                false => arguments,
+            let behind = of_harness.unwrap_or(if program.target.is_test {
+                vec![]
+            } else {
+                arguments
             });
             if !behind.is_empty() {
                 words.push("--".to_string());
@@ -66,12 +68,12 @@ fn cargo_words(run: &CargoRun, package: &str, target: &[String]) -> Vec<String> 
 
 /// Returns the words by which a test harness runs this test alone, if that is known.
 fn of_harness(
-    kind: &Kind,
+    kind: &TargetKind,
     is_test: bool,
     test: &TestRun,
     arguments: &[String],
 ) -> Option<Vec<String>> {
-    if !is_test || *kind == Kind::Doc {
+    if !is_test || *kind == TargetKind::Doc {
         return None;
     }
     let exact = arguments.iter().any(|word| word == "--exact");
@@ -92,8 +94,8 @@ fn of_harness(
     Some(words)
 }
 
-/// Whether the name of a thread may be that of a test, which is a path of names. The harness may run a test on the main thread, and a runtime
-/// names its threads otherwise.
+/// Whether the name of a thread may be that of a test, which is a path of names. The harness may
+/// run a test on the main thread, and a runtime names its threads otherwise.
 fn is_name_of_test(name: &str) -> bool {
     let is_first = |c: char| c.is_alphabetic() || c == '_';
     let is_word = |word: &str| {
@@ -110,9 +112,10 @@ fn assigned(name: &str, value: &str) -> String {
 /// Returns a text as one word of a shell.
 fn quoted(text: &str) -> String {
     let is_plain = |c: char| c.is_alphanumeric() || "_-./:=,+@%".contains(c);
-    match !text.is_empty() && text.chars().all(is_plain) {
-        true => text.to_string(),
-        false => format!("'{}'", text.replace('\'', "'\\''")),
+    if !text.is_empty() && text.chars().all(is_plain) {
+        text.to_string()
+    } else {
+        format!("'{}'", text.replace('\'', "'\\''"))
     }
 }
 
@@ -129,7 +132,7 @@ mod tests {
         let test = thread.spawn(move || TestRun::start(&recorder.0, "it ends"));
         let test = test.unwrap().join().unwrap();
         let arguments: Vec<_> = arguments.iter().map(|word| word.to_string()).collect();
-        of_harness(&Kind::Test, true, &test, &arguments).map(|words| words.join(" "))
+        of_harness(&TargetKind::Test, true, &test, &arguments).map(|words| words.join(" "))
     }
 
     #[test]

@@ -5,40 +5,48 @@ use super::test_run::TestRun;
 use super::{Recorder, Shared};
 use crate::channel::CallSite;
 use crate::explore;
-use crate::names::{Names, TestId};
+use crate::names::{TestId, test_beside};
 use crate::program::Program;
 use crate::replay::{self, Replayed, TestEnd};
 use std::path::{Path, PathBuf};
 use std::sync::atomic::{AtomicBool, Ordering};
 use std::sync::{Arc, OnceLock};
-use std::{env, fs, io};
+use std::{env, io};
 
 /// The variable that names the journal which a test replays.
 pub(super) const REPLAY: &str = "YOVANELUM_REPLAY";
 
-/// What the name of a file has more if a replay has written it. So no replay overwrites the journal that it reads.
+/// What the name of a file has more if a replay has written it. So no replay overwrites the journal
+/// that it reads.
 pub(super) const REPLAYED: &str = ".replayed";
 
 impl Recorder {
     /// Creates a recorder under which the calls of a journal are made again in its order.
     ///
-    /// A call on a channel of this recorder waits until all calls that the journal has before it are made: a thread blocks, and a future is
-    /// pending. So a test that failed by the order of its calls fails again. Give each task a name by [`named`](crate::named), also the one
-    /// that runs the test: callers without a name can't be told apart where they use the same sender or receiver.
+    /// A call on a channel of this recorder waits until all calls that the journal has before it
+    /// are made: a thread blocks, and a future is pending. So a test that failed by the order of
+    /// its calls fails again. Give each task a name by [`named`](crate::named), also the one that
+    /// runs the test: callers without a name can't be told apart where they use the same sender or
+    /// receiver.
     ///
-    /// The replay diverges from the journal where another call comes than the recorded one, or none for two seconds, or for as many
-    /// milliseconds as the environment variable `YOVANELUM_REPLAY_TIMEOUT_MS` says. One line on standard error then says where, and from there
-    /// on calls are in no order. [`replayed`](Recorder::replayed) returns how the replay went.
+    /// The replay diverges from the journal where another call comes than the recorded one, or none
+    /// for two seconds, or for as many milliseconds as the environment variable
+    /// `YOVANELUM_REPLAY_TIMEOUT_MS` says. One line on standard error then says where, and from
+    /// there on calls are in no order. [`replayed`](Recorder::replayed) returns how the replay
+    /// went.
     ///
-    /// The names of actors, and who has created each channel, are read from the file `.names` beside the journal. Without it, channels aren't
-    /// found again, and nothing is ordered.
+    /// The names of actors, and who has created each channel, are read from the file `.names`
+    /// beside the journal. Without it, channels aren't found again, and nothing is ordered.
     ///
-    /// The variable `YOVANELUM_REPLAY_STOP=3` stops the replay before call 3 in a native debugger, in the thread that makes it. While a debugger
-    /// holds all threads, the time in which a call has to come stands still. Without a debugger, one line says so.
+    /// The variable `YOVANELUM_REPLAY_STOP=3` stops the replay before call 3 in a native debugger,
+    /// in the thread that makes it. While a debugger holds all threads, the time in which a call
+    /// has to come stands still. Without a debugger, one line says so.
     ///
-    /// Timers, random numbers, other channels and all else that the journal does not have are not brought back.
+    /// Timers, random numbers, other channels and all else that the journal does not have are not
+    /// brought back.
     ///
-    /// [`for_test`](Recorder::for_test) replays the journal that the environment variable `YOVANELUM_REPLAY` names, without an edit of the test.
+    /// [`for_test`](Recorder::for_test) replays the journal that the environment variable
+    /// `YOVANELUM_REPLAY` names, without an edit of the test.
     ///
     /// # Errors
     ///
@@ -46,7 +54,8 @@ impl Recorder {
     ///
     /// # Examples
     ///
-    /// Two threads send, and which of them sends first is a matter of luck. In the replay it is the same one:
+    /// Two threads send, and which of them sends first is a matter of luck. In the replay it is the
+    /// same one:
     ///
     /// ```
     /// use std::{env, fs, process, thread};
@@ -82,7 +91,8 @@ impl Recorder {
         Ok(Recorder::with(Arc::new(shared)))
     }
 
-    /// Returns how the replay of a journal has gone so far, or `None` if this recorder replays none.
+    /// Returns how the replay of a journal has gone so far, or `None` if this recorder replays
+    /// none.
     ///
     /// # Examples
     ///
@@ -97,13 +107,14 @@ impl Recorder {
         self.0.gate.as_ref().map(|gate| gate.outcome())
     }
 
-    /// Creates the recorder of the test with this name. It replays the journal that the variable names, if that is one of this test.
+    /// Creates the recorder of the test with this name. It replays the journal that the variable
+    /// names, if that is one of this test.
     ///
     /// # Panics
     ///
     /// Panics if the journal can't be read.
     pub(super) fn of_test(name: &str) -> Recorder {
-        let Some(named) = Named::by_variable() else {
+        let Some(named) = NamedJournal::by_variable() else {
             return Recorder::new();
         };
         let path = &named.path;
@@ -115,13 +126,17 @@ impl Recorder {
             return Recorder::new();
         }
         // A debugger stops at a call of the journal, which the schedule beside it doesn't know.
-        let followed = match replay::is_stop_wanted() {
-            true => Ok(false),
-            false => explore::follow(path),
+        let followed = if replay::is_stop_wanted() {
+            Ok(false)
+        } else {
+            explore::follow(path)
         };
-        let recorder = followed.and_then(|is_followed| match is_followed {
-            true => Ok(Recorder::new()),
-            false => Recorder::replay(path),
+        let recorder = followed.and_then(|is_followed| {
+            if is_followed {
+                Ok(Recorder::new())
+            } else {
+                Recorder::replay(path)
+            }
         });
         recorder.unwrap_or_else(|error| match error.kind() {
             io::ErrorKind::InvalidInput => panic!("yovanelum: {error}"),
@@ -129,9 +144,12 @@ impl Recorder {
         })
     }
 
-    /// Says that the test with this name isn't replayed, if the variable names its journal and this recorder replays none.
+    /// Says that the test with this name isn't replayed, if the variable names its journal and this
+    /// recorder replays none.
     pub(super) fn say_if_not_replayed(&self, name: &str) {
-        if self.0.gate.is_none() && Named::by_variable().is_some_and(|named| named.is_of(name)) {
+        if self.0.gate.is_none()
+            && NamedJournal::by_variable().is_some_and(|named| named.is_of(name))
+        {
             replay::say(&format!(
                 "{name} isn't replayed, though {REPLAY} names its journal: recorders of `Recorder::for_test` and `Recorder::replay` do"
             ));
@@ -144,9 +162,10 @@ impl Shared {
     pub(super) fn end_replay(&self, test: &TestRun, has_failed: bool) {
         if let Some(gate) = &self.gate {
             let panics = test.panics();
-            gate.conclude(match has_failed {
-                true => TestEnd::Failed(&panics),
-                false => TestEnd::Passed,
+            gate.conclude(if has_failed {
+                TestEnd::Failed(&panics)
+            } else {
+                TestEnd::Passed
             });
         }
         let is_replay = self.gate.is_some() || explore::followed().is_some();
@@ -156,11 +175,11 @@ impl Shared {
     }
 }
 
-/// Says that a channel that is created here in the source isn't replayed, if the variable names a journal. The crate may be part of a program in
-/// which no recorder follows it.
+/// Says that a channel that is created here in the source isn't replayed, if the variable names a
+/// journal. The crate may be part of a program in which no recorder follows it.
 pub(crate) fn say_that_none_replays(made_at: CallSite) {
     static IS_SAID: AtomicBool = AtomicBool::new(false);
-    if IS_SAID.load(Ordering::Relaxed) || Named::by_variable().is_none() {
+    if IS_SAID.load(Ordering::Relaxed) || NamedJournal::by_variable().is_none() {
         return;
     }
     if !IS_SAID.swap(true, Ordering::Relaxed) {
@@ -172,20 +191,19 @@ pub(crate) fn say_that_none_replays(made_at: CallSite) {
 }
 
 /// The journal that the variable names, and the test that it is of if the names beside it say so.
-struct Named {
+struct NamedJournal {
     path: PathBuf,
     test: Option<TestId>,
 }
 
-impl Named {
+impl NamedJournal {
     /// Returns the journal, if the variable is set. It is looked for once.
-    fn by_variable() -> Option<&'static Named> {
-        static NAMED: OnceLock<Option<Named>> = OnceLock::new();
+    fn by_variable() -> Option<&'static NamedJournal> {
+        static NAMED: OnceLock<Option<NamedJournal>> = OnceLock::new();
         let find = || {
             let path = found(PathBuf::from(env::var_os(REPLAY)?));
-            let names = fs::read_to_string(path.with_extension("names")).ok();
-            let test = names.and_then(|names| Names::read(&names).ok()?.ending.test);
-            Some(Named { path, test })
+            let test = test_beside(&path);
+            Some(NamedJournal { path, test })
         };
         NAMED.get_or_init(find).as_ref()
     }
@@ -207,7 +225,8 @@ impl Named {
     }
 }
 
-/// Whether a journal with this path, which has no names that say so, is one of the test with this name, or of a replay of it.
+/// Whether a journal with this path, which has no names that say so, is one of the test with this
+/// name, or of a replay of it.
 fn is_journal_of(path: &Path, name: &str) -> bool {
     let stem = path.file_stem().unwrap_or_default().to_string_lossy();
     // Before there were folders, a `/` was written as `_`.
@@ -218,13 +237,15 @@ fn is_journal_of(path: &Path, name: &str) -> bool {
     rests.any(|rest| is_end_of_file_name(&rest.replace(REPLAYED, "")))
 }
 
-/// Whether this is what follows the name of a test in a file's: nothing, or the number of one of several processes.
+/// Whether this is what follows the name of a test in a file's: nothing, or the number of one of
+/// several processes.
 fn is_end_of_file_name(rest: &str) -> bool {
     let number = rest.strip_prefix('~').map(str::parse::<usize>);
     rest.is_empty() || matches!(number, Some(Ok(_)))
 }
 
-/// Returns the path of a file. A relative one may be meant from the folder of the workspace, while a test runs in that of its package.
+/// Returns the path of a file. A relative one may be meant from the folder of the workspace, while
+/// a test runs in that of its package.
 fn found(path: PathBuf) -> PathBuf {
     let here = env::current_dir().unwrap_or_default();
     let above = here.ancestors().map(|folder| folder.join(&path));
@@ -253,7 +274,7 @@ mod tests {
     #[test]
     #[cfg_attr(target_family = "wasm", ignore = "WebAssembly names no program")]
     fn a_journal_is_of_the_test_that_its_names_say() {
-        let named = |package: &str, target: &str, name: &str| Named {
+        let named = |package: &str, target: &str, name: &str| NamedJournal {
             path: PathBuf::from("x/downloaded.journal"),
             test: Some(TestId {
                 package: package.to_string(),

@@ -26,8 +26,9 @@ pub(super) const ITS_CHANNELS: &str = "those that are created on a thread that h
 /// Why a recorder that is off has no journal.
 const IS_OFF: &str = "this recorder is off, so it records nothing. `Recorder::new` and `Recorder::for_test` create one that records";
 
-/// The channels of a run, by their numbers, and what they share. Others that join the run later are no part of it.
-pub(crate) struct Run<'a> {
+/// The channels of a run, by their numbers, and what they share. Others that join the run later are
+/// no part of it.
+pub(crate) struct RunSoFar<'a> {
     shared: &'a Shared,
     channels: Vec<Arc<Mutex<ChannelState>>>,
     // How many channels are left out, since they are locked.
@@ -35,7 +36,8 @@ pub(crate) struct Run<'a> {
     _reading: Reading<'a>,
 }
 
-/// While this is alive, numbers of actors aren't given away: a channel of the run may leave its recorder, and its calls have names all the same.
+/// While this is alive, numbers of actors aren't given away: a channel of the run may leave its
+/// recorder, and its calls have names all the same.
 struct Reading<'a>(&'a AtomicUsize);
 
 impl<'a> Reading<'a> {
@@ -53,10 +55,10 @@ impl Drop for Reading<'_> {
 
 impl Shared {
     /// Returns the channels of the run so far.
-    pub(crate) fn run(&self) -> Run<'_> {
+    pub(crate) fn run(&self) -> RunSoFar<'_> {
         // Before the channels are read.
         let reading = Reading::new(&self.readers);
-        Run {
+        RunSoFar {
             shared: self,
             channels: lock(&self.channels).clone(),
             locked: 0,
@@ -64,15 +66,15 @@ impl Shared {
         }
     }
 
-    /// Returns the run without the channels that this thread may have locked: those that aren't free for this time. Returns `None` if it can't be
-    /// read at all.
-    pub(super) fn readable_run(&self, patience: Duration) -> Option<Run<'_>> {
+    /// Returns the run without the channels that this thread may have locked: those that aren't
+    /// free for this time. Returns `None` if it can't be read at all.
+    pub(super) fn readable_run(&self, patience: Duration) -> Option<RunSoFar<'_>> {
         let reading = Reading::new(&self.readers);
         let mut channels = try_lock_for(&self.channels, patience)?.clone();
         drop(try_lock_for(&self.actors, patience)?);
         let all = channels.len();
         channels.retain(|channel| try_lock_for(channel, patience).is_some());
-        Some(Run {
+        Some(RunSoFar {
             shared: self,
             locked: (all - channels.len()) as u64,
             channels,
@@ -81,7 +83,7 @@ impl Shared {
     }
 }
 
-impl Run<'_> {
+impl RunSoFar<'_> {
     /// Returns how many calls are recorded.
     pub(super) fn len(&self) -> u64 {
         let entries = self
@@ -93,7 +95,8 @@ impl Run<'_> {
 
     /// Returns what the channels have recorded up to now.
     fn recorded(&self) -> io::Result<run::Run> {
-        // Each call gets its number under its channel's lock. So once `cut` has locked a channel, its calls before the cut are recorded.
+        // Each call gets its number under its channel's lock. So once `cut` has locked a channel,
+        // its calls before the cut are recorded.
         self.cut(self.shared.last()).map_err(|fault| {
             io::Error::other(match fault {
                 CutFault::NoChannels if self.shared.is_off => IS_OFF.to_string(),
@@ -149,9 +152,10 @@ impl Run<'_> {
         for (number, channel) in (0..).zip(&self.channels) {
             let state = lock(channel);
             // Under the channel's lock: an actor has its name before it waits.
-            let actors = match state.waits.is_empty() {
-                true => continue,
-                false => lock(&self.shared.actors).names(),
+            let actors = if state.waits.is_empty() {
+                continue;
+            } else {
+                lock(&self.shared.actors).names()
             };
             let name = |actor: Actor| actors[actor.number() as usize].clone();
             let waits = state.waits.items();
@@ -161,7 +165,8 @@ impl Run<'_> {
         waiting
     }
 
-    /// Returns the recorded run, its journal text, and the names that belong to it. They are also about the test, if it is one of a test.
+    /// Returns the recorded run, its journal text, and the names that belong to it. They are also
+    /// about the test, if it is one of a test.
     pub(super) fn saved(&self, test: Option<&TestRun>) -> io::Result<Saved> {
         let run = self.recorded()?;
         let journal = text_of(&run)?;
@@ -278,7 +283,7 @@ fn add_channel(names: &mut Names, indexes: &mut Indexes, number: u64, channel: &
     let waits = waits.map(|wait| WaitingCall {
         actor: wait.actor.number().into(),
         channel: number,
-        handle: wait.handle.into(),
+        handle: channel.core.nth(wait.handle),
         call: wait.method.name.to_string(),
         since: wait.since,
         location: wait.method.called_at.map(|location| indexes.of(location)),

@@ -7,16 +7,19 @@ use std::pin::Pin;
 use std::task::{Context, Poll};
 
 impl Recorder {
-    /// Wraps a future, so that the channels which it creates belong to this recorder, whichever thread polls it.
+    /// Wraps a future, so that the channels which it creates belong to this recorder, whichever
+    /// thread polls it.
     ///
-    /// Returns a future with the same output, which may be sent if the wrapped one may. It enters the recorder while it is polled and while
-    /// the wrapped future is dropped, so it is for futures what [`enter`](Recorder::enter) is for threads. What the future spawns is not
-    /// part of it: wrap that too, or let the threads of its runtime enter the recorder by
+    /// Returns a future with the same output, which may be sent if the wrapped one may. It enters
+    /// the recorder while it is polled and while the wrapped future is dropped, so it is for
+    /// futures what [`enter`](Recorder::enter) is for threads. What the future spawns is not part
+    /// of it: wrap that too, or let the threads of its runtime enter the recorder by
     /// [`on_thread_start`](Recorder::on_thread_start).
     ///
     /// # Examples
     ///
-    /// Two tests that run side by side on the threads of one runtime. Each has a journal of its own:
+    /// Two tests that run side by side on the threads of one runtime. Each has a journal of its
+    /// own:
     ///
     /// ```
     /// use std::thread;

@@ -25,17 +25,17 @@ const NEVER: u64 = u64::MAX;
 
 static NEXT_ID: AtomicU64 = AtomicU64::new(1);
 
-/// Counts calls. Each gets a number under its channel's lock, and passes it to the core as its clock. Every call of every thread writes
-/// it, so it shares no cache line with other data.
+/// Counts calls. Each gets a number under its channel's lock, and passes it to the core as its
+/// clock. Every call of every thread writes it, so it shares no cache line with other data.
 #[repr(align(128))]
-struct Clock(AtomicU64);
+struct CallCounter(AtomicU64);
 
 /// What a recorder's channels share.
 pub(crate) struct Shared {
     pub(crate) id: u64,
     // Whether channels that are created under this recorder aren't recorded.
     pub(super) is_off: bool,
-    clock: Clock,
+    clock: CallCounter,
     // Changes once, while the first channel's lock is held.
     has_several: AtomicBool,
     // The last stamp that is recorded.
@@ -49,15 +49,13 @@ pub(crate) struct Shared {
     // How many runs of this recorder are being read.
     pub(super) readers: AtomicUsize,
     makers: Mutex<Makers>,
-    // Held by the handles of the recorder alone. A channel, which holds this, may be held by a function there.
+    // Held by the handles of the recorder alone. A channel, which holds this, may be held by a
+    // function there.
     texts: Mutex<Weak<Texts>>,
 }
 
 fn find_after(is_changed: bool, find: impl Fn() -> Option<Actor>) -> Option<Actor> {
-    match is_changed {
-        true => find(),
-        false => None,
-    }
+    if is_changed { find() } else { None }
 }
 
 /// How many channels were left out, by the reason.
@@ -82,7 +80,7 @@ impl Shared {
         Shared {
             id: NEXT_ID.fetch_add(1, Ordering::Relaxed),
             is_off,
-            clock: Clock(AtomicU64::new(0)),
+            clock: CallCounter(AtomicU64::new(0)),
             has_several: AtomicBool::new(false),
             end: AtomicU64::new(NEVER),
             is_quiet: AtomicBool::new(false),
@@ -165,14 +163,14 @@ impl Shared {
     }
 
     /// Returns what the recorder's handles hold, if one is alive.
-    fn held(&self) -> Option<Held> {
+    fn held(&self) -> Option<HeldTexts> {
         lock(&self.texts).upgrade()
     }
 
     /// Returns the greatest stamp that a recorded call can have so far.
     #[inline]
     pub(crate) fn last(&self) -> u64 {
-        let Clock(clock) = &self.clock;
+        let CallCounter(clock) = &self.clock;
         clock
             .load(Ordering::SeqCst)
             .min(self.end.load(Ordering::SeqCst))
@@ -181,7 +179,7 @@ impl Shared {
     /// Returns the clock's number for a call whose channel is locked.
     #[inline]
     pub(crate) fn tick(&self) -> u64 {
-        let Clock(clock) = &self.clock;
+        let CallCounter(clock) = &self.clock;
         if self.has_several.load(Ordering::Relaxed) {
             return clock.fetch_add(1, Ordering::SeqCst);
         }
@@ -221,9 +219,11 @@ impl Shared {
         actor
     }
 
-    /// Gives away the numbers of actors that are gone and that no stored call has. Returns `false` if it isn't looked for any. In a replay numbers
-    /// are those of the journal, and in a run that is explored those of the runs before.
-    // Each lock is released before the next one. Whoever is gone makes no further call, so what is read of the channels stays so.
+    /// Gives away the numbers of actors that are gone and that no stored call has. Returns `false`
+    /// if it isn't looked for any. In a replay numbers are those of the journal, and in a run that
+    /// is explored those of the runs before.
+    // Each lock is released before the next one. Whoever is gone makes no further call, so what is
+    // read of the channels stays so.
     fn give_numbers_away(&self) -> bool {
         let left = self.left_out.channels_that_left.load(Ordering::Relaxed);
         let is_fixed = self.gate.is_some() || explore::current().is_some();
@@ -285,8 +285,8 @@ impl Shared {
         );
     }
 
-    /// Adds a channel to the run. If the run is full, the oldest dead channel leaves it. Returns `false` if there is none, and the channel
-    /// isn't added.
+    /// Adds a channel to the run. If the run is full, the oldest dead channel leaves it. Returns
+    /// `false` if there is none, and the channel isn't added.
     pub(crate) fn add(&self, channel: &Arc<Mutex<ChannelState>>) -> bool {
         let mut channels = lock(&self.channels);
         if let [first] = &channels[..] {
@@ -319,7 +319,7 @@ impl Shared {
 }
 
 /// What the handles of a recorder hold. If it is dropped, that may run user code.
-pub(crate) type Held = Arc<Texts>;
+pub(crate) type HeldTexts = Arc<Texts>;
 
 /// By whom a channel is recorded: the recorder that it belongs to, or none.
 pub(crate) struct RecordedBy(pub(crate) Option<Arc<Shared>>);
@@ -339,11 +339,12 @@ impl RecordedBy {
     }
 
     /// Returns what the handles of the recorder hold, if there is a recorder and one is alive.
-    pub(crate) fn held(&self) -> Option<Held> {
+    pub(crate) fn held(&self) -> Option<HeldTexts> {
         self.0.as_ref()?.held()
     }
 
-    /// Returns the actor of a call that is made here in the source. What isn't recorded has the first one.
+    /// Returns the actor of a call that is made here in the source. What isn't recorded has the
+    /// first one.
     #[inline]
     pub(crate) fn actor(&self, called_at: CallSite) -> Actor {
         match &self.0 {

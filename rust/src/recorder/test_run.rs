@@ -1,4 +1,5 @@
-//! A test whose recorder is alive, and what is noted of its end: the panics of its threads and tasks, and the `Err` that it returns.
+//! A test whose recorder is alive, and what is noted of its end: the panics of its threads and
+//! tasks, and the `Err` that it returns.
 
 use super::Shared;
 use super::current::is_entered;
@@ -19,7 +20,8 @@ const MOST_PANICS: usize = 16;
 /// How many bytes of a panic's text are noted.
 const MOST_BYTES: usize = 4096;
 
-/// How long a panic waits for a lock that another thread may hold. If the thread itself holds it, that thread would wait forever.
+/// How long a panic waits for a lock that another thread may hold. If the thread itself holds it,
+/// that thread would wait forever.
 pub(super) const PATIENCE: Duration = Duration::from_millis(500);
 
 /// The tests whose guards are alive.
@@ -68,7 +70,8 @@ impl TestRun {
         run
     }
 
-    /// Returns the tests that this thread or its task belongs to: their recorder is entered here, or the last recorded call here was one of it.
+    /// Returns the tests that this thread or its task belongs to: their recorder is entered here,
+    /// or the last recorded call here was one of it.
     pub(super) fn of_this_thread() -> Vec<Arc<TestRun>> {
         let alive = try_lock_for(&ALIVE, PATIENCE);
         let alive: Vec<_> = alive.map_or_else(Vec::new, |alive| alive.clone());

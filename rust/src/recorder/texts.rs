@@ -1,7 +1,7 @@
 //! The functions for the texts of values, and the closures that are called with events.
 //!
-//! A recorder holds them, and its channels know them weakly. A function may hold a sender or a receiver. If the channel held it, the channel
-//! would hold itself, and stay open forever.
+//! A recorder holds them, and its channels know them weakly. A function may hold a sender or a
+//! receiver. If the channel held it, the channel would hold itself, and stay open forever.
 
 use crate::cut::start_of;
 use crate::events::Hooks;
@@ -15,11 +15,13 @@ use std::sync::{Arc, Mutex, Weak};
 /// How many bytes a text has at most, unless the recorder is told otherwise.
 const MOST_BYTES: usize = 4096;
 
-/// The functions that a recorder holds, until its last handle is dropped. Then its replay ends too, if it has one.
+/// The functions that a recorder holds, until its last handle is dropped. Then its replay ends too,
+/// if it has one.
 pub(crate) struct Texts {
     functions: Mutex<Functions>,
     hooks: Hooks,
-    // How many bytes a text has at most. Each function has it too, so that it needs no handle of the recorder.
+    // How many bytes a text has at most. Each function has it too, so that it needs no handle of
+    // the recorder.
     most_bytes: Arc<AtomicUsize>,
     replay: Option<Arc<Gate>>,
 }
@@ -30,7 +32,8 @@ struct Functions {
     by_number: HashMap<u64, Arc<dyn Any + Send + Sync>>,
 }
 
-/// What a channel knows of the function for the texts of its values. If this is dropped, the recorder drops the function.
+/// What a channel knows of the function for the texts of its values. If this is dropped, the
+/// recorder drops the function.
 pub struct TextOf<T> {
     function: Weak<dyn Fn(&T) -> String + Send + Sync>,
     held_by: Weak<Texts>,
@@ -90,9 +93,10 @@ impl<T> TextOf<T> {
     pub(crate) fn text(&self, value: &T) -> Option<String> {
         let text = self.function.upgrade().map(|function| function(value))?;
         let most = self.most_bytes.load(Ordering::Relaxed);
-        Some(match text.len() > most {
-            true => cut(&text, most),
-            false => text,
+        Some(if text.len() > most {
+            cut(&text, most)
+        } else {
+            text
         })
     }
 }

@@ -3,18 +3,19 @@
 use super::Recorder;
 use crate::backend::Actor;
 use crate::channel::ChannelState;
-use crate::handle::Kind;
 use crate::wait::{Awaited, Wait};
 use std::fmt;
 use std::panic::Location;
 
 impl Recorder {
-    /// Returns the calls on this recorder's channels that wait now, in the order in which they began to.
+    /// Returns the calls on this recorder's channels that wait now, in the order in which they
+    /// began to.
     ///
-    /// These are the calls of `recv`, `blocking_recv`, `changed`, `wait_for` and `closed` that were polled and have not ended. A future that
-    /// was dropped no longer waits, and one that was woken does until it is polled again. A call on a watch that blocks its thread is among
-    /// them, such as a `send` while a [`Ref`](crate::watch::Ref) is alive. This can be called at any time, also while other threads use the
-    /// channels.
+    /// These are the calls of `recv`, `blocking_recv`, `changed`, `wait_for` and `closed` that were
+    /// polled and have not ended. A future that was dropped no longer waits, and one that was woken
+    /// does until it is polled again. A call on a watch that blocks its thread is among them, such
+    /// as a `send` while a [`Ref`](crate::watch::Ref) is alive. This can be called at any time,
+    /// also while other threads use the channels.
     ///
     /// # Examples
     ///
@@ -90,23 +91,17 @@ impl Waiting {
         channel: &ChannelState,
         name: impl Fn(Actor) -> String,
     ) -> Waiting {
-        let kind = match wait.kind {
-            Kind::Receiver => "receiver",
-            Kind::Sender => "sender",
-            Kind::WeakSender => "weak sender",
-        };
         let (waits_for_lock, look) = match wait.awaited {
             Awaited::Value | Awaited::NoReceiver => (false, None),
             Awaited::Lock(look) => (true, look),
         };
-        let handle = channel.handle_names.get(&wait.handle.into()).cloned();
         Waiting {
             actor: name(wait.actor),
             channel: channel
                 .name
                 .clone()
                 .unwrap_or_else(|| format!("channel {number}")),
-            handle: handle.unwrap_or_else(|| format!("{kind} {}", wait.handle)),
+            handle: channel.handle_name(wait.kind, wait.handle),
             call: wait.method.name,
             since: wait.since,
             location: wait.method.called_at,
@@ -120,12 +115,14 @@ impl Waiting {
         &self.actor
     }
 
-    /// Returns the name of the channel, or `channel 0` with its number in the journal if it has none.
+    /// Returns the name of the channel, or `channel 0` with its number in the journal if it has
+    /// none.
     pub fn channel(&self) -> &str {
         &self.channel
     }
 
-    /// Returns the name of the sender or receiver, or `receiver 1` with its number in the journal if it has none.
+    /// Returns the name of the sender or receiver, or `receiver 1` with its number in the journal
+    /// if it has none.
     pub fn handle(&self) -> &str {
         &self.handle
     }
@@ -135,12 +132,14 @@ impl Waiting {
         self.call
     }
 
-    /// Returns the recorder's clock when the call began to wait: the entries with stamps up to this were recorded before.
+    /// Returns the recorder's clock when the call began to wait: the entries with stamps up to this
+    /// were recorded before.
     pub fn since(&self) -> u64 {
         self.since
     }
 
-    /// Returns who took the look for which the call waits, and where, if it waits for the lock of a watch's value and they are known.
+    /// Returns who took the look for which the call waits, and where, if it waits for the lock of a
+    /// watch's value and they are known.
     ///
     /// # Examples
     ///

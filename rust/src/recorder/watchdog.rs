@@ -15,7 +15,8 @@ use std::time::Duration;
 /// How many calls that wait are listed. The others are counted.
 const LISTED: usize = 10;
 
-/// A thread that waits until the test has ended, or some time has passed. It ends with the test, which never waits for it.
+/// A thread that waits until the test has ended, or some time has passed. It ends with the test,
+/// which never waits for it.
 #[derive(Debug)]
 pub(super) struct Watchdog {
     // Nothing is sent. The drop of this says that the test has ended.
@@ -72,7 +73,8 @@ impl TestRun {
         }
     }
 
-    /// Writes the files of this test, and then to standard error. `eprintln` would keep the lines of a test until its end, which may never come.
+    /// Writes the files of this test, and then to standard error. `eprintln` would keep the lines
+    /// of a test until its end, which may never come.
     fn report_waiting(&self, recorder: &Shared, why: &str, is_replayed: bool) {
         let path = self.journal_path(recorder);
         let run = recorder.run();
@@ -121,13 +123,16 @@ impl TestRun {
 }
 
 impl ForTest {
-    /// Reports which calls wait if the test has not ended after this time, and lets it go on. Returns the recorder of the test.
+    /// Reports which calls wait if the test has not ended after this time, and lets it go on.
+    /// Returns the recorder of the test.
     ///
-    /// The journal, the names and the page are then written as if the test had failed. Lines on standard error say where they are, and which calls on
-    /// the recorder's channels wait: who, in which method, and where. They appear at once, also where the output of tests is captured. So a
-    /// test that waits forever has said why before a runner ends it.
+    /// The journal, the names and the page are then written as if the test had failed. Lines on
+    /// standard error say where they are, and which calls on the recorder's channels wait: who, in
+    /// which method, and where. They appear at once, also where the output of tests is captured. So
+    /// a test that waits forever has said why before a runner ends it.
     ///
-    /// A test that ends before is not affected: nothing is written, and it waits for no thread. A second call replaces the time.
+    /// A test that ends before is not affected: nothing is written, and it waits for no thread. A
+    /// second call replaces the time.
     ///
     /// # Examples
     ///
@@ -157,7 +162,8 @@ impl ForTest {
 }
 
 impl SaveOnPanic {
-    /// Reports which calls wait if this is not dropped after this time, as [`ForTest::watchdog`] does for a test.
+    /// Reports which calls wait if this is not dropped after this time, as [`ForTest::watchdog`]
+    /// does for a test.
     ///
     /// # Examples
     ///

@@ -1,9 +1,11 @@
-//! The clock of a replay. It stands still while the whole program does, as where a debugger holds all threads.
+//! The clock of a replay. It stands still while the whole program does, as where a debugger holds
+//! all threads.
 
 use super::gate::BETWEEN_LOOKS;
 use std::time::{Duration, Instant};
 
-/// The program stood still if nobody has looked at the clock for so long. The helper looks far more often while anyone waits.
+/// The program stood still if nobody has looked at the clock for so long. The helper looks far more
+/// often while anyone waits.
 const PAUSE: Duration = BETWEEN_LOOKS.checked_mul(4).unwrap();
 
 /// What a pause counts. It isn't nothing, so that waits end also where each look comes late.
@@ -46,10 +48,7 @@ impl Clock {
     fn at(&mut self, now: Instant) -> Time {
         let passed = now.saturating_duration_since(self.looked_at);
         self.looked_at = now;
-        self.ran += match passed < PAUSE {
-            true => passed,
-            false => COUNTED,
-        };
+        self.ran += if passed < PAUSE { passed } else { COUNTED };
         Time(self.ran)
     }
 }

@@ -3,7 +3,7 @@
 use super::Coming;
 use super::outcome::{call_of, push_actor, push_channel, step_in_words};
 use super::plan::Plan;
-use super::state::State;
+use super::state::GateState;
 use crate::backend::Actor;
 use crate::channel::CallSite;
 use std::fmt::Write as _;
@@ -21,7 +21,12 @@ pub(super) enum Came {
 }
 
 /// Returns where a replay diverges, and why. What came is of this call.
-pub(super) fn in_words(plan: &Plan, state: &State, came: Came, coming: Option<&Coming>) -> String {
+pub(super) fn in_words(
+    plan: &Plan,
+    state: &GateState,
+    came: Came,
+    coming: Option<&Coming>,
+) -> String {
     let mut words = format!("diverges at {}: expected ", call_of(plan, state.position));
     if let Some(step) = plan.steps.get(state.position) {
         words.push_str(&step_in_words(plan, step));
@@ -40,8 +45,9 @@ pub(super) fn in_words(plan: &Plan, state: &State, came: Came, coming: Option<&C
     words + &of_questions(plan, state, coming)
 }
 
-/// Returns a call that has come. One of a caller whose name the journal doesn't have is told by its place, or else by that of the caller's last call.
-fn call_in_words(plan: &Plan, state: &State, coming: &Coming) -> String {
+/// Returns a call that has come. One of a caller whose name the journal doesn't have is told by its
+/// place, or else by that of the caller's last call.
+fn call_in_words(plan: &Plan, state: &GateState, coming: &Coming) -> String {
     let mut words = format!("`{} {}` on ", coming.word.text(), coming.handle);
     push_channel(&mut words, plan, coming.channel);
     push_actor(&mut words, plan, coming.actor);
@@ -63,8 +69,9 @@ fn push_place(words: &mut String, before: &str, at: CallSite) {
     }
 }
 
-/// Says what questions without an entry have to do with it: what they return is in no order, and the caller may have gone by it.
-fn of_questions(plan: &Plan, state: &State, coming: Option<&Coming>) -> String {
+/// Says what questions without an entry have to do with it: what they return is in no order, and
+/// the caller may have gone by it.
+fn of_questions(plan: &Plan, state: &GateState, coming: Option<&Coming>) -> String {
     let expected = plan.steps.get(state.position);
     let expected = expected.map(|step| Actor::of(step.call.actor as usize));
     let expected = expected.filter(|actor| plan.is_named(*actor));
@@ -78,8 +85,9 @@ fn of_questions(plan: &Plan, state: &State, coming: Option<&Coming>) -> String {
         );
     }
     let is_question = coming.is_some_and(|coming| coming.word.is_question());
-    match is_question && plan.names.matching.is_quiet {
-        true => "; the journal lacks the questions after `quiet_questions()`".to_string(),
-        false => String::new(),
+    if is_question && plan.names.matching.is_quiet {
+        "; the journal lacks the questions after `quiet_questions()`".to_string()
+    } else {
+        String::new()
     }
 }

@@ -1,11 +1,13 @@
-//! The gate, before which each call waits for its turn.
+//! The gate, before which each call waits for its turn: how it opens and ends, and how threads
+//! wait.
 
-use super::clock::Time;
+mod futures;
+
 use super::divergence::{self, Came};
 use super::outcome::{self, Replayed, TestEnd};
 use super::permit::Permit;
 use super::plan::Plan;
-use super::state::{Held, Standing, State, Ticket, Waiter, Wakes};
+use super::state::{GateState, Standing, Wakes};
 use super::stop;
 use super::{Coming, Identity};
 use crate::backend::Actor;
@@ -17,7 +19,6 @@ use std::mem;
 use std::path::{Path, PathBuf};
 use std::sync::atomic::{AtomicBool, AtomicUsize, Ordering};
 use std::sync::{Condvar, Mutex, MutexGuard, PoisonError};
-use std::task::{Context, Poll};
 use std::thread;
 use std::time::Duration;
 
@@ -27,20 +28,19 @@ pub(super) const SHORT: Duration = Duration::from_millis(250);
 /// How long futures wait before they are looked after again.
 pub(super) const BETWEEN_LOOKS: Duration = SHORT.checked_div(16).unwrap();
 
-/// How much longer than threads futures wait: they keep no thread away from the others.
-const PATIENCE_OF_FUTURES: u32 = 5;
-
-/// The gate of a replay. A call passes it before it acquires a lock, and gets a permit when its turn comes.
+/// The gate of a replay. A call passes it before it acquires a lock, and gets a permit when its
+/// turn comes.
 ///
-/// Nothing panics in it, and nobody waits in it forever: when no call was made for a while, or one comes that isn't in the journal's order, the
-/// replay diverges from the journal, and all calls pass.
+/// Nothing panics in it, and nobody waits in it forever: when no call was made for a while, or one
+/// comes that isn't in the journal's order, the replay diverges from the journal, and all calls
+/// pass.
 pub(crate) struct Gate {
     /// The journal.
     path: PathBuf,
     /// The number of the recorder.
     pub(super) recorder: u64,
     pub(super) plan: Plan,
-    pub(super) state: Mutex<State>,
+    pub(super) state: Mutex<GateState>,
     is_over: AtomicBool,
     /// How many callers are about to lock the state.
     entering: AtomicUsize,
@@ -57,7 +57,7 @@ pub(crate) struct Gate {
 
 /// How a thread waits.
 #[derive(Clone, Copy, PartialEq, Eq)]
-enum Wait {
+enum TurnFor {
     /// For the turn of its call.
     Call,
     /// For the turn of what a closure that changes a watch does.
@@ -65,9 +65,10 @@ enum Wait {
 }
 
 impl Gate {
-    /// Creates the gate of a plan, of the journal at this path, for the recorder with this number. Threads wait this long without progress.
+    /// Creates the gate of a plan, of the journal at this path, for the recorder with this number.
+    /// Threads wait this long without progress.
     pub(super) fn new(path: &Path, recorder: u64, plan: Plan, patience: Duration) -> Gate {
-        let state = State::new(&plan);
+        let state = GateState::new(&plan);
         let condvars = |count: usize| (0..count).map(|_| Condvar::new()).collect();
         Gate {
             path: path.to_path_buf(),
@@ -99,7 +100,7 @@ impl Gate {
     }
 
     /// Locks the state for a caller. While one waits for the lock, its thread would seem to sleep.
-    fn enter(&self) -> MutexGuard<'_, State> {
+    fn enter(&self) -> MutexGuard<'_, GateState> {
         self.entering.fetch_add(1, Ordering::SeqCst);
         let state = lock(&self.state);
         self.entering.fetch_sub(1, Ordering::SeqCst);
@@ -129,28 +130,31 @@ impl Gate {
     /// Blocks until the turn of this call.
     #[inline]
     pub(crate) fn pass(&self, coming: Coming) -> Permit<'_> {
-        match self.is_over() {
-            true => Permit::free(),
-            false => self.wait(coming, Wait::Call),
+        if self.is_over() {
+            Permit::free()
+        } else {
+            self.wait(coming, TurnFor::Call)
         }
     }
 
-    /// Blocks until the turn of what a closure that changes a watch does: of the first call that it makes, or of the change.
+    /// Blocks until the turn of what a closure that changes a watch does: of the first call that it
+    /// makes, or of the change.
     pub(crate) fn pass_to_modify(&self, coming: Coming) {
         if !self.is_over() {
-            drop(self.wait(coming, Wait::Modify));
+            drop(self.wait(coming, TurnFor::Modify));
         }
     }
 
-    fn wait(&self, coming: Coming, wait: Wait) -> Permit<'_> {
+    fn wait(&self, coming: Coming, wait: TurnFor) -> Permit<'_> {
         let lane = self.plan.lane_of(&coming);
         let user = Identity::current();
         let mut state = self.enter();
         state.see(&self.plan, lane, &coming, &user);
         let standing = self.standing(&state, lane, &coming, wait);
-        let (mut state, is_turn) = match standing == Standing::Turn && !state.is_over {
-            true => (state, true),
-            false => self.block(state, lane, &coming, wait),
+        let (mut state, is_turn) = if standing == Standing::Turn && !state.is_over {
+            (state, true)
+        } else {
+            self.block(state, lane, &coming, wait)
         };
         if !is_turn {
             return Permit::free();
@@ -160,9 +164,10 @@ impl Gate {
         permit
     }
 
-    /// Stops if a debugger is to see this call, the next one of its lane. Nothing is locked then, and others still wait for their turn.
+    /// Stops if a debugger is to see this call, the next one of its lane. Nothing is locked then,
+    /// and others still wait for their turn.
     #[inline]
-    fn stop_if_wanted(&self, mut state: MutexGuard<'_, State>, lane: Option<u32>) {
+    fn stop_if_wanted(&self, mut state: MutexGuard<'_, GateState>, lane: Option<u32>) {
         if state.stop_at == Some(state.position) && state.is_front(lane) {
             let position = state.position;
             state.stop_at = None;
@@ -171,32 +176,39 @@ impl Gate {
         }
     }
 
-    fn standing(&self, state: &State, lane: Option<u32>, coming: &Coming, wait: Wait) -> Standing {
+    fn standing(
+        &self,
+        state: &GateState,
+        lane: Option<u32>,
+        coming: &Coming,
+        wait: TurnFor,
+    ) -> Standing {
         match wait {
-            Wait::Call => state.standing(&self.plan, lane, coming.word),
-            Wait::Modify => state.standing_to_modify(&self.plan, lane),
+            TurnFor::Call => state.standing(&self.plan, lane, coming.word),
+            TurnFor::Modify => state.standing_to_modify(&self.plan, lane),
         }
     }
 
-    /// Gives the turn to a call. The closure that changes a watch isn't given it: its own calls are.
-    fn give(&self, state: &mut State, wait: Wait) -> Permit<'_> {
+    /// Gives the turn to a call. The closure that changes a watch isn't given it: its own calls
+    /// are.
+    fn give(&self, state: &mut GateState, wait: TurnFor) -> Permit<'_> {
         match wait {
-            Wait::Call => {
+            TurnFor::Call => {
                 state.is_given = true;
                 Permit::of(self)
             }
-            Wait::Modify => Permit::free(),
+            TurnFor::Modify => Permit::free(),
         }
     }
 
     /// Blocks until it is the call's turn, and returns `true`, or until all calls pass.
     fn block<'a>(
         &'a self,
-        mut state: MutexGuard<'a, State>,
+        mut state: MutexGuard<'a, GateState>,
         lane: Option<u32>,
         coming: &Coming,
-        wait: Wait,
-    ) -> (MutexGuard<'a, State>, bool) {
+        wait: TurnFor,
+    ) -> (MutexGuard<'a, GateState>, bool) {
         let (began, thread) = (state.clock.now(), thread_number());
         while !state.is_over {
             let standing = self.standing(&state, lane, coming, wait);
@@ -211,9 +223,10 @@ impl Gate {
             let (limit, is_own) = self.limit(&state, coming, thread);
             let since = began.max(state.turned_at);
             if state.clock.since(since) >= limit {
-                let came = match is_own {
-                    true => Came::Other,
-                    false => Came::Nothing(limit),
+                let came = if is_own {
+                    Came::Other
+                } else {
+                    Came::Nothing(limit)
                 };
                 self.diverge(&mut state, came, Some(coming));
                 break;
@@ -226,18 +239,18 @@ impl Gate {
     /// Waits for a change on a condition that the turn of this lane notifies, for a short time.
     fn sleep<'a>(
         &'a self,
-        mut state: MutexGuard<'a, State>,
+        mut state: MutexGuard<'a, GateState>,
         lane: Option<u32>,
-        wait: Wait,
-    ) -> MutexGuard<'a, State> {
+        wait: TurnFor,
+    ) -> MutexGuard<'a, GateState> {
         let actor = state.actor_of(&self.plan, lane);
         let condition = match (lane, wait) {
             (None, _) => &self.end,
-            (Some(lane), Wait::Call) => {
+            (Some(lane), TurnFor::Call) => {
                 state.lanes[lane as usize].blocked += 1;
                 &self.turns_of_lanes[lane as usize]
             }
-            (Some(_), Wait::Modify) => {
+            (Some(_), TurnFor::Modify) => {
                 state.actors[actor].blocked += 1;
                 &self.turns_of_actors[actor]
             }
@@ -249,69 +262,27 @@ impl Gate {
         state.unblock(this_thread());
         match (lane, wait) {
             (None, _) => (),
-            (Some(lane), Wait::Call) => state.lanes[lane as usize].blocked -= 1,
-            (Some(_), Wait::Modify) => state.actors[actor].blocked -= 1,
+            (Some(lane), TurnFor::Call) => state.lanes[lane as usize].blocked -= 1,
+            (Some(_), TurnFor::Modify) => state.actors[actor].blocked -= 1,
         }
         state
     }
 
-    /// Returns how long a thread waits without progress, and whether it is its own actor's turn, by another call. The time is short where the
-    /// wait may keep the turn away: it is that of its own actor or thread, or the thread unwinds a panic.
-    fn limit(&self, state: &State, coming: &Coming, thread: usize) -> (Duration, bool) {
+    /// Returns how long a thread waits without progress, and whether it is its own actor's turn, by
+    /// another call. The time is short where the wait may keep the turn away: it is that of its own
+    /// actor or thread, or the thread unwinds a panic.
+    fn limit(&self, state: &GateState, coming: &Coming, thread: usize) -> (Duration, bool) {
         let Some(step) = self.plan.steps.get(state.position) else {
             return (SHORT, false);
         };
         let is_own = self.plan.is_named(coming.actor) && step.call.actor == coming.actor.number();
         let is_here = state.actors[step.call.actor as usize].thread == thread;
-        let limit = match is_own || is_here || thread::panicking() {
-            true => SHORT.min(self.patience),
-            false => self.patience,
+        let limit = if is_own || is_here || thread::panicking() {
+            SHORT.min(self.patience)
+        } else {
+            self.patience
         };
         (limit, is_own)
-    }
-
-    /// Polls a call that waits: it is pending until its turn, and waits before the gate by the ticket.
-    pub(crate) fn poll(
-        &self,
-        coming: Coming,
-        ticket: &mut Option<Ticket>,
-        context: &Context<'_>,
-    ) -> Poll<Permit<'_>> {
-        if self.is_over() {
-            *ticket = None;
-            return Poll::Ready(Permit::free());
-        }
-        let lane = self.plan.lane_of(&coming);
-        // Wakers run code of the runtime where they are cloned and dropped, so nothing is locked there.
-        let (waker, user) = (context.waker().clone(), Identity::current());
-        let task = user.may_be_any_task().then(|| waker.clone());
-        let mut state = self.enter();
-        let before = ticket.take().and_then(|left| state.waiters.remove(&left));
-        // A task may move from one worker of its runtime to another.
-        let is_moved = task
-            .as_ref()
-            .is_some_and(|task| state.is_last_task(lane, task));
-        if is_moved {
-            state.move_to(lane, &user);
-        }
-        state.see(&self.plan, lane, &coming, &user);
-        let task = task.and_then(|task| state.see_task(&self.plan, lane, &coming, task));
-        let standing = state.standing(&self.plan, lane, coming.word);
-        if standing == Standing::Turn || state.is_over {
-            let permit = match state.is_over {
-                true => Permit::free(),
-                false => self.give(&mut state, Wait::Call),
-            };
-            self.stop_if_wanted(state, lane);
-            drop((before, waker, task));
-            return Poll::Ready(permit);
-        }
-        let waiter = Waiter::new(coming, waker, before.as_ref(), state.clock.now());
-        *ticket = Some(state.add_waiter(lane, waiter));
-        self.keep_awake(&state);
-        drop(state);
-        drop((before, task));
-        Poll::Pending
     }
 
     /// Notes a question that leaves no entry, and so isn't ordered.
@@ -321,68 +292,15 @@ impl Gate {
         }
     }
 
-    /// Removes a future that no longer waits before the gate.
-    pub(crate) fn leave(&self, ticket: Ticket) {
-        let left = self.enter().waiters.remove(&ticket);
-        drop(left);
-    }
-
-    /// Whether the poll of the future with this name is held back. Then its task is woken later.
-    ///
-    /// It is where another's turn has come and the next call of this future can't be pending: it would block its thread, which may be the one
-    /// that polls the other. `within` is the name of the future that polls this one, if it is one with a name.
-    pub(super) fn holds(&self, name: &str, within: Option<&str>, context: &Context<'_>) -> bool {
-        let Some(actor) = self.plan.actor_named(name).filter(|_| !self.is_over()) else {
-            return false;
-        };
-        let within = within.and_then(|within| self.plan.actor_named(within));
-        let (last, waker) = (context.waker().clone(), context.waker().clone());
-        let mut state = self.enter();
-        if state.is_over {
-            drop(state);
-            return false;
-        }
-        let of = &mut state.actors[actor as usize];
-        of.thread = thread_number();
-        of.within = within.filter(|within| *within != actor);
-        let before = of.waker.replace(last);
-        let is_held = self.may_block_turn(&state, actor);
-        let rest = match is_held {
-            true => state.hold(actor, waker),
-            false => Some(waker),
-        };
-        self.keep_awake(&state);
-        drop(state);
-        drop((before, rest));
-        is_held
-    }
-
-    /// Whether this actor may block where it is polled now, so that its thread doesn't run the actor whose turn has come.
-    fn may_block_turn(&self, state: &State, actor: u32) -> bool {
-        let of = &state.actors[actor as usize];
-        let Some(turn) = self.plan.steps.get(state.position) else {
-            return false;
-        };
-        if of.passes_at == Some(state.position) {
-            return false;
-        }
-        match self.plan.steps.get(of.front as usize) {
-            // The turn is that of its drop, which no poll makes.
-            Some(next) if next.is_cancelled && turn.call.actor == actor => true,
-            _ if state.is_within(turn.call.actor, actor) => false,
-            Some(next) => !next.call.word.may_wait(),
-            None => self.plan.outlives[actor as usize],
-        }
-    }
-
     /// Wakes the helper if it sleeps for good, so that what is added isn't forgotten.
-    fn keep_awake(&self, state: &State) {
+    fn keep_awake(&self, state: &GateState) {
         if state.is_helper_idle {
             self.helper.notify_one();
         }
     }
 
-    /// Goes on to the next call, since the one with the permit is made. `text` is that of the value that it has sent.
+    /// Goes on to the next call, since the one with the permit is made. `text` is that of the value
+    /// that it has sent.
     pub(super) fn made(&self, text: Option<&str>) {
         let mut state = self.enter();
         if state.is_over {
@@ -429,7 +347,7 @@ impl Gate {
     }
 
     /// Lets all calls pass from now on.
-    pub(super) fn end(&self, state: &mut State) {
+    pub(super) fn end(&self, state: &mut GateState) {
         state.is_over = true;
         self.is_over.store(true, Ordering::Release);
         state.release_all();
@@ -441,7 +359,7 @@ impl Gate {
     }
 
     /// Leaves the journal's order, and says so. What came is of this call.
-    fn diverge(&self, state: &mut State, came: Came, coming: Option<&Coming>) {
+    fn diverge(&self, state: &mut GateState, came: Came, coming: Option<&Coming>) {
         let line = divergence::in_words(&self.plan, state, came, coming);
         outcome::say(&format!(
             "the replay {line}; from here on, calls are in no order"
@@ -450,39 +368,13 @@ impl Gate {
         self.end(state);
     }
 
-    /// Diverges from the journal if a future has waited too long, and lets polls go that were held back long enough, or where all threads sleep.
-    /// Where a thread is blocked and nothing was called for a while, all futures are polled.
-    pub(super) fn look_after_futures(&self, state: &mut State, is_at_rest: bool) {
-        let turned_at = state.turned_at;
-        let now = state.clock.now();
-        let idle = |since: Time| now.since(since.max(turned_at));
-        let limit = self.patience * PATIENCE_OF_FUTURES;
-        let mut waiters = state.waiters.values();
-        if let Some(late) = waiters.find(|waiter| idle(waiter.since) >= limit) {
-            let coming = late.coming;
-            return self.diverge(state, Came::Nothing(limit), Some(&coming));
-        }
-        for actor in 0..Actor::MOST {
-            let of = &mut state.actors[actor];
-            let is_long = |held: &Held| is_at_rest || idle(held.since) >= self.hold;
-            if of.held.iter().any(is_long) {
-                of.passes_at = Some(state.position);
-                state.release(actor as u32);
-            }
-        }
-        // The blocked thread may be the worker that drives its runtime's timers, and the turn that of a task that sleeps. When a task is woken,
-        // another worker gets up, finds nobody at the timers, and drives them.
-        if !state.blocked.is_empty() && now.since(turned_at) >= BETWEEN_LOOKS {
-            state.wake_all();
-        }
-    }
-
     /// Records who has made a channel under this name, or under none.
     pub(crate) fn see_maker(&self, name: &Option<String>) {
         self.enter().see_maker(name, Identity::current());
     }
 
-    /// Ends the replay, and says on standard error how it went. It says so once, and outside of a test not to who has asked.
+    /// Ends the replay, and says on standard error how it went. It says so once, and outside of a
+    /// test not to who has asked.
     pub(crate) fn conclude(&self, end: TestEnd<'_>) {
         self.wait_for_the_rest();
         let mut state = self.enter();

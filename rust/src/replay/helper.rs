@@ -1,11 +1,12 @@
 //! The thread that wakes the futures before a gate.
 //!
-//! A task that a worker of a runtime wakes is the next one of that worker, and no other worker runs it. If the worker then blocked before the
-//! gate, that task would never be polled. So futures are woken by a thread of no runtime alone.
+//! A task that a worker of a runtime wakes is the next one of that worker, and no other worker runs
+//! it. If the worker then blocked before the gate, that task would never be polled. So futures are
+//! woken by a thread of no runtime alone.
 
 use super::gate::{BETWEEN_LOOKS, Gate};
-use super::rest::Rest;
-use super::state::State;
+use super::rest::RestWatch;
+use super::state::GateState;
 use crate::lock::lock;
 use std::panic::{self, AssertUnwindSafe};
 use std::sync::{Arc, PoisonError};
@@ -16,12 +17,12 @@ use std::{io, thread};
 /// Starts the thread. It ends when all calls pass.
 pub(super) fn start(gate: &Arc<Gate>) -> io::Result<()> {
     let gate = gate.clone();
-    let mut rest = Rest::new();
+    let mut rest = RestWatch::new();
     let thread = thread::Builder::new().name("yovanelum-replay".to_string());
     thread.spawn(move || help(&gate, &mut rest)).map(drop)
 }
 
-fn help(gate: &Gate, rest: &mut Rest) {
+fn help(gate: &Gate, rest: &mut RestWatch) {
     let mut state = lock(&gate.state);
     let mut last_look = Instant::now();
     loop {
@@ -49,8 +50,9 @@ fn help(gate: &Gate, rest: &mut Rest) {
     }
 }
 
-/// Whether all threads sleep, and have since the last look. Then a poll that is held back isn't what they wait for. Nobody asks unless one is.
-fn is_at_rest(gate: &Gate, state: &State, rest: &mut Rest) -> bool {
+/// Whether all threads sleep, and have since the last look. Then a poll that is held back isn't
+/// what they wait for. Nobody asks unless one is.
+fn is_at_rest(gate: &Gate, state: &GateState, rest: &mut RestWatch) -> bool {
     if !state.is_any_held() || !gate.is_still() {
         rest.forget();
         return false;

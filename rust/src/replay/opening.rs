@@ -28,25 +28,20 @@ static IS_ANY: AtomicBool = AtomicBool::new(false);
 
 static OPEN: Mutex<Vec<Weak<Gate>>> = Mutex::new(Vec::new());
 
-/// Opens the gate of a journal, for the recorder with this number. The names are read from the file beside the journal, if there is one.
+/// Opens the gate of a journal, for the recorder with this number. The names are read from the file
+/// beside the journal, if there is one.
 ///
 /// # Errors
 ///
-/// Returns an error if a file can't be read, or isn't what it is to be. It is one of invalid input if a variable isn't.
+/// Returns an error if a file can't be read, or isn't what it is to be. It is one of invalid input
+/// if a variable isn't.
 pub(crate) fn open(path: &Path, recorder: u64) -> io::Result<Arc<Gate>> {
     let patience = patience(env::var(PATIENCE).ok())?;
     let text = fs::read(path).map_err(|error| of_file(path, &error))?;
     let run = Run::read(&text).map_err(|fault| of_file(path, &run::said(fault)))?;
-    let beside = path.with_extension("names");
-    let names = match fs::read_to_string(&beside) {
-        Ok(names) => Names::beside(names, &text)
-            .map_err(str::to_string)
-            .and_then(|names| Names::read(&names))
-            .map_err(|fault| of_file(&beside, &fault))?,
-        Err(error) if error.kind() == io::ErrorKind::NotFound => Names::default(),
-        Err(error) => return Err(of_file(&beside, &error)),
-    };
-    let plan = Plan::new(&run, names);
+    let names = Names::beside(path, &text)
+        .map_err(|fault| of_file(&path.with_extension("names"), &fault))?;
+    let plan = Plan::new(&run, names.map(|(names, _)| names).unwrap_or_default());
     let stop_at = stop::index(env::var(stop::STOP).ok(), plan.steps.len())?;
     let gate = Arc::new(Gate::new(path, recorder, plan, patience).stopping_at(stop_at));
     helper::start(&gate)?;
@@ -72,9 +67,9 @@ fn patience(text: Option<String>) -> io::Result<Duration> {
     })
 }
 
-/// Whether the poll of the future with this name is held back by an open gate: that of the recorder whose calls it makes, or of the current one
-/// if that isn't known yet.
-/// `task` is what a run that is explored knows of the future.
+/// Whether the poll of the future with this name is held back by an open gate: that of the recorder
+/// whose calls it makes, or of the current one if that isn't known yet. `task` is what a run that
+/// is explored knows of the future.
 #[inline]
 pub(crate) fn holds(
     name: &str,
@@ -112,7 +107,8 @@ fn is_held(
     gate.is_some_and(|gate| gate.holds(name, within.as_deref(), context))
 }
 
-/// Returns the open gate of this recorder. If there is no recorder, that is the gate of a process that has one.
+/// Returns the open gate of this recorder. If there is no recorder, that is the gate of a process
+/// that has one.
 fn gate_of(recorder: Option<u64>) -> Option<Arc<Gate>> {
     let open = lock(&OPEN);
     let mut gates = open.iter().filter_map(Weak::upgrade);

@@ -1,8 +1,8 @@
 //! How a replay went, in words.
 
 use super::Coming;
-use super::plan::{Plan, Step};
-use super::state::State;
+use super::plan::{Plan, PlannedCall};
+use super::state::GateState;
 use crate::backend::Actor;
 use crate::names::{Names, Panic, SourceLocation};
 use crate::recorder::NotedPanic;
@@ -11,7 +11,8 @@ use std::io::{self, Write as _};
 
 /// How a replay has gone so far, returned by [`Recorder::replayed`](crate::Recorder::replayed).
 ///
-/// Its text is one line: that all calls were made in the journal's order, at which call the replay diverges from it, or which call it ended before.
+/// Its text is one line: that all calls were made in the journal's order, at which call the replay
+/// diverges from it, or which call it ended before.
 ///
 /// # Examples
 ///
@@ -50,14 +51,15 @@ pub struct Replayed {
     other_text: Option<String>,
     // The test whose journal it is.
     has_failed_before: bool,
-    failures_before: Vec<Failure>,
+    failures_before: Vec<PanicBefore>,
 }
 
 /// The text of a panic, and where it began.
-type Failure = (String, Option<SourceLocation>);
+type PanicBefore = (String, Option<SourceLocation>);
 
 impl Replayed {
-    /// Returns `true` if all calls of the journal were made in its order, and the callers of each could be told apart.
+    /// Returns `true` if all calls of the journal were made in its order, and the callers of each
+    /// could be told apart.
     ///
     /// # Examples
     ///
@@ -148,7 +150,7 @@ impl Replayed {
             // An `Err` has no text here.
             return "the test failed".to_string();
         };
-        let is_new = |failure: &&Failure| !self.failures_before.contains(failure);
+        let is_new = |failure: &&PanicBefore| !self.failures_before.contains(failure);
         let other = failures.iter().find(is_new);
         match other.or(Some(last).filter(|last| *last != last_before)) {
             None => "the same failure".to_string(),
@@ -174,13 +176,14 @@ impl fmt::Display for Replayed {
     }
 }
 
-/// Writes a line to standard error, also for a test that passes. If standard error is closed, nobody reads it.
+/// Writes a line to standard error, also for a test that passes. If standard error is closed,
+/// nobody reads it.
 pub(crate) fn say(line: &str) {
     let _ = io::stderr().write_all(format!("yovanelum: {line}\n").as_bytes());
 }
 
 /// Returns how a replay has gone so far.
-pub(super) fn replayed(plan: &Plan, state: &State) -> Replayed {
+pub(super) fn replayed(plan: &Plan, state: &GateState) -> Replayed {
     let next = plan.steps.get(state.position);
     Replayed {
         calls: plan.steps.len(),
@@ -201,7 +204,7 @@ pub(super) fn replayed(plan: &Plan, state: &State) -> Replayed {
 }
 
 /// Returns the panics that the names have.
-fn failures(names: &Names) -> Vec<Failure> {
+fn failures(names: &Names) -> Vec<PanicBefore> {
     let panics = names.ending.panics.iter();
     let failure = |panic: &Panic| {
         let location = panic
@@ -215,7 +218,7 @@ fn failures(names: &Names) -> Vec<Failure> {
 /// How many characters of a panic's text are shown.
 const SHOWN: usize = 200;
 
-fn failure_in_words((text, location): &Failure) -> String {
+fn failure_in_words((text, location): &PanicBefore) -> String {
     // An assertion has its values on lines of their own.
     let lines = text.split('\n').map(str::trim);
     let line = lines
@@ -249,7 +252,7 @@ pub(super) fn call_of(plan: &Plan, position: usize) -> String {
     format!("call {} of {}", position + 1, plan.steps.len())
 }
 
-pub(super) fn step_in_words(plan: &Plan, step: &Step) -> String {
+pub(super) fn step_in_words(plan: &Plan, step: &PlannedCall) -> String {
     let call = &step.call;
     let mut words = format!("`{} {}` on ", call.word.text(), call.handle);
     push_channel(&mut words, plan, call.channel);
@@ -265,21 +268,20 @@ pub(super) fn step_in_words(plan: &Plan, step: &Step) -> String {
 /// What is to be done about callers that can't be told apart.
 const NAME_EACH: &str = "and a replay can't tell them apart: give each a name of its own";
 
-/// Says that several callers use the handle of this call, which may be one that has moved between workers of a runtime.
+/// Says that several callers use the handle of this call, which may be one that has moved between
+/// workers of a runtime.
 pub(super) fn shared_handle(plan: &Plan, coming: &Coming, may_be_moved: bool) -> String {
-    let who = match may_be_moved {
-        true => "workers of a runtime",
-        false => "callers",
+    let who = if may_be_moved {
+        "workers of a runtime"
+    } else {
+        "callers"
     };
     let mut words = format!("several {who} use handle {} of ", coming.handle);
     push_channel(&mut words, plan, coming.channel);
     words.push_str(", ");
-    words.push_str(match may_be_moved {
-        true => {
+    words.push_str(if may_be_moved {
             "as one task does that moves between them, or several tasks: name it by `named`, or set RUSTFLAGS='--cfg tokio_unstable'"
-        }
-        false => NAME_EACH,
-    });
+        } else { NAME_EACH });
     words
 }
 

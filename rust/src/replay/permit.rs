@@ -2,8 +2,8 @@
 
 use super::gate::Gate;
 
-/// The right to make the next call of a replay. It holds no lock. Without a replay, and once all calls pass, it is worth nothing and is asked
-/// for nothing.
+/// The right to make the next call of a replay. It holds no lock. Without a replay, and once all
+/// calls pass, it is worth nothing and is asked for nothing.
 #[must_use]
 pub(crate) struct Permit<'a>(Option<&'a Gate>);
 
@@ -30,8 +30,8 @@ impl<'a> Permit<'a> {
         Permit(self.0.take())
     }
 
-    /// Gives the turn to the next call: this one is made and recorded. `text` is that of the value that it has sent. The channel is still
-    /// locked, so no other call of it comes in between.
+    /// Gives the turn to the next call: this one is made and recorded. `text` is that of the value
+    /// that it has sent. The channel is still locked, so no other call of it comes in between.
     #[inline]
     pub(crate) fn made(&mut self, text: Option<&str>) {
         if let Some(gate) = self.0.take() {

@@ -1,13 +1,15 @@
 //! The calls of a journal in their order, and which of them a call that comes can be.
 //!
-//! A call is known by its channel, its handle and its caller. A handle may be in the hands of several callers, as a sender in an `Arc`. So
-//! the calls of one handle by one caller make a *lane*, and a call that comes can only be the next of its lane. The callers that nobody
-//! named share the lanes of a handle, and so do all callers for its drop: who drops the last `Arc` isn't in the journal.
+//! A call is known by its channel, its handle and its caller. A handle may be in the hands of
+//! several callers, as a sender in an `Arc`. So the calls of one handle by one caller make a
+//! *lane*, and a call that comes can only be the next of its lane. The callers that nobody named
+//! share the lanes of a handle, and so do all callers for its drop: who drops the last `Arc` isn't
+//! in the journal.
 
 use super::Coming;
 use crate::backend::Actor;
 use crate::names::{Maker, Names};
-use crate::run::{Entry, Run};
+use crate::run::{Run, RunEntry};
 use crate::word::Word;
 use std::collections::{BTreeMap, HashMap, HashSet};
 
@@ -29,8 +31,8 @@ enum Class {
 }
 
 /// A call of the journal.
-pub(super) struct Step {
-    pub(super) call: Entry,
+pub(super) struct PlannedCall {
+    pub(super) call: RunEntry,
     pub(super) lane: u32,
     /// The next step of its lane.
     pub(super) next_in_lane: u32,
@@ -44,7 +46,7 @@ pub(super) struct Step {
 
 /// The calls of a journal, as a replay follows them.
 pub(super) struct Plan {
-    pub(super) steps: Vec<Step>,
+    pub(super) steps: Vec<PlannedCall>,
     pub(super) names: Names,
     lanes: HashMap<(u32, u32, Class), u32>,
     /// The first step of each lane.
@@ -53,7 +55,8 @@ pub(super) struct Plan {
     pub(super) is_shared: Vec<bool>,
     /// The first step of each actor.
     pub(super) first_of_actor: [u32; Actor::MOST],
-    /// Whether an actor has used a handle that isn't dropped in the journal. Then it may have made further calls after the journal's end.
+    /// Whether an actor has used a handle that isn't dropped in the journal. Then it may have made
+    /// further calls after the journal's end.
     pub(super) outlives: [bool; Actor::MOST],
     classes: [Class; Actor::MOST],
     numbers: HashMap<String, u32>,
@@ -112,7 +115,7 @@ impl Plan {
                 Some(before) => before.next_of_actor = step,
                 None => self.first_of_actor[actor as usize] = step,
             }
-            self.steps.push(Step {
+            self.steps.push(PlannedCall {
                 call,
                 lane,
                 next_in_lane: NONE,
@@ -123,10 +126,11 @@ impl Plan {
         }
     }
 
-    /// Returns the call, as one that waits if the names mark it so. It is the one with this index on its channel.
-    fn marked(&self, call: Entry, index: u32) -> Entry {
+    /// Returns the call, as one that waits if the names mark it so. It is the one with this index
+    /// on its channel.
+    fn marked(&self, call: RunEntry, index: u32) -> RunEntry {
         let is_marked = has(&self.names.matching.waited, &call, index);
-        Entry {
+        RunEntry {
             word: if is_marked {
                 call.word.marked()
             } else {
@@ -137,7 +141,7 @@ impl Plan {
     }
 
     /// Returns the lane of a call, a new one if it is the first.
-    fn lane_for(&mut self, call: &Entry) -> u32 {
+    fn lane_for(&mut self, call: &RunEntry) -> u32 {
         let key = (
             call.channel,
             call.handle,
@@ -192,7 +196,8 @@ impl Plan {
         is_last || has_calls || self.names.actors.contains_key(&number.into())
     }
 
-    /// Returns the number of the actor with this name, unless the journal has none or nobody gave it that name.
+    /// Returns the number of the actor with this name, unless the journal has none or nobody gave
+    /// it that name.
     pub(super) fn actor_named(&self, name: &str) -> Option<u32> {
         self.numbers.get(name).copied()
     }
@@ -217,7 +222,7 @@ impl Plan {
 }
 
 /// Whether a call, the one with this index on its channel, is among some entries of the channels.
-fn has(entries: &BTreeMap<u64, Vec<u64>>, call: &Entry, index: u32) -> bool {
+fn has(entries: &BTreeMap<u64, Vec<u64>>, call: &RunEntry, index: u32) -> bool {
     let of_channel = entries.get(&u64::from(call.channel));
     of_channel.is_some_and(|entries| entries.binary_search(&u64::from(index)).is_ok())
 }
@@ -228,9 +233,10 @@ fn class_of(actor: usize, names: &Names) -> Class {
     let is_last = actor + 1 == Actor::MOST;
     match names.actors.get(&number) {
         Some(name) if !names.matching.unnamed.contains(&number) && !is_last => {
-            match name.starts_with(UNNAMED_THREAD) {
-                true => Class::Unnamed,
-                false => Class::Named(actor as u32),
+            if name.starts_with(UNNAMED_THREAD) {
+                Class::Unnamed
+            } else {
+                Class::Named(actor as u32)
             }
         }
         _ => Class::Unnamed,

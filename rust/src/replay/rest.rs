@@ -1,4 +1,5 @@
-//! Whether all threads of the process wait, and none of them until a time. Then only those who wait before the gate can go on.
+//! Whether all threads of the process wait, and none of them until a time. Then only those who wait
+//! before the gate can go on.
 
 use super::clock::Time;
 use crate::explore::{Asked, Sleeper, ThreadId, Threads, this_thread};
@@ -7,7 +8,7 @@ use std::process;
 use std::time::Duration;
 
 /// What the threads of the process were seen to do.
-pub(super) struct Rest {
+pub(super) struct RestWatch {
     threads: Threads,
     /// The harness, which waits for the test until a time.
     harness: Option<ThreadId>,
@@ -15,19 +16,20 @@ pub(super) struct Rest {
     before: Option<(Time, Vec<Sleeper>)>,
 }
 
-impl Rest {
+impl RestWatch {
     /// Those of this process, in which the current thread runs the test.
-    pub(super) fn new() -> Rest {
+    pub(super) fn new() -> RestWatch {
         let main = process::id();
-        Rest {
+        RestWatch {
             threads: Threads::of(Path::new("/proc/self")),
             harness: (this_thread() != main).then_some(main),
             before: None,
         }
     }
 
-    /// Whether all threads sleep where they did at the last look, and the last call was made at the same time. `blocked` wait before the gate. Where
-    /// the system doesn't say what threads do, none are known to sleep.
+    /// Whether all threads sleep where they did at the last look, and the last call was made at the
+    /// same time. `blocked` wait before the gate. Where the system doesn't say what threads do,
+    /// none are known to sleep.
     pub(super) fn is_seen(&mut self, turned_at: Time, blocked: &[ThreadId]) -> bool {
         let now = self.sleepers(blocked).map(|sleepers| (turned_at, sleepers));
         let is_same = now.is_some() && now == self.before;
@@ -46,9 +48,10 @@ impl Rest {
         }
         let this = this_thread();
         let sleepers = self.threads.sleepers(Duration::ZERO, |thread| {
-            match thread == this || Some(thread) == self.harness {
-                true => Asked::Nothing,
-                false => Asked::Sleeps,
+            if thread == this || Some(thread) == self.harness {
+                Asked::Nothing
+            } else {
+                Asked::Sleeps
             }
         });
         // Those before the gate wake up now and then.

@@ -47,7 +47,7 @@ impl Waiter {
 }
 
 /// A named future whose poll is held back.
-pub(super) struct Held {
+pub(super) struct HeldPoll {
     pub(super) waker: Waker,
     pub(super) since: Time,
 }
@@ -58,8 +58,8 @@ pub(super) struct Lane {
     pub(super) blocked: u32,
     /// Who has used the handle.
     pub(super) user: Option<Identity>,
-    /// The wakers of its calls that were polled by nobody with a name, in the order in which they came first. None wakes the same task as
-    /// another one.
+    /// The wakers of its calls that were polled by nobody with a name, in the order in which they
+    /// came first. None wakes the same task as another one.
     tasks: Vec<Waker>,
 }
 
@@ -71,7 +71,7 @@ pub(super) struct OfActor {
     pub(super) thread: usize,
     /// The actor whose future polls that of this one.
     pub(super) within: Option<u32>,
-    pub(super) held: Vec<Held>,
+    pub(super) held: Vec<HeldPoll>,
     /// That of its future's last poll, unless it was used since.
     pub(super) waker: Option<Waker>,
     /// At this position its polls aren't held back.
@@ -85,7 +85,7 @@ pub(super) struct OfActor {
 /// By what a future waits before the gate: its lane, and its number there.
 pub(crate) type Ticket = (u32, u64);
 
-pub(super) struct State {
+pub(super) struct GateState {
     /// How many calls were made. So it is the index of the step whose turn it is.
     pub(super) position: usize,
     /// Whether a caller was given the turn, and has yet to make the call.
@@ -128,8 +128,8 @@ pub(super) struct Wakes {
     pub(super) helper: bool,
 }
 
-impl State {
-    pub(super) fn new(plan: &Plan) -> State {
+impl GateState {
+    pub(super) fn new(plan: &Plan) -> GateState {
         let lane = |front: &u32| Lane {
             front: *front,
             blocked: 0,
@@ -148,7 +148,7 @@ impl State {
             called_at: None,
         };
         let mut clock = Clock::new();
-        State {
+        GateState {
             position: 0,
             is_given: false,
             lanes: plan.first_of_lane.iter().map(lane).collect(),
@@ -181,17 +181,19 @@ impl State {
         let Some(step) = plan.steps.get(front as usize) else {
             return Standing::Unknown;
         };
-        match step.call.word == word {
-            true if front as usize == self.position && !self.is_given => Standing::Turn,
-            true => Standing::Later,
-            // It may be the call of another caller, who has yet to come.
-            false if plan.is_shared[lane as usize] => Standing::Later,
-            false => Standing::Other(front),
+        let is_the_word = step.call.word == word;
+        if is_the_word && front as usize == self.position && !self.is_given {
+            Standing::Turn
+        } else if is_the_word || plan.is_shared[lane as usize] {
+            // Another word may be the call of another caller, who has yet to come.
+            Standing::Later
+        } else {
+            Standing::Other(front)
         }
     }
 
-    /// Returns what a closure that changes a watch is to the journal. Its own calls come before its entry, so it begins where the next call of
-    /// its actor is the turn.
+    /// Returns what a closure that changes a watch is to the journal. Its own calls come before its
+    /// entry, so it begins where the next call of its actor is the turn.
     pub(super) fn standing_to_modify(&self, plan: &Plan, lane: Option<u32>) -> Standing {
         match self.standing(plan, lane, Word::Modify) {
             Standing::Later if self.is_next_of_actor(self.actor_of(plan, lane)) => Standing::Turn,
@@ -215,7 +217,8 @@ impl State {
         self.actors[actor].front as usize == self.position && !self.is_given
     }
 
-    /// Records who has used a handle, and on which thread. The first handle that several use who can't be told apart is noted.
+    /// Records who has used a handle, and on which thread. The first handle that several use who
+    /// can't be told apart is noted.
     pub(super) fn see(&mut self, plan: &Plan, lane: Option<u32>, coming: &Coming, user: &Identity) {
         let of = &mut self.actors[coming.actor.number() as usize];
         of.called_at = coming.called_at.or(of.called_at);
@@ -242,14 +245,16 @@ impl State {
         }
     }
 
-    /// Whether this task, known by its waker, is the one that has polled the last call of this lane.
+    /// Whether this task, known by its waker, is the one that has polled the last call of this
+    /// lane.
     pub(super) fn is_last_task(&self, lane: Option<u32>, waker: &Waker) -> bool {
         let tasks = lane.map(|lane| &self.lanes[lane as usize].tasks);
         let last = tasks.and_then(|tasks| tasks.last());
         last.is_some_and(|task| task.will_wake(waker))
     }
 
-    /// Records that the task without a name which has used a handle is polled on another thread now.
+    /// Records that the task without a name which has used a handle is polled on another thread
+    /// now.
     pub(super) fn move_to(&mut self, lane: Option<u32>, user: &Identity) {
         let Some(lane) = lane else { return };
         let before = &mut self.lanes[lane as usize].user;
@@ -258,8 +263,9 @@ impl State {
         }
     }
 
-    /// Records which task polls a call, by its waker, where nothing else tells the tasks of a thread apart. A task that comes back to a handle
-    /// after another one shares it with that one. If a task only comes later than another one, the handle may have been given on. Returns the
+    /// Records which task polls a call, by its waker, where nothing else tells the tasks of a
+    /// thread apart. A task that comes back to a handle after another one shares it with that one.
+    /// If a task only comes later than another one, the handle may have been given on. Returns the
     /// waker, unless it is stored.
     pub(super) fn see_task(
         &mut self,
@@ -343,7 +349,7 @@ impl State {
         if held.iter().any(|before| before.waker.will_wake(&waker)) {
             return Some(waker);
         }
-        held.push(Held { waker, since });
+        held.push(HeldPoll { waker, since });
         self.held_count += 1;
         None
     }

@@ -1,4 +1,5 @@
-//! Where a replay stops for a native debugger: in the thread that makes the call, before it is made.
+//! Where a replay stops for a native debugger: in the thread that makes the call, before it is
+//! made.
 #![allow(unsafe_code)]
 
 use super::outcome::{self, call_of, step_in_words};
@@ -27,7 +28,8 @@ pub(super) fn index(text: Option<String>, calls: usize) -> io::Result<Option<usi
     })
 }
 
-/// Stops in the debugger that this process runs under. Without one, nothing stops. One line says so.
+/// Stops in the debugger that this process runs under. Without one, nothing stops. One line says
+/// so.
 #[inline(never)]
 pub(super) fn stop_before(plan: &Plan, position: usize) {
     let mut call = call_of(plan, position);
@@ -54,8 +56,9 @@ mod debugger {
         tracer.is_none_or(|tracer| tracer.trim() != "0")
     }
 
-    /// Raises the signal of a breakpoint in this thread. A debugger gets it also where the program ignores it, and nobody else does: a
-    /// program like strace, which isn't one, has no way to end the test by it.
+    /// Raises the signal of a breakpoint in this thread. A debugger gets it also where the program
+    /// ignores it, and nobody else does: a program like strace, which isn't one, has no way to end
+    /// the test by it.
     pub(super) fn stop() {
         const SIGTRAP: i32 = 5;
         const IGNORE: usize = 1;
@@ -63,8 +66,9 @@ mod debugger {
             fn raise(signal: i32) -> i32;
             fn signal(signal: i32, handler: usize) -> usize;
         }
-        // SAFETY: both are functions of POSIX, and are given what they take: `IGNORE`, and the handler that was there before. The signal runs
-        // no code of this process, since it is ignored while it is raised.
+        // SAFETY: both are functions of POSIX, and are given what they take: `IGNORE`, and the
+        // handler that was there before. The signal runs no code of this process, since it is
+        // ignored while it is raised.
         unsafe {
             let before = signal(SIGTRAP, IGNORE);
             raise(SIGTRAP);

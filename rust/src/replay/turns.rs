@@ -16,7 +16,8 @@ pub(crate) enum Turns {
 }
 
 impl Turns {
-    /// Blocks until the turn of this call. `has_unread` says whether its receiver has anything to receive.
+    /// Blocks until the turn of this call. `has_unread` says whether its receiver has anything to
+    /// receive.
     pub(crate) fn pass(&self, coming: Coming, has_unread: impl FnOnce() -> bool) -> Permit<'_> {
         match self {
             Turns::Journal(gate) => gate.pass(coming),
@@ -40,7 +41,8 @@ impl Turns {
         }
     }
 
-    /// Polls a call that waits. A run that is explored blocks its thread, whose task was let go before.
+    /// Polls a call that waits. A run that is explored blocks its thread, whose task was let go
+    /// before.
     pub(crate) fn poll(
         &self,
         coming: Coming,
@@ -54,7 +56,8 @@ impl Turns {
         }
     }
 
-    /// Notes a question that leaves no entry. It is no call that a run which is explored could choose.
+    /// Notes a question that leaves no entry. It is no call that a run which is explored could
+    /// choose.
     pub(crate) fn note_question(&self, coming: Coming) {
         if let Turns::Journal(gate) = self {
             gate.note_question(coming);

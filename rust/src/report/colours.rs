@@ -14,9 +14,10 @@ pub(super) struct Colours {
 
 impl Colours {
     fn within(self, colour: &str, text: &str) -> String {
-        match self.has_colours {
-            true => format!("{colour}{text}{PLAIN}"),
-            false => text.to_string(),
+        if self.has_colours {
+            format!("{colour}{text}{PLAIN}")
+        } else {
+            text.to_string()
         }
     }
 

@@ -1,4 +1,5 @@
-//! The page with a run inside. The page is one HTML file with an element for a run, as `page/open` in the repository fills it too.
+//! The page with a run inside. The page is one HTML file with an element for a run, as `page/open`
+//! in the repository fills it too.
 
 use std::fmt::Write;
 use std::path::Path;
@@ -14,8 +15,8 @@ const JOURNAL_START: &[u8] = b"<script type=\"text/plain\" id=\"journal\">\n";
 
 const DIGITS: &[u8; 64] = b"ABCDEFGHIJKLMNOPQRSTUVWXYZabcdefghijklmnopqrstuvwxyz0123456789+/";
 
-/// Returns the page with a run inside: the name of the journal's file, its text, which was accepted, and that of its names.
-/// Returns `None` if the page has no element for a run.
+/// Returns the page with a run inside: the name of the journal's file, its text, which was
+/// accepted, and that of its names. Returns `None` if the page has no element for a run.
 pub(crate) fn with_run(
     page: &[u8],
     file_name: &str,
@@ -33,7 +34,8 @@ pub(crate) fn with_run(
         out.push(b'\n');
     }
     out.extend_from_slice(SLOT_END);
-    // An accepted journal has lower-case words and numbers alone, so it is put in as it is. It may be a hundred times as long as the rest.
+    // An accepted journal has lower-case words and numbers alone, so it is put in as it is. It may
+    // be a hundred times as long as the rest.
     assert!(!journal.contains(&b'<'), "no journal was accepted");
     out.extend_from_slice(JOURNAL_START);
     out.extend_from_slice(journal);
@@ -66,7 +68,8 @@ fn digits_of([a, b, c]: [u8; 3]) -> [u8; 4] {
     ]
 }
 
-/// Returns the address of a file on this machine, with the call to look at. 0 is the start of the run.
+/// Returns the address of a file on this machine, with the call to look at. 0 is the start of the
+/// run.
 pub(crate) fn address(path: &Path, call: u64) -> String {
     let path = path.to_string_lossy();
     let mut address = String::from("file://");

@@ -1,6 +1,7 @@
-//! The account as SARIF 2.1.0, which code hosts and editors show: a result for each fact, with a code flow through its steps.
+//! The account as SARIF 2.1.0, which code hosts and editors show: a result for each fact, with a
+//! code flow through its steps.
 
-use crate::account::{Account, Fact, Step};
+use crate::account::{Account, Fact, FactStep};
 use crate::names::{Json, SourceLocation};
 use std::iter;
 
@@ -103,7 +104,7 @@ fn result((fact, level): (&Fact, &str)) -> Json {
 }
 
 /// A step of a fact in its code flow.
-fn flow_location(order: usize, step: &Step, line: &str) -> Json {
+fn flow_location(order: usize, step: &FactStep, line: &str) -> Json {
     let mut location = vec![];
     if let Some(source) = &step.location {
         location.push(("physicalLocation", physical(source)));
@@ -143,9 +144,10 @@ fn uri_of_folder(path: &str) -> String {
 
 fn uri_of_file(path: &str) -> String {
     let path = escaped(path);
-    match path.starts_with('/') {
-        true => format!("file://{path}"),
-        false => format!("file:///{path}"),
+    if path.starts_with('/') {
+        format!("file://{path}")
+    } else {
+        format!("file:///{path}")
     }
 }
 

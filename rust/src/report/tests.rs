@@ -87,8 +87,9 @@ look: at call 3
     assert_eq!(said(&["broadcast 2"], &LATE, names), wanted);
 }
 
-/// One thread sends on a broadcast of three, which retains four, and reads by two receivers. One is dropped while it lags, and one lags at
-/// the end. The third value of those retained is the last that each received.
+/// One thread sends on a broadcast of three, which retains four, and reads by two receivers. One is
+/// dropped while it lags, and one lags at the end. The third value of those retained is the last
+/// that each received.
 const UNTOLD: [&str; 13] = [
     "0 0 subscribe 0 = new 2",
     "0 0 send 0 0 = sent 2",
@@ -205,7 +206,8 @@ fn a_receiver_is_called_by_its_actor_where_that_only_reads_by_it() {
     assert_eq!(first_words(&by_both), "error: receiver 1");
 }
 
-/// Returns the journal of 100 receivers of a broadcast of one. After each send, the next receiver is told how many values it lost.
+/// Returns the journal of 100 receivers of a broadcast of one. After each send, the next receiver
+/// is told how many values it lost.
 fn hundred() -> String {
     let mut entries: Vec<_> = (2..=100)
         .map(|receiver| format!("0 0 subscribe 0 = new {receiver}"))
@@ -224,7 +226,8 @@ fn hundred() -> String {
 
 #[test]
 fn of_a_hundred_receivers_three_are_told_and_the_others_counted() {
-    // The entries are 99 subscribes, and three for each value. Receivers 2 to 97 lost 1 to 96 values.
+    // The entries are 99 subscribes, and three for each value. Receivers 2 to 97 lost 1 to 96
+    // values.
     let wanted = "\
 error: receiver 100 lost 99 of 100 values of channel 0 (capacity 1)
   call 103   channel 0: send(value 1)   actor 0  overwrote value 0, which receiver 100 had not read

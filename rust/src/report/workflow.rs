@@ -20,7 +20,8 @@ impl Workflow {
         })
     }
 
-    /// Returns the command that shows a fact beside its first place in the sources, as a line. Paths are relative to `root`, if that is known.
+    /// Returns the command that shows a fact beside its first place in the sources, as a line.
+    /// Paths are relative to `root`, if that is known.
     pub(super) fn command(&self, level: &str, fact: &Fact, root: Option<&str>) -> String {
         let mut command = format!("::{level} ");
         if let Some((_, location)) = fact.sights().next() {

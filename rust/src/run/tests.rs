@@ -2,7 +2,7 @@
 
 mod model;
 
-use super::{Entry, LossEnd, Run, Spec, TextFault};
+use super::{LossEnd, Run, RunEntry, Spec, TextFault};
 use crate::backend::{Actor, Caller, Cut, Recording};
 use crate::reply::Reply;
 use crate::word::Word;
@@ -30,7 +30,8 @@ impl Random {
     }
 }
 
-/// Makes a random call. Sends and receives are the most frequent, and drops are rare enough for some receivers to live on.
+/// Makes a random call. Sends and receives are the most frequent, and drops are rare enough for
+/// some receivers to live on.
 fn call(core: &mut Recording, is_watch: bool, caller: Caller, handle: u32, random: &mut Random) {
     let value = caller.clock;
     let _: Reply = match (is_watch, random.below(20)) {
@@ -105,7 +106,8 @@ pub(crate) fn random_journal(seed: u64) -> String {
     text_of(&random_channels(&mut random_of(seed)), u64::MAX)
 }
 
-/// Asserts that the program `ttd` accepts the journal text, which has this many entries. Without the variable that names it, nothing is asked.
+/// Asserts that the program `ttd` accepts the journal text, which has this many entries. Without
+/// the variable that names it, nothing is asked.
 fn assert_accepted(text: &str, entries: u64) {
     let Some(ttd) = std::env::var_os("YOVANELUM_TTD") else {
         return;
@@ -229,7 +231,7 @@ const TEXT: &str = "ttd-journal 2\nbroadcast 3\nwatch 7\nsteps\n\
 fn specs_and_entries_are_those_of_the_text() {
     let run = Run::read(TEXT.as_bytes()).unwrap();
     assert_eq!(run.specs(), [Spec::Broadcast(3), Spec::Watch(7)]);
-    let entry = |stamp, actor, channel, handle, word, value, reply| Entry {
+    let entry = |stamp, actor, channel, handle, word, value, reply| RunEntry {
         stamp,
         actor,
         channel,

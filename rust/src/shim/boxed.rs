@@ -1,7 +1,8 @@
 //! `Box`, whose allocation can fail.
 //!
-//! Stable Rust has no such `Box`, but a vector's memory can be asked for. So the box is made of a vector of one item, whose block
-//! becomes the box's without another request: the vector was asked to have room for exactly one.
+//! Stable Rust has no such `Box`, but a vector's memory can be asked for. So the box is made of a
+//! vector of one item, whose block becomes the box's without another request: the vector was asked
+//! to have room for exactly one.
 
 use super::alloc::{AllocFailed, Global};
 use std::fmt;
@@ -11,7 +12,8 @@ use std::ops::{Deref, DerefMut};
 pub struct Box<T>(std::boxed::Box<[T; 1]>);
 
 impl<T> Box<T> {
-    /// Rattle's clauses: `IfOk result (λ b. b.value ≡ x)`, and an error returns the value: `IfErr result (λ e. e.value ≡ x)`.
+    /// Rattle's clauses: `IfOk result (λ b. b.value ≡ x)`, and an error returns the value:
+    /// `IfErr result (λ e. e.value ≡ x)`.
     pub fn new(_: Global, value: T) -> Result<Box<T>, AllocFailed<T>> {
         let mut room = std::vec::Vec::new();
         if room.try_reserve_exact(1).is_err() {
@@ -43,7 +45,8 @@ impl<T> Deref for Box<T> {
 }
 
 impl<T> DerefMut for Box<T> {
-    /// Rattle's clauses: `result ≡ S.value`, and what is written to it is the box's value from then on.
+    /// Rattle's clauses: `result ≡ S.value`, and what is written to it is the box's value from then
+    /// on.
     #[inline]
     fn deref_mut(&mut self) -> &mut T {
         let [value] = &mut *self.0;

@@ -3,7 +3,8 @@
 /// The digits of `u64::MAX`.
 const MOST: usize = 20;
 
-/// The two digits of each number below 100. It is a `static`, since unoptimized code copies a constant wherever it is indexed.
+/// The two digits of each number below 100. It is a `static`, since unoptimized code copies a
+/// constant wherever it is indexed.
 static PAIRS: [[u8; 2]; 100] = {
     let mut pairs = [[b'0'; 2]; 100];
     let mut n = 0;
@@ -19,7 +20,8 @@ pub struct Buffer {
     bytes: [u8; MOST],
 }
 
-/// The digits of a number. The sources ask for their bytes alone, so nothing has to check here that they are a text.
+/// The digits of a number. The sources ask for their bytes alone, so nothing has to check here that
+/// they are a text.
 #[derive(Clone, Copy)]
 pub struct Digits<'a>(&'a [u8]);
 
@@ -30,7 +32,8 @@ impl Buffer {
         Buffer { bytes: [0; MOST] }
     }
 
-    /// Rattle's clause: `result ≡ decimal n`: its digits, without a `0` in front but for the number 0.
+    /// Rattle's clause: `result ≡ decimal n`: its digits, without a `0` in front but for
+    /// the number 0.
     #[inline]
     pub fn format(&mut self, n: impl Into<u64>) -> Digits<'_> {
         let mut left = n.into();

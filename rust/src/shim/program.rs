@@ -1,16 +1,21 @@
-//! What the program `ttd` uses of Rattle's std: the library's part, and files, streams, words, locks and threads.
+//! What the program `ttd` uses of Rattle's std: the library's part, and files, streams, words,
+//! locks and threads.
 //!
-//! The files of the library's part, in this folder, are included here a second time. Those in `program/` are the program's alone.
-//! Two of them stand for ports of the kit, and have as much of `indexmap` and `serde_json` as the sources use. All of it is safe
-//! code, written by hand. Each function names the clause of Rattle's std or of the port that it stands for, but for those of locks,
-//! conditions and the start of threads. In a clause `S` is what `self` points to before the call and `S'` after it.
+//! The files of the library's part, in this folder, are included here a second time. Those in
+//! `program/` are the program's alone. Two of them stand for ports of the kit, and have as much of
+//! `indexmap` and `serde_json` as the sources use. All of it is safe code, written by hand. Each
+//! function names the clause of Rattle's std or of the port that it stands for, but for those of
+//! locks, conditions and the start of threads. In a clause `S` is what `self` points to before the
+//! call and `S'` after it.
 //!
-//! In Rattle all that a program asks of its system it asks of a handle, the runtime. Here the handle has no bytes.
+//! In Rattle all that a program asks of its system it asks of a handle, the runtime. Here the
+//! handle has no bytes.
 //!
 //! # Where refused memory ends the process
 //!
-//! A refused allocation is an error, except where Rust's own library allocates. There it ends the process by `abort`, after a
-//! line on standard error, and no output is lost: none was written before.
+//! A refused allocation is an error, except where Rust's own library allocates. There it ends the
+//! process by `abort`, after a line on standard error, and no output is lost: none was written
+//! before.
 //!
 //! - What Rust's runtime allocates before `main`: two allocations, on Linux.
 //! - The words of the command line: an allocation for each, and one for their list.
@@ -21,8 +26,9 @@
 //!
 //! # Where Rust differs
 //!
-//! If a standard stream is closed when the program starts, Rust's runtime opens `/dev/null` in its place. So a closed standard
-//! input is an empty one, and output to a closed standard output is lost without a fault.
+//! If a standard stream is closed when the program starts, Rust's runtime opens `/dev/null` in its
+//! place. So a closed standard input is an empty one, and output to a closed standard output is
+//! lost without a fault.
 
 #![forbid(unsafe_code)]
 

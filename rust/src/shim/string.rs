@@ -15,7 +15,8 @@ impl String {
         String(std::string::String::new())
     }
 
-    /// Rattle's clause: the bytes of `S'` are `S ++ text`, or those of `S` if the result is an error.
+    /// Rattle's clause: the bytes of `S'` are `S ++ text`, or those of `S` if the result is an
+    /// error.
     pub fn push_str(&mut self, text: &str) -> Result<(), AllocError> {
         self.0.try_reserve(text.len()).map_err(|_| AllocError)?;
         self.0.push_str(text);

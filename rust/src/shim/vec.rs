@@ -7,14 +7,16 @@ use std::fmt;
 use std::io;
 use std::ops::{Deref, DerefMut};
 
-/// A block of this size is asked for in large pages. A vector that grows to it is moved to a whole block.
+/// A block of this size is asked for in large pages. A vector that grows to it is moved to a whole
+/// block.
 const LARGE: usize = 2 << 20;
 
-/// The size of a whole block: twice that of all calls of a recording, 1,048,576 of 32 bytes. So their text mostly fits too, and the
-/// vector isn't moved when it grows from then on.
+/// The size of a whole block: twice that of all calls of a recording, 1,048,576 of 32 bytes. So
+/// their text mostly fits too, and the vector isn't moved when it grows from then on.
 const WHOLE: usize = 2 * 1_048_576 * 32;
 
-/// Whether there are whole blocks. On Linux what isn't written needs only addresses. Elsewhere it may count as memory that is used.
+/// Whether there are whole blocks. On Linux what isn't written needs only addresses. Elsewhere it
+/// may count as memory that is used.
 const HAS_WHOLE_BLOCKS: bool = cfg!(target_os = "linux");
 
 /// Items on the heap.
@@ -28,7 +30,8 @@ impl<T> Vec<T> {
         Vec(std::vec::Vec::new())
     }
 
-    /// Rattle's clauses: `IfOk result (λ v. v.items ≡ [])`, `IfOk result (λ v. vec_capacity v ≡ capacity)`.
+    /// Rattle's clauses: `IfOk result (λ v. v.items ≡ [])`,
+    /// `IfOk result (λ v. vec_capacity v ≡ capacity)`.
     pub fn with_capacity(_: Global, capacity: usize) -> Result<Vec<T>, AllocError> {
         let mut made = std::vec::Vec::new();
         made.try_reserve_exact(capacity).map_err(|_| AllocError)?;
@@ -38,8 +41,9 @@ impl<T> Vec<T> {
         Ok(Vec(made))
     }
 
-    /// Rattle's clauses: `S'.items ≡ S.items`; success leaves room: `OnOk result (vec_len S' + additional ≤ vec_capacity S')`; it
-    /// fails only where that room was missing, and then the capacity stays.
+    /// Rattle's clauses: `S'.items ≡ S.items`; success leaves room:
+    /// `OnOk result (vec_len S' + additional ≤ vec_capacity S')`; it fails only where that room was
+    /// missing, and then the capacity stays.
     #[inline(always)]
     pub fn reserve(&mut self, additional: usize) -> Result<(), AllocError> {
         if additional <= self.0.capacity() - self.0.len() {
@@ -48,8 +52,8 @@ impl<T> Vec<T> {
         self.grow(additional)
     }
 
-    /// The part of `reserve` that asks for memory, apart so that the test is inlined. It grows as Rust's `Vec` does, but from
-    /// `LARGE` on to a whole block in large pages.
+    /// The part of `reserve` that asks for memory, apart so that the test is inlined. It grows as
+    /// Rust's `Vec` does, but from `LARGE` on to a whole block in large pages.
     #[cold]
     #[inline(never)]
     fn grow(&mut self, additional: usize) -> Result<(), AllocError> {
@@ -68,8 +72,9 @@ impl<T> Vec<T> {
         self.0.try_reserve(additional).map_err(|_| AllocError)
     }
 
-    /// Rattle's clauses: `S'.items ≡ S.items ++ value ∷ []`, or `S.items` if the result is an error, which returns the value:
-    /// `IfErr result (λ e. e.value ≡ value)`. Only a full vector can fail.
+    /// Rattle's clauses: `S'.items ≡ S.items ++ value ∷ []`, or `S.items` if the result is an
+    /// error, which returns the value: `IfErr result (λ e. e.value ≡ value)`. Only a full vector
+    /// can fail.
     #[inline(always)]
     pub fn push(&mut self, value: T) -> Result<(), AllocFailed<T>> {
         if self.reserve(1).is_err() {
@@ -79,8 +84,8 @@ impl<T> Vec<T> {
         Ok(())
     }
 
-    /// Appends where there is room, as Rattle's clause requires: `vec_len S < vec_capacity S`. If a caller broke it, Rust's `push`
-    /// would ask for room, and end the process if that is refused.
+    /// Appends where there is room, as Rattle's clause requires: `vec_len S < vec_capacity S`. If a
+    /// caller broke it, Rust's `push` would ask for room, and end the process if that is refused.
     ///
     /// Rattle's clauses: `S'.items ≡ S.items ++ value ∷ []`, `vec_capacity S' ≡ vec_capacity S`.
     #[inline(always)]
@@ -88,7 +93,8 @@ impl<T> Vec<T> {
         self.0.push(value);
     }
 
-    /// Rattle's clauses: `S.items ≡ S'.items ++ option_to_list result`, `IsSome result ↔ (0 < vec_len S)`.
+    /// Rattle's clauses: `S.items ≡ S'.items ++ option_to_list result`,
+    /// `IsSome result ↔ (0 < vec_len S)`.
     #[inline(always)]
     pub fn pop(&mut self) -> Option<T> {
         self.0.pop()
@@ -122,6 +128,12 @@ impl<T> Vec<T> {
     #[inline]
     pub fn truncate(&mut self, n: usize) {
         self.0.truncate(n)
+    }
+
+    /// Rattle's clauses: `IsFiltered f S.items S'.items`, `vec_capacity S' ≡ vec_capacity S`.
+    #[inline]
+    pub fn retain(&mut self, passes: impl FnMut(&T) -> bool) {
+        self.0.retain(passes)
     }
 
     /// What `vec![in alloc; a, b]` calls.
@@ -161,7 +173,8 @@ impl<T: Copy> Vec<T> {
 impl<T: fallible::Clone> Vec<T> {
     /// What `vec![in alloc; item; n]` calls. The last item is `item` itself.
     ///
-    /// Rattle's clauses: `IfOk result (λ v. AllClonesOf T.is_clone item v.items)`, `IfOk result (λ v. vec_len v ≡ n)`.
+    /// Rattle's clauses: `IfOk result (λ v. AllClonesOf T.is_clone item v.items)`,
+    /// `IfOk result (λ v. vec_len v ≡ n)`.
     pub fn from_elem(alloc: Global, item: T, n: usize) -> Result<Vec<T>, AllocError> {
         let mut made = Vec::with_capacity(alloc, n)?;
         for _ in 1..n {
@@ -222,7 +235,8 @@ impl<'a, T> IntoIterator for &'a Vec<T> {
 }
 
 impl io::Write for Vec<u8> {
-    /// Rattle's clauses: `Ok(n)` appends the first `n` bytes, and an error appends none. Here it is all or none.
+    /// Rattle's clauses: `Ok(n)` appends the first `n` bytes, and an error appends none. Here it is
+    /// all or none.
     #[inline]
     fn write(&mut self, bytes: &[u8]) -> io::Result<usize> {
         match self.extend_from_slice(bytes) {

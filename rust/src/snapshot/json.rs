@@ -5,11 +5,13 @@ use crate::channel::CallSite;
 use crate::names::Json;
 
 impl Snapshot {
-    /// Returns the snapshot as JSON: an object whose member `channels` has the channels, in the order of their creation, each on a line of its own.
+    /// Returns the snapshot as JSON: an object whose member `channels` has the channels, in the
+    /// order of their creation, each on a line of its own.
     ///
-    /// The members of a channel and of its `receivers` have the names of the methods. A place in the source is a list of its file, line and column.
-    /// What isn't known, or isn't there, is `null`. `waits` is `null` or an object with the `call`, the place `at`, the stamp `since`, and how many
-    /// `seconds` it has waited.
+    /// The members of a channel and of its `receivers` have the names of the methods. A place in
+    /// the source is a list of its file, line and column. What isn't known, or isn't there, is
+    /// `null`. `waits` is `null` or an object with the `call`, the place `at`, the stamp `since`,
+    /// and how many `seconds` it has waited.
     ///
     /// # Examples
     ///

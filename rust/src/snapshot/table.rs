@@ -96,9 +96,10 @@ fn fmt_rows(rows: &[Row], f: &mut fmt::Formatter<'_>) -> fmt::Result {
     for row in rows {
         let mut line = String::new();
         for (column, (text, width)) in row.iter().zip(widths).enumerate() {
-            match NUMBERS.contains(&column) {
-                true => line.push_str(&format!("  {text:>width$}")),
-                false => line.push_str(&format!("  {text:<width$}")),
+            if NUMBERS.contains(&column) {
+                line.push_str(&format!("  {text:>width$}"))
+            } else {
+                line.push_str(&format!("  {text:<width$}"))
             }
         }
         writeln!(f, "{}", line.trim_end())?;

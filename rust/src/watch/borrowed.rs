@@ -7,11 +7,13 @@ use std::sync::RwLockReadGuard;
 
 /// A reference to the value of a watch channel, which holds a read lock on it.
 ///
-/// [`Receiver::borrow`], [`Receiver::borrow_and_update`], [`Receiver::wait_for`] and [`Sender::borrow`] return it. It dereferences to the
-/// value, and the value does not change while it is alive.
+/// [`Receiver::borrow`], [`Receiver::borrow_and_update`], [`Receiver::wait_for`] and
+/// [`Sender::borrow`] return it. It dereferences to the value, and the value does not change while
+/// it is alive.
 ///
-/// As in tokio, a sender that changes the value blocks until every `Ref` of the channel has been dropped. So keep a `Ref` for a short time,
-/// and not across an `.await`. A thread that holds a `Ref` and sends on the same channel may wait forever.
+/// As in tokio, a sender that changes the value blocks until every `Ref` of the channel has been
+/// dropped. So keep a `Ref` for a short time, and not across an `.await`. A thread that holds a
+/// `Ref` and sends on the same channel may wait forever.
 ///
 /// [`Receiver::borrow`]: super::Receiver::borrow
 /// [`Receiver::borrow_and_update`]: super::Receiver::borrow_and_update
@@ -42,7 +44,8 @@ pub struct Ref<'a, T> {
 impl<T> Ref<'_, T> {
     /// Returns `true` if the receiver had not seen the value when it borrowed it.
     ///
-    /// As in tokio, it does not fail if the channel is closed, and for a `Ref` of a sender it is always `false`.
+    /// As in tokio, it does not fail if the channel is closed, and for a `Ref` of a sender it is
+    /// always `false`.
     ///
     /// # Examples
     ///

@@ -5,7 +5,8 @@ use std::fmt;
 
 /// Error returned by [`Sender::send`](super::Sender::send) when the channel has no receiver.
 ///
-/// It contains the value that was not sent. As in tokio, the value that the channel holds is then the previous one.
+/// It contains the value that was not sent. As in tokio, the value that the channel holds is then
+/// the previous one.
 ///
 /// # Examples
 ///
@@ -34,7 +35,8 @@ impl<T> fmt::Display for SendError<T> {
 
 impl<T> Error for SendError<T> {}
 
-/// Error returned by the methods of [`Receiver`](super::Receiver) when every sender has been dropped.
+/// Error returned by the methods of [`Receiver`](super::Receiver) when every sender has been
+/// dropped.
 ///
 /// As in tokio, it carries nothing: the only reason is that the channel is closed.
 ///

@@ -1,13 +1,16 @@
-//! The looks at a value that are alive: a [`Ref`](super::Ref) holds the value's lock, and a call that waits for that lock says whose look it is.
+//! The looks at a value that are alive: a [`Ref`](super::Ref) holds the value's lock, and a call
+//! that waits for that lock says whose look it is.
 
 use crate::channel::LockedChannel;
 use crate::wait::Look;
 use std::sync::atomic::{AtomicBool, Ordering};
 
-/// How many looks of a channel are noted at once. Later ones hold the lock too, and nobody is told whose they are.
+/// How many looks of a channel are noted at once. Later ones hold the lock too, and nobody is told
+/// whose they are.
 const NOTED: usize = 8;
 
-/// Which of the noted looks are alive. A look is noted while its channel is locked, and ends without that lock.
+/// Which of the noted looks are alive. A look is noted while its channel is locked, and ends
+/// without that lock.
 #[derive(Default)]
 pub(super) struct LiveLooks([AtomicBool; NOTED]);
 
@@ -15,7 +18,8 @@ pub(super) struct LiveLooks([AtomicBool; NOTED]);
 pub(super) struct LiveLook<'a>(&'a AtomicBool);
 
 impl LiveLooks {
-    /// Notes the look of the call for which the channel is locked, if a recorder asks and there is room.
+    /// Notes the look of the call for which the channel is locked, if a recorder asks and there is
+    /// room.
     #[inline]
     pub(super) fn note(&self, channel: &mut LockedChannel<'_>) -> Option<LiveLook<'_>> {
         if !channel.has_recorder() {

@@ -14,9 +14,10 @@ use std::task::{Context, Poll};
 
 /// The receiving half of a watch channel.
 ///
-/// It looks at the last value, and waits for values that it has not seen. [`channel`](super::channel),
-/// [`Sender::subscribe`](super::Sender::subscribe) and `clone` create receivers. As in tokio, a clone has seen what the original has, and
-/// from then on each of the two sees values for itself.
+/// It looks at the last value, and waits for values that it has not seen.
+/// [`channel`](super::channel), [`Sender::subscribe`](super::Sender::subscribe) and `clone` create
+/// receivers. As in tokio, a clone has seen what the original has, and from then on each of the two
+/// sees values for itself.
 ///
 /// # Examples
 ///
@@ -41,9 +42,10 @@ pub struct Receiver<T> {
 impl<T> Receiver<T> {
     /// Returns a reference to the last value, without marking the value as seen.
     ///
-    /// As in tokio, the reference holds a read lock: senders block until it is dropped, so keep it for a short time. In a loop with
-    /// [`changed`](Receiver::changed) use [`borrow_and_update`](Receiver::borrow_and_update): with `borrow`, a value that was sent between
-    /// the two is looked at twice.
+    /// As in tokio, the reference holds a read lock: senders block until it is dropped, so keep it
+    /// for a short time. In a loop with [`changed`](Receiver::changed) use
+    /// [`borrow_and_update`](Receiver::borrow_and_update): with `borrow`, a value that was sent
+    /// between the two is looked at twice.
     ///
     /// # Examples
     ///
@@ -62,8 +64,8 @@ impl<T> Receiver<T> {
 
     /// Returns a reference to the last value, and marks the value as seen.
     ///
-    /// As in tokio, [`changed`](Receiver::changed) then waits for the next value. The reference holds a read lock: senders block until it
-    /// is dropped, so keep it for a short time.
+    /// As in tokio, [`changed`](Receiver::changed) then waits for the next value. The reference
+    /// holds a read lock: senders block until it is dropped, so keep it for a short time.
     ///
     /// # Examples
     ///
@@ -95,12 +97,13 @@ impl<T> Receiver<T> {
 
     /// Returns `true` if there is a value that this receiver has not seen.
     ///
-    /// As in tokio, the value is not marked as seen, and values are not compared: a value that is equal to the one before counts as a
-    /// change.
+    /// As in tokio, the value is not marked as seen, and values are not compared: a value that is
+    /// equal to the one before counts as a change.
     ///
     /// # Errors
     ///
-    /// Returns [`RecvError`] if every sender has been dropped, also if the last value has not been seen.
+    /// Returns [`RecvError`] if every sender has been dropped, also if the last value has not been
+    /// seen.
     ///
     /// # Examples
     ///
@@ -119,9 +122,10 @@ impl<T> Receiver<T> {
     pub fn has_changed(&self) -> Result<bool, RecvError> {
         let (word, called_at) = (Word::HasChanged, call_site());
         let recorded = self.handle.recorded();
-        let permit = match recorded.is_quiet(self.handle.number, word, called_at) {
-            true => Permit::free(),
-            false => self.handle.pass(word, called_at),
+        let permit = if recorded.is_quiet(self.handle.number, word, called_at) {
+            Permit::free()
+        } else {
+            self.handle.pass(word, called_at)
         };
         let mut channel = self.handle.lock_with(permit, called_at);
         if !self.handle.recorded().recorder.is_quiet() {
@@ -135,8 +139,9 @@ impl<T> Receiver<T> {
 
     /// Marks the last value as unseen by this receiver.
     ///
-    /// As in tokio, [`changed`](Receiver::changed) then returns at once, whether a value was sent or not. So a new receiver can handle the
-    /// value that was there before it in the same loop as later ones. Other receivers are not affected.
+    /// As in tokio, [`changed`](Receiver::changed) then returns at once, whether a value was sent
+    /// or not. So a new receiver can handle the value that was there before it in the same loop as
+    /// later ones. Other receivers are not affected.
     ///
     /// # Examples
     ///
@@ -158,7 +163,8 @@ impl<T> Receiver<T> {
 
     /// Marks the last value as seen by this receiver.
     ///
-    /// As in tokio, this is for a receiver that is not interested in that value. Other receivers are not affected.
+    /// As in tokio, this is for a receiver that is not interested in that value. Other receivers
+    /// are not affected.
     ///
     /// # Examples
     ///
@@ -180,13 +186,13 @@ impl<T> Receiver<T> {
 
     /// Waits until there is a value that this receiver has not seen, and marks it as seen.
     ///
-    /// As in tokio, it returns at once if the last value is unseen at the call. To look at the value, call
-    /// [`borrow_and_update`](Receiver::borrow_and_update).
+    /// As in tokio, it returns at once if the last value is unseen at the call. To look at the
+    /// value, call [`borrow_and_update`](Receiver::borrow_and_update).
     ///
     /// # Cancel safety
     ///
-    /// As in tokio, no value has been marked as seen if the future is dropped before it completes, for example by `select!`. It is then not
-    /// recorded.
+    /// As in tokio, no value has been marked as seen if the future is dropped before it completes,
+    /// for example by `select!`. It is then not recorded.
     ///
     /// # Errors
     ///
@@ -213,7 +219,8 @@ impl<T> Receiver<T> {
         self.handle.changed(Method::called("changed"))
     }
 
-    /// [`changed`](Receiver::changed) without a future. Between polls the caller holds the state of the call.
+    /// [`changed`](Receiver::changed) without a future. Between polls the caller holds the state of
+    /// the call.
     pub(crate) fn poll_changed(
         &mut self,
         called_at: CallSite,
@@ -236,28 +243,33 @@ impl<T> Receiver<T> {
 
     /// Waits until the closure returns `true` for the value, and returns a reference to that value.
     ///
-    /// The closure is called with the value at the call, and after that whenever there is a value that this receiver has not seen. As in
-    /// tokio, it is called with the value at the call also if that has been seen, and values that are replaced quickly may be skipped. Each
-    /// value with which it was called is marked as seen. The reference holds a read lock: senders block until it is dropped.
+    /// The closure is called with the value at the call, and after that whenever there is a value
+    /// that this receiver has not seen. As in tokio, it is called with the value at the call also
+    /// if that has been seen, and values that are replaced quickly may be skipped. Each value with
+    /// which it was called is marked as seen. The reference holds a read lock: senders block until
+    /// it is dropped.
     ///
-    /// Each call of the closure is recorded, as a [`borrow_and_update`](Receiver::borrow_and_update), and so is each wait for a value, as a
+    /// Each call of the closure is recorded, as a
+    /// [`borrow_and_update`](Receiver::borrow_and_update), and so is each wait for a value, as a
     /// [`changed`](Receiver::changed).
     ///
     /// # Cancel safety
     ///
-    /// As in tokio, if the future is dropped before it completes, for example by `select!`, the closure has returned `false` for the last
-    /// value that was seen.
+    /// As in tokio, if the future is dropped before it completes, for example by `select!`, the
+    /// closure has returned `false` for the last value that was seen.
     ///
     /// # Errors
     ///
-    /// Returns [`RecvError`] if every sender has been dropped and the closure has returned `false` for the last value.
+    /// Returns [`RecvError`] if every sender has been dropped and the closure has returned `false`
+    /// for the last value.
     ///
     /// # Panics
     ///
     /// Panics if the closure panics. As in tokio, the channel can still be used.
     ///
-    /// The closure runs while the value is locked. Panics if the closure waits for that lock, by a send on this channel or, while a sender
-    /// waits, by a look at its value. Unlike tokio, where this is a deadlock.
+    /// The closure runs while the value is locked. Panics if the closure waits for that lock, by a
+    /// send on this channel or, while a sender waits, by a look at its value. Unlike tokio, where
+    /// this is a deadlock.
     ///
     /// # Examples
     ///
@@ -296,7 +308,8 @@ impl<T> Receiver<T> {
         }
     }
 
-    /// Returns `true` if both receivers belong to the same channel, as in tokio. It is not recorded.
+    /// Returns `true` if both receivers belong to the same channel, as in tokio. It is not
+    /// recorded.
     ///
     /// # Examples
     ///

@@ -15,8 +15,9 @@ use std::{fmt, mem, panic};
 
 /// The sending half of a watch channel.
 ///
-/// [`channel`](super::channel) and [`Sender::new`] create the first sender, `clone` creates further ones. A sender may be used from many
-/// threads: each method needs only `&self`. As in tokio, the channel is closed for its receivers when the last sender is dropped.
+/// [`channel`](super::channel) and [`Sender::new`] create the first sender, `clone` creates further
+/// ones. A sender may be used from many threads: each method needs only `&self`. As in tokio, the
+/// channel is closed for its receivers when the last sender is dropped.
 ///
 /// # Examples
 ///
@@ -39,10 +40,12 @@ pub struct Sender<T> {
 }
 
 impl<T> Sender<T> {
-    /// Creates a watch channel that holds this value and has no receiver, and returns its first sender.
+    /// Creates a watch channel that holds this value and has no receiver, and returns its first
+    /// sender.
     ///
-    /// As in tokio, this is [`channel`](super::channel) without the receiver: [`subscribe`](Sender::subscribe) creates one. The journal
-    /// begins with the drop of receiver 1, so the first receiver that is created has the number 2.
+    /// As in tokio, this is [`channel`](super::channel) without the receiver:
+    /// [`subscribe`](Sender::subscribe) creates one. The journal begins with the drop of receiver
+    /// 1, so the first receiver that is created has the number 2.
     ///
     /// # Examples
     ///
@@ -65,12 +68,14 @@ impl<T> Sender<T> {
 
     /// Replaces the value and notifies all receivers.
     ///
-    /// The value from before is dropped. The call blocks while a [`Ref`] of the channel is alive; without receivers it returns at once.
+    /// The value from before is dropped. The call blocks while a [`Ref`] of the channel is alive;
+    /// without receivers it returns at once.
     ///
     /// # Errors
     ///
-    /// Returns [`SendError`] with the new value if the channel has no receiver. As in tokio, receivers that are created later do not see
-    /// that value: the previous one stays. [`send_replace`](Sender::send_replace), [`send_modify`](Sender::send_modify) and
+    /// Returns [`SendError`] with the new value if the channel has no receiver. As in tokio,
+    /// receivers that are created later do not see that value: the previous one stays.
+    /// [`send_replace`](Sender::send_replace), [`send_modify`](Sender::send_modify) and
     /// [`send_if_modified`](Sender::send_if_modified) change the value also without receivers.
     ///
     /// # Examples
@@ -87,13 +92,15 @@ impl<T> Sender<T> {
     /// ```
     #[track_caller]
     pub fn send(&self, value: T) -> Result<(), SendError<T>> {
-        match self.handle.channel.has_text_of() {
-            true => self.send_with_text(value, call_site()),
-            false => self.send_with(value, None, call_site()),
+        if self.handle.channel.has_text_of() {
+            self.send_with_text(value, call_site())
+        } else {
+            self.send_with(value, None, call_site())
         }
     }
 
-    /// Sends a value with its text. It is apart, so that what is sent without one carries nothing of it.
+    /// Sends a value with its text. It is apart, so that what is sent without one carries nothing
+    /// of it.
     #[cold]
     fn send_with_text(&self, value: T, called_at: CallSite) -> Result<(), SendError<T>> {
         let text = self.handle.channel.text(&value);
@@ -118,7 +125,8 @@ impl<T> Sender<T> {
         }
     }
 
-    /// Sends a value while the one before is locked, perhaps by this thread. Without receivers the send changes nothing, so it doesn't wait.
+    /// Sends a value while the one before is locked, perhaps by this thread. Without receivers the
+    /// send changes nothing, so it doesn't wait.
     #[cold]
     fn send_to_locked<'a>(
         &'a self,
@@ -145,16 +153,18 @@ impl<T> Sender<T> {
 
     /// Changes the value where it is stored, and notifies all receivers.
     ///
-    /// As in tokio, the value need not be allocated again, and it is changed also if there is no receiver. If the change depends on the
-    /// value, use [`send_if_modified`](Sender::send_if_modified). The call blocks while a [`Ref`] of the channel is alive.
+    /// As in tokio, the value need not be allocated again, and it is changed also if there is no
+    /// receiver. If the change depends on the value, use
+    /// [`send_if_modified`](Sender::send_if_modified). The call blocks while a [`Ref`] of the
+    /// channel is alive.
     ///
     /// # Panics
     ///
-    /// Panics if the closure panics. As in tokio, receivers are not notified then, and a later look at the value sees what the closure has
-    /// changed so far.
+    /// Panics if the closure panics. As in tokio, receivers are not notified then, and a later look
+    /// at the value sees what the closure has changed so far.
     ///
-    /// The closure runs while the value is locked. Panics if the closure waits for the value of this channel, by a look at it or by a send.
-    /// Unlike tokio, where this is a deadlock.
+    /// The closure runs while the value is locked. Panics if the closure waits for the value of
+    /// this channel, by a look at it or by a send. Unlike tokio, where this is a deadlock.
     ///
     /// # Examples
     ///
@@ -177,11 +187,13 @@ impl<T> Sender<T> {
         });
     }
 
-    /// Changes the value where it is stored, and notifies all receivers if the closure returns `true`.
+    /// Changes the value where it is stored, and notifies all receivers if the closure returns
+    /// `true`.
     ///
-    /// Returns what the closure returns. As in tokio, the closure should return `false` only if it has not changed the value. If it has
-    /// changed it all the same, a later look sees the changed value, but no receiver is notified of it. The call blocks while a [`Ref`] of
-    /// the channel is alive.
+    /// Returns what the closure returns. As in tokio, the closure should return `false` only if it
+    /// has not changed the value. If it has changed it all the same, a later look sees the changed
+    /// value, but no receiver is notified of it. The call blocks while a [`Ref`] of the channel is
+    /// alive.
     ///
     /// # Panics
     ///
@@ -224,7 +236,8 @@ impl<T> Sender<T> {
         self.modify_by(Method::called("send_if_modified"), modify)
     }
 
-    /// Changes the value by a closure, which the caller has passed to this method, and notifies all receivers if it returns `true`.
+    /// Changes the value by a closure, which the caller has passed to this method, and notifies all
+    /// receivers if it returns `true`.
     fn modify_by<F>(&self, method: Method, modify: F) -> bool
     where
         F: FnOnce(&mut T) -> bool,
@@ -237,7 +250,8 @@ impl<T> Sender<T> {
         let mut value = self.handle.write_value(method);
         let result = lock.run_changing(|| modify(&mut value));
         let notify = matches!(result, Ok(true));
-        // The value has changed, so the core and the receivers are notified even if the function for its text panics.
+        // The value has changed, so the core and the receivers are notified even if the function
+        // for its text panics.
         let (text, text_panic) = match lock.run_changing(|| self.handle.channel.text(&value)) {
             Ok(text) => (text, None),
             Err(panicked) => (None, Some(panicked)),
@@ -245,19 +259,17 @@ impl<T> Sender<T> {
         let mut channel = self.handle.lock_at(Word::Modify, called_at);
         channel.send(
             text,
-            match notify {
-                true => {
-                    |core, caller, sender, number| core.watch_modify(caller, true, sender, number)
-                }
-                false => {
-                    |core, caller, sender, number| core.watch_modify(caller, false, sender, number)
-                }
+            if notify {
+                |core, caller, sender, number| core.watch_modify(caller, true, sender, number)
+            } else {
+                |core, caller, sender, number| core.watch_modify(caller, false, sender, number)
             },
         );
         drop(value);
-        match notify {
-            true => channel.unlock_and_wake(WaitFor::Value),
-            false => channel.unlock(),
+        if notify {
+            channel.unlock_and_wake(WaitFor::Value)
+        } else {
+            channel.unlock()
         }
         match (result, text_panic) {
             (Err(panicked), _) | (Ok(_), Some(panicked)) => panic::resume_unwind(panicked),
@@ -267,8 +279,8 @@ impl<T> Sender<T> {
 
     /// Replaces the value, notifies all receivers, and returns the value from before.
     ///
-    /// As in tokio, the buffers of that value can be used again, and the value is replaced also if there is no receiver. The call blocks
-    /// while a [`Ref`] of the channel is alive.
+    /// As in tokio, the buffers of that value can be used again, and the value is replaced also if
+    /// there is no receiver. The call blocks while a [`Ref`] of the channel is alive.
     ///
     /// # Examples
     ///
@@ -297,7 +309,8 @@ impl<T> Sender<T> {
 
     /// Returns a reference to the last value.
     ///
-    /// As in tokio, the reference holds a read lock: senders block until it is dropped, so keep it for a short time.
+    /// As in tokio, the reference holds a read lock: senders block until it is dropped, so keep it
+    /// for a short time.
     ///
     /// # Examples
     ///
@@ -316,7 +329,8 @@ impl<T> Sender<T> {
 
     /// Returns `true` if the channel has no receiver.
     ///
-    /// As in tokio, this is the case once every receiver has been dropped; [`subscribe`](Sender::subscribe) opens the channel again.
+    /// As in tokio, this is the case once every receiver has been dropped;
+    /// [`subscribe`](Sender::subscribe) opens the channel again.
     ///
     /// # Examples
     ///
@@ -342,13 +356,15 @@ impl<T> Sender<T> {
 
     /// Waits until the channel has no receiver.
     ///
-    /// If there is none at the call, the future completes at once. As in tokio, a producer learns by it that its values are no longer
-    /// needed, and [`subscribe`](Sender::subscribe) opens the channel again. If receivers are created right after the last one was dropped,
-    /// the future may complete or continue to wait.
+    /// If there is none at the call, the future completes at once. As in tokio, a producer learns
+    /// by it that its values are no longer needed, and [`subscribe`](Sender::subscribe) opens the
+    /// channel again. If receivers are created right after the last one was dropped, the future may
+    /// complete or continue to wait.
     ///
     /// # Cancel safety
     ///
-    /// As in tokio, nothing has changed if the future is dropped before it completes. It is then not recorded.
+    /// As in tokio, nothing has changed if the future is dropped before it completes. It is then
+    /// not recorded.
     ///
     /// # Examples
     ///
@@ -373,8 +389,8 @@ impl<T> Sender<T> {
 
     /// Creates a receiver, which has seen the value that the channel holds.
     ///
-    /// As in tokio, [`changed`](Receiver::changed) then waits for the next value, and a channel without receivers is open again. Other
-    /// receivers are not affected.
+    /// As in tokio, [`changed`](Receiver::changed) then waits for the next value, and a channel
+    /// without receivers is open again. Other receivers are not affected.
     ///
     /// # Examples
     ///

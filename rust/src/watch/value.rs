@@ -12,11 +12,12 @@ use std::sync::{
 };
 use std::thread;
 
-/// The value of a watch with its lock, which is acquired before that of the channel. As in tokio, a `Ref` of the value blocks senders.
+/// The value of a watch with its lock, which is acquired before that of the channel. As in tokio, a
+/// `Ref` of the value blocks senders.
 pub(super) struct ValueLock<T> {
     value: RwLock<T>,
-    // The threads that have locked the value and run user code: the one that may change it, or 0, and those that look at it. If that code
-    // waited for the lock, it would wait forever.
+    // The threads that have locked the value and run user code: the one that may change it, or 0,
+    // and those that look at it. If that code waited for the lock, it would wait forever.
     changed_by: AtomicUsize,
     read_by: Mutex<Vec<usize>>,
     /// The looks that hold the lock, as far as they are known.
@@ -69,7 +70,8 @@ impl<T> ValueLock<T> {
         self.changed_by.load(Ordering::Relaxed) == thread || lock(&self.read_by).contains(&thread)
     }
 
-    /// Runs user code while this thread has locked the value to change it. If the code panics, its panic is returned.
+    /// Runs user code while this thread has locked the value to change it. If the code panics, its
+    /// panic is returned.
     pub(super) fn run_changing<R>(&self, run: impl FnOnce() -> R) -> thread::Result<R> {
         self.changed_by.store(thread_number(), Ordering::Relaxed);
         let result = panic::catch_unwind(AssertUnwindSafe(run));
@@ -79,26 +81,26 @@ impl<T> ValueLock<T> {
 
     /// Runs user code while this thread has locked the value to read it.
     pub(super) fn run_reading<R>(&self, run: impl FnOnce() -> R) -> R {
-        let _reader = Reader::new(&self.read_by);
+        let _reader = ReadingThread::new(&self.read_by);
         run()
     }
 }
 
 /// A thread that reads a value, until this is dropped.
-struct Reader<'a> {
+struct ReadingThread<'a> {
     all: &'a Mutex<Vec<usize>>,
     thread: usize,
 }
 
-impl<'a> Reader<'a> {
-    fn new(all: &'a Mutex<Vec<usize>>) -> Reader<'a> {
+impl<'a> ReadingThread<'a> {
+    fn new(all: &'a Mutex<Vec<usize>>) -> ReadingThread<'a> {
         let thread = thread_number();
         lock(all).push(thread);
-        Reader { all, thread }
+        ReadingThread { all, thread }
     }
 }
 
-impl Drop for Reader<'_> {
+impl Drop for ReadingThread<'_> {
     fn drop(&mut self) {
         let mut all = lock(self.all);
         if let Some(index) = all.iter().position(|thread| *thread == self.thread) {

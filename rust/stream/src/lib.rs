@@ -1,11 +1,13 @@
-//! tokio-stream's [`BroadcastStream`](wrappers::BroadcastStream) and [`WatchStream`](wrappers::WatchStream) over the channels of
-//! [`yovanelum`].
+//! tokio-stream's [`BroadcastStream`](wrappers::BroadcastStream) and
+//! [`WatchStream`](wrappers::WatchStream) over the channels of [`yovanelum`].
 //!
-//! The names, signatures and results are those of `tokio_stream::wrappers`. "As in tokio-stream" marks what its documentation says about the
-//! same item, in other words. Each receive is recorded, as without a stream.
+//! The names, signatures and results are those of `tokio_stream::wrappers`. "As in tokio-stream"
+//! marks what its documentation says about the same item, in other words. Each receive is recorded,
+//! as without a stream.
 //!
-//! The crate depends on `yovanelum` and `futures-core` alone. Its streams implement the trait that tokio-stream and futures export, so the
-//! methods of `tokio_stream::StreamExt` and `futures::StreamExt` work with them.
+//! The crate depends on `yovanelum` and `futures-core` alone. Its streams implement the trait that
+//! tokio-stream and futures export, so the methods of `tokio_stream::StreamExt` and
+//! `futures::StreamExt` work with them.
 //!
 //! # Examples
 //!

@@ -1,4 +1,5 @@
-//! Streams as they wait, and what they leave in a journal. `rust/tokio` compares their items with those of tokio-stream.
+//! Streams as they wait, and what they leave in a journal. `rust/tokio` compares their items with
+//! those of tokio-stream.
 
 use futures_core::Stream;
 use std::pin::Pin;

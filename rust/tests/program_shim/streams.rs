@@ -6,7 +6,8 @@ use crate::shim::io::{BufReader, BufWriter, Error, ErrorKind, Read, Result, Writ
 use crate::support::Random;
 use std::cell::RefCell;
 
-/// The bytes 0, 1, 2, .. , given in pieces of at most `most` bytes. Every `fails`-th read fails, and takes nothing.
+/// The bytes 0, 1, 2, .. , given in pieces of at most `most` bytes. Every `fails`-th read fails,
+/// and takes nothing.
 struct Pieces {
     left: std::vec::Vec<u8>,
     most: usize,
@@ -86,7 +87,8 @@ fn a_buffered_reader_reads_only_if_it_has_nothing() {
     }
 }
 
-/// A writer that keeps what it is given, in pieces of at most `most` bytes. Every `fails`-th write fails with this error.
+/// A writer that keeps what it is given, in pieces of at most `most` bytes. Every `fails`-th write
+/// fails with this error.
 struct Kept<'a> {
     kept: &'a RefCell<std::vec::Vec<u8>>,
     most: usize,

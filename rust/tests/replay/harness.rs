@@ -4,7 +4,8 @@ use std::path::PathBuf;
 use std::{env, fs, process};
 use yovanelum::Recorder;
 
-/// A program whose result depends on the order of its calls. It returns an `Err` with the text of what is wrong. The seed says how long its threads pause.
+/// A program whose result depends on the order of its calls. It returns an `Err` with the text of
+/// what is wrong. The seed says how long its threads pause.
 pub type Program = fn(&Recorder, u64) -> Result<(), String>;
 
 fn count(variable: &str, default: u64) -> u64 {
@@ -27,7 +28,8 @@ impl Recorded {
         Recorded { journal, result }
     }
 
-    /// Replays the run so many times. Counts what came of it, and returns the first line of a replay that left the order or the result.
+    /// Replays the run so many times. Counts what came of it, and returns the first line of a
+    /// replay that left the order or the result.
     fn replay(&self, program: Program, times: u64) -> (Count, Option<String>) {
         let mut count = Count::default();
         let mut other = None;
@@ -36,9 +38,10 @@ impl Recorded {
             let result = program(&recorder, 1_000_000 + seed);
             let replayed = recorder.replayed().unwrap();
             let is_same = result == self.result;
-            match replayed.is_in_order() {
-                true => count.in_order += 1,
-                false => count.diverged += 1,
+            if replayed.is_in_order() {
+                count.in_order += 1
+            } else {
+                count.diverged += 1
             }
             count.same += u64::from(is_same);
             if !is_same || !replayed.is_in_order() {
@@ -70,7 +73,8 @@ impl Drop for Recorded {
     }
 }
 
-/// Runs a program until it has failed once and passed once, and replays both runs. Asserts that each replay gives the result of its run.
+/// Runs a program until it has failed once and passed once, and replays both runs. Asserts that
+/// each replay gives the result of its run.
 pub fn replays(name: &str, program: Program) {
     let times = count("YOVANELUM_REPLAYS", 10);
     for (count, other) in failed_and_passed(name, program, times) {
@@ -78,8 +82,8 @@ pub fn replays(name: &str, program: Program) {
     }
 }
 
-/// The same for a program in which more than the order of its calls decides. Asserts that a replay which says that it is in order gives the
-/// result of its run.
+/// The same for a program in which more than the order of its calls decides. Asserts that a replay
+/// which says that it is in order gives the result of its run.
 #[allow(dead_code)]
 pub fn tells_the_truth(name: &str, program: Program) {
     let times = count("YOVANELUM_REPLAYS", 10);

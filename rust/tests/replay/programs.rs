@@ -53,9 +53,10 @@ fn join<R>(threads: impl IntoIterator<Item = JoinHandle<R>>) -> Vec<R> {
 }
 
 fn check<T: PartialEq + std::fmt::Debug>(found: T, wanted: T) -> Outcome {
-    match found == wanted {
-        true => Ok(()),
-        false => Err(format!("{found:?} and not {wanted:?}")),
+    if found == wanted {
+        Ok(())
+    } else {
+        Err(format!("{found:?} and not {wanted:?}"))
     }
 }
 
@@ -137,9 +138,10 @@ pub fn a_receiver_of_two_senders_lags(recorder: &Recorder, seed: u64) -> Outcome
     });
     join(senders);
     let seen = chart.join().unwrap();
-    match seen.iter().any(Result::is_err) {
-        true => Err(format!("{seen:?}")),
-        false => Ok(()),
+    if seen.iter().any(Result::is_err) {
+        Err(format!("{seen:?}"))
+    } else {
+        Ok(())
     }
 }
 
@@ -183,9 +185,10 @@ pub fn bidders_share_a_sender(recorder: &Recorder, seed: u64) -> Outcome {
         .into_iter()
         .map(Result::unwrap)
         .collect();
-    match bids[0].0 == "Cem" || bids[5].0 == "Ann" {
-        true => Err(format!("{bids:?}")),
-        false => Ok(()),
+    if bids[0].0 == "Cem" || bids[5].0 == "Ann" {
+        Err(format!("{bids:?}"))
+    } else {
+        Ok(())
     }
 }
 
@@ -209,9 +212,10 @@ pub fn a_closure_that_changes_a_watch_sends_elsewhere(recorder: &Recorder, seed:
     drop(log);
     join(clerks);
     let lines: Vec<_> = all_of(&mut lines).into_iter().map(Result::unwrap).collect();
-    match lines.iter().any(|(_, stock)| *stock < 0) {
-        true => Err(format!("{lines:?}")),
-        false => Ok(()),
+    if lines.iter().any(|(_, stock)| *stock < 0) {
+        Err(format!("{lines:?}"))
+    } else {
+        Ok(())
     }
 }
 
@@ -289,9 +293,10 @@ pub fn two_threads_make_a_channel_each(recorder: &Recorder, seed: u64) -> Outcom
     join(services);
     let mut told = told.lock().unwrap().clone();
     told.sort_by_key(|(name, _)| *name);
-    match told.iter().all(|(_, all)| all.len() == 4) {
-        true => Ok(()),
-        false => Err(format!("{told:?}")),
+    if told.iter().all(|(_, all)| all.len() == 4) {
+        Ok(())
+    } else {
+        Err(format!("{told:?}"))
     }
 }
 
@@ -333,9 +338,10 @@ pub fn a_choice_of_two_channels_is_cancelled(recorder: &Recorder, seed: u64) -> 
     });
     let done = clerk.join().unwrap();
     drop(join(senders));
-    match done[0] < 200 && done[5] >= 200 {
-        true => Ok(()),
-        false => Err(format!("{done:?}")),
+    if done[0] < 200 && done[5] >= 200 {
+        Ok(())
+    } else {
+        Err(format!("{done:?}"))
     }
 }
 
@@ -365,8 +371,9 @@ pub fn the_last_owner_drops_the_sender(recorder: &Recorder, seed: u64) -> Outcom
     });
     join(owners);
     let lines = log.join().unwrap();
-    match lines.first() == Some(&"first") {
-        true => Ok(()),
-        false => Err(format!("{lines:?}")),
+    if lines.first() == Some(&"first") {
+        Ok(())
+    } else {
+        Err(format!("{lines:?}"))
     }
 }

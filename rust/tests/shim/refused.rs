@@ -1,4 +1,5 @@
-//! Each function with each of its requests for memory refused: it returns its error, and nothing has changed.
+//! Each function with each of its requests for memory refused: it returns its error, and nothing
+//! has changed.
 
 use crate::Owned;
 use crate::refusing::{Refusal, refusing};
@@ -7,9 +8,10 @@ use crate::shim::{Box, SliceExt, String, Vec, format, vec};
 use std::fmt::Debug;
 use std::io::{ErrorKind, Write};
 
-/// Makes a call without memory from its first request on, then from its second one on, and so on until it has all that it asks for. `call`
-/// makes what it works on, and checks what is left of it. It returns the call's result, which has to be an error while a request is refused.
-/// Returns how many requests there were.
+/// Makes a call without memory from its first request on, then from its second one on, and so on
+/// until it has all that it asks for. `call` makes what it works on, and checks what is left of it.
+/// It returns the call's result, which has to be an error while a request is refused. Returns how
+/// many requests there were.
 fn each_refused<T: Debug, E: Debug>(call: impl Fn(Refusal) -> (Result<T, E>, u64)) -> u64 {
     for allowed in 0.. {
         let (result, refused) = call(Refusal::after(allowed));

@@ -16,7 +16,8 @@ fn place<T>(items: &Vec<T>) -> *const T {
     items.as_slice().as_ptr()
 }
 
-/// Makes a random call that may need room, on a vector and on Rust's own. Returns the room that it needs.
+/// Makes a random call that may need room, on a vector and on Rust's own. Returns the room that it
+/// needs.
 fn grow(random: &mut Random, items: &mut Vec<u32>, model: &mut Plain) -> usize {
     let n = random.below(100) as u32;
     match random.below(4) {
@@ -92,7 +93,8 @@ fn random_calls_do_what_they_do_on_rusts_own() {
             }
         };
         check(&items, &model);
-        // It never gives room back, has that which it needs, and stays where it is if it had that before.
+        // It never gives room back, has that which it needs, and stays where it is if it had that
+        // before.
         assert!(items.capacity() >= capacity.max(needed));
         if needed <= capacity {
             assert_eq!((items.capacity(), place(&items)), (capacity, before));

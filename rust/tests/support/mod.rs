@@ -1,10 +1,14 @@
 //! What several tests share.
-#![allow(dead_code)]
+#![allow(dead_code, unused_imports)]
 
 pub mod named;
 pub mod parts;
+pub mod random;
 pub mod temporary;
 pub mod workspace;
+pub mod yielding;
+
+pub use random::Random;
 
 use std::future::Future;
 use std::io::Write;
@@ -17,23 +21,6 @@ use std::time::Duration;
 use std::{panic, thread};
 use yovanelum::Recorder;
 
-/// Random numbers from a seed (xorshift64*).
-pub struct Random(u64);
-
-impl Random {
-    pub fn new(seed: u64) -> Random {
-        Random(seed.wrapping_mul(0x9E37_79B9_7F4A_7C15) | 1)
-    }
-
-    /// A number below n.
-    pub fn below(&mut self, n: usize) -> usize {
-        self.0 ^= self.0 >> 12;
-        self.0 ^= self.0 << 25;
-        self.0 ^= self.0 >> 27;
-        (self.0.wrapping_mul(0x2545_F491_4F6C_DD1D) >> 33) as usize % n
-    }
-}
-
 /// Polls a future once and drops it. Returns its output, or `None` if it is pending.
 pub fn poll_once<F: Future>(future: F) -> Option<F::Output> {
     match pin!(future).poll(&mut Context::from_waker(Waker::noop())) {
@@ -42,7 +29,8 @@ pub fn poll_once<F: Future>(future: F) -> Option<F::Output> {
     }
 }
 
-/// Runs something that a fault may make wait forever, in a thread of its own. Returns its result, or panics after half a minute.
+/// Runs something that a fault may make wait forever, in a thread of its own. Returns its result,
+/// or panics after half a minute.
 pub fn in_time<R: Send + 'static>(act: impl FnOnce() -> R + Send + 'static) -> R {
     let (over, is_over) = mpsc::channel::<()>();
     let thread = thread::spawn(move || {
@@ -73,8 +61,9 @@ pub fn kept_journal(name: &str) -> PathBuf {
     target.unwrap().join(folder).join(format!("{name}.journal"))
 }
 
-/// Asserts that the proved debugger, `ttd check`, accepts the journal, and returns the number of its entries. The variable `YOVANELUM_TTD`
-/// names the program. Without it the entries are only counted.
+/// Asserts that the proved debugger, `ttd check`, accepts the journal, and returns the number of
+/// its entries. The variable `YOVANELUM_TTD` names the program. Without it the entries are only
+/// counted.
 pub fn accepted(recorder: &Recorder, name: &str) -> u64 {
     let path = temporary::path(&format!("{name}.journal"));
     recorder.save(&path).unwrap();
@@ -106,7 +95,8 @@ pub fn saved_names(recorder: &Recorder, name: &str) -> String {
     names
 }
 
-/// Returns what `ttd debug` writes for these commands over a journal, if the variable `YOVANELUM_TTD` names the program.
+/// Returns what `ttd debug` writes for these commands over a journal, if the variable
+/// `YOVANELUM_TTD` names the program.
 pub fn debugged(journal: &Path, commands: &str) -> Option<String> {
     let ttd = std::env::var_os("YOVANELUM_TTD")?;
     let mut walk = Command::new(ttd)

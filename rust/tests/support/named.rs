@@ -82,7 +82,8 @@ pub fn made_lines(names: &str, channel: usize) -> Vec<(u32, u32)> {
     .collect()
 }
 
-/// Asserts that the names have one item for each entry of this journal, and that each index is that of a location.
+/// Asserts that the names have one item for each entry of this journal, and that each index is that
+/// of a location.
 pub fn assert_each_call_has_its_place(journal: &str, names: &str) {
     let mut entries = BTreeMap::new();
     for entry in journal.lines().filter(|line| line.contains(" = ")) {

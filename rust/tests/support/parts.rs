@@ -1,4 +1,5 @@
-//! For tests that run their own program again for a part of the test, as a process whose output can be read.
+//! For tests that run their own program again for a part of the test, as a process whose output can
+//! be read.
 
 use std::path::{Path, PathBuf};
 use std::process::Command;
@@ -49,18 +50,21 @@ fn built(folder: &Path) -> PathBuf {
     program
 }
 
-/// Returns the folder with the files of tests of this program, where it was built in the folder `built` of this one.
+/// Returns the folder with the files of tests of this program, where it was built in the folder
+/// `built` of this one.
 pub fn files(folder: &Path) -> PathBuf {
     let package = folder.join("built").join("yovanelum").join("yovanelum");
     package.join(format!("test-{PROGRAM}"))
 }
 
-/// Returns a file's address, as a browser takes it. Windows has a letter for the drive and backslashes in the path.
+/// Returns a file's address, as a browser takes it. Windows has a letter for the drive and
+/// backslashes in the path.
 pub fn address(path: &Path) -> String {
     let path = path.display().to_string();
-    match cfg!(windows) {
-        true => format!("file:///{}", path.replace('\\', "/")),
-        false => format!("file://{path}"),
+    if cfg!(windows) {
+        format!("file:///{}", path.replace('\\', "/"))
+    } else {
+        format!("file://{path}")
     }
 }
 
@@ -99,7 +103,8 @@ pub fn started(test: &str, folder: &Path) -> Command {
     part
 }
 
-/// Runs the part of this test in the folder. Returns whether it succeeds, and what it writes to standard error.
+/// Runs the part of this test in the folder. Returns whether it succeeds, and what it writes to
+/// standard error.
 pub fn play(test: &str, folder: &Path, keep: Option<&str>) -> (bool, String) {
     let mut part = started(test, folder);
     part.arg("--nocapture")
@@ -138,7 +143,8 @@ pub fn our_lines(said: &str) -> Vec<String> {
     ours.map(without_options).collect()
 }
 
-/// Returns the lines of a failed assertion and of this crate from what a program wrote to standard error.
+/// Returns the lines of a failed assertion and of this crate from what a program wrote to standard
+/// error.
 pub fn lines_of_failure(said: &str) -> String {
     let lines = said.lines().filter(|line| {
         let starts = ["assertion ", "  left: ", " right: "];
@@ -161,8 +167,8 @@ pub fn line_after(source: &str, text: &str) -> u32 {
     numbered.find(|(_, line)| line.contains(text)).unwrap().0
 }
 
-/// Returns a text in which places in one file are those in another, into which its lines from `from` on were copied to `to`, four columns to
-/// the right.
+/// Returns a text in which places in one file are those in another, into which its lines from
+/// `from` on were copied to `to`, four columns to the right.
 pub fn relocated(text: &str, (file, from): (&str, u32), (copy, to): (&str, u32)) -> String {
     let mut parts = text.split(file);
     let mut out = parts.next().unwrap().to_string();

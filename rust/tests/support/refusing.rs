@@ -1,4 +1,5 @@
-//! An allocator that refuses requests of one thread: those that a `Refusal` names, while a closure runs.
+//! An allocator that refuses requests of one thread: those that a `Refusal` names, while a closure
+//! runs.
 //!
 //! A program that uses it says `#[global_allocator] static ALLOCATOR: Refusing = Refusing;`.
 #![allow(dead_code)]
@@ -51,7 +52,8 @@ thread_local! {
     static REFUSED: Cell<u64> = const { Cell::new(0) };
 }
 
-/// Runs a closure, and refuses these requests of this thread in it. Returns also how many were refused.
+/// Runs a closure, and refuses these requests of this thread in it. Returns also how many were
+/// refused.
 pub fn refusing<T>(refusal: Refusal, run: impl FnOnce() -> T) -> (T, u64) {
     struct Disarm;
 
@@ -100,7 +102,8 @@ fn is_refused(size: usize) -> bool {
 /// The system's allocator, which refuses what it is told to.
 pub struct Refusing;
 
-// SAFETY: each call is passed on to the system's allocator, or refused by a null pointer, and then the block stays as it was.
+// SAFETY: each call is passed on to the system's allocator, or refused by a null pointer, and then
+// the block stays as it was.
 unsafe impl GlobalAlloc for Refusing {
     unsafe fn alloc(&self, layout: Layout) -> *mut u8 {
         if is_refused(layout.size()) {

@@ -19,9 +19,10 @@ pub fn name(of: &str) -> String {
 
 /// A path in the folder of temporary files, which WebAssembly finds in the variable `TMPDIR` alone.
 pub fn path(file: &str) -> PathBuf {
-    let folder = match cfg!(target_family = "wasm") {
-        true => PathBuf::from(env::var_os("TMPDIR").unwrap()),
-        false => env::temp_dir(),
+    let folder = if cfg!(target_family = "wasm") {
+        PathBuf::from(env::var_os("TMPDIR").unwrap())
+    } else {
+        env::temp_dir()
     };
     folder.join(format!("yovanelum-{}-{file}", number()))
 }

@@ -1,5 +1,5 @@
-//! The budget of tasks, by which a call that is always ready gives way to other tasks: tokio's own, where its version offers it, or else that of
-//! yovanelum, with which tasks are wrapped.
+//! The budget of tasks, by which a call that is always ready gives way to other tasks: tokio's own,
+//! where its version offers it, or else that of yovanelum, with which tasks are wrapped.
 
 use std::future::Future;
 use std::pin::pin;
@@ -75,8 +75,9 @@ pub(crate) fn tell() {
 
 /// Runs the future of a runtime that blocks on it. As in tokio, it has a budget too.
 pub(crate) async fn blocked_on<F: Future>(future: F) -> F::Output {
-    match is_offered() {
-        true => future.await,
-        false => yovanelum::budgeted(future).await,
+    if is_offered() {
+        future.await
+    } else {
+        yovanelum::budgeted(future).await
     }
 }

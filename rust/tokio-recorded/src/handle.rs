@@ -7,7 +7,8 @@ use real_tokio::task::JoinHandle;
 use std::future::Future;
 use std::ops::Deref;
 
-/// tokio's handle. It has the methods that are called most, and dereferences to tokio's own for others.
+/// tokio's handle. It has the methods that are called most, and dereferences to tokio's own for
+/// others.
 #[derive(Debug, Clone)]
 pub struct Handle(pub(crate) theirs::Handle);
 

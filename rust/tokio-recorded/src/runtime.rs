@@ -1,7 +1,8 @@
 //! tokio's `runtime`, with a builder and a runtime whose threads follow the one that builds.
 //!
-//! So `#[tokio::test(flavor = "multi_thread")]` needs no other line, nor does `Runtime::new()`: a recorder that the test creates is entered on
-//! the threads of its runtime too, where its tasks run. Tasks without a name are told apart by their ids, where this tokio has `task::try_id`. An
+//! So `#[tokio::test(flavor = "multi_thread")]` needs no other line, nor does `Runtime::new()`: a
+//! recorder that the test creates is entered on the threads of its runtime too, where its tasks
+//! run. Tasks without a name are told apart by their ids, where this tokio has `task::try_id`. An
 //! older one, as 1.24, has it under `--cfg tokio_unstable` alone.
 
 pub use crate::handle::Handle;
@@ -18,10 +19,12 @@ use std::ops::{Deref, DerefMut};
 use std::time::Duration;
 use yovanelum::follow_this_thread;
 
-/// tokio's builder. The threads of its runtime have the recorder that is entered on the thread which has created the builder.
+/// tokio's builder. The threads of its runtime have the recorder that is entered on the thread
+/// which has created the builder.
 ///
-/// It has tokio's stable methods, and dereferences to tokio's own for all others. After one of those in a chain, `on_thread_start` replaces the
-/// function by which the threads follow, and `build` returns tokio's own runtime.
+/// It has tokio's stable methods, and dereferences to tokio's own for all others. After one of
+/// those in a chain, `on_thread_start` replaces the function by which the threads follow, and
+/// `build` returns tokio's own runtime.
 #[derive(Debug)]
 pub struct Builder(theirs::Builder);
 
@@ -110,7 +113,8 @@ impl DerefMut for Builder {
     }
 }
 
-/// tokio's runtime. Its threads have the recorder that is entered on the thread which has built it. It dereferences to tokio's own.
+/// tokio's runtime. Its threads have the recorder that is entered on the thread which has built it.
+/// It dereferences to tokio's own.
 #[derive(Debug)]
 pub struct Runtime {
     runtime: theirs::Runtime,

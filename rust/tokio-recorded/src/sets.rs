@@ -11,7 +11,8 @@ use std::panic::resume_unwind;
 use std::pin::Pin;
 use std::task::{Context, Poll};
 
-/// tokio's set of tasks. It has tokio's methods of 1.24, and dereferences to tokio's own for others.
+/// tokio's set of tasks. It has tokio's methods of 1.24, and dereferences to tokio's own for
+/// others.
 pub struct JoinSet<T>(theirs::JoinSet<T>);
 
 impl<T> JoinSet<T> {
@@ -146,7 +147,8 @@ where
     }
 }
 
-/// tokio's set of tasks of one thread. It has tokio's stable methods, and dereferences to tokio's own for others.
+/// tokio's set of tasks of one thread. It has tokio's stable methods, and dereferences to tokio's
+/// own for others.
 #[derive(Debug, Default)]
 pub struct LocalSet(theirs::LocalSet);
 

@@ -1,22 +1,22 @@
-//! Tasks, which are seen where a test is explored. Else they are tokio's own, as they are given, but for a budget where tokio offers none.
+//! Tasks, which are seen where a test is explored. Else they are tokio's own, as they are given,
+//! but for a budget where tokio offers none.
 
 use real_tokio::task::{self, JoinHandle};
 use std::future::Future;
 
-/// Spawns a future by a method of tokio's. Where a test is explored, it is wrapped before: its polls are chosen then. Else it is wrapped where its
-/// polls need a budget of yovanelum's. It is for functions that track their caller, whose place tells the task from others.
+/// Spawns a future by a method of tokio's. Where a test is explored, it is wrapped before: its
+/// polls are chosen then. Else it is wrapped where its polls need a budget of yovanelum's. It is
+/// for functions that track their caller, whose place tells the task from others.
 macro_rules! seen {
     ($future:ident => $spawn:expr) => {
-        match yovanelum::is_explored() {
-            true => {
-                let $future = yovanelum::explored($future);
-                $spawn
-            }
-            false if crate::budget::is_offered() => $spawn,
-            false => {
-                let $future = yovanelum::budgeted($future);
-                $spawn
-            }
+        if yovanelum::is_explored() {
+            let $future = yovanelum::explored($future);
+            $spawn
+        } else if crate::budget::is_offered() {
+            $spawn
+        } else {
+            let $future = yovanelum::budgeted($future);
+            $spawn
         }
     };
 }

@@ -1,17 +1,20 @@
-//! The number of the task that a thread runs, by which yovanelum tells apart the tasks that have no name.
+//! The number of the task that a thread runs, by which yovanelum tells apart the tasks that have no
+//! name.
 
 use crate::budget;
 use std::hash::{Hash, Hasher};
 use yovanelum::{set_patch, set_task_id};
 
-/// Tells yovanelum how to know the current task and its budget, and that this package is part of the build.
+/// Tells yovanelum how to know the current task and its budget, and that this package is part of
+/// the build.
 pub(crate) fn tell_apart() {
     set_task_id(current);
     budget::tell();
     set_patch(env!("CARGO_MANIFEST_DIR"));
 }
 
-/// Returns the number of the task that this thread runs. Versions of tokio that have no `try_id` never say that there is one.
+/// Returns the number of the task that this thread runs. Versions of tokio that have no `try_id`
+/// never say that there is one.
 fn current() -> Option<u64> {
     // A name of the glob is taken before one of this file.
     #[allow(unused_imports)]

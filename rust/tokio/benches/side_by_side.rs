@@ -1,5 +1,5 @@
-//! Nanoseconds a receive of receivers on four threads, each of which receives all, recorded, with no recorder set, and of tokio: `cargo bench
-//! --bench side_by_side -- CALLS REPEATS`.
+//! Nanoseconds a receive of receivers on four threads, each of which receives all, recorded, with
+//! no recorder set, and of tokio: `cargo bench --bench side_by_side -- CALLS REPEATS`.
 
 use std::hint::black_box;
 use std::sync::Barrier;
@@ -12,7 +12,8 @@ const SENT: usize = 4096;
 
 macro_rules! case {
     ($name:ident, $module:path) => {
-        /// Receivers in equal parts on four threads, which receive side by side what was sent before. The sends aren't timed.
+        /// Receivers in equal parts on four threads, which receive side by side what was sent
+        /// before. The sends aren't timed.
         fn $name(calls: usize, receivers: usize) -> f64 {
             use $module as channels;
             let (tx, rx) = channels::broadcast::channel(SENT);
@@ -40,7 +41,8 @@ macro_rules! case {
                     for value in 0..SENT {
                         tx.send(value).unwrap();
                     }
-                    // The others wait there by now. After it, they may be done before this thread runs again.
+                    // The others wait there by now. After it, they may be done before this thread
+                    // runs again.
                     let start = Instant::now();
                     barrier.wait();
                     barrier.wait();

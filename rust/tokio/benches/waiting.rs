@@ -1,4 +1,5 @@
-//! Nanoseconds to wait, to be polled again, to be cancelled and to be woken, where many wait, beside tokio: `cargo bench -- WAITERS REPEATS`.
+//! Nanoseconds to wait, to be polled again, to be cancelled and to be woken, where many wait,
+//! beside tokio: `cargo bench -- WAITERS REPEATS`.
 
 use std::future::Future;
 use std::pin::Pin;
@@ -36,7 +37,8 @@ fn poll_each<R>(futures: &mut [Waiting<'_, R>], waker: &Waker) {
     }
 }
 
-/// Waiting, being polled again with another waker, being cancelled from the first on, and the same of every second future.
+/// Waiting, being polled again with another waker, being cancelled from the first on, and the same
+/// of every second future.
 fn cancelled<R>(mut futures: Vec<Waiting<'_, R>>) -> Vec<f64> {
     let (count, first, second) = (futures.len(), waker(), waker());
     let waits = each(count, || poll_each(&mut futures, &first));

@@ -1,5 +1,8 @@
-//! The same tasks receive from channels that are never empty: one of tokio's that counts towards its budget, and those of this crate. Both give
-//! way after as many receives.
+//! The same tasks receive from channels that are never empty: one of tokio's that counts towards
+//! its budget, and those of this crate. Both give way after as many receives.
+
+#[path = "../../tests/support/yielding.rs"]
+mod yielding;
 
 use std::cell::{Cell, RefCell};
 use std::future::{Future, poll_fn};
@@ -10,24 +13,11 @@ use tokio::runtime::Builder;
 use tokio::sync::mpsc;
 use tokio::task::LocalSet;
 use tokio_stream::StreamExt;
+use yielding::yield_now;
 use yovanelum::{broadcast, named, watch};
 use yovanelum_stream::wrappers::BroadcastStream;
 
 const VALUES: u32 = 500;
-
-/// Is ready when the task is polled again. tokio's own leaves a set of tasks first.
-async fn yield_now() {
-    let mut has_yielded = false;
-    poll_fn(|context| {
-        if has_yielded {
-            return Poll::Ready(());
-        }
-        has_yielded = true;
-        context.waker().wake_by_ref();
-        Poll::Pending
-    })
-    .await
-}
 
 /// Returns how often a task counted before each turn of another task of its thread.
 fn counted_at_turns(task: impl AsyncFnOnce(Rc<Cell<u32>>) + 'static) -> Vec<u32> {

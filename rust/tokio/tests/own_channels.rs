@@ -1,4 +1,5 @@
-//! Tests side by side in one process, each with tasks on many threads: each has its own channels in its journal, and no others.
+//! Tests side by side in one process, each with tasks on many threads: each has its own channels in
+//! its journal, and no others.
 
 use std::sync::Arc;
 use std::thread;
@@ -22,7 +23,8 @@ fn open(number: usize) {
     }
 }
 
-/// What is tested: it knows of no recorder. It opens ten channels, of which nine are opened by tasks and by a thread that may block.
+/// What is tested: it knows of no recorder. It opens ten channels, of which nine are opened by
+/// tasks and by a thread that may block.
 async fn service(both: Arc<Barrier>) {
     open(0);
     let tasks: Vec<_> = (1..9)
@@ -41,7 +43,8 @@ async fn service(both: Arc<Barrier>) {
     tokio::task::spawn_blocking(|| open(9)).await.unwrap();
 }
 
-/// Runs two tests side by side, each by this function on a thread of its own. Returns how many channels their journals have.
+/// Runs two tests side by side, each by this function on a thread of its own. Returns how many
+/// channels their journals have.
 fn side_by_side(test: fn(Arc<Barrier>) -> usize) -> [usize; 2] {
     let both = Arc::new(Barrier::new(16));
     let tests = [(); 2].map(|()| {
@@ -66,7 +69,8 @@ fn of_runtimes_whose_threads_enter_the_recorder() {
     assert_eq!(counts, [10, 10]);
 }
 
-/// Builds a runtime before there is a recorder, as a package that stands in for tokio may do for `#[tokio::test]`.
+/// Builds a runtime before there is a recorder, as a package that stands in for tokio may do for
+/// `#[tokio::test]`.
 fn runtime() -> Runtime {
     Builder::new_multi_thread()
         .worker_threads(4)

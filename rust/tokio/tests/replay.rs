@@ -1,7 +1,9 @@
-//! Flaky programs of tasks, recorded and replayed, on runtimes of one thread and of several: each gives again the result that its journal is
-//! of, whatever the scheduler does meanwhile. Each task has a name, and so has what runs the test.
+//! Flaky programs of tasks, recorded and replayed, on runtimes of one thread and of several: each
+//! gives again the result that its journal is of, whatever the scheduler does meanwhile. Each task
+//! has a name, and so has what runs the test.
 //!
-//! `YOVANELUM_FREE_RUNS=200 YOVANELUM_REPLAYS=100 cargo test --release --test replay -- --nocapture` prints how often each fails.
+//! `YOVANELUM_FREE_RUNS=200 YOVANELUM_REPLAYS=100 cargo test --release --test replay --
+//! --nocapture` prints how often each fails.
 
 #[path = "../../tests/replay/harness.rs"]
 mod harness;
@@ -33,7 +35,8 @@ impl Pauses {
         Pauses(Random::new(seed * 4096 + number))
     }
 
-    /// Pends once, and then for a while. How often a task pends is the same in each run, and how long isn't.
+    /// Pends once, and then for a while. How often a task pends is the same in each run, and how
+    /// long isn't.
     async fn pause(&mut self) {
         yield_now().await;
         match self.0.below(3) {
@@ -69,9 +72,10 @@ where
 }
 
 fn check<T: PartialEq + Debug>(found: T, wanted: T) -> Outcome {
-    match found == wanted {
-        true => Ok(()),
-        false => Err(format!("{found:?} and not {wanted:?}")),
+    if found == wanted {
+        Ok(())
+    } else {
+        Err(format!("{found:?} and not {wanted:?}"))
     }
 }
 
@@ -112,9 +116,10 @@ async fn choices(seed: u64) -> Outcome {
         done
     });
     let done = clerk.await.unwrap();
-    match done[0] < 200 {
-        true => Ok(()),
-        false => Err(format!("{done:?}")),
+    if done[0] < 200 {
+        Ok(())
+    } else {
+        Err(format!("{done:?}"))
     }
 }
 
@@ -198,9 +203,10 @@ async fn states(seed: u64) -> Outcome {
         found.push(task.await.unwrap());
     }
     owner.await.unwrap();
-    match found.contains(&4) {
-        true => Ok(()),
-        false => Err(format!("{found:?}")),
+    if found.contains(&4) {
+        Ok(())
+    } else {
+        Err(format!("{found:?}"))
     }
 }
 
@@ -228,9 +234,10 @@ async fn joined(seed: u64) -> Outcome {
     tokio::join!(say("a"), say("b"), say("c"));
     drop(bus);
     let said = all_of(&mut log).await;
-    match said[0] == Ok(("a", 0)) {
-        true => Ok(()),
-        false => Err(format!("{said:?}")),
+    if said[0] == Ok(("a", 0)) {
+        Ok(())
+    } else {
+        Err(format!("{said:?}"))
     }
 }
 
@@ -270,7 +277,8 @@ fn a_runtime_that_ends_in_mid_run(recorder: &Recorder, seed: u64) -> Outcome {
     result
 }
 
-/// When a runtime ends isn't in a journal. So a task may be dropped before a call that it has made there, and that is said.
+/// When a runtime ends isn't in a journal. So a task may be dropped before a call that it has made
+/// there, and that is said.
 #[test]
 fn a_runtime_that_ends_in_mid_run_is_replayed_or_parts() {
     in_time(|| {
@@ -281,15 +289,17 @@ fn a_runtime_that_ends_in_mid_run_is_replayed_or_parts() {
     });
 }
 
-/// Two tasks of one thread take turns at a receiver, each of three times, or each has one of its own.
+/// Two tasks of one thread take turns at a receiver, each of three times, or each has one of its
+/// own.
 fn turns(recorder: &Recorder, is_shared: bool) -> Replayed {
     let _entered = recorder.enter();
     one_thread().block_on(async {
         let (bus, first) = broadcast::channel(8);
         let first = Arc::new(Mutex::new(first));
-        let second = match is_shared {
-            true => first.clone(),
-            false => Arc::new(Mutex::new(bus.subscribe())),
+        let second = if is_shared {
+            first.clone()
+        } else {
+            Arc::new(Mutex::new(bus.subscribe()))
         };
         for number in 0..6 {
             bus.send(number).unwrap();

@@ -1,21 +1,15 @@
-//! The same random calls on tokio's channels and on these: the same answers, and values dropped at the same calls.
+//! The same random calls on tokio's channels and on these: the same answers, and values dropped at
+//! the same calls.
 
+#[path = "../../tests/support/random.rs"]
+mod random;
+
+use random::Random;
 use std::future::Future;
 use std::pin::pin;
 use std::rc::{Rc, Weak};
 use std::task::{Context, Poll};
 use tokio::sync as theirs;
-
-struct Random(u64);
-
-impl Random {
-    fn below(&mut self, n: usize) -> usize {
-        self.0 ^= self.0 >> 12;
-        self.0 ^= self.0 << 25;
-        self.0 ^= self.0 >> 27;
-        (self.0.wrapping_mul(0x2545_F491_4F6C_DD1D) >> 33) as usize % n
-    }
-}
 
 fn poll_once<F: Future>(future: F) -> Option<F::Output> {
     let waker = std::task::Waker::noop();
@@ -30,7 +24,7 @@ macro_rules! broadcast_script {
     ($name:ident, $module:path) => {
         fn $name(seed: u64) -> Vec<String> {
             use $module as broadcast;
-            let mut random = Random(seed.wrapping_mul(0x9E37_79B9_7F4A_7C15) | 1);
+            let mut random = Random::new(seed);
             let (tx, rx) = broadcast::channel::<Rc<u64>>(1 + random.below(5));
             let (mut senders, mut receivers) = (vec![tx], vec![rx]);
             let (mut said, mut values): (Vec<String>, Vec<Weak<u64>>) = (vec![], vec![]);
@@ -94,7 +88,7 @@ macro_rules! watch_script {
     ($name:ident, $module:path) => {
         fn $name(seed: u64) -> Vec<String> {
             use $module as watch;
-            let mut random = Random(seed.wrapping_mul(0x9E37_79B9_7F4A_7C15) | 1);
+            let mut random = Random::new(seed);
             let (tx, rx) = watch::channel(0u64);
             let (mut sender, mut receivers) = (Some(tx), vec![rx]);
             let mut said = vec![];

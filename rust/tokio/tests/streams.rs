@@ -1,21 +1,15 @@
-//! The same random calls on tokio-stream's streams over tokio's channels, and on these: the same items, and the same wakes.
+//! The same random calls on tokio-stream's streams over tokio's channels, and on these: the same
+//! items, and the same wakes.
 
+#[path = "../../tests/support/random.rs"]
+mod random;
+
+use random::Random;
 use std::pin::Pin;
 use std::sync::Arc;
 use std::sync::atomic::{AtomicU64, Ordering};
 use std::task::{Context, Poll, Wake, Waker};
 use tokio_stream::Stream;
-
-struct Random(u64);
-
-impl Random {
-    fn below(&mut self, n: usize) -> usize {
-        self.0 ^= self.0 >> 12;
-        self.0 ^= self.0 << 25;
-        self.0 ^= self.0 >> 27;
-        (self.0.wrapping_mul(0x2545_F491_4F6C_DD1D) >> 33) as usize % n
-    }
-}
 
 /// Counts how often a stream's task is woken.
 #[derive(Default)]
@@ -60,13 +54,14 @@ macro_rules! change {
     };
 }
 
-/// Random calls on a channel and its streams: what each returns, and whose tasks were woken so far, as text.
+/// Random calls on a channel and its streams: what each returns, and whose tasks were woken so far,
+/// as text.
 macro_rules! script {
     ($name:ident, $channel:path, $streams:path, $stream:ident, $open:expr, $send:expr) => {
         fn $name(seed: u64) -> Vec<String> {
             use $channel as channel;
             use $streams as streams;
-            let mut random = Random(seed.wrapping_mul(0x9E37_79B9_7F4A_7C15) | 1);
+            let mut random = Random::new(seed);
             let (tx, rx) = channel::channel($open(&mut random));
             let (mut sender, mut said) = (Some(tx), vec![]);
             let mut tasks = vec![Task::new(streams::$stream::new(rx))];

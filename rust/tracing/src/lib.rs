@@ -1,10 +1,11 @@
 //! Events of the channels of [`yovanelum`] for [`tracing`]: a receiver lags, or a channel closes.
 //!
-//! A service that logs by tracing calls [`install`] when it starts. From then on each `Lagged` of a broadcast channel is an event, which says
-//! what the error doesn't: which channel and which receiver it was, where they were created, how much was lost, and who sent last.
+//! A service that logs by tracing calls [`install`] when it starts. From then on each `Lagged` of a
+//! broadcast channel is an event, which says what the error doesn't: which channel and which
+//! receiver it was, where they were created, how much was lost, and who sent last.
 //!
-//! The target of the events is `yovanelum`. A lag has the level warn, and a channel whose last sender is dropped the level info, since most
-//! channels are closed on purpose.
+//! The target of the events is `yovanelum`. A lag has the level warn, and a channel whose last
+//! sender is dropped the level info, since most channels are closed on purpose.
 //!
 //! | Field | Event | |
 //! |---|---|---|
@@ -44,8 +45,9 @@ const TARGET: &str = "yovanelum";
 
 /// Emits an event for each lag and each close of the process's channels, from now on.
 ///
-/// It sets the closures of [`yovanelum::on_lag`] and [`yovanelum::on_close`], and replaces those that were set before. A program that does more
-/// with an event sets its own closure, and calls [`lag`] or [`close`] in it.
+/// It sets the closures of [`yovanelum::on_lag`] and [`yovanelum::on_close`], and replaces those
+/// that were set before. A program that does more with an event sets its own closure, and calls
+/// [`lag`] or [`close`] in it.
 ///
 /// # Examples
 ///

@@ -1,4 +1,5 @@
 """Plants an edit in a copy of the Rust source, compiles the program, and runs tests over it."""
+import glob
 import hashlib
 import os
 import shutil
@@ -12,12 +13,15 @@ sys.path.insert(0, f"{os.path.dirname(os.path.dirname(HERE))}/tools/erasing")
 from eraser import layout, rust  # noqa: E402
 
 # Most of a program stays compiled from one edit to the next, since it has many parts that aren't optimised together. A program without symbols is the
-# same where its code is.
+# same where its code is. Tests aren't optimised, since they compile longer than they run.
 PROFILE = {"CARGO_PROFILE_RELEASE_OPT_LEVEL": "1", "CARGO_PROFILE_RELEASE_INCREMENTAL": "true", "CARGO_PROFILE_RELEASE_CODEGEN_UNITS": "256",
-           "CARGO_PROFILE_RELEASE_LTO": "off", "CARGO_PROFILE_RELEASE_STRIP": "symbols", "CARGO_NET_OFFLINE": "true", "RUSTFLAGS": "--cap-lints allow"}
+           "CARGO_PROFILE_RELEASE_LTO": "off", "CARGO_PROFILE_RELEASE_STRIP": "symbols", "CARGO_PROFILE_DEV_DEBUG": "0", "CARGO_NET_OFFLINE": "true",
+           "RUSTFLAGS": "--cap-lints allow"}
 # The tests of the Rust crate that compare its calls, its journals and what is found in them with models or with the kit's program.
 CRATE = ("--lib", "--test", "model_broadcast", "--test", "model_watch", "--test", "journals", "--test", "limits", "--test", "broadcast", "--test", "watch")
 MOST_SECONDS = 900
+# Tests that take no time of a processor for so long wait for what never happens.
+MOST_IDLE_SECONDS = 60
 # The program alone. Cargo would compile the library of its package too, of which it uses nothing.
 PROGRAM = """[package]
 name = "planted"
@@ -64,16 +68,36 @@ def pairs_of(text):
             yield path, old, rest
 
 
+def spent(group):
+    """The time of processors that the threads of a group of processes took, in the kernel's ticks, or None where one of them could go on now."""
+    ticks = 0
+    for thread in glob.glob("/proc/[0-9]*/task/[0-9]*/stat"):
+        try:
+            with open(thread, encoding="utf-8", errors="replace") as file:
+                state, _, of, *rest = file.read().rpartition(")")[2].split()
+        except OSError:
+            continue
+        if int(of) == group:
+            if state in "RD":
+                return None
+            ticks += sum(map(int, rest[8:12]))
+    return ticks
+
+
 def run(words, folder, target):
     """Whether a command of cargo succeeds, in time."""
     env = {**os.environ, **PROFILE, "CARGO_TARGET_DIR": target}
     child = subprocess.Popen(words, cwd=folder, env=env, stdin=subprocess.DEVNULL, stdout=subprocess.DEVNULL, stderr=subprocess.DEVNULL, start_new_session=True)
-    try:
-        return child.wait(MOST_SECONDS) == 0
-    except subprocess.TimeoutExpired:
-        os.killpg(child.pid, signal.SIGKILL)
-        child.wait()
-        return False
+    for _ in range(MOST_SECONDS // MOST_IDLE_SECONDS):
+        before = spent(child.pid)
+        try:
+            return child.wait(MOST_IDLE_SECONDS) == 0
+        except subprocess.TimeoutExpired:
+            if before is not None and spent(child.pid) == before:
+                break
+    os.killpg(child.pid, signal.SIGKILL)
+    child.wait()
+    return False
 
 
 class Lane:
@@ -87,7 +111,8 @@ class Lane:
         os.makedirs(f"{folder}/program", exist_ok=True)
         with open(f"{folder}/program/Cargo.toml", "w", encoding="utf-8") as file:
             file.write(PROGRAM)
-        shutil.copytree(f"{top}/rust", self.rust, ignore=shutil.ignore_patterns("target", "x86_64-linux", "tokio*"))
+        # The files are new, so that nothing stays that cargo compiled of an edit.
+        shutil.copytree(f"{top}/rust", self.rust, ignore=shutil.ignore_patterns("target", "x86_64-linux", "tokio*"), copy_function=shutil.copy)
         shutil.rmtree(f"{folder}/tests", ignore_errors=True)
         shutil.copytree(f"{top}/tests/core", f"{folder}/tests/core", ignore=shutil.ignore_patterns("target"))
         if not (self.build() and self.reads_library() and self.core_tests() and self.crate_tests()):
@@ -145,11 +170,11 @@ class Lane:
         return run(["cargo", "check", "--locked", "-j2", "-p", "proved"], f"{self.folder}/tests/core", f"{self.folder}/target-core")
 
     def reads_library(self):
-        return run(["cargo", "check", "--release", "--locked", "-j2", "--lib"], self.rust, self.target)
+        return run(["cargo", "check", "--locked", "-j2", "--lib"], self.rust, self.target)
 
     def core_tests(self):
         words = ["cargo", "test", "--locked", "-j2", "--test", "calls", "--test", "texts", "--", "--test-threads=2"]
         return run(words, f"{self.folder}/tests/core", f"{self.folder}/target-core")
 
     def crate_tests(self):
-        return run(["cargo", "test", "--release", "--locked", "-j2", *CRATE, "--", "--test-threads=2"], self.rust, self.target)
+        return run(["cargo", "test", "--locked", "-j2", *CRATE, "--", "--test-threads=2"], self.rust, self.target)

@@ -72,7 +72,7 @@ impl<V: Copy> Broadcast<V> {
         }
     }
 
-    /// Returns how many handles were made.
+    /// Returns how many handles were made, without those that `renumber` took out.
     pub fn made(&self) -> u32
         ensures { result ≡ length self.now.shown.slots }
     {

@@ -62,7 +62,8 @@ impl Breakpoints {
         self.replace("functions".to_string(), asked, recording)
     }
 
-    /// Sets those of data: each is a condition of the console. A last word `N` stands for a number that the client gives as the condition.
+    /// Sets those of data: each is a condition of the console. A last word `N` stands for a number
+    /// that the client gives as the condition.
     pub(crate) fn set_data(&mut self, given: Arguments<'_>, recording: &mut Recording) -> Answer {
         let mut asked = vec![];
         let nothing = Value::Null;
@@ -90,7 +91,8 @@ impl Breakpoints {
     }
 }
 
-/// Returns the first line from this one on that has calls, with their places; and of this column, if calls of the line have it.
+/// Returns the first line from this one on that has calls, with their places; and of this column,
+/// if calls of the line have it.
 fn line_with_calls(
     recording: &Recording,
     file: &str,
@@ -130,9 +132,10 @@ fn places_of_function(name: &str, recording: &Recording) -> Result<Places, Strin
         };
         is_its && recording.names.method(place.into(), entry) == method
     });
-    match places.is_empty() {
-        true => Err(format!("the run has no call of `{name}`")),
-        false => Ok(places),
+    if places.is_empty() {
+        Err(format!("the run has no call of `{name}`"))
+    } else {
+        Ok(places)
     }
 }
 

@@ -10,14 +10,14 @@ use std::vec::IntoIter;
 /// How deep an expression may be nested.
 const DEPTH: usize = 32;
 
-struct Reader<'a> {
+struct ExpressionReader<'a> {
     tokens: Peekable<IntoIter<Token>>,
     recording: &'a Recording,
     depth: usize,
 }
 
 pub(super) fn read(text: &str, recording: &Recording) -> Answer<Expression> {
-    let mut reader = Reader {
+    let mut reader = ExpressionReader {
         tokens: split(text)?.into_iter().peekable(),
         recording,
         depth: 0,
@@ -37,7 +37,7 @@ fn shown(token: &Token) -> String {
     }
 }
 
-impl Reader<'_> {
+impl ExpressionReader<'_> {
     fn takes(&mut self, sign: &'static str) -> bool {
         self.tokens.next_if_eq(&Token::Sign(sign)).is_some()
     }
@@ -74,9 +74,10 @@ impl Reader<'_> {
         }
         if self.takes("(") {
             let inner = self.either()?;
-            return match self.takes(")") {
-                true => Ok(inner),
-                false => Err(Refusal::new("`)` is missing")),
+            return if self.takes(")") {
+                Ok(inner)
+            } else {
+                Err(Refusal::new("`)` is missing"))
             };
         }
         self.comparison()

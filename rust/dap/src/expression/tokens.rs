@@ -6,7 +6,8 @@ use std::str::Chars;
 
 #[derive(Clone, Debug, PartialEq, Eq)]
 pub(super) enum Token {
-    /// A name or a number, with the parts after its points: `audit.lag`. A part may be between backquotes.
+    /// A name or a number, with the parts after its points: `audit.lag`. A part may be between
+    /// backquotes.
     Word(Vec<String>),
     Text(String),
     /// An operator or a parenthesis.

@@ -15,6 +15,32 @@ use yovanelum_dap::{Options, serve};
 /// How long an answer may take. It is far more than any takes.
 const PATIENCE: Duration = Duration::from_secs(120);
 
+/// How many random runs are made: this many, or as many as the variable `YOVANELUM_RUNS` says.
+pub fn runs(usual: u64) -> u64 {
+    let wanted = std::env::var("YOVANELUM_RUNS").ok();
+    wanted.map_or(usual, |wanted| wanted.parse().unwrap())
+}
+
+/// Random numbers from a seed (xorshift64*).
+pub struct Random(u64);
+
+impl Random {
+    pub fn new(seed: u64) -> Random {
+        Random(seed.wrapping_mul(0x9E37_79B9_7F4A_7C15) | 1)
+    }
+
+    pub fn below(&mut self, n: usize) -> usize {
+        self.0 ^= self.0 >> 12;
+        self.0 ^= self.0 << 25;
+        self.0 ^= self.0 >> 27;
+        (self.0.wrapping_mul(0x2545_F491_4F6C_DD1D) >> 33) as usize % n
+    }
+
+    pub fn of<'a, T>(&mut self, items: &'a [T]) -> &'a T {
+        &items[self.below(items.len())]
+    }
+}
+
 /// A folder of a test's own, which is removed at its end.
 pub struct Folder(pub PathBuf);
 
@@ -230,8 +256,8 @@ pub fn this_file() -> PathBuf {
     PathBuf::from(package).join("tests/support/mod.rs")
 }
 
-/// Saves the run of a ticker and an auditor as NAME.journal: of three prices in a channel of two, the auditor loses the first. Then the ticker
-/// closes the channel.
+/// Saves the run of a ticker and an auditor as NAME.journal: of three prices in a channel of two,
+/// the auditor loses the first. Then the ticker closes the channel.
 pub fn save_bus(folder: &Folder, name: &str) -> (PathBuf, Lines) {
     let recorder = Recorder::new();
     let entered = recorder.enter();

@@ -1,6 +1,8 @@
-//! Runs of a program that nobody explores, as a test makes them that is repeated: in any order, or with a sleep before each recorded call.
+//! Runs of a program that nobody explores, as a test makes them that is repeated: in any order, or
+//! with a sleep before each recorded call.
 //!
-//! A process makes them one after the other, each in a thread of its own with a recorder of its own. So a run costs no start of a process.
+//! A process makes them one after the other, each in a thread of its own with a recorder of its
+//! own. So a run costs no start of a process.
 
 use crate::{PROGRAMS, said};
 use std::cell::Cell;
@@ -28,7 +30,8 @@ const PROGRAM: &str = "YOVANELUM_NATURAL_PROGRAM";
 const SLEEPS: &str = "YOVANELUM_NATURAL_SLEEPS";
 const SECONDS: &str = "YOVANELUM_NATURAL_SECONDS";
 
-/// Runs a program in a process of its own, for so many seconds at most. Returns how many runs failed, of how many.
+/// Runs a program in a process of its own, for so many seconds at most. Returns how many runs
+/// failed, of how many.
 pub fn natural(name: &str, sleeps: bool, seconds: u64) -> String {
     let ran = Command::new(env::current_exe().unwrap())
         .args(["--ignored", "--exact", "natural::runs", "--nocapture"])

@@ -1,5 +1,5 @@
-//! The whole table, by a command: how many runs find each bug from ten seeds on, how often the journal and the schedule bring it back, and how many
-//! runs fail that nobody explores.
+//! The whole table, by a command: how many runs find each bug from ten seeds on, how often the
+//! journal and the schedule bring it back, and how many runs fail that nobody explores.
 
 use crate::json::{hangs, number, text};
 use crate::natural::natural;
@@ -75,8 +75,8 @@ fn print_table(head: &str, count: usize, row: impl Fn(usize) -> String + Sync) {
     println!("load {}", load());
 }
 
-/// `ONLY` names some of the programs, `EACH` says how many seconds each is run without being explored, and `BESIDE` how many programs are tried
-/// beside each other.
+/// `ONLY` names some of the programs, `EACH` says how many seconds each is run without being
+/// explored, and `BESIDE` how many programs are tried beside each other.
 #[test]
 #[ignore = "it takes minutes"]
 fn the_bugs() {
@@ -109,9 +109,10 @@ fn row(name: &'static str) -> String {
 /// Returns a text whose last number, below a million, has a comma at its thousands.
 fn grouped(text: &str) -> String {
     let digits = text.bytes().rev().take_while(u8::is_ascii_digit).count();
-    match digits > 3 {
-        true => format!("{},{}", &text[..text.len() - 3], &text[text.len() - 3..]),
-        false => text.to_string(),
+    if digits > 3 {
+        format!("{},{}", &text[..text.len() - 3], &text[text.len() - 3..])
+    } else {
+        text.to_string()
     }
 }
 
@@ -121,7 +122,8 @@ fn thousands_have_a_comma() {
     assert_eq!(texts, ["0 of 10,000", "20 of 1,303", "20 of 692"]);
 }
 
-/// Returns how many replays fail. Those that wait forever take no processor, so many do it beside each other.
+/// Returns how many replays fail. Those that wait forever take no processor, so many do it beside
+/// each other.
 fn replays(program: &Program, journal: &str, hangs: bool) -> usize {
     let next = AtomicUsize::new(0);
     let failed = || {
@@ -172,7 +174,8 @@ const STRATEGIES: [(&str, Strategy); 5] = [
     ("POS", |seed, _| format!("o{seed}")),
 ];
 
-/// Prints how many runs each strategy takes to meet a condition: the median of ten seeds, of `MOST` runs at most.
+/// Prints how many runs each strategy takes to meet a condition: the median of ten seeds, of `MOST`
+/// runs at most.
 #[test]
 #[ignore = "it takes minutes"]
 fn toward_a_state() {
@@ -188,7 +191,8 @@ fn toward_a_state() {
 }
 
 impl Program {
-    /// Runs the program by an order, as a session does that looks for a condition. Returns whether the run met it.
+    /// Runs the program by an order, as a session does that looks for a condition. Returns whether
+    /// the run met it.
     fn meets(&self, condition: &str, order: &str) -> bool {
         let answer = self.folder.join("answer");
         let mut command = Command::new("timeout");
@@ -257,7 +261,8 @@ fn the_right_programs() {
     );
 }
 
-/// How long a step takes in which one is let go: what longer runs take longer, by what they have more steps.
+/// How long a step takes in which one is let go: what longer runs take longer, by what they have
+/// more steps.
 #[test]
 #[ignore = "it is a measurement"]
 fn what_a_choice_costs() {

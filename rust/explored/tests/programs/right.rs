@@ -234,7 +234,8 @@ pub fn many_sends() {
     let _ = senders.map(joined);
 }
 
-/// An audit passes over what it has lost, so it never fails. It lags where it isn't polled while three orders are sent.
+/// An audit passes over what it has lost, so it never fails. It lags where it isn't polled while
+/// three orders are sent.
 pub fn skipping_audit() {
     on_one_thread(async {
         let (orders, mut rx) = broadcast::channel(2);

@@ -8,7 +8,8 @@ use tokio::net::{TcpListener, TcpStream};
 use tokio::sync::mpsc;
 use yovanelum::{broadcast, named, watch};
 
-/// A chat, as tokio's examples have it, on two workers. A connection greets its client and then subscribes: what others say in between is lost.
+/// A chat, as tokio's examples have it, on two workers. A connection greets its client and then
+/// subscribes: what others say in between is lost.
 pub fn chat() {
     on_two_workers(serve());
 }
@@ -89,7 +90,8 @@ async fn line(client: &mut BufReader<TcpStream>) -> String {
     line
 }
 
-/// A server acknowledges a client, and then subscribes for it. The client has something published as soon as it is acknowledged.
+/// A server acknowledges a client, and then subscribes for it. The client has something published
+/// as soon as it is acknowledged.
 pub fn acknowledged_too_early() {
     let listener = net::TcpListener::bind("127.0.0.1:0").unwrap();
     let at = listener.local_addr().unwrap();

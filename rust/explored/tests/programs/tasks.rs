@@ -10,7 +10,8 @@ use tokio::time::sleep;
 use yovanelum::broadcast::error::RecvError;
 use yovanelum::{broadcast, named, watch};
 
-/// A router forwards orders to the bus. The clerk announces the end of the day there by itself once it has sent all orders.
+/// A router forwards orders to the bus. The clerk announces the end of the day there by itself once
+/// it has sent all orders.
 pub fn overtaken_router() {
     on_one_thread(async {
         let (desk, mut orders) = mpsc::channel(8);
@@ -101,7 +102,8 @@ pub fn heart_and_monitor() {
     });
 }
 
-/// A configuration is sent every two milliseconds. Its reader takes a moment, and then marks what it saw as seen.
+/// A configuration is sent every two milliseconds. Its reader takes a moment, and then marks what
+/// it saw as seen.
 pub fn config_by_timer() {
     on_one_thread(async {
         let (config, mut rx) = watch::channel(0);
@@ -125,7 +127,8 @@ pub fn config_by_timer() {
     });
 }
 
-/// A worker looks whether it may begin, says that it waits, and waits. Who is told between those is told by nobody.
+/// A worker looks whether it may begin, says that it waits, and waits. Who is told between those is
+/// told by nobody.
 pub fn told_too_early() {
     on_one_thread(async {
         let (ready, is_ready) = watch::channel(false);
@@ -178,7 +181,8 @@ pub fn read_before_await() {
     });
 }
 
-/// A client asks, and subscribes to the news once it has the answer. The server sends the first news after it.
+/// A client asks, and subscribes to the news once it has the answer. The server sends the first
+/// news after it.
 pub fn subscribes_after_answer() {
     on_one_thread(async {
         let (ask, mut asked) = mpsc::channel::<oneshot::Sender<&str>>(1);

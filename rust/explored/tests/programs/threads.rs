@@ -28,7 +28,8 @@ pub fn late_audit() {
     assert_eq!(joined(audit), [1, 2, 3]);
 }
 
-/// A reader of a configuration applies what it sees, and then marks it as seen. What comes in between is never applied.
+/// A reader of a configuration applies what it sees, and then marks it as seen. What comes in
+/// between is never applied.
 pub fn lost_update() {
     let (config, mut rx) = watch::channel(0);
     let applied = Arc::new(Mutex::new(0));
@@ -53,7 +54,8 @@ pub fn lost_update() {
     assert_eq!(*applied.lock().unwrap(), 4);
 }
 
-/// A dispatcher asks whether a worker is there, and then sends. The worker leaves after its second job.
+/// A dispatcher asks whether a worker is there, and then sends. The worker leaves after its second
+/// job.
 pub fn check_then_send() {
     let (jobs, mut rx) = broadcast::channel(8);
     let worker = spawn("worker", move || {
@@ -119,7 +121,8 @@ pub fn lag_of_33() {
     joined(handler);
 }
 
-/// A worker looks for a job and, where there is none, whether it is to stop. The last job and the stop come between both looks.
+/// A worker looks for a job and, where there is none, whether it is to stop. The last job and the
+/// stop come between both looks.
 pub fn last_job_at_stop() {
     let (jobs, mut rx) = broadcast::channel(8);
     let (stop, stopped) = watch::channel(false);
@@ -216,7 +219,8 @@ pub fn resubscribe_gap() {
     assert_eq!(joined(reader), "closing");
 }
 
-/// Four stages: each raises the state by one if the stage before it has, and later sets it back to 0. It fails only if all four overlap in one order.
+/// Four stages: each raises the state by one if the stage before it has, and later lowers it to 0
+/// again. It fails only if all four overlap in one order.
 pub fn four_in_order() {
     let (state, _rx) = watch::channel(0u32);
     let state = Arc::new(state);
@@ -265,7 +269,8 @@ pub fn eight_turns() {
     assert!(got.windows(2).any(|two| two[0] == two[1]), "{got:?}");
 }
 
-/// A client looks, and marks what it saw as seen before it waits. What came in between is never told, so it waits forever.
+/// A client looks, and marks what it saw as seen before it waits. What came in between is never
+/// told, so it waits forever.
 pub fn waits_forever() {
     let (state, mut rx) = watch::channel("starting");
     let client = spawn("client", move || {

@@ -4,7 +4,8 @@ use super::{joined, spawn, work};
 use std::sync::{Arc, Mutex, mpsc};
 use yovanelum::{broadcast, watch};
 
-/// A book keeper takes a copy of the balance and then subscribes to what is booked. What is booked in between is in neither.
+/// A book keeper takes a copy of the balance and then subscribes to what is booked. What is booked
+/// in between is in neither.
 pub fn copy_then_subscribe() {
     let (balance, seen) = watch::channel(0);
     let bookings = broadcast::Sender::new(16);
@@ -68,7 +69,8 @@ pub fn weak_plugin() {
     joined(plugin);
 }
 
-/// A coordinator starts when there are two receivers. One of the workers has a second one for a while, so the other may miss the start.
+/// A coordinator starts when there are two receivers. One of the workers has a second one for a
+/// while, so the other may miss the start.
 pub fn start_by_count() {
     let bus = broadcast::Sender::new(4);
     let workers = ["first", "second"].map(|name| {
@@ -92,7 +94,8 @@ pub fn start_by_count() {
     assert_eq!(workers.map(joined), [true, true]);
 }
 
-/// A collector leaves the bus when it has the three answers of a `std` channel. A worker answers before it sends.
+/// A collector leaves the bus when it has the three answers of a `std` channel. A worker answers
+/// before it sends.
 pub fn leaves_after_answers() {
     let (bus, rx) = broadcast::channel::<u32>(8);
     let (answer, answers) = mpsc::channel();

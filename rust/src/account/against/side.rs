@@ -5,7 +5,7 @@ use super::super::naming::Naming;
 use super::Both;
 use crate::names::Names;
 use crate::reply::Reply;
-use crate::run::{Entry, Run, Spec};
+use crate::run::{Run, RunEntry, Spec};
 use crate::word::Word;
 use std::collections::BTreeMap;
 
@@ -21,8 +21,8 @@ impl Keys {
 }
 
 /// A call. Channels, handles and callers are the keys of both runs.
-pub(super) struct Call {
-    pub(super) entry: Entry,
+pub(super) struct SideCall {
+    pub(super) entry: RunEntry,
     /// The word, by which calls that wait are told from others.
     pub(super) word: Word,
     pub(super) channel: u32,
@@ -44,20 +44,20 @@ enum HandleKind {
 }
 
 #[derive(Clone, Copy)]
-struct Handle {
+struct SideHandle {
     kind: HandleKind,
     key: u32,
 }
 
 /// A channel, as far as its calls were read.
-pub(super) struct Channel {
+pub(super) struct SideChannel {
     key: u32,
     /// The places of its sends.
     pub(super) sends: Vec<u64>,
     /// The place at which its last sender was dropped, or 0.
     pub(super) closed_at: u64,
     senders: u32,
-    handles: Vec<Handle>,
+    handles: Vec<SideHandle>,
     // By caller, how many handles it has made.
     made: BTreeMap<u32, u32>,
 }
@@ -66,8 +66,8 @@ pub(super) struct Channel {
 pub(super) struct Side<'a> {
     names: &'a Names,
     history: History,
-    pub(super) calls: Vec<Call>,
-    pub(super) channels: Vec<Channel>,
+    pub(super) calls: Vec<SideCall>,
+    pub(super) channels: Vec<SideChannel>,
     // By caller, the places of its calls.
     places: BTreeMap<u32, Vec<u64>>,
     // By actor, the caller that it is.
@@ -85,7 +85,9 @@ impl<'a> Side<'a> {
             history: History::of(run, &[], names),
             calls: Vec::with_capacity(run.len() as usize),
             channels: specs
-                .map(|(number, spec)| Channel::of(channel_text(names, spec, number, both), keys))
+                .map(|(number, spec)| {
+                    SideChannel::of(channel_text(names, spec, number, both), keys)
+                })
                 .collect(),
             places: BTreeMap::new(),
             callers: BTreeMap::new(),
@@ -115,17 +117,18 @@ impl<'a> Side<'a> {
     }
 
     /// Returns the call that led to a place.
-    pub(super) fn call(&self, place: u64) -> &Call {
+    pub(super) fn call(&self, place: u64) -> &SideCall {
         &self.calls[place as usize - 1]
     }
 
     /// Returns the place of the call by the same caller with the same number.
-    pub(super) fn partner_of(&self, call: &Call) -> Option<u64> {
+    pub(super) fn partner_of(&self, call: &SideCall) -> Option<u64> {
         self.places.get(&call.caller)?.get(call.nth).copied()
     }
 
-    /// Adds a call with what came before it on its channel. What it does itself counts for those after it.
-    fn add(&mut self, place: u64, entry: Entry, keys: &mut Keys) {
+    /// Adds a call with what came before it on its channel. What it does itself counts for those
+    /// after it.
+    fn add(&mut self, place: u64, entry: RunEntry, keys: &mut Keys) {
         let caller = self.caller_of(place, &entry, keys);
         let word = self.naming().word(place, &entry);
         let places = self.places.entry(caller).or_default();
@@ -135,7 +138,7 @@ impl<'a> Side<'a> {
         let handle = channel.handle(entry.handle, keys);
         let is_receiver = handle.kind == HandleKind::Receiver;
         let counts = is_send(entry.word) || entry.word == Word::Subscribe || is_receiver;
-        self.calls.push(Call {
+        self.calls.push(SideCall {
             word,
             channel: channel.key,
             handle: handle.key,
@@ -148,7 +151,7 @@ impl<'a> Side<'a> {
         channel.note(place, &entry, handle.kind, caller, keys);
     }
 
-    fn caller_of(&mut self, place: u64, entry: &Entry, keys: &mut Keys) -> u32 {
+    fn caller_of(&mut self, place: u64, entry: &RunEntry, keys: &mut Keys) -> u32 {
         if let Some(caller) = self.callers.get(&entry.actor) {
             return *caller;
         }
@@ -161,7 +164,7 @@ impl<'a> Side<'a> {
     }
 
     /// Returns what an actor is called that makes its first call at a place.
-    fn label_of(&self, place: u64, entry: &Entry) -> String {
+    fn label_of(&self, place: u64, entry: &RunEntry) -> String {
         let actor = u64::from(entry.actor);
         if !self.both.is_named {
             return format!("number {actor}");
@@ -180,14 +183,15 @@ impl<'a> Side<'a> {
     }
 
     /// Returns the value that a call sends, as both runs have it.
-    pub(super) fn sent_key(&self, call: &Call) -> Option<ValueKey<'_>> {
+    pub(super) fn sent_key(&self, call: &SideCall) -> Option<ValueKey<'_>> {
         call.entry
             .value
             .map(|value| self.value_key(call.entry.channel, value))
     }
 
-    /// Returns what a call returned, as both runs have it: a value as in both, and of a new handle not its number.
-    pub(super) fn reply_key(&self, call: &Call) -> (Reply, Option<ValueKey<'_>>) {
+    /// Returns what a call returned, as both runs have it: a value as in both, and of a new handle
+    /// not its number.
+    pub(super) fn reply_key(&self, call: &SideCall) -> (Reply, Option<ValueKey<'_>>) {
         let key = |value| Some(self.value_key(call.entry.channel, value));
         match call.entry.reply {
             Reply::New(_) => (Reply::New(0), None),
@@ -218,7 +222,8 @@ fn is_send(word: Word) -> bool {
     matches!(word, Word::Send | Word::SendReplace | Word::Modify)
 }
 
-/// Returns what a channel is to both runs: its kind, and who made it as the how manieth, or its number.
+/// Returns what a channel is to both runs: its kind, and who made it as the how manieth, or its
+/// number.
 fn channel_text(names: &Names, spec: &Spec<u64>, number: u64, both: Both) -> String {
     let kind = match spec {
         Spec::Broadcast(_) => "broadcast",
@@ -231,19 +236,19 @@ fn channel_text(names: &Names, spec: &Spec<u64>, number: u64, both: Both) -> Str
     }
 }
 
-impl Channel {
-    fn of(text: String, keys: &mut Keys) -> Channel {
+impl SideChannel {
+    fn of(text: String, keys: &mut Keys) -> SideChannel {
         let first = [
             (HandleKind::Sender, "first sender"),
             (HandleKind::Receiver, "first receiver"),
         ];
-        Channel {
+        SideChannel {
             key: keys.of(text),
             sends: vec![],
             closed_at: 0,
             senders: 1,
             handles: first
-                .map(|(kind, text)| Handle {
+                .map(|(kind, text)| SideHandle {
                     kind,
                     key: keys.of(text.to_string()),
                 })
@@ -253,17 +258,24 @@ impl Channel {
     }
 
     /// Returns a handle, which may never have been made.
-    fn handle(&self, number: u32, keys: &mut Keys) -> Handle {
+    fn handle(&self, number: u32, keys: &mut Keys) -> SideHandle {
         match self.handles.get(number as usize) {
             Some(handle) => *handle,
-            None => Handle {
+            None => SideHandle {
                 kind: HandleKind::Never,
                 key: keys.of(format!("never {number}")),
             },
         }
     }
 
-    fn note(&mut self, place: u64, entry: &Entry, kind: HandleKind, caller: u32, keys: &mut Keys) {
+    fn note(
+        &mut self,
+        place: u64,
+        entry: &RunEntry,
+        kind: HandleKind,
+        caller: u32,
+        keys: &mut Keys,
+    ) {
         if is_send(entry.word) {
             self.sends.push(place);
         }
@@ -289,6 +301,6 @@ impl Channel {
         let before = self.made.entry(caller).or_default();
         let key = keys.of(format!("made {before} by {caller}"));
         *before += 1;
-        self.handles.push(Handle { kind, key });
+        self.handles.push(SideHandle { kind, key });
     }
 }

@@ -4,7 +4,8 @@ use super::Against;
 use crate::names::Names;
 use crate::run::Run;
 
-/// Compares two runs of one broadcast of two: their entries with the stamps 1, 2, 3, .., and the names beside them.
+/// Compares two runs of one broadcast of two: their entries with the stamps 1, 2, 3, .., and the
+/// names beside them.
 fn against(here: (&[&str], &str), there: (&[&str], &str)) -> Vec<String> {
     let read = |(entries, names): (&[&str], &str)| {
         let mut text = String::from("ttd-journal 2\nbroadcast 2\nsteps\n");

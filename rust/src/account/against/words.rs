@@ -1,13 +1,13 @@
 //! The first difference of two runs in words.
 
 use super::super::columns::{Cells, aligned};
-use super::side::{Call, Channel, Side};
-use super::{Differing, Kind, visible};
+use super::side::{Side, SideCall, SideChannel};
+use super::{Differing, DiffersBy, visible};
 use crate::reply::Reply;
 use crate::word::Word;
 
-/// The call that an order is about: which run it comes before in alone, its place there, and how many sends do. Without a send, it is the drop that closes
-/// the channel.
+/// The call that an order is about: which run it comes before in alone, its place there, and how
+/// many sends do. Without a send, it is the drop that closes the channel.
 struct About {
     is_here: bool,
     place: u64,
@@ -21,7 +21,7 @@ pub(super) fn lines(here: &Side<'_>, there: &Side<'_>, differing: &[Differing]) 
         return vec!["no call differs".to_string(), counts];
     };
     let about = match (first.kind, first.here, first.there) {
-        (Kind::Order, Some(a), Some(b)) => Some(about(here, there, a, b)),
+        (DiffersBy::Order, Some(a), Some(b)) => Some(about(here, there, a, b)),
         _ => None,
     };
     let mut lines = vec![head(here, there, first, about.as_ref())];
@@ -34,7 +34,7 @@ pub(super) fn lines(here: &Side<'_>, there: &Side<'_>, differing: &[Differing]) 
 /// Returns the call that comes before another one in one run alone, which is at these places.
 fn about(here: &Side<'_>, there: &Side<'_>, a: u64, b: u64) -> About {
     let (a, b) = (here.call(a), there.call(b));
-    let channels: [&Channel; 2] = [
+    let channels: [&SideChannel; 2] = [
         &here.channels[a.entry.channel as usize],
         &there.channels[b.entry.channel as usize],
     ];
@@ -89,7 +89,7 @@ fn cells(word: &str, side: &Side<'_>, place: u64) -> Cells {
     ]
 }
 
-fn argument(side: &Side<'_>, call: &Call) -> String {
+fn argument(side: &Side<'_>, call: &SideCall) -> String {
     match (call.entry.word, call.entry.value) {
         (Word::Drop, _) => call.entry.handle.to_string(),
         (_, Some(value)) => side.naming().value(call.entry.channel, value),
@@ -97,7 +97,7 @@ fn argument(side: &Side<'_>, call: &Call) -> String {
     }
 }
 
-fn reply(side: &Side<'_>, call: &Call) -> String {
+fn reply(side: &Side<'_>, call: &SideCall) -> String {
     let value = |value| side.naming().value(call.entry.channel, value);
     let word = |is| if is == 1 { "yes" } else { "no" };
     match call.entry.reply {
@@ -149,19 +149,20 @@ fn head(here: &Side<'_>, there: &Side<'_>, first: &Differing, about: Option<&Abo
     };
     let call = side.call(place);
     let name = side.naming().actor(call.entry.actor.into());
-    let who = match side.has_name(call.entry.actor) {
-        true => format!("`{name}`"),
-        false => name,
+    let who = if side.has_name(call.entry.actor) {
+        format!("`{name}`")
+    } else {
+        name
     };
     let said = match (first.kind, about) {
-        (Kind::Missing, _) => format!("{who} doesn't make it in {run}"),
-        (Kind::Other, _) => format!("{who} made another call in {run}"),
-        (Kind::Order, Some(about)) => {
+        (DiffersBy::Missing, _) => format!("{who} doesn't make it in {run}"),
+        (DiffersBy::Other, _) => format!("{who} made another call in {run}"),
+        (DiffersBy::Order, Some(about)) => {
             format!("{who} {} {} in {run}", done(call), order(about))
         }
-        (Kind::Value, _) => format!("{who} sent another value in {run}"),
-        (Kind::More, _) => format!("{who} doesn't make it here"),
-        (Kind::Reply | Kind::Order, _) => format!("{who} got another reply in {run}"),
+        (DiffersBy::Value, _) => format!("{who} sent another value in {run}"),
+        (DiffersBy::More, _) => format!("{who} doesn't make it here"),
+        (DiffersBy::Reply | DiffersBy::Order, _) => format!("{who} got another reply in {run}"),
     };
     format!("the first difference: call {place}{of}, {said}")
 }
@@ -176,7 +177,7 @@ fn order(about: &About) -> String {
 }
 
 /// Returns what a caller did by a call.
-fn done(call: &Call) -> &'static str {
+fn done(call: &SideCall) -> &'static str {
     match call.word {
         Word::Send | Word::SendReplace | Word::Modify => "sent",
         Word::Subscribe => "subscribed",
@@ -210,9 +211,10 @@ fn counts(here: &Side<'_>, there: &Side<'_>, differing: &[Differing]) -> String 
         "{} here, {} there: {}",
         visible::counted(here.len(), "call"),
         visible::counted(there.len(), "call"),
-        match parts.is_empty() {
-            true => "all the same".to_string(),
-            false => parts.join(", "),
+        if parts.is_empty() {
+            "all the same".to_string()
+        } else {
+            parts.join(", ")
         }
     )
 }

@@ -1,6 +1,7 @@
-//! A channel whose machines make few handles each, beside one machine that makes them all: the same replies to random calls.
+//! A channel whose machines make few handles each and take out the dropped ones, beside one machine
+//! that makes them all: the same replies to random calls.
 
-use super::{CoreChannel, MOST_HANDLES, parts_of};
+use super::{CoreChannel, MOST_HANDLES};
 use crate::backend::{Actor, Caller, Recording, Spec};
 use crate::handle::Kind;
 use crate::reply::Reply;
@@ -22,7 +23,8 @@ impl Random {
     }
 }
 
-/// A live handle, by its numbers in both.
+/// A live handle, by its numbers in both. The one machine uses no number again, so that number says
+/// how many handles were created before.
 #[derive(Clone, Copy)]
 struct Handle {
     kind: Kind,
@@ -37,6 +39,7 @@ struct Pair {
     handles: Vec<Handle>,
     values: u64,
     random: Random,
+    renumbered: usize,
 }
 
 /// Makes a call on both by one handle, and compares the replies.
@@ -76,6 +79,7 @@ impl Pair {
             handles: vec![handle(Kind::Sender, 0), handle(Kind::Receiver, 1)],
             values: 0,
             random: Random(seed.wrapping_mul(0x9E37_79B9_7F4A_7C15) | 1),
+            renumbered: 0,
         }
     }
 
@@ -103,15 +107,17 @@ impl Pair {
         }
     }
 
-    /// Makes a random call of a broadcast on both. A handle is created only while fewer than these are alive.
+    /// Makes a random call of a broadcast on both. A handle is created only while fewer than these
+    /// are alive, and dropped where more are.
     fn step_broadcast(&mut self, most_alive: usize) {
         let kind = [Kind::Sender, Kind::Receiver, Kind::WeakSender][self.random.below(3)];
         let Some((index, handle)) = self.pick(kind) else {
             return;
         };
         let may_create = self.handles.len() < most_alive;
+        let is_dropped = self.handles.len() > most_alive;
         match self.random.below(9) {
-            0 if self.handles.len() > 2 => {
+            call if is_dropped || call == 0 && self.handles.len() > 2 => {
                 self.handles.swap_remove(index);
                 on_both!(self, broadcast_drop, handle);
             }
@@ -168,15 +174,17 @@ impl Pair {
         }
     }
 
-    /// Makes a random call of a watch on both. A handle is created only while fewer than these are alive.
+    /// Makes a random call of a watch on both. A handle is created only while fewer than these are
+    /// alive, and dropped where more are.
     fn step_watch(&mut self, most_alive: usize) {
         let kind = [Kind::Sender, Kind::Receiver][self.random.below(2)];
         let Some((index, handle)) = self.pick(kind) else {
             return;
         };
         let may_create = self.handles.len() < most_alive;
+        let is_dropped = self.handles.len() > most_alive;
         match self.random.below(11) {
-            0 if self.handles.len() > 2 => {
+            call if is_dropped || call == 0 && self.handles.len() > 2 => {
                 self.handles.swap_remove(index);
                 on_both!(self, watch_drop, handle);
             }
@@ -240,6 +248,17 @@ impl Pair {
         }
     }
 
+    /// Takes the dropped handles out of a random machine, now and then. Recording ends before.
+    fn renumber_sometimes(&mut self) {
+        if self.random.below(20) != 0 {
+            return;
+        }
+        self.many.end();
+        let number = self.random.below(self.many.further.len() + 1);
+        let is_there = number == 0 || self.many.further[number - 1].is_some();
+        self.renumbered += usize::from(is_there && self.many.renumber(number));
+    }
+
     /// Compares what both show.
     fn assert_shown(&mut self) {
         let counts = (
@@ -256,6 +275,7 @@ impl Pair {
         );
         assert_eq!(counts, wanted);
         for handle in self.handles.clone() {
+            assert_eq!(self.many.nth(handle.in_many), handle.in_one.into());
             match (handle.kind, self.is_watch()) {
                 (Kind::Receiver, true) => {
                     assert_eq!(self.many.seen(handle.in_many), self.one.seen(handle.in_one));
@@ -274,67 +294,140 @@ impl Pair {
     }
 }
 
-/// How many runs of random calls are compared: 200, or as many as the variable `YOVANELUM_RUNS` says. Miri needs a second for each.
+/// How many runs of random calls are compared: 5,000, or as many as the variable `YOVANELUM_RUNS`
+/// says. Miri needs a second for each.
 fn seeds() -> u64 {
     match std::env::var("YOVANELUM_RUNS") {
         Ok(wanted) => wanted.parse().unwrap(),
         Err(_) if cfg!(miri) => 10,
-        Err(_) => 200,
+        Err(_) => 5_000,
     }
 }
 
-/// Makes 400 random calls on both, for each seed. Returns how many further machines were opened at most.
-fn play(spec_of: impl Fn(&mut Random) -> Spec<u64>, step: fn(&mut Pair, usize)) -> usize {
-    let mut most_opened = 0;
+/// What happened in many runs of random calls.
+#[derive(Default)]
+struct Played {
+    // How many further machines were opened at most.
+    most_opened: usize,
+    // How often all of them were dropped again.
+    alone_again: usize,
+    renumbered: usize,
+}
+
+/// Makes 200 random calls on both, for each seed. By turns many handles may be alive, and two.
+fn play(spec_of: impl Fn(&mut Random) -> Spec<u64>, step: fn(&mut Pair, usize)) -> Played {
+    let mut played = Played::default();
     for seed in 0..seeds() {
         let mut random = Random(seed * 2 + 1);
         let spec = spec_of(&mut random);
         let mut pair = Pair::open(spec, 4 + random.below(5) as u32, seed);
-        let most_alive = 3 + random.below(20);
-        for _ in 0..400 {
-            step(&mut pair, most_alive);
-            pair.assert_shown();
+        let many = 3 + random.below(20);
+        for call in 0..200 {
+            let opened = pair.many.further.len();
+            step(&mut pair, if call % 80 < 60 { many } else { 2 });
+            pair.renumber_sometimes();
+            if call % 5 == 0 {
+                pair.assert_shown();
+            }
+            played.most_opened = played.most_opened.max(pair.many.further.len());
+            played.alone_again += usize::from(opened > 0 && pair.many.further.is_empty());
         }
+        pair.assert_shown();
         // Each machine has a live handle, but the first and the newest.
         assert!(
             pair.machines_alive() <= pair.handles.len() + 2,
             "seed {seed}"
         );
-        most_opened = most_opened.max(pair.many.further.len());
+        played.renumbered += pair.renumbered;
     }
-    most_opened
+    played
+}
+
+impl Played {
+    /// Whether each of these things has happened often.
+    fn assert_all(&self) {
+        assert!(self.most_opened > 3, "{}", self.most_opened);
+        assert!(
+            self.alone_again as u64 >= seeds() / 10,
+            "{}",
+            self.alone_again
+        );
+        assert!(self.renumbered as u64 > seeds(), "{}", self.renumbered);
+    }
 }
 
 #[test]
-fn several_machines_of_a_broadcast_reply_as_one() {
+fn machines_of_a_broadcast_reply_as_one_that_keeps_dropped_handles() {
     let spec = |random: &mut Random| Spec::Broadcast(1 + random.below(5) as u32);
-    assert!(play(spec, Pair::step_broadcast) > 3);
+    play(spec, Pair::step_broadcast).assert_all();
 }
 
 #[test]
-fn several_machines_of_a_watch_reply_as_one() {
-    assert!(play(|_| Spec::Watch(0), Pair::step_watch) > 3);
+fn machines_of_a_watch_reply_as_one_that_keeps_dropped_handles() {
+    play(|_| Spec::Watch(0), Pair::step_watch).assert_all();
 }
 
-#[test]
-fn a_machine_whose_handles_are_dropped_is_dropped_and_its_number_is_used_again() {
-    let mut channel = CoreChannel::open(Spec::Broadcast(2), 8).unwrap();
-    channel.end();
+/// Subscribes and drops receivers, of which each n-th one stays. Returns those that are alive.
+fn subscribe(channel: &mut CoreChannel, count: u32, kept: u32) -> Vec<u32> {
     let mut alive = Vec::new();
-    for round in 0..1_000 {
+    for round in 1..=count {
         let receiver = channel.broadcast_subscribe(CALLER, 0).new_handle();
-        match round {
-            100 | 500 => alive.push(receiver),
+        match round % kept {
+            0 => alive.push(receiver),
             _ => assert_eq!(channel.broadcast_drop(CALLER, receiver), Reply::Dropped),
         }
     }
-    // The first, the newest, and those of the two that are alive.
-    assert_eq!(channel.machines().count(), 4);
-    assert!(channel.further.len() <= 4, "{}", channel.further.len());
-    assert_eq!(channel.broadcast_send(CALLER, 0, 7), Reply::Sent(3));
-    for receiver in alive {
-        assert_ne!(parts_of(receiver).0, 0);
-        assert_eq!(channel.broadcast_recv(CALLER, receiver), Reply::Value(7));
+    alive
+}
+
+#[test]
+fn dropped_handles_are_taken_out_of_the_one_machine_and_numbers_are_used_again() {
+    let mut channel = CoreChannel::open(Spec::Broadcast(2), 256).unwrap();
+    channel.end();
+    let alive = subscribe(&mut channel, 20_000, 200);
+    assert!(channel.further.is_empty());
+    assert_eq!(channel.broadcast_send(CALLER, 0, 7), Reply::Sent(101));
+    for (index, receiver) in (1..).zip(&alive) {
+        assert_eq!(channel.nth(*receiver), index * 200 + 1);
+        assert_eq!(channel.broadcast_recv(CALLER, *receiver), Reply::Value(7));
+    }
+    // Those that were there before, and one that is dropped beside them.
+    let greatest = alive.iter().max().unwrap();
+    assert!(*greatest < 256, "{greatest}");
+}
+
+#[test]
+fn while_a_channel_is_recorded_a_handle_has_the_number_of_the_journal() {
+    let mut channel = CoreChannel::open(Spec::Broadcast(2), 256).unwrap();
+    for number in 2..256 {
+        assert!(!channel.has_named_all());
+        let receiver = channel.broadcast_subscribe(CALLER, 0).new_handle();
+        assert_eq!(receiver, number);
+        assert_eq!(channel.broadcast_drop(CALLER, receiver), Reply::Dropped);
+    }
+    assert!(channel.has_named_all());
+    channel.end();
+    // None of these numbers is that of another handle later, and dropped ones of later handles are.
+    let alive = subscribe(&mut channel, 10_000, 100);
+    assert!(alive.iter().all(|number| (256..512).contains(number)));
+    assert_eq!(channel.broadcast_send(CALLER, 0, 7), Reply::Sent(101));
+}
+
+#[test]
+fn further_machines_stay_while_more_handles_are_alive_than_one_makes() {
+    let mut channel = CoreChannel::open(Spec::Broadcast(2), 256).unwrap();
+    channel.end();
+    for _ in 0..10 {
+        let alive = subscribe(&mut channel, 1_000, 1);
+        // Each further machine has two handles that are nobody's, and one that it was opened with
+        // is dropped.
+        assert_eq!(channel.machines().count(), 4);
+        assert_eq!(channel.broadcast_send(CALLER, 0, 7), Reply::Sent(1_001));
+        for receiver in alive {
+            assert_eq!(channel.broadcast_recv(CALLER, receiver), Reply::Value(7));
+            assert_eq!(channel.broadcast_drop(CALLER, receiver), Reply::Dropped);
+        }
+        assert!(channel.further.is_empty());
     }
 }
 
@@ -346,9 +439,11 @@ fn the_first_machine_makes_as_many_handles_as_a_journal_names() {
         assert_eq!(channel.watch_subscribe(CALLER, 0).new_handle(), made);
     }
     assert!(channel.has_named_all());
-    assert!(
-        matches!(channel.watch_subscribe(CALLER, 0), Reply::New(handle) if handle > MOST_HANDLES.into())
+    assert_eq!(
+        channel.watch_subscribe(CALLER, 0),
+        Reply::New(MOST_HANDLES.into())
     );
+    assert_eq!(channel.further.len(), 1);
     assert_eq!(
         channel.watch_receiver_count(CALLER, 0),
         Reply::Count(65_536)

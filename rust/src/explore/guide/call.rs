@@ -3,23 +3,24 @@
 use super::{Effect, Known, KnownReceiver};
 
 /// A call that stands, on a channel.
-pub(super) struct Call<'a> {
+pub(super) struct StandingCall<'a> {
     pub(super) who: &'a str,
     pub(super) word: &'a str,
     pub(super) handle: u32,
     pub(super) channel: &'a Known,
 }
 
-impl Call<'_> {
+impl StandingCall<'_> {
     pub(super) fn sends(&self) -> bool {
         matches!(self.word, "send" | "send-replace" | "modify")
     }
 
     /// Whether it takes what its receiver has not received, or marks it as seen.
     pub(super) fn receives(&self) -> bool {
-        match self.channel.is_watch {
-            true => matches!(self.word, "changed" | "update" | "mark-unchanged"),
-            false => matches!(self.word, "recv" | "try-recv"),
+        if self.channel.is_watch {
+            matches!(self.word, "changed" | "update" | "mark-unchanged")
+        } else {
+            matches!(self.word, "recv" | "try-recv")
         }
     }
 
@@ -53,19 +54,25 @@ impl Call<'_> {
     pub(super) fn effect_on_reply(&self, word: &str) -> Effect {
         match word {
             "lagged" if self.channel.is_watch => Effect::None,
-            "lagged" if self.receives() => match self.receiver().is_some_and(|it| it.lags) {
-                true => Effect::First,
-                false => Effect::Away,
-            },
+            "lagged" if self.receives() => {
+                if self.receiver().is_some_and(|it| it.lags) {
+                    Effect::First
+                } else {
+                    Effect::Away
+                }
+            }
             "lagged" | "closed" if self.sends() => Effect::Nearer,
             "lagged" | "closed" if self.drops_receiver() => Effect::Away,
             "closed" | "no-sender" if self.drops_sender() => Effect::Nearer,
             "no-sender" if self.sends() => Effect::Nearer,
             "no-sender" if matches!(self.word, "upgrade" | "clone-sender") => Effect::Away,
-            "no-receivers" if self.sends() => match self.channel.receivers.is_empty() {
-                true => Effect::First,
-                false => Effect::Away,
-            },
+            "no-receivers" if self.sends() => {
+                if self.channel.receivers.is_empty() {
+                    Effect::First
+                } else {
+                    Effect::Away
+                }
+            }
             "no-receivers" if self.receives() || self.drops_receiver() => Effect::Nearer,
             _ => Effect::None,
         }

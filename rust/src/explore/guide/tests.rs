@@ -8,7 +8,8 @@ thread_local! {
     static GONE: RefCell<Vec<u32>> = const { RefCell::new(Vec::new()) };
 }
 
-/// `orders` is a broadcast with the receivers 1, which is `audit`, and 3, and `config` is a watch with receiver 1.
+/// `orders` is a broadcast with the receivers 1, which is `audit`, and 3, and `config` is a watch
+/// with receiver 1.
 fn look() -> Vec<Known> {
     let receiver = |handle: u32, name: Option<&str>| KnownReceiver {
         handle,

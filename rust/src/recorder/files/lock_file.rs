@@ -5,14 +5,16 @@ use std::path::{Path, PathBuf};
 use std::time::{Duration, Instant};
 use std::{io, thread};
 
-/// How long the file of another process is left alone. To replace files takes much less, so that process has ended before it could remove it.
+/// How long the file of another process is left alone. To replace files takes much less, so that
+/// process has ended before it could remove it.
 const PATIENCE: Duration = Duration::from_secs(2);
 
 /// The lock for the files beside a journal, which is released when this is dropped.
 pub(super) struct LockFile(Option<PathBuf>);
 
 impl LockFile {
-    /// Waits until nobody else has the lock. It isn't acquired where its file can't be created, and then the files are replaced all the same.
+    /// Waits until nobody else has the lock. It isn't acquired where its file can't be created, and
+    /// then the files are replaced all the same.
     pub(super) fn acquire(journal: &Path) -> LockFile {
         let path = journal.with_extension("lock");
         let began = Instant::now();

@@ -8,16 +8,19 @@ use std::fmt::Write;
 /// How many bytes a name has at most. Systems take 143 at least, and endings follow.
 const MOST_BYTES: usize = 100;
 
-/// Returns the name as one of a file or a folder. Two names never have the same: what can't be in the name of a file, and each `%`, is written as
-/// `%` and its bytes in hexadecimal. A long one is cut, and its end is a checksum of the whole.
+/// Returns the name as one of a file or a folder. Two names never have the same: what can't be in
+/// the name of a file, and each `%`, is written as `%` and its bytes in hexadecimal. A long one is
+/// cut, and its end is a checksum of the whole.
 pub(in crate::recorder) fn file_name(name: &str) -> String {
     let mut out = String::new();
     for (at, c) in name.char_indices() {
-        // A point at the beginning hides a file, and one before this word would make it the file of a replay.
+        // A point at the beginning hides a file, and one before this word would make it the file of
+        // a replay.
         let is_special_point = c == '.' && (at == 0 || &name[at..] == REPLAYED);
-        match is_plain(c) && !is_special_point {
-            true => out.push(c),
-            false => push_escaped(&mut out, c),
+        if is_plain(c) && !is_special_point {
+            out.push(c)
+        } else {
+            push_escaped(&mut out, c)
         }
     }
     match out.len() {

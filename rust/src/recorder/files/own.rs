@@ -1,4 +1,5 @@
-//! Which files a process writes where others run the same test at the same time: each keeps its own.
+//! Which files a process writes where others run the same test at the same time: each keeps its
+//! own.
 
 use crate::lock::lock;
 use std::collections::BTreeMap;
@@ -7,10 +8,12 @@ use std::path::{Path, PathBuf};
 use std::sync::{Mutex, OnceLock};
 use std::time::{Duration, SystemTime};
 
-/// How many processes that run at the same time keep their files. More of them replace those of the last.
+/// How many processes that run at the same time keep their files. More of them replace those of the
+/// last.
 const MOST_PROCESSES: usize = 16;
 
-/// How much the time of a file may be behind the clock: a tick of the kernel's, of which there are 100 a second at least.
+/// How much the time of a file may be behind the clock: a tick of the kernel's, of which there are
+/// 100 a second at least.
 const TICK: Duration = Duration::from_millis(10);
 
 /// When this process has made its first recorder of a test.
@@ -27,8 +30,9 @@ pub(crate) fn begin() {
     }
 }
 
-/// Returns the journal that this process writes in place of this one: this one, or `NAME~2.journal` and so on where another process has written this
-/// one since the first test began here. It is the same each time. Between processes, the lock of the files has to be held.
+/// Returns the journal that this process writes in place of this one: this one, or `NAME~2.journal`
+/// and so on where another process has written this one since the first test began here. It is the
+/// same each time. Between processes, the lock of the files has to be held.
 pub(super) fn in_place_of(path: &Path) -> PathBuf {
     let mut own = lock(&OWN);
     let began = BEGAN.get().copied();

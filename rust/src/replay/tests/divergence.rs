@@ -11,7 +11,8 @@ use std::time::Duration;
 #[cfg_attr(target_family = "wasm", ignore = "WebAssembly has no threads")]
 fn another_call_parts_at_once() {
     let gate = gate();
-    // The next call of this receiver is a receive that waits. It isn't the audit's turn, so it would be patient.
+    // The next call of this receiver is a receive that waits. It isn't the audit's turn, so it
+    // would be patient.
     make(&gate, call(AUDIT, 0, Word::TryRecv, 1));
     let wanted = "diverges at call 1 of 6: expected `send 0` on `orders` by `clerk` at src/shop.rs:15, \
                   came `try-recv 1` on `orders` by `audit`";

@@ -61,7 +61,8 @@ fn a_poll_is_held_back_until_the_turn_of_its_actor() {
     let gate = gate();
     let (_, waker, woken) = told();
     let context = Context::from_waker(&waker);
-    // The next call of the audit may wait, so its future waits by itself. The clerk's turn has come.
+    // The next call of the audit may wait, so its future waits by itself. The clerk's turn has
+    // come.
     assert!(!gate.holds("audit", None, &context) && !gate.holds("clerk", None, &context));
     assert!(!gate.holds("somebody else", None, &context));
     make_first(&gate, 1);
@@ -70,7 +71,8 @@ fn a_poll_is_held_back_until_the_turn_of_its_actor() {
     assert_eq!(woken.recv().unwrap(), "yovanelum-replay");
     assert!(!gate.holds("clerk", None, &context) && gate.holds("audit", None, &context));
     make(&gate, call(CLERK, 1, Word::Modify, 0));
-    // The turn is that of one without a name, who doesn't come for a while. Then the others are polled.
+    // The turn is that of one without a name, who doesn't come for a while. Then the others are
+    // polled.
     assert_eq!(woken.recv().unwrap(), "yovanelum-replay");
     assert!(!gate.holds("audit", None, &context));
 }

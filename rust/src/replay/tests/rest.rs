@@ -1,10 +1,11 @@
-//! Polls that are held back until all threads sleep. Each test has a process of its own, where no other test runs beside it.
+//! Polls that are held back until all threads sleep. Each test has a process of its own, where no
+//! other test runs beside it.
 
 use super::{JOURNAL, NAMES, PATIENT, make_first, plan_of, told};
 use crate::replay::clock::Clock;
 use crate::replay::gate::Gate;
 use crate::replay::helper;
-use crate::replay::rest::Rest;
+use crate::replay::rest::RestWatch;
 use std::path::Path;
 use std::process::{Command, Stdio};
 use std::sync::atomic::{AtomicBool, Ordering};
@@ -15,7 +16,8 @@ use std::{env, thread};
 
 const ALONE: &str = "YOVANELUM_TEST_ALONE";
 
-/// Returns `true` in a process that runs this test alone. Else it is run in one, and has to succeed there.
+/// Returns `true` in a process that runs this test alone. Else it is run in one, and has to succeed
+/// there.
 fn is_alone(test: &str) -> bool {
     if env::var_os(ALONE).is_some() {
         return true;
@@ -36,7 +38,7 @@ fn is_alone(test: &str) -> bool {
 }
 
 /// Looks until all are seen to sleep, or for so many times in vain.
-fn is_seen(rest: &mut Rest, times: usize) -> bool {
+fn is_seen(rest: &mut RestWatch, times: usize) -> bool {
     let now = Clock::new().now();
     (0..times).any(|_| {
         thread::yield_now();
@@ -82,7 +84,7 @@ fn threads_that_wait_for_each_other_sleep() {
     if !is_alone("threads_that_wait_for_each_other_sleep") {
         return;
     }
-    let mut rest = Rest::new();
+    let mut rest = RestWatch::new();
     let (_kept, never) = mpsc::channel::<()>();
     start(move || {
         let _ = never.recv();
@@ -95,7 +97,7 @@ fn a_thread_that_waits_for_a_time_may_go_on() {
     if !is_alone("a_thread_that_waits_for_a_time_may_go_on") {
         return;
     }
-    let mut rest = Rest::new();
+    let mut rest = RestWatch::new();
     start(|| thread::sleep(Duration::from_secs(600)));
     assert!(!is_seen(&mut rest, 1000));
 }
@@ -105,7 +107,7 @@ fn a_thread_that_runs_may_go_on() {
     if !is_alone("a_thread_that_runs_may_go_on") {
         return;
     }
-    let mut rest = Rest::new();
+    let mut rest = RestWatch::new();
     let is_over = Arc::new(AtomicBool::new(false));
     let of_thread = is_over.clone();
     start(move || while !of_thread.load(Ordering::Relaxed) {});

@@ -1,5 +1,6 @@
-//! A model that only knows the definitions: it keeps the state of each place, and looks for stretches, greatest numbers and versions there. It
-//! is quadratic, and shares no code with what it judges.
+//! A model that only knows the definitions: it keeps the state of each place, and looks for
+//! stretches, greatest numbers and versions there. It is quadratic, and shares no code with what it
+//! judges.
 
 use crate::run::{Closing, Counts, LateReader, Loss, LossEnd, Totals};
 use crate::source::rw_recording::{BroadcastCounts, WatchCounts};
@@ -17,7 +18,7 @@ enum Seen {
 
 /// What the channels show at a place.
 #[derive(Clone, Default)]
-struct State {
+struct ModelState {
     // How many values were sent, or the version of a watch.
     counts: Vec<u64>,
     senders: Vec<Vec<u32>>,
@@ -27,7 +28,7 @@ struct State {
 }
 
 /// An entry: its channel, the words of its call, and those of its reply.
-struct Entry<'a> {
+struct ModelEntry<'a> {
     channel: u32,
     handle: u32,
     word: &'a str,
@@ -36,12 +37,12 @@ struct Entry<'a> {
     value: &'a str,
 }
 
-impl Entry<'_> {
-    fn of(line: &str) -> Entry<'_> {
+impl ModelEntry<'_> {
+    fn of(line: &str) -> ModelEntry<'_> {
         let (call, reply) = line.split_once(" = ").unwrap();
         let call: Vec<_> = call.split(' ').collect();
         let (reply, number) = reply.split_once(' ').unwrap_or((reply, ""));
-        Entry {
+        ModelEntry {
             channel: call[2].parse().unwrap(),
             handle: call[4].parse().unwrap(),
             word: call[3],
@@ -64,8 +65,8 @@ pub(super) struct Findings {
 pub(super) struct Model<'a> {
     // How many values each channel retains, or 0 of a watch.
     retained: Vec<u64>,
-    entries: Vec<Entry<'a>>,
-    states: Vec<State>,
+    entries: Vec<ModelEntry<'a>>,
+    states: Vec<ModelState>,
 }
 
 impl Model<'_> {
@@ -81,7 +82,7 @@ impl Model<'_> {
         let mut model = Model {
             entries: lines
                 .take_while(|line| *line != "end")
-                .map(Entry::of)
+                .map(ModelEntry::of)
                 .collect(),
             states: vec![],
             retained,
@@ -92,10 +93,10 @@ impl Model<'_> {
 
     fn play(&mut self) {
         let channels = self.retained.len();
-        let mut state = State {
+        let mut state = ModelState {
             counts: vec![0; channels],
             senders: vec![vec![0]; channels],
-            ..State::default()
+            ..ModelState::default()
         };
         for channel in 0..channels as u32 {
             state.make_receiver((channel, 1), self.is_watch(channel));
@@ -231,7 +232,7 @@ impl Model<'_> {
 
     /// Whether the receiver made no look while that version was current.
     fn ignores(&self, name: Name, place: usize) -> bool {
-        let is_look = |(at, entry): (usize, &Entry<'_>)| {
+        let is_look = |(at, entry): (usize, &ModelEntry<'_>)| {
             (entry.channel, entry.handle, entry.reply) == (name.0, name.1, "value")
                 && matches!(entry.word, "borrow" | "update")
                 && self.version(name, at) == self.version(name, place)
@@ -296,7 +297,7 @@ impl Model<'_> {
     }
 }
 
-impl State {
+impl ModelState {
     fn make_receiver(&mut self, name: Name, is_watch: bool) {
         let count = self.counts[name.0 as usize];
         if is_watch {
@@ -307,7 +308,7 @@ impl State {
     }
 
     /// Reads an entry of a channel that retains these many values.
-    fn read(&mut self, entry: &Entry<'_>, retained: u64) {
+    fn read(&mut self, entry: &ModelEntry<'_>, retained: u64) {
         let (channel, name) = (entry.channel as usize, (entry.channel, entry.handle));
         match (entry.word, entry.reply, entry.value) {
             (_, "sent" | "stored" | "old", _) | (_, "told", "yes") => self.counts[channel] += 1,

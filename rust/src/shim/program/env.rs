@@ -12,8 +12,8 @@ pub struct Args(Vec<String>);
 
 /// Returns the words. One that isn't UTF-8 is an error, where Rust's iterator panics.
 ///
-/// Rattle's has no clause. A comment there says that a word that isn't UTF-8 is an error, which has the kind `InvalidData`. Refused
-/// memory has the kind `OutOfMemory`.
+/// Rattle's has no clause. A comment there says that a word that isn't UTF-8 is an error, which has
+/// the kind `InvalidData`. Refused memory has the kind `OutOfMemory`.
 pub fn args<R: Env>(_: &R) -> io::Result<Args> {
     let given = std::env::args_os();
     let mut words = Vec::with_capacity(Global, given.len())?;
@@ -27,7 +27,8 @@ pub fn args<R: Env>(_: &R) -> io::Result<Args> {
 }
 
 impl Args {
-    /// Rattle's clause: `IfOk result (λ v. v.items ≡ words)`, in their order. Here nothing has to be allocated for it.
+    /// Rattle's clause: `IfOk result (λ v. v.items ≡ words)`, in their order. Here nothing has to
+    /// be allocated for it.
     pub fn collect(self, _: Global) -> Result<Vec<String>, AllocError> {
         Ok(self.0)
     }

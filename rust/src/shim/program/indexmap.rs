@@ -1,4 +1,5 @@
-//! As much of the kit's port of `indexmap` as the sources use: a map in the order of insertion, with keys of bytes.
+//! As much of the kit's port of `indexmap` as the sources use: a map in the order of insertion,
+//! with keys of bytes.
 
 use super::alloc::{AllocFailed, Global};
 use super::vec::Vec;
@@ -59,9 +60,10 @@ impl<K: Deref<Target = [u8]>, V> IndexMap<K, V> {
         self.numbers.contains_key(key)
     }
 
-    /// The port's clauses: `OnOk result (S'.entries ≡ insert_entry K.eq S.entries key value)`: a key that is there keeps its place
-    /// and gets the value, and a new one is the last; `IfOk result (λ old. old ≡ get K.eq S key)`. Only a new key can fail, and then
-    /// the map stays and the pair comes back: `IfErr result (λ y. y.value ≡ (key, value))`.
+    /// The port's clauses: `OnOk result (S'.entries ≡ insert_entry K.eq S.entries key value)`: a
+    /// key that is there keeps its place and gets the value, and a new one is the last;
+    /// `IfOk result (λ old. old ≡ get K.eq S key)`. Only a new key can fail, and then the map stays
+    /// and the pair comes back: `IfErr result (λ y. y.value ≡ (key, value))`.
     pub fn insert(&mut self, key: K, value: V) -> Result<Option<V>, AllocFailed<(K, V)>> {
         let value = match self.get_index_of(&key) {
             Some(number) => return Ok(Some(mem::replace(&mut self.values[number], value))),
@@ -80,7 +82,8 @@ impl<K: Deref<Target = [u8]>, V> IndexMap<K, V> {
 impl<K, V> Index<usize> for IndexMap<K, V> {
     type Output = V;
 
-    /// The port's clauses: it requires `number < index_map_len S`, and the result is the value of that entry.
+    /// The port's clauses: it requires `number < index_map_len S`, and the result is the value of
+    /// that entry.
     fn index(&self, number: usize) -> &V {
         &self.values[number]
     }

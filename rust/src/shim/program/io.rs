@@ -1,6 +1,7 @@
 //! Streams, and buffers in front of them whose memory can be refused.
 //!
-//! In a clause `R.remaining` is what a reader has left, and `W.contents` what was given to a writer.
+//! In a clause `R.remaining` is what a reader has left, and `W.contents` what was given to a
+//! writer.
 
 use super::alloc::{AllocError, Global};
 use super::rt::Print;
@@ -32,8 +33,9 @@ pub struct BufReader<R> {
 }
 
 impl<R: Read> BufReader<R> {
-    /// Rattle's clauses: `IfOk result (λ r. reader_inner r ≡ inner)`, `IfOk result (λ r. reader_buffer r ≡ [])`,
-    /// `IfOk result (λ r. reader_capacity r ≡ 8192)`, `IfErr result (λ e. error_kind e ≡ ErrorKind.OutOfMemory)`.
+    /// Rattle's clauses: `IfOk result (λ r. reader_inner r ≡ inner)`,
+    /// `IfOk result (λ r. reader_buffer r ≡ [])`, `IfOk result (λ r. reader_capacity r ≡ 8192)`,
+    /// `IfErr result (λ e. error_kind e ≡ ErrorKind.OutOfMemory)`.
     pub fn new(alloc: Global, inner: R) -> Result<BufReader<R>> {
         Ok(BufReader {
             inner,
@@ -45,8 +47,9 @@ impl<R: Read> BufReader<R> {
 }
 
 impl<R: Read> Read for BufReader<R> {
-    /// Rattle's clause: `Ok(n)` takes the first `n` bytes of what is left, which is what the buffer has and then what the reader
-    /// has. It reads from the reader at most once, and only if the buffer has no byte.
+    /// Rattle's clause: `Ok(n)` takes the first `n` bytes of what is left, which is what the buffer
+    /// has and then what the reader has. It reads from the reader at most once, and only if the
+    /// buffer has no byte.
     fn read(&mut self, bytes: &mut [u8]) -> Result<usize> {
         if self.start == self.end {
             if bytes.len() >= CAPACITY {
@@ -71,8 +74,10 @@ pub struct BufWriter<W: Write> {
 }
 
 impl<W: Write> BufWriter<W> {
-    /// Rattle's clauses: `IfOk result (λ w. writer_inner w ≡ inner)`, `IfOk result (λ w. writer_buffer w ≡ [])`,
-    /// `IfOk result (λ w. writer_capacity w ≡ capacity)`, `IfErr result (λ e. error_kind e ≡ ErrorKind.OutOfMemory)`.
+    /// Rattle's clauses: `IfOk result (λ w. writer_inner w ≡ inner)`,
+    /// `IfOk result (λ w. writer_buffer w ≡ [])`,
+    /// `IfOk result (λ w. writer_capacity w ≡ capacity)`,
+    /// `IfErr result (λ e. error_kind e ≡ ErrorKind.OutOfMemory)`.
     pub fn with_capacity(alloc: Global, capacity: usize, inner: W) -> Result<BufWriter<W>> {
         let buffer = Vec::with_capacity(alloc, capacity)?;
         Ok(BufWriter { inner, buffer })

@@ -18,7 +18,8 @@ pub enum Value {
     Object(Map<String, Value>),
 }
 
-/// The members of an object, in the order of their keys' bytes. The sources name each key of an object, so there are ten at most.
+/// The members of an object, in the order of their keys' bytes. The sources name each key of an
+/// object, so there are ten at most.
 #[derive(Debug)]
 pub struct Map<K, V>(Vec<(K, V)>);
 
@@ -31,8 +32,8 @@ impl<K, V> Map<K, V> {
 
 /// Sets a member.
 ///
-/// The port's clauses: `OnOk result (members_view map'.entries ≡ with_member key (view value) (members_view map.entries))`, and on
-/// an error the map stays.
+/// The port's clauses: `OnOk result (members_view map'.entries ≡ with_member key (view value)
+/// (members_view map.entries))`, and on an error the map stays.
 pub fn put(
     map: &mut Map<String, Value>,
     alloc: Global,
@@ -114,7 +115,8 @@ impl Value {
 
     /// Returns the text, as the port's `to_vec` does: without spaces.
     ///
-    /// The port's clause: `IfOk result (λ b. has_float (view S) ≡ false → b.items ≡ compact_text (view S))`.
+    /// The port's clause: `IfOk result (λ b. has_float (view S) ≡ false → b.items ≡ compact_text
+    /// (view S))`.
     pub fn try_to_vec(&self, alloc: Global) -> Result<Vec<u8>, AllocError> {
         let mut text = Vec::new(alloc);
         self.write(&mut text)?;
@@ -164,8 +166,8 @@ fn write_members(out: &mut Vec<u8>, members: &Map<String, Value>) -> Result<(), 
 
 /// Writes a text between quotes.
 ///
-/// The port's clause: `escape ≡ flat_map escape_byte`, where quotes, backslashes and control characters are escaped as briefly as
-/// JSON allows.
+/// The port's clause: `escape ≡ flat_map escape_byte`, where quotes, backslashes and control
+/// characters are escaped as briefly as JSON allows.
 fn write_text(out: &mut Vec<u8>, text: &str) -> Result<(), AllocError> {
     out.push(b'"')?;
     for byte in text.bytes() {
@@ -193,7 +195,8 @@ fn write_text(out: &mut Vec<u8>, text: &str) -> Result<(), AllocError> {
     Ok(out.push(b'"')?)
 }
 
-/// The port's `json!`, for an object whose keys are literals. It returns a `Result`; a `?` in a value leaves the caller.
+/// The port's `json!`, for an object whose keys are literals. It returns a `Result`; a `?` in a
+/// value leaves the caller.
 macro_rules! json {
     (in $alloc:expr; {$($key:literal: $value:expr),+ $(,)?}) => {
         'json: {

@@ -1,6 +1,7 @@
 //! Locks and conditions, over Rust's own.
 //!
-//! Rattle's locks aren't poisoned: there is no unwinding, and what is proved doesn't panic. So a poisoned lock is acquired here too.
+//! Rattle's locks aren't poisoned: there is no unwinding, and what is proved doesn't panic. So a
+//! poisoned lock is acquired here too.
 
 pub use std::sync::{MutexGuard, atomic};
 use std::sync::{PoisonError, TryLockError};
@@ -15,7 +16,8 @@ pub trait Wait {
     }
 }
 
-/// A value that one thread at a time may write through a `&`. No clause of Rattle's says which value it has.
+/// A value that one thread at a time may write through a `&`. No clause of Rattle's says which
+/// value it has.
 #[derive(Debug)]
 pub struct Mutex<T>(std::sync::Mutex<T>);
 
@@ -53,7 +55,8 @@ impl Condvar {
         Condvar(std::sync::Condvar::new())
     }
 
-    /// Releases the lock and waits in one step, and acquires it again. It may return without a notification, in Rattle as in Rust.
+    /// Releases the lock and waits in one step, and acquires it again. It may return without a
+    /// notification, in Rattle as in Rust.
     pub fn wait<'a, T, R: Wait>(&self, _: &R, guard: MutexGuard<'a, T>) -> MutexGuard<'a, T> {
         self.0.wait(guard).unwrap_or_else(PoisonError::into_inner)
     }

@@ -1,8 +1,9 @@
 //! Threads that borrow from the function that starts them.
 //!
-//! In Rattle the handle of such a thread may leave the closure of its scope, in Rust it may not. So here the handle shares a place
-//! with its thread, where the thread puts its result. That place is an `Arc`, whose allocation can't fail without ending the
-//! process. Neither can those that Rust makes for each thread itself.
+//! In Rattle the handle of such a thread may leave the closure of its scope, in Rust it may not. So
+//! here the handle shares a place with its thread, where the thread puts its result. That place is
+//! an `Arc`, whose allocation can't fail without ending the process. Neither can those that Rust
+//! makes for each thread itself.
 
 use std::any::Any;
 use std::panic::{AssertUnwindSafe, catch_unwind, resume_unwind};

@@ -1,5 +1,6 @@
 //! What holds of every broadcast channel.
 // From crates/rw_broadcast/src/laws.rt, with its contracts as comments. //+
+//~ ghost use Rattle.rw_broadcast.specs.Renaming.{RepliesRenamed};
 //~ ghost use Rattle.rw_broadcast.specs.Laws.{IsShownBySome, RepliesByRecord, RetainsNextPower, ShowsAllowed, ShowsItsRecord, ShowsItsSteps};
 
 /// The laws of the table of calls, for every type of values. The function does nothing: its clauses are the laws.
@@ -12,6 +13,8 @@ pub fn channel_laws<V: Copy>()
     // After any calls, what a channel shows is allowed. All that is allowed is shown by some record.
 //~     ensures allowed { ShowsAllowed V }
 //~     ensures shown { IsShownBySome V }
+    // With other numbers of handles, each call has the same reply, but for the number of a new handle.
+//~     ensures renamed { RepliesRenamed V }
     // The retained capacity is the least power of two that is at least the requested one.
 //~     ensures power { RetainsNextPower }
 {}

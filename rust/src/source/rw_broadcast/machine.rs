@@ -7,6 +7,7 @@
 //~ ghost use Rattle.rw_broadcast.specs.Shown.{shown};
 
 mod readers;
+mod renumber;
 mod reversible;
 mod steps;
 

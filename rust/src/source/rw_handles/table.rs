@@ -1,10 +1,11 @@
 //! The table of a channel's handles.
 // From crates/rw_handles/src/table.rt, with its contracts as comments. //+
 use crate::shim::Vec; //+
-//~ ghost use Rattle.std.specs.Prelude.{◌≡◌, ◌+◌, ◌-◌, ◌<◌, ◌≤◌, ◌++◌, ◌∷◌, [], length, take, slice_get, slice_set, Some, IfOk, OnOk, IsOk};
+//~ ghost use Rattle.std.specs.Prelude.{◌≡◌, ◌+◌, ◌-◌, ◌<◌, ◌≤◌, ◌++◌, ◌∷◌, [], length, take, slice_get, slice_set, Some, IfOk, OnOk, OnErr, IsOk};
 //~ ghost use Rattle.rw_handles.specs.declared.kinds.Kind.TheVariants.{Sender, Receiver};
 //~ ghost use Rattle.rw_handles.specs.declared.kinds.Slot.TheVariants.{Live, Spent};
 //~ ghost use Rattle.rw_handles.specs.Slots.{IsLive, lookup, look_answer, serves, alive, kind_at, receiver_at, value_at, with_value};
+//~ ghost use Rattle.rw_handles.specs.Renaming.{IsRenumbered, is_live, live_numbers};
 //~ ghost use Rattle.rw_handles.specs.declared.table.TheConstants.{MOST_HANDLES};
 
 use crate::source::rw_handles::kinds::{Found, HandleFault, Kind, Slot};
@@ -37,6 +38,13 @@ pub struct Table<X: Copy> {
 //~
 //~     ghost invariant = { λ t. (vec_len t.slots ≤ MOST_HANDLES) × ((kind : Kind) → tally_of t.tally kind ≡ alive kind t.slots.items) };
 //~ }
+
+/// Whether there is a live handle.
+fn is_live<X: Copy>(slot: &Slot<X>) -> bool
+//~     ensures { result ≡ is_live slot.now }
+{
+    matches!(slot, Slot::Live(_, _))
+}
 
 /// Whether a handle of this kind serves where that kind is wanted. At `None`, any kind serves.
 #[inline(always)] //+
@@ -76,7 +84,7 @@ impl<X: Copy> Table<X> {
         Ok(table)
     }
 
-    /// Returns how many handles were made.
+    /// Returns how many handles were made, without those that `renumber` took out.
     #[inline(always)] //+
     pub fn made(&self) -> u32
 //~         ensures made { result ≡ length self.now.slots }
@@ -245,6 +253,32 @@ impl<X: Copy> Table<X> {
 //~         ensures { result ≡ slice_get self.now.slots id }
     {
         self.slots.get(id as usize).copied()
+    }
+
+    /// Returns the numbers of the live handles, in order.
+//~     #[tactic(auto, using(crate::proofs::Renaming::numbers_more_live, crate::proofs::Renaming::numbers_more_spent))]
+    fn live_numbers(&self, alloc: Global) -> Result<Vec<u32>, NoMemory>
+//~         ensures { IfOk result (λ numbers. numbers.items ≡ live_numbers self.now.slots) }
+    {
+        let mut numbers = Vec::new(alloc);
+        for (i, slot) in self.slots.iter().enumerate() {
+            if is_live(slot) {
+                numbers.push(i as u32)?;
+            }
+        }
+        Ok(numbers)
+    }
+
+    /// Takes the numbers of dropped handles out. The live handles stay in order, and get the numbers 0, 1, 2, .. Returns the
+    /// number that each had before. At an error nothing has changed.
+    pub fn renumber(&mut self, alloc: Global) -> Result<Vec<u32>, NoMemory>
+//~         ensures renumbered { IfOk result (λ before. IsRenumbered before.items self.old.slots self.new.slots) }
+//~         ensures room { length self.new.slots + self.new.room ≡ length self.old.slots + self.old.room }
+//~         ensures same { OnErr result (self.new ≡ self.old) }
+    {
+        let before = self.live_numbers(alloc)?;
+        self.slots.retain(|slot| is_live(slot));
+        Ok(before)
     }
 
     /// Returns the slots, in the order of making.

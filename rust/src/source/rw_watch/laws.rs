@@ -1,5 +1,6 @@
 //! What holds of every watch channel.
 // From crates/rw_watch/src/laws.rt, with its contracts as comments. //+
+//~ ghost use Rattle.rw_watch.specs.Renaming.{RepliesRenamed};
 //~ ghost use Rattle.rw_watch.specs.Laws.{IsShownBySome, RepliesByRecord, ShowsAllowed, ShowsItsRecord, ShowsItsSteps};
 
 /// The laws of the table of calls, for every type of values. The function does nothing: its clauses are the laws.
@@ -12,4 +13,6 @@ pub fn channel_laws<V: Copy>()
     // After any calls, what a channel shows is allowed. All that can be shown is shown by some record.
 //~     ensures allowed { ShowsAllowed V }
 //~     ensures shown { IsShownBySome V }
+    // With other numbers of handles, each call has the same reply, but for the number of a new handle.
+//~     ensures renamed { RepliesRenamed V }
 {}

@@ -5,6 +5,7 @@
 //~ ghost use Rattle.rw_watch.specs.Shown.{shown};
 
 mod readers;
+mod renumber;
 mod reversible;
 mod steps;
 

@@ -10,8 +10,9 @@ use yovanelum::broadcast::{Receiver, error::RecvError};
 
 /// A wrapper around [`Receiver`] that implements [`Stream`].
 ///
-/// Its items are what [`recv`](Receiver::recv) returns. It ends when the channel is closed and everything that was sent has been received.
-/// As in tokio-stream, a lag is an item, and the stream goes on after it.
+/// Its items are what [`recv`](Receiver::recv) returns. It ends when the channel is closed and
+/// everything that was sent has been received. As in tokio-stream, a lag is an item, and the stream
+/// goes on after it.
 ///
 /// # Examples
 ///
@@ -49,8 +50,8 @@ pub struct BroadcastStream<T> {
 /// ```
 #[derive(Debug, PartialEq, Eq, Clone)]
 pub enum BroadcastStreamRecvError {
-    /// The receiver lagged, and this many values were overwritten before it received them. As in tokio-stream, the next item is the oldest
-    /// value that is still retained.
+    /// The receiver lagged, and this many values were overwritten before it received them. As in
+    /// tokio-stream, the next item is the oldest value that is still retained.
     Lagged(u64),
 }
 

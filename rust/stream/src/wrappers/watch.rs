@@ -9,9 +9,10 @@ use yovanelum::watch::Receiver;
 
 /// A wrapper around [`Receiver`] that implements [`Stream`].
 ///
-/// Its items are clones of the last value: the first one of the value at the first poll, also if the receiver has seen it, and each later
-/// one of a value that it has not seen. As in tokio-stream, values that are replaced quickly may be skipped. The stream ends when every
-/// sender has been dropped and the last value was an item.
+/// Its items are clones of the last value: the first one of the value at the first poll, also if
+/// the receiver has seen it, and each later one of a value that it has not seen. As in
+/// tokio-stream, values that are replaced quickly may be skipped. The stream ends when every sender
+/// has been dropped and the last value was an item.
 ///
 /// # Examples
 ///
@@ -73,7 +74,8 @@ impl<T: 'static + Clone + Send + Sync> WatchStream<T> {
 
     /// Creates a stream whose first item is the first value that the receiver has not seen.
     ///
-    /// As in versions of tokio-stream after 0.1.9, this is [`new`](WatchStream::new) without the value that is there already.
+    /// As in versions of tokio-stream after 0.1.9, this is [`new`](WatchStream::new) without the
+    /// value that is there already.
     ///
     /// # Examples
     ///

@@ -1,5 +1,6 @@
-//! A task that receives from a channel that is never empty gives way to others. Under `--cfg tokio_unstable` the tokio of these tests offers its
-//! budget, as later versions do: then what a task takes of it is taken from its receives, too.
+//! A task that receives from a channel that is never empty gives way to others. Under
+//! `--cfg tokio_unstable` the tokio of these tests offers its budget, as later versions do: then
+//! what a task takes of it is taken from its receives, too.
 
 use std::cell::{Cell, RefCell};
 use std::future::{poll_fn, Future};

@@ -1,4 +1,5 @@
-//! Tests without an edit, whose tasks have no names, are explored. Each test runs this program again, as a process.
+//! Tests without an edit, whose tasks have no names, are explored. Each test runs this program
+//! again, as a process.
 
 use std::future::Future;
 use std::process::Command;
@@ -7,7 +8,8 @@ use tokio::sync::{broadcast, mpsc};
 use tokio::task::{JoinSet, LocalSet};
 use yovanelum::Recorder;
 
-/// A router forwards orders to a bus, and a clerk who has sent them announces the end of the day there by itself. Returns what the audit has got.
+/// A router forwards orders to a bus, and a clerk who has sent them announces the end of the day
+/// there by itself. Returns what the audit has got.
 async fn day(waits_for_router: bool) -> Vec<u32> {
     let (desk, mut orders) = mpsc::channel(8);
     let bus = broadcast::Sender::new(16);
@@ -24,9 +26,10 @@ async fn day(waits_for_router: bool) -> Vec<u32> {
             tokio::task::yield_now().await;
         }
         drop(desk);
-        match waits_for_router {
-            true => router.await.unwrap(),
-            false => tokio::task::yield_now().await,
+        if waits_for_router {
+            router.await.unwrap()
+        } else {
+            tokio::task::yield_now().await
         }
         of_clerk.send(0).unwrap();
     });
@@ -55,7 +58,8 @@ async fn the_day_ends_after_its_orders() {
     assert_eq!(day(true).await, [1, 2, 3, 0]);
 }
 
-/// Two futures that send their numbers. The tasks of a runtime are polled in the order in which they were spawned, unless they are explored.
+/// Two futures that send their numbers. The tasks of a runtime are polled in the order in which
+/// they were spawned, unless they are explored.
 fn two() -> (
     [impl Future<Output = ()> + Send + 'static; 2],
     broadcast::Receiver<u32>,

@@ -1,4 +1,5 @@
-//! Tests side by side in one process, each on a runtime of many threads that `#[tokio::test]` builds: each has its own channels.
+//! Tests side by side in one process, each on a runtime of many threads that `#[tokio::test]`
+//! builds: each has its own channels.
 
 use std::sync::{Arc, Mutex};
 use std::thread;
@@ -23,7 +24,8 @@ fn open(number: usize) {
     }
 }
 
-/// What is tested: it opens ten channels, of which nine are opened by tasks and by a thread that may block.
+/// What is tested: it opens ten channels, of which nine are opened by tasks and by a thread that
+/// may block.
 async fn service() {
     open(0);
     let tasks: Vec<_> = (1..9)

@@ -1,4 +1,5 @@
-//! Servers that shut down gracefully: in the form of mini-redis, in that of axum's `serve`, and by hyper's server itself.
+//! Servers that shut down gracefully: in the form of mini-redis, in that of axum's `serve`, and by
+//! hyper's server itself.
 
 use std::convert::Infallible;
 use std::future::Future;
@@ -145,7 +146,8 @@ async fn mini_redis_ends_each_connection() {
     assert_eq!(entries(&recorder, " = closed"), 3);
 }
 
-/// A connection of the server below, which answers `work` when it is let. It ends between two requests once the server shuts down.
+/// A connection of the server below, which answers `work` when it is let. It ends between two
+/// requests once the server shuts down.
 struct Connection {
     stream: BufStream<TcpStream>,
     signal_tx: Arc<watch::Sender<()>>,
@@ -172,7 +174,8 @@ impl Connection {
     }
 }
 
-/// The server of axum's `serve(..).with_graceful_shutdown(signal)`: one watch says that it shuts down, the other that connections are open.
+/// The server of axum's `serve(..).with_graceful_shutdown(signal)`: one watch says that it shuts
+/// down, the other that connections are open.
 async fn run_axum(
     listener: TcpListener,
     signal: impl Future<Output = ()> + Send + 'static,

@@ -1,5 +1,5 @@
-//! Tasks without a name are told apart by their ids, each with the line of its first call. This version of tokio has `task::try_id` under
-//! `--cfg tokio_unstable` alone.
+//! Tasks without a name are told apart by their ids, each with the line of its first call. This
+//! version of tokio has `task::try_id` under `--cfg tokio_unstable` alone.
 #![cfg(tokio_unstable)]
 
 use std::collections::BTreeSet;

@@ -251,50 +251,6 @@ pub fn drop_hand(
     }
 }
 
-/// Makes a call by a sender of a broadcast. Where the call makes a handle, that is dropped as a value.
-pub fn by_sender(
-    desk: &Desk<u64>,
-    pass: &mut Pass<u64>,
-    sender: &BTx,
-    asked: BCall<u64>,
-) -> Result<BReply<u64>, DeskFault> {
-    let (reply, _) = by_b_sender(desk, pass, sender, asked)?;
-    Ok(reply)
-}
-
-/// Makes a call by a receiver of a broadcast, as `by_sender` does.
-pub fn by_receiver(
-    desk: &Desk<u64>,
-    pass: &mut Pass<u64>,
-    receiver: &BRx,
-    asked: BCall<u64>,
-) -> Result<BReply<u64>, DeskFault> {
-    let (reply, _) = by_b_receiver(desk, pass, receiver, asked)?;
-    Ok(reply)
-}
-
-/// Makes a call by a sender of a watch, as `by_sender` does. A `Modify` is refused with `NoChannel`, since it takes a closure.
-pub fn by_writer(
-    desk: &Desk<u64>,
-    pass: &mut Pass<u64>,
-    writer: &WTx,
-    asked: WCall<u64>,
-) -> Result<WReply<u64>, DeskFault> {
-    let (reply, _) = by_w_sender(desk, pass, writer, asked)?;
-    Ok(reply)
-}
-
-/// Makes a call by a receiver of a watch, as `by_sender` does.
-pub fn by_reader(
-    desk: &Desk<u64>,
-    pass: &mut Pass<u64>,
-    reader: &WRx,
-    asked: WCall<u64>,
-) -> Result<WReply<u64>, DeskFault> {
-    let (reply, _) = by_w_receiver(desk, pass, reader, asked)?;
-    Ok(reply)
-}
-
 /// Waits by a receiver of a watch for a value that is at least this. Another handle is refused with `NoChannel`.
 pub fn wait_until(
     desk: &Desk<u64>,

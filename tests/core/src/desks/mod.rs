@@ -4,8 +4,6 @@ mod calls;
 mod hand;
 mod journals;
 
-pub use calls::{
-    Called, by_reader, by_receiver, by_sender, by_writer, call_by, drop_hand, wait_until,
-};
+pub use calls::{Called, call_by, drop_hand, wait_until};
 pub use hand::{Hand, hands_of};
 pub use journals::{Parts, StampedCall, parts_of};

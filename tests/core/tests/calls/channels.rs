@@ -3,4 +3,5 @@
 pub mod broadcasts;
 mod openings;
 pub mod playing;
+mod renumbering;
 pub mod watches;

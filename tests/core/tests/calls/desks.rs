@@ -2,7 +2,7 @@
 
 mod beside;
 mod full;
-mod most;
+mod full_size;
 mod one_thread;
 pub mod opened;
 mod passes;

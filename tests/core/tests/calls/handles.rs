@@ -1,6 +1,6 @@
 //! The life of a small table.
 use proved::Global;
-use proved::rw_handles::{Found, HandleFault, Kind, Table};
+use proved::rw_handles::{Found, HandleFault, Kind, Slot, Table};
 
 #[test]
 fn a_short_life() {
@@ -69,4 +69,25 @@ fn room_for_many_handles() {
         table.ready(handles).unwrap();
         assert!(handles <= table.room());
     }
+}
+
+#[test]
+fn new_numbers_for_the_live_ones() {
+    let mut table: Table<u64> = Table::of_two(Global, 3, 4).unwrap();
+    table.ready(3).unwrap();
+    let made = [(Kind::Weak, 5), (Kind::Receiver, 6), (Kind::Sender, 7)];
+    let numbers = made.map(|(kind, x)| table.make(kind, x));
+    let dropped = [table.drop_one(0), table.drop_one(3)];
+    let places = u64::from(table.made()) + table.room();
+    let before = table.renumber(Global).unwrap();
+    assert_eq!(
+        (numbers, dropped),
+        ([2, 3, 4], [(Kind::Sender, 3), (Kind::Receiver, 6)])
+    );
+    assert_eq!(&before[..], &[1, 2, 4]);
+    let left = [(Kind::Receiver, 4), (Kind::Weak, 5), (Kind::Sender, 7)];
+    assert_eq!(table.slots(), left.map(|(kind, x)| Slot::Live(kind, x)));
+    assert_eq!(alive(&table), [1, 1, 1]);
+    assert_eq!(u64::from(table.made()) + table.room(), places);
+    assert_eq!(table.make(Kind::Receiver, 8), 3);
 }

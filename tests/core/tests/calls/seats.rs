@@ -1,7 +1,6 @@
 //! Hand-offs, and desks with seats.
 
 mod hand_offs;
-mod most;
 mod one_thread;
 mod shared;
 mod threads;

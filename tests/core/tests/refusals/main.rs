@@ -16,6 +16,7 @@ mod machines;
 mod met;
 mod passes;
 mod readings;
+mod renumberings;
 mod runs;
 mod scripts;
 mod seats;
@@ -42,6 +43,7 @@ fn is_answered(play: fn(), wanted: &str) {
     for allowed in 0.. {
         let ((said, met), refused) = refusing(Refusal::only(allowed), || said_by(play));
         assert_eq!(said, wanted, "request {allowed}");
+        assert!(met <= refused, "{met} calls say so of {refused} requests");
         all += met;
         if refused == 0 {
             break;
@@ -53,6 +55,11 @@ fn is_answered(play: fn(), wanted: &str) {
 #[test]
 fn machines() {
     is_answered(machines::play, include_str!("said/machines.txt"));
+}
+
+#[test]
+fn renumberings() {
+    is_answered(renumberings::play, include_str!("said/renumberings.txt"));
 }
 
 #[test]

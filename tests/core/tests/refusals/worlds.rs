@@ -10,80 +10,37 @@ use proved::rw_watch::WCall;
 use proved::rw_world::{ChanCall, RowCall, World};
 use std::fmt::Debug;
 
+/// A call on the channel of this number.
+const fn on(channel: u32, call: ChanCall<u64>) -> RowCall<ChanCall<u64>> {
+    RowCall { channel, call }
+}
+
 /// What is called on a world: on its channel 0, the broadcast, and on its channel 1, the watch.
 static CALLS: [RowCall<ChanCall<u64>>; 6] = [
-    RowCall {
-        channel: 0,
-        call: ChanCall::B(BCall::Subscribe(0)),
-    },
-    RowCall {
-        channel: 1,
-        call: ChanCall::W(WCall::Subscribe(0)),
-    },
-    RowCall {
-        channel: 0,
-        call: ChanCall::B(BCall::Send(0, 4)),
-    },
-    RowCall {
-        channel: 1,
-        call: ChanCall::W(WCall::Send(0, 5)),
-    },
-    RowCall {
-        channel: 0,
-        call: ChanCall::B(BCall::TryRecv(2)),
-    },
-    RowCall {
-        channel: 1,
-        call: ChanCall::W(WCall::Update(2)),
-    },
+    on(0, ChanCall::B(BCall::Subscribe(0))),
+    on(1, ChanCall::W(WCall::Subscribe(0))),
+    on(0, ChanCall::B(BCall::Send(0, 4))),
+    on(1, ChanCall::W(WCall::Send(0, 5))),
+    on(0, ChanCall::B(BCall::TryRecv(2))),
+    on(1, ChanCall::W(WCall::Update(2))),
 ];
 
 /// What is called on a book, call by call. The last call names no channel.
 static SINGLE: [RowCall<ChanCall<u64>>; 7] = [
-    RowCall {
-        channel: 0,
-        call: ChanCall::B(BCall::Send(0, 1)),
-    },
-    RowCall {
-        channel: 1,
-        call: ChanCall::W(WCall::Send(0, 8)),
-    },
-    RowCall {
-        channel: 0,
-        call: ChanCall::B(BCall::Recv(1)),
-    },
-    RowCall {
-        channel: 0,
-        call: ChanCall::B(BCall::Recv(1)),
-    },
-    RowCall {
-        channel: 1,
-        call: ChanCall::W(WCall::Subscribe(0)),
-    },
-    RowCall {
-        channel: 0,
-        call: ChanCall::B(BCall::Subscribe(0)),
-    },
-    RowCall {
-        channel: 2,
-        call: ChanCall::B(BCall::Send(0, 1)),
-    },
+    on(0, ChanCall::B(BCall::Send(0, 1))),
+    on(1, ChanCall::W(WCall::Send(0, 8))),
+    on(0, ChanCall::B(BCall::Recv(1))),
+    on(0, ChanCall::B(BCall::Recv(1))),
+    on(1, ChanCall::W(WCall::Subscribe(0))),
+    on(0, ChanCall::B(BCall::Subscribe(0))),
+    on(2, ChanCall::B(BCall::Send(0, 1))),
 ];
 
 /// What is called on a book as a list, by the actors 0, 1 and 2.
 static LISTED: [RowCall<ChanCall<u64>>; 3] = [
-    RowCall {
-        channel: 0,
-        call: ChanCall::B(BCall::Send(0, 5)),
-    },
-    RowCall {
-        channel: 1,
-        call: ChanCall::W(WCall::Send(0, 5)),
-    },
-    RowCall {
-        channel: 0,
-        call: ChanCall::B(BCall::CloneSender(0)),
-    },
+    on(0, ChanCall::B(BCall::Send(0, 5))),
+    on(1, ChanCall::W(WCall::Send(0, 5))),
+    on(0, ChanCall::B(BCall::CloneSender(0))),
 ];
 
 /// Plays a machine, and then a book of another one. Both are played here, so that one call names the world.

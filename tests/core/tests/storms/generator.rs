@@ -5,6 +5,7 @@ use proved::rw_broadcast::{BCall, BReply};
 use proved::rw_watch::{WCall, WReply};
 use proved::rw_world::{ChanCall, ChanReply};
 use support::Random;
+use support::fixtures::{closure_on, to_broadcast, to_watch};
 
 /// A call to make.
 #[derive(Clone, Copy)]
@@ -84,56 +85,6 @@ impl Generator {
                 *below = (*below).max(number.saturating_add(2));
             }
         }
-    }
-}
-
-/// Returns a call of a broadcast with this handle.
-fn to_broadcast(kind: u64, handle: u32, value: u64) -> BCall<u64> {
-    match kind % 13 {
-        0 => BCall::Send(handle, value),
-        1 => BCall::Subscribe(handle),
-        2 => BCall::CloneSender(handle),
-        3 => BCall::Resubscribe(handle),
-        4 => BCall::TryRecv(handle),
-        5 => BCall::Recv(handle),
-        6 => BCall::DropHandle(handle),
-        7 => BCall::SenderLen(handle),
-        8 => BCall::ReceiverCount(handle),
-        9 => BCall::ReceiverLen(handle),
-        10 => BCall::Downgrade(handle),
-        11 => BCall::Upgrade(handle),
-        _ => BCall::CloneWeak(handle),
-    }
-}
-
-/// Returns a call of a watch by which a closure changes the value, with or without notification.
-fn closure_on(handle: u32, value: u64) -> WCall<u64> {
-    WCall::Modify {
-        told: value % 2 == 0,
-        handle,
-        value,
-    }
-}
-
-/// Returns a call of a watch with this handle.
-fn to_watch(kind: u64, handle: u32, value: u64) -> WCall<u64> {
-    match kind % 16 {
-        0 => WCall::Send(handle, value),
-        1 => WCall::SendReplace(handle, value),
-        2 => closure_on(handle, value),
-        3 => WCall::Subscribe(handle),
-        4 => WCall::CloneSender(handle),
-        5 => WCall::CloneReceiver(handle),
-        6 => WCall::Borrow(handle),
-        7 => WCall::Update(handle),
-        8 => WCall::HasChanged(handle),
-        9 => WCall::Changed(handle),
-        10 => WCall::MarkChanged(handle),
-        11 => WCall::MarkUnchanged(handle),
-        12 => WCall::DropHandle(handle),
-        13 => WCall::ReceiverCount(handle),
-        14 => WCall::IsClosed(handle),
-        _ => WCall::AwaitClosed(handle),
     }
 }
 

@@ -214,6 +214,36 @@ fn calls_are_recorded_until_recording_ends() {
     assert_eq!(state_of(&watch), (2, 1, 0, None, None, Some(false)));
 }
 
+/// Calls of the broadcast once receiver 1, the one handle that is left, has number 0.
+static RENUMBERED: [Row; 3] = [
+    (
+        ChanCall::B(BCall::TryRecv(1)),
+        Ok(ChanReply::B(BReply::Unknown)),
+    ),
+    (
+        ChanCall::B(BCall::TryRecv(0)),
+        Ok(ChanReply::B(BReply::Value(8))),
+    ),
+    (
+        ChanCall::B(BCall::Resubscribe(0)),
+        Ok(ChanReply::B(BReply::New(1))),
+    ),
+];
+
+#[test]
+fn handles_get_new_numbers_once_recording_has_ended() {
+    let (mut broadcast, watch) = recorded();
+    let recorded = broadcast.renumber(Global).unwrap();
+    let state = state_of(&broadcast);
+    broadcast.end();
+    let ended = broadcast.renumber(Global).unwrap().unwrap();
+    assert_eq!((recorded, state), (None, (5, 0, 2, Some(1), Some(2), None)));
+    assert_eq!(ended.as_slice(), &[1]);
+    are_made(&mut broadcast, 6, &RENUMBERED);
+    let text = text_of(&broadcast, &watch, 6);
+    assert_eq!(text.unwrap().as_slice(), TEXT);
+}
+
 #[test]
 fn a_cut_has_the_text_of_the_run() {
     let (broadcast, mut watch) = recorded();

@@ -1,5 +1,6 @@
 use Rattle.std.proofs.Common.{take}
-use Rattle.rw_page.specs.PeakLines.{Appended, AreChannelTexts}
+use Rattle.rw_page.specs.PeakLines.{AreChannelTexts}
+use Rattle.rw_page.specs.Texts.{Appended}
 use Rattle.rw_page.proofs.peak_lines.push_channels.Given as goal
 
 abbrev pub invariant-each_channel : goal.invariant-each_channel

@@ -1,3 +1,4 @@
+use Rattle.rw_watch.proofs.Renaming.{replies_renamed}
 use Rattle.rw_watch.proofs.Showing.{is_shown_by_some, replies_by_record, shows_allowed, shows_its_record, shows_its_steps}
 use Rattle.rw_watch.proofs.laws.channel_laws.Goals as goal
 
@@ -15,3 +16,6 @@ returns-clause-allowed g c = shows_allowed _
 
 pub returns-clause-shown : goal.returns-clause-shown
 returns-clause-shown g c = is_shown_by_some _
+
+pub returns-clause-renamed : goal.returns-clause-renamed
+returns-clause-renamed g c = replies_renamed _

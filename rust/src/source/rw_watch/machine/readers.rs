@@ -39,7 +39,7 @@ impl<V: Copy> Watch<V> {
         Some(!self.is_unseen(mark))
     }
 
-    /// Returns how many handles were made.
+    /// Returns how many handles were made, without those that `renumber` took out.
     pub fn made(&self) -> u32
 //~         ensures { result ≡ length self.now.shown.slots }
     {

@@ -172,36 +172,25 @@ fn roles(ends: &mut proved::Vec<Ends>) -> (Waits, Ending) {
     (waits, ending)
 }
 
+/// A call of a watch with its reply, as a receipt has them.
+const fn of_watch(call: WCall<u64>, reply: WReply<u64>) -> (ChanCall<u64>, ChanReply<u64>) {
+    (ChanCall::W(call), ChanReply::W(reply))
+}
+
 /// A wait of receiver 1 of a watch that a change has ended.
-const CHANGED: (ChanCall<u64>, ChanReply<u64>) =
-    (ChanCall::W(WCall::Changed(1)), ChanReply::W(WReply::Done));
+const CHANGED: (ChanCall<u64>, ChanReply<u64>) = of_watch(WCall::Changed(1), WReply::Done);
 
 /// The receipts of the waits that are ended in turn.
 static WAITED: [(ChanCall<u64>, ChanReply<u64>); 9] = [
-    (
-        ChanCall::W(WCall::Update(1)),
-        ChanReply::W(WReply::Value(0)),
-    ),
+    of_watch(WCall::Update(1), WReply::Value(0)),
     CHANGED,
-    (
-        ChanCall::W(WCall::Update(1)),
-        ChanReply::W(WReply::Value(1)),
-    ),
+    of_watch(WCall::Update(1), WReply::Value(1)),
     CHANGED,
-    (
-        ChanCall::W(WCall::Update(1)),
-        ChanReply::W(WReply::Value(2)),
-    ),
+    of_watch(WCall::Update(1), WReply::Value(2)),
     CHANGED,
-    (
-        ChanCall::W(WCall::Update(1)),
-        ChanReply::W(WReply::Value(3)),
-    ),
+    of_watch(WCall::Update(1), WReply::Value(3)),
     (ChanCall::B(BCall::Recv(1)), ChanReply::B(BReply::Closed)),
-    (
-        ChanCall::W(WCall::AwaitClosed(0)),
-        ChanReply::W(WReply::Done),
-    ),
+    of_watch(WCall::AwaitClosed(0), WReply::Done),
 ];
 
 #[test]
@@ -221,20 +210,11 @@ fn waits_that_another_thread_ends() {
 
 /// The receipts of the wait for the value 3.
 static MODIFIED: [(ChanCall<u64>, ChanReply<u64>); 5] = [
-    (
-        ChanCall::W(WCall::Update(1)),
-        ChanReply::W(WReply::Value(0)),
-    ),
+    of_watch(WCall::Update(1), WReply::Value(0)),
     CHANGED,
-    (
-        ChanCall::W(WCall::Update(1)),
-        ChanReply::W(WReply::Value(1)),
-    ),
+    of_watch(WCall::Update(1), WReply::Value(1)),
     CHANGED,
-    (
-        ChanCall::W(WCall::Update(1)),
-        ChanReply::W(WReply::Value(3)),
-    ),
+    of_watch(WCall::Update(1), WReply::Value(3)),
 ];
 
 #[test]

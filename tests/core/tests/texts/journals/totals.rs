@@ -8,6 +8,19 @@ use proved::rw_journal::Run;
 /// What a script is about, its lines, and the totals of its run.
 type Row = (&'static str, &'static [u8], &'static [Totals]);
 
+/// The totals of a receiver of a watch: how many changes it was told, how many it missed, and how many it never looked at.
+const fn of_watch(channel: u32, receiver: u32, [changes, missed, unlooked]: [u64; 3]) -> Totals {
+    Totals {
+        channel,
+        receiver,
+        counts: Counts::Watch(WatchCounts {
+            changes,
+            missed,
+            unlooked,
+        }),
+    }
+}
+
 static ROWS: [Row; 12] = [
     (
         "told_once",
@@ -106,110 +119,38 @@ static ROWS: [Row; 12] = [
     (
         "changes_between_looks",
         b"watch 4\n0 0 send 0 5\n0 0 send 0 6\n0 0 changed 1\n0 0 send 0 7\n0 0 update 1\n0 0 send 0 8\n0 0 send 0 9\n",
-        &[Totals {
-            channel: 0,
-            receiver: 1,
-            counts: Counts::Watch(WatchCounts {
-                changes: 1,
-                missed: 3,
-                unlooked: 4,
-            }),
-        }],
+        &[of_watch(0, 1, [1, 3, 4])],
     ),
     (
         "told_twice",
         b"watch 4\n0 0 send 0 5\n0 0 changed 1\n0 0 mark-changed 1\n0 0 changed 1\n0 0 send 0 6\n0 0 clone-receiver 1\n0 0 drop 1\n0 0 send 0 7\n0 0 send 0 8\n",
         &[
-            Totals {
-                channel: 0,
-                receiver: 1,
-                counts: Counts::Watch(WatchCounts {
-                    changes: 2,
-                    missed: 1,
-                    unlooked: 2,
-                }),
-            },
-            Totals {
-                channel: 0,
-                receiver: 2,
-                counts: Counts::Watch(WatchCounts {
-                    changes: 0,
-                    missed: 2,
-                    unlooked: 2,
-                }),
-            },
+            of_watch(0, 1, [2, 1, 2]),
+            of_watch(0, 2, [0, 2, 2]),
         ],
     ),
     (
         "looks_by_borrow",
         b"watch 4\n0 0 send 0 5\n0 0 borrow 1\n0 0 send 0 6\n0 0 borrow 1\n0 0 borrow 1\n0 0 send 0 7\n0 0 borrow 1\n",
-        &[Totals {
-            channel: 0,
-            receiver: 1,
-            counts: Counts::Watch(WatchCounts {
-                changes: 0,
-                missed: 3,
-                unlooked: 0,
-            }),
-        }],
+        &[of_watch(0, 1, [0, 3, 0])],
     ),
     (
         "told_without_a_look",
         b"watch 4\n0 0 send 0 5\n0 0 changed 1\n0 0 send 0 6\n0 0 changed 1\n",
-        &[Totals {
-            channel: 0,
-            receiver: 1,
-            counts: Counts::Watch(WatchCounts {
-                changes: 2,
-                missed: 0,
-                unlooked: 2,
-            }),
-        }],
+        &[of_watch(0, 1, [2, 0, 2])],
     ),
     (
         "looks_and_marks",
         b"watch 4\n0 0 send 0 5\n0 0 update 1\n0 0 send 0 6\n0 0 borrow 1\n0 0 send 0 7\n0 0 changed 1\n0 0 send 0 8\n0 0 mark-unchanged 1\n0 0 update 1\n0 0 send 0 9\n0 0 borrow 0\n0 0 send 0 10\n0 0 borrow 1\n",
-        &[Totals {
-            channel: 0,
-            receiver: 1,
-            counts: Counts::Watch(WatchCounts {
-                changes: 1,
-                missed: 3,
-                unlooked: 2,
-            }),
-        }],
+        &[of_watch(0, 1, [1, 3, 2])],
     ),
     (
         "looks_of_late_receivers",
         b"watch 4\n0 0 send 0 5\n0 0 subscribe 0\n0 0 borrow 2\n0 0 send 0 6\n0 0 clone-receiver 2\n0 0 send 0 7\n0 0 borrow 3\n0 0 drop 2\n0 0 borrow 2\n0 0 send 0 8\n0 0 drop 3\n",
         &[
-            Totals {
-                channel: 0,
-                receiver: 1,
-                counts: Counts::Watch(WatchCounts {
-                    changes: 0,
-                    missed: 4,
-                    unlooked: 4,
-                }),
-            },
-            Totals {
-                channel: 0,
-                receiver: 2,
-                counts: Counts::Watch(WatchCounts {
-                    changes: 0,
-                    missed: 2,
-                    unlooked: 2,
-                }),
-            },
-            Totals {
-                channel: 0,
-                receiver: 3,
-                counts: Counts::Watch(WatchCounts {
-                    changes: 0,
-                    missed: 2,
-                    unlooked: 1,
-                }),
-            },
+            of_watch(0, 1, [0, 4, 4]),
+            of_watch(0, 2, [0, 2, 2]),
+            of_watch(0, 3, [0, 2, 1]),
         ],
     ),
     (
@@ -228,15 +169,7 @@ static ROWS: [Row; 12] = [
                     unread: Some(2),
                 }),
             },
-            Totals {
-                channel: 1,
-                receiver: 1,
-                counts: Counts::Watch(WatchCounts {
-                    changes: 1,
-                    missed: 0,
-                    unlooked: 1,
-                }),
-            },
+            of_watch(1, 1, [1, 0, 1]),
         ],
     ),
 ];

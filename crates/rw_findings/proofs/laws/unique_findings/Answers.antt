@@ -1,0 +1,14 @@
+use Rattle.rw_findings.proofs.UniqueFindings.{closings_are_unique, losses_are_unique, peaks_are_unique, totals_are_unique}
+use Rattle.rw_findings.proofs.laws.unique_findings.Goals as goal
+
+pub returns-clause-losses : goal.returns-clause-losses
+returns-clause-losses g c = losses_are_unique _
+
+pub returns-clause-totals : goal.returns-clause-totals
+returns-clause-totals g c = totals_are_unique _
+
+pub returns-clause-closings : goal.returns-clause-closings
+returns-clause-closings g c = closings_are_unique _
+
+pub returns-clause-peaks : goal.returns-clause-peaks
+returns-clause-peaks g c = peaks_are_unique _

@@ -1,9 +1,0 @@
-use Rattle.std.proofs.Common.{refl}
-use Rattle.rw_page.proofs.PeakTexts.{appended_none, lives_more}
-use Rattle.rw_page.proofs.life_lines.push_channels.Goals as goal
-
-pub each_channel-init : goal.each_channel-init
-each_channel-init c = appended_none _ _ refl
-
-pub each_channel-preserved : goal.each_channel-preserved
-each_channel-preserved c = lives_more c.args.run.now c.each_channel.channel _ _ _ c.each_channel.invariant c.in_ok-push_channel.ensures

@@ -1,0 +1,181 @@
+//! Books, ledgers, drafts, merges and recordings.
+
+use crate::channels::channel;
+use proved::rw_broadcast::{BCall, BReply};
+use proved::rw_journal::{
+    Book, ChanLedger, Ledger, MergeFault, PushFault, Run, RunDraft, TakeFault,
+};
+use proved::rw_journal::{entries_of, merge_all, merge_calls};
+use proved::rw_law::Entry;
+use proved::rw_recording::{Cut, CutFault, Recording, RunReader};
+use proved::rw_world::{Chan, ChanCall, ChanReply, RowCall, Spec};
+use proved::{Global, Vec};
+
+/// The channels of most tables.
+const TWO: [Spec<u64>; 2] = [Spec::Broadcast(2), Spec::Broadcast(2)];
+
+pub const fn send(value: u64) -> ChanCall<u64> {
+    ChanCall::B(BCall::Send(0, value))
+}
+
+pub const SENT: ChanReply<u64> = ChanReply::B(BReply::Sent(1));
+
+/// Whether the last of many takes was recorded. If not, the journal was full.
+fn is_taken<T>(taken: Result<T, TakeFault>) -> bool {
+    match taken {
+        Ok(_) => true,
+        Err(fault) => {
+            assert_eq!(fault, TakeFault::JournalFull);
+            false
+        }
+    }
+}
+
+/// A book of so many sends, or of as many as it takes.
+fn filled(size: u64) -> (Book<Chan<u64>>, bool) {
+    let mut book = Book::open(Global, channel(TWO[0])).unwrap();
+    for value in 1..size {
+        assert_eq!(book.take(0, value - 1, send(value)).unwrap().reply, SENT);
+    }
+    let is_taken = is_taken(book.take(0, size - 1, send(size)));
+    (book, is_taken)
+}
+
+pub fn book(size: u64) -> bool {
+    let (book, is_taken) = filled(size);
+    let last = book.entries().last().unwrap();
+    assert_eq!((last.stamp, book.len()), (last.stamp, last.stamp));
+    is_taken && book.len() == size
+}
+
+pub fn ledger(size: u64) -> bool {
+    let mut ledger: ChanLedger<u64> = Ledger::open(Global, channel(TWO[0])).unwrap();
+    for value in 1..size {
+        assert_eq!(ledger.take(0, value - 1, send(value)).unwrap().reply, SENT);
+    }
+    if !is_taken(ledger.take(0, size - 1, send(size))) {
+        return false;
+    }
+    let entries = entries_of(Global, channel(TWO[0]), ledger.calls()).unwrap();
+    let (book, _) = filled(size);
+    assert_eq!(entries.len(), book.entries().len());
+    let same = |(one, two): (&Entry<_>, &Entry<_>)| {
+        one.stamp == two.stamp && one.reply == two.reply && one.patch == two.patch
+    };
+    entries.iter().zip(book.entries()).all(same)
+}
+
+/// A run of so many sends on the first of two channels, and one on the second.
+pub fn run_of(size: u64) -> Result<Run<u64>, PushFault> {
+    let mut draft = RunDraft::open(Global, &TWO).unwrap();
+    let on = |channel, value| RowCall {
+        channel,
+        call: send(value),
+    };
+    for value in 1..=size {
+        draft.push(0, value, on(0, value), SENT)?;
+    }
+    draft.push(0, size + 1, on(1, 0), SENT)?;
+    Ok(draft.finish())
+}
+
+pub fn draft(size: u64) -> bool {
+    match run_of(size) {
+        Ok(run) => run.len() == size + 1,
+        Err(fault) => {
+            assert_eq!(fault, PushFault::Limit);
+            false
+        }
+    }
+}
+
+/// Whether this is the run of so many sends and one more, in the order of stamps.
+fn is_run(run: Result<Run<u64>, MergeFault>, size: u64) -> bool {
+    let Ok(run) = run else {
+        return false;
+    };
+    let [first, .., last] = run.entries() else {
+        return false;
+    };
+    let places = [first, last].map(|entry| (entry.call.channel, entry.stamp));
+    run.len() == size + 1 && places == [(0, 1), (1, size + 1)]
+}
+
+/// The specs of two channels.
+fn specs() -> Vec<Spec<u64>> {
+    TWO.into_iter().collect()
+}
+
+pub fn merged(size: u64) -> bool {
+    let (first, _) = filled(size);
+    let mut second = Book::open(Global, channel(TWO[1])).unwrap();
+    second.take(0, size, send(0)).unwrap();
+    let copy =
+        |book: &Book<Chan<u64>>| book.entries().iter().map(Entry::copied).collect::<Vec<_>>();
+    let journals = [copy(&first), copy(&second)];
+    is_run(merge_all(Global, specs(), &journals), size)
+}
+
+pub fn merged_calls(size: u64) -> bool {
+    let journal = |first: u64, count: u64| {
+        let mut ledger: ChanLedger<u64> = Ledger::open(Global, channel(TWO[0])).unwrap();
+        for stamp in first..first + count {
+            ledger.take(0, stamp - 1, send(stamp)).unwrap();
+        }
+        ledger.into_parts().1
+    };
+    let journals = [journal(1, size), journal(size + 1, 1)];
+    is_run(merge_calls(Global, specs(), &journals), size)
+}
+
+/// A recording of so many sends, or of as many as it takes.
+fn recording_of(size: u64) -> (Recording, bool) {
+    let mut recording = Recording::open(Global, TWO[0]).unwrap();
+    for value in 1..size {
+        assert_eq!(recording.call(0, value - 1, send(value)), Ok(SENT));
+    }
+    let is_taken = is_taken(recording.call(0, size - 1, send(size)));
+    (recording, is_taken)
+}
+
+pub fn recording(size: u64) -> bool {
+    let (recording, is_taken) = recording_of(size);
+    is_taken && recording.len() == size
+}
+
+pub fn unrecorded(size: u64) -> bool {
+    let mut recording = Recording::open(Global, TWO[0]).unwrap();
+    recording.end();
+    let sends = (0..size).all(|value| recording.call(0, 0, send(value)) == Ok(SENT));
+    sends && (recording.len(), recording.unread(1)) == (0, Some(size))
+}
+
+pub fn cut_channels(size: u64) -> bool {
+    let (recording, _) = recording_of(2);
+    let mut cut = Cut::new(Global);
+    for _ in 1..size {
+        cut.add(Global, &recording, 2).unwrap();
+    }
+    if let Err(fault) = cut.add(Global, &recording, 2) {
+        assert_eq!(fault, CutFault::TooManyChannels);
+        return false;
+    }
+    // Channels with the same stamps have no order, so a run is made of one that has calls.
+    let mut cut = Cut::new(Global);
+    let empty = Recording::open(Global, TWO[0]).unwrap();
+    for _ in 1..size {
+        cut.add(Global, &empty, 2).unwrap();
+    }
+    cut.add(Global, &recording, 2).unwrap();
+    cut.run(Global).unwrap().specs().len() as u64 == size
+}
+
+pub fn cut_calls(size: u64) -> bool {
+    let (recording, _) = recording_of(size);
+    let mut cut = Cut::new(Global);
+    cut.add(Global, &recording, size).unwrap();
+    let text = cut.text(Global).unwrap();
+    let mut reader = RunReader::read(Global, &text).unwrap();
+    let calls = std::iter::from_fn(|| reader.next_call());
+    cut.run(Global).unwrap().len() == size && calls.count() as u64 == size
+}
