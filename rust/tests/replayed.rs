@@ -10,7 +10,7 @@ use std::process::{Command, Stdio};
 use std::sync::atomic::{AtomicBool, Ordering};
 use std::sync::mpsc;
 use std::thread::{self, JoinHandle};
-use std::time::Duration;
+use std::time::{Duration, Instant};
 use support::parts::{Folder, files, is_part, line_after, replay_line, started, without_options};
 use yovanelum::{Recorder, broadcast, watch};
 
@@ -435,9 +435,11 @@ fn a_debugger_sees_a_watch_before_a_closure_changes_it() {
     );
 }
 
-/// Waits until the thread of Ann in a process is in this state, as the system's letter says.
+/// Waits until the thread of Ann in a process is in this state, as the system's letter says. She
+/// is gone for ever where she didn't wait long enough for this test to look.
 #[cfg(target_os = "linux")]
 fn wait_for_ann(process: u32, state: char) {
+    let began = Instant::now();
     let is_ann = |thread: &PathBuf| {
         fs::read_to_string(thread.join("comm")).is_ok_and(|name| name.trim_end() == "Ann")
     };
@@ -445,7 +447,7 @@ fn wait_for_ann(process: u32, state: char) {
         let stat = fs::read_to_string(thread.join("stat")).ok()?;
         stat.rsplit_once(") ")?.1.chars().next()
     };
-    loop {
+    while began.elapsed() < Duration::from_secs(60) {
         let threads = fs::read_dir(format!("/proc/{process}/task")).unwrap();
         let mut threads = threads.map(|thread| thread.unwrap().path());
         if threads.find(is_ann).and_then(state_of) == Some(state) {
@@ -453,6 +455,7 @@ fn wait_for_ann(process: u32, state: char) {
         }
         thread::yield_now();
     }
+    panic!("no thread of Ann in state {state}");
 }
 
 #[cfg(target_os = "linux")]

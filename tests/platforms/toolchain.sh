@@ -1,5 +1,5 @@
-# What rust/platforms builds with: Rust 1.85, the declared version, with cargo, std for ARM Linux, and the sources of std. They are Debian's packages,
-# unpacked into a folder in out/ and not installed, so that the machine's own Rust stays as it is. The folder is made once.
+# What rust/platforms builds with: Rust 1.85, the declared version, with cargo, std for ARM Linux, and the sources of std for who builds that. They are
+# Debian's packages, unpacked into a folder in out/ and not installed, so that the machine's own Rust stays as it is. The folder is made once.
 packages=$out/platforms/packages
 rust_root=$out/platforms/rust
 std_sources=$rust_root/lib/rustlib/src/rust
@@ -16,14 +16,18 @@ find_version() {
   apt_beside apt-cache madison rustc-web | sed -n 's/^[^|]*| *\(1\.85\.[^ ]*\) .*Packages.*/\1/p' | head -n 1
 }
 
-# Downloads the packages, and those that they need and this machine lacks.
-download_packages() {
+# Downloads the lists of packages, and sets `version`.
+read_lists() {
   local list
-  mkdir -p "$packages"/{lists,archives}/partial || return
+  rm -rf "$packages" && mkdir -p "$packages"/{lists,archives}/partial || return
   for list in deb deb-src; do
     echo "$list [signed-by=/usr/share/keyrings/debian-archive-keyring.gpg] http://deb.debian.org/debian bookworm main"
   done >"$packages/sources.list"
-  apt_beside apt-get update && version=$(find_version) && [ -n "$version" ] || return
+  apt_beside apt-get update && version=$(find_version) && [ -n "$version" ]
+}
+
+# Downloads the packages, and those that they need and this machine lacks.
+download_packages() {
   apt_beside apt-get -y --reinstall --allow-downgrades --no-install-recommends --download-only install \
     {rustc-web,cargo-web,libstd-rust-web-dev,libstd-rust-web-1.85}="$version" || return
   (cd "$packages/archives" && apt_beside apt-get download libstd-rust-web-dev:arm64="$version")
@@ -47,15 +51,16 @@ empty_windows_sys() {
       Win32_{Foundation,System_Memory,System_SystemInformation,System_Threading}' = []' >"$crate/Cargo.toml"
 }
 
-# Downloads the sources of rustc, and unpacks what std is built of.
+# Downloads the sources of rustc, and unpacks what std is built of. That takes as long as all else here.
 add_sources() {
   local found crates
+  read_lists || return
   found=$(apt_beside apt-get source --print-uris rustc-web="$version" | grep '\.orig\.tar\.xz') || return
   read -r -a found <<<"${found//\'/}"
   /usr/lib/apt/apt-helper -o APT::Sandbox::User= download-file "${found[0]}" "$packages/rustc.tar.xz" "${found[3]}" || return
   rm -rf "$rust_root/lib/rustlib/src" && mkdir -p "$std_sources" && unpack_sources library || return
   mapfile -t crates < <(crates_of_std)
-  unpack_sources "${crates[@]/#/vendor/}" && empty_windows_sys
+  unpack_sources "${crates[@]/#/vendor/}" && empty_windows_sys && replace_links && rm -rf "$packages" && touch "$rust_root/has_sources"
 }
 
 # Puts its file in the place of each link, since `rt ci` refuses a checkout with links. A link to no file of this folder is removed.
@@ -72,16 +77,22 @@ replace_links() {
 # Makes the folder. What is printed is for the case that it can't be made.
 make_rust_root() {
   local package
-  rm -rf "$rust_root" "$packages"
-  download_packages || return
+  rm -rf "$rust_root"
+  read_lists && download_packages || return
   for package in "$packages"/archives/*.deb; do dpkg-deb -x "$package" "$rust_root.unpacked" || return; done
-  mv "$rust_root.unpacked/usr" "$rust_root" && rm -rf "$rust_root.unpacked" && add_sources && replace_links && rm -rf "$packages" && touch "$rust_root/made"
+  mv "$rust_root.unpacked/usr" "$rust_root" && rm -rf "$rust_root.unpacked" && replace_links && rm -rf "$packages" && touch "$rust_root/made"
 }
 
-# Makes sure that the folder is there, or ends the script. `cargo_1_85` is to be used from then on. It is offline, and finds the crates of std.
-need_rust_1_85() {
-  [ -f "$rust_root/made" ] || { say "downloading Debian's rustc-web 1.85"; make_rust_root >"$work/rust" 2>&1; } || {
-    fail "Rust 1.85 isn't here: $(tail -n 3 "$work/rust" | tr '\n' ' ')"
+# Makes sure that the folder is there, or ends the script. `cargo_1_85` is to be used from then on, which is offline.
+need_rust_1_85() { need_made made make_rust_root "Debian's rustc-web 1.85"; }
+
+# The same for the sources of std, after which `cargo_and_std` finds its crates.
+need_std_sources() { need_made has_sources add_sources 'the sources of std 1.85'; }
+
+# Makes something of that folder, unless the file that says so is there.
+need_made() {
+  [ -f "$rust_root/$1" ] || { say "downloading $3"; "$2" >"$work/rust" 2>&1; } || {
+    fail "there is no $3: $(tail -n 3 "$work/rust" | tr '\n' ' ')"
     finish
   }
 }

@@ -103,7 +103,7 @@ impl Threads {
     }
 
     /// Returns where the threads sleep that are looked at, or `None` if one of them runs that may
-    /// not. Nothing has moved for this time.
+    /// not, or if a thread has ended since the last look. Nothing has moved for this time.
     pub(crate) fn sleepers(
         &mut self,
         still: Duration,
@@ -114,13 +114,16 @@ impl Threads {
         }
         self.list(None);
         let mut sleepers = Vec::with_capacity(self.threads.len());
-        let mut has_ended = false;
         for thread in &mut self.threads {
             let asked = asked(thread.number);
-            if thread.is_ours || asked == Asked::Nothing {
-                continue;
-            }
+            let is_left_out = thread.is_ours || asked == Asked::Nothing;
             match thread.sleeper() {
+                // Another may have begun since, so that there are as many as before.
+                None => {
+                    self.link_count = 0;
+                    return None;
+                }
+                _ if is_left_out => (),
                 // A thread has its name when it has begun to run, and may have been listed before.
                 Some(Some(sleeper)) if sleeper.is_timed() && is_ours(&thread.folder) => {
                     thread.is_ours = true;
@@ -128,11 +131,7 @@ impl Threads {
                 Some(Some(sleeper)) => sleepers.push(sleeper),
                 Some(None) if asked == Asked::MayRun => (),
                 Some(None) => return None,
-                None => has_ended = true,
             }
-        }
-        if has_ended {
-            self.link_count = 0;
         }
         Some(sleepers)
     }
@@ -170,20 +169,26 @@ impl Threads {
         patience: Duration,
         is_left_out: impl Fn(ThreadId) -> bool,
     ) -> bool {
+        self.list(None);
         let mut is_found = false;
+        let mut has_ended = false;
         for thread in &mut self.threads {
+            let Some(run) = thread.nanoseconds_run() else {
+                has_ended |= thread.times.is_some();
+                continue;
+            };
             if thread.is_ours || is_left_out(thread.number) {
                 continue;
             }
-            let Some(run) = thread.nanoseconds_run() else {
-                continue;
-            };
             match thread.ran {
                 Some((before, from)) if before == at_move => {
                     is_found |= Duration::from_nanos(run.saturating_sub(from)) > patience;
                 }
                 _ => thread.ran = Some((at_move, run)),
             }
+        }
+        if has_ended {
+            self.link_count = 0;
         }
         is_found
     }
@@ -402,7 +407,6 @@ mod tests {
         let is_over = Arc::new(AtomicBool::new(false));
         let of_thread = is_over.clone();
         let (number, handle) = started(move || while !of_thread.load(Ordering::Relaxed) {});
-        threads.list(None);
         let patience = Duration::from_millis(5);
         while !threads.does_one_run_on(7, patience, |other| other != number) {
             thread::yield_now();

@@ -2,6 +2,7 @@
 //! other test runs beside it.
 
 use super::{JOURNAL, NAMES, PATIENT, make_first, plan_of, told};
+use crate::explore::{Asked, Threads, this_thread};
 use crate::replay::clock::Clock;
 use crate::replay::gate::Gate;
 use crate::replay::helper;
@@ -112,5 +113,47 @@ fn a_thread_that_runs_may_go_on() {
     let of_thread = is_over.clone();
     start(move || while !of_thread.load(Ordering::Relaxed) {});
     assert!(!is_seen(&mut rest, 1000));
+    is_over.store(true, Ordering::Relaxed);
+}
+
+#[test]
+fn a_thread_that_begins_as_another_ends_is_seen() {
+    if !is_alone("a_thread_that_begins_as_another_ends_is_seen") {
+        return;
+    }
+    let mut threads = Threads::of(Path::new("/proc/self"));
+    if threads.is_by_clock() {
+        return;
+    }
+    let (go, gone) = mpsc::channel::<()>();
+    let (tell, told) = mpsc::channel();
+    let first = thread::spawn(move || {
+        tell.send(this_thread()).unwrap();
+        let _ = gone.recv();
+    });
+    let number = told.recv().unwrap();
+    let harness = [this_thread(), std::process::id()];
+    let asked = |thread| {
+        if harness.contains(&thread) {
+            Asked::Nothing
+        } else {
+            Asked::Sleeps
+        }
+    };
+    while threads.sleepers(Duration::ZERO, asked).is_none() {
+        thread::yield_now();
+    }
+    drop(go);
+    first.join().unwrap();
+    // Its thread is listed a little longer than it runs.
+    while Path::new(&format!("/proc/self/task/{number}")).exists() {
+        thread::yield_now();
+    }
+    let is_over = Arc::new(AtomicBool::new(false));
+    let of_thread = is_over.clone();
+    start(move || while !of_thread.load(Ordering::Relaxed) {});
+    for _ in 0..1000 {
+        assert_eq!(threads.sleepers(Duration::ZERO, asked), None);
+    }
     is_over.store(true, Ordering::Relaxed);
 }
