@@ -1,6 +1,6 @@
 /* The heap of the module: a free list for each size, over memory that the module grows itself. There are four sizes from one power of two to the
    next, so that a block is at most a third larger than what was asked for, from 64 bytes on. A header of 16 bytes before each block has the number
-   of its size, so that blocks are aligned to 16. Memory is never returned to the browser. */
+   of its size, so that blocks are aligned to 16. Memory is never returned to the browser. Refusals are counted. */
 typedef unsigned char byte;
 typedef unsigned long word;
 typedef struct { word is_there; byte *block; } Tried;
@@ -8,7 +8,7 @@ typedef struct { word is_there; byte *block; } Tried;
 enum { HEAD = 16, MOST_POWER = 40, SIZES = 4 * (MOST_POWER - 5), PAGE_POWER = 16, LEAST_PAGES = 64 };
 
 extern byte __heap_base;
-static word top, end;
+static word top, end, refused;
 static byte *freed[SIZES + 1];
 
 /* The number of the least size with so many bytes: 1 to 7 are multiples of 16, and from 4 on each number has twice as many as the one four before. */
@@ -38,15 +38,20 @@ static int has_room(word size) {
   return 1;
 }
 
+static byte *refuse(void) {
+  refused++;
+  return 0;
+}
+
 static byte *take(word size) {
-  if (size > (word)1 << MOST_POWER) return 0;
+  if (size > (word)1 << MOST_POWER) return refuse();
   word number = number_of(size);
   byte *block = freed[number];
   if (block) {
     freed[number] = *(byte **)block;
     return block;
   }
-  if (!has_room(HEAD + size_of(number))) return 0;
+  if (!has_room(HEAD + size_of(number))) return refuse();
   block = (byte *)top + HEAD;
   *number_before(block) = number;
   top += HEAD + size_of(number);
@@ -61,7 +66,7 @@ static void give(byte *block) {
 
 /* The heap as the proved code declares it. Each alignment that it requests divides 16, and one above that is refused. */
 Tried rattle_alloc(word size, word align) {
-  byte *block = align > HEAD ? 0 : take(size);
+  byte *block = align > HEAD ? refuse() : take(size);
   return (Tried){block != 0, block};
 }
 
@@ -79,3 +84,6 @@ void rattle_dealloc(byte *block) { give(block); }
 /* For the page: memory for its inputs and outputs. */
 __attribute__((export_name("host_alloc"))) byte *host_alloc(word size) { return take(size); }
 __attribute__((export_name("host_free"))) void host_free(byte *block) { give(block); }
+
+/* For the page: how often memory was refused. An export that says so has to have been refused some. */
+__attribute__((export_name("host_refused"))) word host_refused(void) { return refused; }

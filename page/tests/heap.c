@@ -6,6 +6,7 @@ typedef struct { uintptr_t is_there; unsigned char *block; } Tried;
 Tried rattle_alloc(uintptr_t size, uintptr_t align);
 Tried rattle_realloc(unsigned char *block, uintptr_t kept, uintptr_t size, uintptr_t align);
 void rattle_dealloc(unsigned char *block);
+uintptr_t host_refused(void);
 
 /* The memory of the heap, whose size ../test gives in pages. */
 unsigned char __heap_base[1 << 20] __attribute__((aligned(1 << 16)));
@@ -21,16 +22,19 @@ static void want(int holds, const char *what) {
 int main(void) {
   Tried block = rattle_alloc(64, 16);
   want(block.is_there && (uintptr_t)block.block % 16 == 0, "a block is aligned to 16");
+  want(host_refused() == 0, "nothing was refused");
   want(!rattle_alloc(64, 32).is_there, "an alignment of 32 is refused");
   *block.block = 17;
   want(!rattle_realloc(block.block, 64, 32, 32).is_there, "an alignment of 32 is refused for a smaller block");
   want(!rattle_realloc(block.block, 64, 128, 32).is_there, "an alignment of 32 is refused for a larger block");
   want(*block.block == 17, "a block stays if its new size is refused");
+  want(host_refused() == 3, "each refused alignment is counted");
   Tried grown = rattle_realloc(block.block, 64, 128, 16);
   want(grown.is_there && *grown.block == 17, "a block that grows keeps its bytes");
   rattle_dealloc(grown.block);
   want(rattle_alloc(128, 16).block == grown.block, "a block that was freed is allocated again");
-  want(!rattle_alloc(1 << 20, 16).is_there, "a block that has no room is refused");
+  want(!rattle_alloc(1 << 20, 16).is_there && host_refused() == 4, "a block that has no room is refused, and that is counted");
+  want(!rattle_alloc((uintptr_t)1 << 50, 16).is_there && host_refused() == 5, "a size of no block is refused, and that is counted");
   int count = 0;
   while (rattle_alloc(40000, 16).is_there) count++;
   want(count == 25, "of 1 MiB there is room for 25 blocks of 40,000 bytes");

@@ -132,17 +132,17 @@ def refused_memory(tab, folder, journals):
         const [text, out, count] = [journal.length, 1 << 20, 8].map(size => at.host_alloc(BigInt(size)));
         new Uint8Array(at.memory.buffer, Number(text), journal.length).set(journal);
         const ask = () => at.ttd_losses(text, BigInt(journal.length), out, 1n << 20n, count);
-        const before = ask(), taken = [];
+        const before = ask(), none = at.host_refused(), taken = [];
         for (const it of [out, count]) new DataView(at.memory.buffer).setBigUint64(Number(it), 0n);
         for (let size = 2n ** 30n; size >= 16n; size /= 2n) {{
             for (let block = at.host_alloc(size); block !== 0n; block = at.host_alloc(size)) taken.push(block);
         }}
-        const full = at.memory.buffer.byteLength, refused = ask();
+        const full = at.memory.buffer.byteLength, others = at.host_refused(), refused = ask(), isCounted = none === 0n && at.host_refused() > others;
         const isUnchanged = [out, count].every(it => new DataView(at.memory.buffer).getBigUint64(Number(it), true) === 0n);
         taken.forEach(block => at.host_free(block));
-        return [full, before, refused, isUnchanged, ask(), at.host_alloc(2n ** 32n), at.host_alloc(2n ** 40n)].map(String);
+        return [full, before, refused, isCounted, isUnchanged, ask(), at.host_alloc(2n ** 32n), at.host_alloc(2n ** 40n)].map(String);
     }})()""")
-    assert said[1:] == ["0", "2", "true", "0", "0", "0"] and 2 ** 31 < int(said[0]) <= lowering.MOST_PAGES << 16, said
+    assert said[1:] == ["0", "2", "true", "true", "0", "0", "0"] and 2 ** 31 < int(said[0]) <= lowering.MOST_PAGES << 16, said
 
 
 def told_of_refused_memory(tab, folder, journals):

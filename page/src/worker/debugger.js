@@ -43,6 +43,7 @@ export class Debugger {
   }
 
   answer(name, inputs, numbers) {
+    const refused = this.exports.host_refused();
     // If the room is too small, everything is computed twice.
     const likely = inputs.reduce((sum, bytes) => sum + (LIKELY[name] ?? 0) * bytes.length, FIRST_ROOM);
     if (likely > this.room) this.widen(likely);
@@ -54,7 +55,10 @@ export class Debugger {
       status = tried();
     }
     for (let i = 0; i < slices.length; i += 2) this.exports.host_free(slices[i]);
-    if (status !== ANSWERED) throw new Error("no memory");
+    if (status !== ANSWERED) {
+      // An export that gives up without having been refused memory has hidden what went wrong.
+      throw new Error(this.exports.host_refused() > refused ? "no memory" : `${name} gave up, and no memory was refused`);
+    }
     return this.view(this.roomAt, this.count()).slice();
   }
 
