@@ -1,4 +1,5 @@
-//! A lock between threads and processes. Between processes it is a file: who creates it has the lock.
+//! A lock between threads and processes. Between processes it is a file: who creates it has the
+//! lock.
 
 use super::process_number;
 use crate::lock::lock;
@@ -58,7 +59,8 @@ fn create(path: PathBuf) -> Option<PathBuf> {
 }
 
 /// Whether a process has ended before it could remove its file. To replace files takes much less
-/// than the time that a file is left alone, but on a busy machine a process may not run for as long.
+/// than the time that a file is left alone, but on a busy machine a process may not run for as
+/// long.
 fn is_left(path: &Path) -> bool {
     let created = fs::metadata(path).and_then(|file| file.modified());
     let age = created.ok().and_then(|created| created.elapsed().ok());
