@@ -18,6 +18,7 @@ pub use named::{Named, named};
 
 use crate::backend::Actor;
 use crate::channel::CallSite;
+use crate::replay::UNNAMED_TASK;
 use caller::{current_task, is_unnamed, name_of_thread};
 use holders::{Holder, Holders};
 use std::collections::{BTreeMap, BTreeSet, HashMap, HashSet, VecDeque};
@@ -142,7 +143,7 @@ impl Actors {
         if self.tasks.len() == MOST_TASKS {
             return None;
         }
-        let number = self.number_for(&format!("task {task}"), true)?;
+        let number = self.number_for(&format!("{UNNAMED_TASK}{task}"), true)?;
         let actor = Actor::of(number);
         // Nobody says when a task ends.
         self.holders[number].never_end();

@@ -28,7 +28,7 @@ pub(crate) use opening::{hold_polls, holds, open};
 pub use outcome::Replayed;
 pub(crate) use outcome::{TestEnd, say};
 pub(crate) use permit::Permit;
-pub(crate) use plan::UNNAMED_THREAD;
+pub(crate) use plan::{UNNAMED_TASK, UNNAMED_THREAD};
 pub(crate) use state::Ticket;
 pub(crate) use stop::is_wanted as is_stop_wanted;
 pub(crate) use turns::Turns;

@@ -39,6 +39,11 @@ impl Identity {
         self.future.is_none() && self.task.is_none()
     }
 
+    /// Whether this is a task that nobody named, as far as a runtime says it.
+    pub(crate) fn is_unnamed_task(&self) -> bool {
+        self.future.is_none() && (self.task.is_some() || self.is_worker)
+    }
+
     /// Whether both may be one task without a name, which has moved from one worker of its runtime
     /// to another.
     pub(crate) fn may_be_moved(&self, other: &Identity) -> bool {

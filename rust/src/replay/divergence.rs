@@ -42,7 +42,18 @@ pub(super) fn in_words(
         ),
         Came::ToWait => write!(words, ", came the same call, which had to wait"),
     };
-    words + &of_questions(plan, state, coming)
+    words + &of_questions(plan, state, coming) + of_unnamed_tasks(plan, state)
+}
+
+/// Says that tasks have no names, if some have none, and what to write.
+pub(super) fn of_unnamed_tasks(plan: &Plan, state: &GateState) -> &'static str {
+    if state.has_unnamed_tasks || plan.has_unnamed_tasks() {
+        "; tasks without a name make calls, and a replay can't hold back their polls: write \
+         `tokio::spawn(yovanelum::named(\"clerk\", ..))` for each, and \
+         `yovanelum::named(\"test\", async { .. }).await` for the test's body, and record again"
+    } else {
+        ""
+    }
 }
 
 /// Returns a call that has come. One of a caller whose name the journal doesn't have is told by its

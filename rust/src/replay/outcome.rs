@@ -1,6 +1,7 @@
 //! How a replay went, in words.
 
 use super::Coming;
+use super::divergence::of_unnamed_tasks;
 use super::plan::{Plan, PlannedCall};
 use super::state::GateState;
 use crate::backend::Actor;
@@ -191,9 +192,10 @@ pub(super) fn replayed(plan: &Plan, state: &GateState) -> Replayed {
         divergence: state.divergence.clone(),
         next: next.map_or_else(String::new, |step| {
             format!(
-                "ended before {}: {}",
+                "ended before {}: {}{}",
                 call_of(plan, state.position),
-                step_in_words(plan, step)
+                step_in_words(plan, step),
+                of_unnamed_tasks(plan, state)
             )
         }),
         shared: state.shared.clone(),
@@ -280,8 +282,10 @@ pub(super) fn shared_handle(plan: &Plan, coming: &Coming, may_be_moved: bool) ->
     push_channel(&mut words, plan, coming.channel);
     words.push_str(", ");
     words.push_str(if may_be_moved {
-            "as one task does that moves between them, or several tasks: name it by `named`, or set RUSTFLAGS='--cfg tokio_unstable'"
-        } else { NAME_EACH });
+        "as one task does that moves between them, or several tasks: name it by `yovanelum::named`"
+    } else {
+        NAME_EACH
+    });
     words
 }
 

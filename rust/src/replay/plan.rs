@@ -19,6 +19,9 @@ pub(super) const NONE: u32 = u32::MAX;
 /// Where the name of a thread begins that has none.
 pub(crate) const UNNAMED_THREAD: &str = "ThreadId(";
 
+/// Where the name of a task begins that has none.
+pub(crate) const UNNAMED_TASK: &str = "task ";
+
 /// Whose calls a lane has.
 #[derive(Clone, Copy, PartialEq, Eq, Hash, Debug)]
 enum Class {
@@ -194,6 +197,15 @@ impl Plan {
         let is_last = number as usize + 1 == Actor::MOST;
         let has_calls = self.first_of_actor[number as usize] != NONE;
         is_last || has_calls || self.names.actors.contains_key(&number.into())
+    }
+
+    /// Whether the journal has calls of tasks that nobody named.
+    pub(super) fn has_unnamed_tasks(&self) -> bool {
+        let mut unnamed = self.names.matching.unnamed.iter();
+        unnamed.any(|actor| {
+            let name = self.names.actors.get(actor);
+            name.is_some_and(|name| name.starts_with(UNNAMED_TASK))
+        })
     }
 
     /// Returns the number of the actor with this name, unless the journal has none or nobody gave

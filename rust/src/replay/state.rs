@@ -114,6 +114,10 @@ pub(super) struct GateState {
     pub(super) divergence: Option<String>,
     /// What several callers share first who can't be told apart.
     pub(super) shared: Option<String>,
+    /// Whether a task without a name has made a call, or a test's body without one.
+    pub(super) has_unnamed_tasks: bool,
+    /// The threads of runtimes, as far as named futures are polled there.
+    runtime_threads: Vec<usize>,
     /// Who has made channels, by their names.
     makers: HashMap<Option<String>, Identity>,
     /// The first value with another text than in the journal.
@@ -167,6 +171,8 @@ impl GateState {
             is_asked: false,
             divergence: None,
             shared: None,
+            has_unnamed_tasks: false,
+            runtime_threads: Vec::new(),
             makers: HashMap::new(),
             other_text: None,
         }
@@ -225,9 +231,11 @@ impl GateState {
         if plan.is_named(coming.actor) {
             of.thread = user.thread();
         }
-        let Some(lane) = lane.filter(|_| coming.word != Word::Drop) else {
+        if coming.word == Word::Drop {
             return;
-        };
+        }
+        self.see_unnamed(user);
+        let Some(lane) = lane else { return };
         let before = &mut self.lanes[lane as usize].user;
         match before {
             Some(before) if before.is_same(user) => (),
@@ -242,6 +250,20 @@ impl GateState {
                 *before = user.clone();
             }
             None => *before = Some(user.clone()),
+        }
+    }
+
+    /// Notes whether this caller is a task without a name: its runtime says so, or nothing but its
+    /// thread is known, and a runtime polls tasks there.
+    fn see_unnamed(&mut self, user: &Identity) {
+        self.has_unnamed_tasks |= user.is_unnamed_task()
+            || user.is_thread_alone() && self.runtime_threads.contains(&user.thread());
+    }
+
+    /// Records that a runtime polls a future with a name on this thread.
+    pub(super) fn see_runtime(&mut self, thread: usize) {
+        if !self.runtime_threads.contains(&thread) {
+            self.runtime_threads.push(thread);
         }
     }
 

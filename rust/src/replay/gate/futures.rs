@@ -7,6 +7,7 @@ use super::super::state::{GateState, HeldPoll, Standing, Ticket, Waiter};
 use super::super::{Coming, Identity};
 use super::{BETWEEN_LOOKS, Gate, TurnFor};
 use crate::backend::Actor;
+use crate::block_on::is_blocked_on_future;
 use crate::reentrant::thread_number;
 use std::task::{Context, Poll};
 
@@ -41,6 +42,8 @@ impl Gate {
             state.move_to(lane, &user);
         }
         state.see(&self.plan, lane, &coming, &user);
+        // A runtime polls a future that has no name.
+        state.has_unnamed_tasks |= task.is_some();
         let task = task.and_then(|task| state.see_task(&self.plan, lane, &coming, task));
         let standing = state.standing(&self.plan, lane, coming.word);
         if standing == Standing::Turn || state.is_over {
@@ -83,10 +86,14 @@ impl Gate {
         };
         let within = within.and_then(|within| self.plan.actor_named(within));
         let (last, waker) = (context.waker().clone(), context.waker().clone());
+        let is_of_runtime = !is_blocked_on_future();
         let mut state = self.enter();
         if state.is_over {
             drop(state);
             return false;
+        }
+        if is_of_runtime {
+            state.see_runtime(thread_number());
         }
         let of = &mut state.actors[actor as usize];
         of.thread = thread_number();

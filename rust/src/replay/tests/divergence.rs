@@ -1,10 +1,14 @@
 //! Gates at which the run leaves the journal's order.
 
 use super::{
-    AUDIT, CLERK, JOURNAL, NAMES, NOBODY, call, gate, gate_of, make, make_first, poll, told,
+    AUDIT, CLERK, JOURNAL, NAMES, NOBODY, PATIENT, call, gate, gate_of, make, make_first, poll,
+    told,
 };
+use crate::block_on;
 use crate::replay::Coming;
 use crate::word::Word;
+use std::future::poll_fn;
+use std::task::{Context, Poll};
 use std::time::Duration;
 
 #[test]
@@ -74,7 +78,60 @@ fn a_future_goes_on_where_nothing_comes_for_too_long() {
     assert!(poll(&gate, recv, &mut ticket, &waker));
     let wanted = "diverges at call 1 of 6: expected `send 0` on `orders` by `clerk` at src/shop.rs:15, \
                   came nothing for 25 ms, while `recv 1` on `orders` by `audit` waited";
-    assert_eq!(gate.outcome().to_string(), wanted);
+    assert_eq!(gate.outcome().to_string(), format!("{wanted}{NAME_TASKS}"));
+}
+
+/// What is said where tasks have no names.
+const NAME_TASKS: &str = "; tasks without a name make calls, and a replay can't hold back their polls: write \
+    `tokio::spawn(yovanelum::named(\"clerk\", ..))` for each, and `yovanelum::named(\"test\", async { .. }).await` \
+    for the test's body, and record again";
+
+#[test]
+#[cfg_attr(target_family = "wasm", ignore = "WebAssembly has no threads")]
+fn tasks_of_the_journal_that_have_no_name_are_told() {
+    let (tasks, named) = ("\"task 7\"", "\"unnamed\": [2]");
+    let of_tasks = NAMES.replace("\"ThreadId(7)\"", tasks);
+    let of_a_thread = of_tasks.replace(named, "\"unnamed\": []");
+    for (names, wanted) in [
+        (of_tasks.as_str(), NAME_TASKS),
+        (NAMES, ""),
+        (&of_a_thread, ""),
+    ] {
+        let gate = gate_of(JOURNAL, names, PATIENT);
+        make_first(&gate, 1);
+        let said = gate.outcome().to_string();
+        assert_eq!(
+            said,
+            format!(
+                "ended before call 2 of 6: `recv 1` on `orders` by `audit` at src/audit.rs:30{wanted}"
+            )
+        );
+        make(&gate, call(AUDIT, 0, Word::TryRecv, 1));
+        let said = gate.outcome().to_string();
+        let wanted = format!(", came `try-recv 1` on `orders` by `audit`{wanted}");
+        assert!(said.ends_with(&wanted), "{said}");
+    }
+}
+
+#[test]
+#[cfg_attr(target_family = "wasm", ignore = "WebAssembly has no threads")]
+fn a_caller_without_a_name_on_a_thread_of_named_tasks_is_told() {
+    let (_, waker, _woken) = told();
+    let gate = gate();
+    assert!(!gate.holds("clerk", None, &Context::from_waker(&waker)));
+    make_first(&gate, 1);
+    make(&gate, call(AUDIT, 0, Word::TryRecv, 1));
+    let said = gate.outcome().to_string();
+    assert!(said.ends_with(NAME_TASKS), "{said}");
+    // A thread that is blocked on a future runs no other.
+    let gate = self::gate();
+    let is_held = block_on(poll_fn(|context| {
+        Poll::Ready(gate.holds("clerk", None, context))
+    }));
+    make_first(&gate, 1);
+    make(&gate, call(AUDIT, 0, Word::TryRecv, 1));
+    let said = gate.outcome().to_string();
+    assert!(!is_held && said.ends_with(" by `audit`"), "{said}");
 }
 
 #[test]
@@ -166,7 +223,7 @@ fn a_drop_that_has_no_place_is_told_by_that_of_its_callers_last_call() {
     gate.leave(ticket.take().unwrap());
     make(&gate, call(STRANGER, 0, Word::Drop, 7));
     let wanted = format!(
-        "while `drop 7` on `orders` by a caller that the journal doesn't have, whose last call was at {at} waited"
+        "while `drop 7` on `orders` by a caller that the journal doesn't have, whose last call was at {at} waited{NAME_TASKS}"
     );
     let replayed = gate.outcome().to_string();
     assert!(replayed.ends_with(&wanted), "{replayed}");

@@ -85,7 +85,7 @@ fn tasks_on_two_workers_are_not_taken_for_one() {
         replayed.to_string(),
         format!(
             "{ALL}; but several workers of a runtime use handle 1 of `orders`, as one task does that moves between them, \
-             or several tasks: name it by `named`, or set RUSTFLAGS='--cfg tokio_unstable'"
+             or several tasks: name it by `yovanelum::named`"
         )
     );
 }
