@@ -25,6 +25,8 @@
 pub mod start {}
 
 #[doc = include_str!("guide/swap.md")]
+///
+/// [`guide::replay`]: crate::guide::replay
 pub mod swap {}
 
 #[doc = include_str!("guide/tasks.md")]

@@ -3,7 +3,7 @@
 //! So `#[tokio::test(flavor = "multi_thread")]` needs no other line, nor does `Runtime::new()`: a
 //! recorder that the test creates is entered on the threads of its runtime too, where its tasks
 //! run. Tasks without a name are told apart by their ids, where this tokio has `task::try_id`. An
-//! older one, as 1.24, has it under `--cfg tokio_unstable` alone.
+//! older one has it under `--cfg tokio_unstable` alone: there they have numbers of this package.
 
 pub use crate::handle::Handle;
 pub use real_tokio::runtime::*;

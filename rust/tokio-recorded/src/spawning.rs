@@ -1,21 +1,22 @@
 //! Tasks, which are seen where a test is explored. Else they are tokio's own, as they are given,
-//! but for a budget where tokio offers none.
+//! but for a budget and a number where tokio offers none.
 
 use real_tokio::task::{self, JoinHandle};
 use std::future::Future;
 
 /// Spawns a future by a method of tokio's. Where a test is explored, it is wrapped before: its
-/// polls are chosen then. Else it is wrapped where its polls need a budget of yovanelum's. It is
-/// for functions that track their caller, whose place tells the task from others.
+/// polls are chosen then. Else it is wrapped where its polls need a budget of yovanelum's, or the
+/// task a number of this package. It is for functions that track their caller, whose place tells
+/// the task from others.
 macro_rules! seen {
     ($future:ident => $spawn:expr) => {
         if yovanelum::is_explored() {
             let $future = yovanelum::explored($future);
             $spawn
-        } else if crate::budget::is_offered() {
+        } else if crate::budget::is_offered() && crate::tasks::are_told() {
             $spawn
         } else {
-            let $future = yovanelum::budgeted($future);
+            let $future = crate::tasks::numbered(yovanelum::budgeted($future));
             $spawn
         }
     };

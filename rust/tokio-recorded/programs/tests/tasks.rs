@@ -1,6 +1,5 @@
-//! Tasks without a name are told apart by their ids, each with the line of its first call. This
-//! version of tokio has `task::try_id` under `--cfg tokio_unstable` alone.
-#![cfg(tokio_unstable)]
+//! Tasks without a name are told apart, each with the line of its first call: by their ids, which
+//! this version of tokio says under `--cfg tokio_unstable` alone, and else by numbers of the patch.
 
 use std::collections::BTreeSet;
 use tokio::sync::broadcast;
@@ -48,4 +47,29 @@ async fn three_tasks_of_one_runtime_are_told_apart() {
         .map(|task| task.split_once(": ").unwrap().1)
         .collect();
     assert_eq!(lines.len(), 3, "{names}");
+}
+
+/// Returns who has made the call of a journal's line: its second number.
+fn caller<'a>(journal: &'a str, call: &str) -> &'a str {
+    let line = journal.lines().find(|line| line.contains(call));
+    line.unwrap().split(' ').nth(1).unwrap()
+}
+
+#[tokio::test]
+async fn what_a_cancelled_task_drops_is_dropped_by_it() {
+    let recorder = Recorder::for_test("a_cancelled_task");
+    let (orders, mut audit) = broadcast::channel(8);
+    let clerk = tokio::spawn(async move {
+        orders.send(71).unwrap();
+        std::future::pending::<()>().await;
+        drop(orders);
+    });
+    assert_eq!(audit.recv().await, Ok(71));
+    clerk.abort();
+    assert!(clerk.await.unwrap_err().is_cancelled());
+    let journal = recorder.journal().unwrap();
+    let [sent, received, dropped] =
+        [" send 0 ", " recv 1 ", " drop 0 "].map(|call| caller(&journal, call));
+    assert_eq!(sent, dropped, "{journal}");
+    assert_ne!(sent, received, "{journal}");
 }
