@@ -41,8 +41,8 @@ macro_rules! name {
     }};
 }
 
-/// Records a text of each value that is sent on the channel, if it is one of this crate. If it is
-/// one of tokio, nothing is done.
+/// Records a text of each value that is sent on the channel of a sender or of a receiver, if it is
+/// one of this crate. If it is one of tokio, nothing is done.
 ///
 /// It is [`Recorder::show`] for a test that also runs where nothing is swapped. The function says
 /// the type of its values, which is not known from a channel of another crate.
@@ -57,8 +57,8 @@ macro_rules! name {
 /// use yovanelum::{Recorder, broadcast};
 ///
 /// let recorder = Recorder::for_test("each_order_is_announced");
-/// let (orders, _mailer) = broadcast::channel(4);
-/// yovanelum::show!(recorder, &orders, |id: &u32| format!("order {id}"));
+/// let (orders, mailer) = broadcast::channel(4);
+/// yovanelum::show!(recorder, &mailer, |id: &u32| format!("order {id}"));
 /// orders.send(71).unwrap();
 /// assert!(recorder.names().contains(r#"{"0": "order 71"}"#));
 ///

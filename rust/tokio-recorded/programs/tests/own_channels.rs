@@ -124,16 +124,18 @@ fn a_runtime_without_a_builder_follows_its_test() {
 #[test]
 fn a_committed_test_names_what_is_recorded() {
     let recorder = Recorder::for_test("a_committed_test_names_what_is_recorded");
-    let (orders, _audit) = broadcast::channel(2);
-    let (desk, _clerk) = tokio::sync::mpsc::channel::<u32>(2);
+    let (orders, audit) = broadcast::channel(2);
+    let (desk, clerk) = tokio::sync::mpsc::channel::<u32>(2);
     yovanelum::name!(recorder, &orders, "orders");
+    yovanelum::name!(recorder, &audit, "audit");
     yovanelum::name!(recorder, &desk, "desk");
-    yovanelum::show!(recorder, &orders, |id: &u32| format!("order {id}"));
-    yovanelum::show!(recorder, &desk, |id: &u32| format!("paper {id}"));
+    yovanelum::show!(recorder, &audit, |id: &u32| format!("order {id}"));
+    yovanelum::show!(recorder, &clerk, |id: &u32| format!("paper {id}"));
     orders.send(71).unwrap();
     desk.try_send(71).unwrap();
     let names = recorder.names();
     assert!(names.contains(r#""channels": {"0": "orders"}"#), "{names}");
+    assert!(names.contains(r#"{"1": "audit"}"#), "{names}");
     assert!(names.contains(r#"{"0": {"0": "order 71"}}"#), "{names}");
     assert!(
         !names.contains("desk") && !names.contains("paper"),
