@@ -105,6 +105,6 @@ cargo_1_85() {
 
 # The same, with std built from its sources. It needs words for nightly alone, which this variable allows.
 cargo_and_std() {
-  RUSTC_BOOTSTRAP=1 cargo_1_85 "$@" "-Zbuild-std=$std_parts" --config 'source.crates-io.replace-with="std"' \
-    --config "source.std.directory=\"$std_sources/vendor\""
+  RUSTC_BOOTSTRAP=1 cargo_1_85 "-Zbuild-std=$std_parts" --config 'source.crates-io.replace-with="std"' \
+    --config "source.std.directory=\"$std_sources/vendor\"" "$@"
 }

@@ -18,7 +18,8 @@ PROFILE = {"CARGO_PROFILE_RELEASE_OPT_LEVEL": "1", "CARGO_PROFILE_RELEASE_INCREM
            "CARGO_PROFILE_RELEASE_LTO": "off", "CARGO_PROFILE_RELEASE_STRIP": "symbols", "CARGO_PROFILE_DEV_DEBUG": "0", "CARGO_NET_OFFLINE": "true",
            "RUSTFLAGS": "--cap-lints allow"}
 # The tests of the Rust crate that compare its calls, its journals and what is found in them with models or with the kit's program.
-CRATE = ("--lib", "--test", "model_broadcast", "--test", "model_watch", "--test", "journals", "--test", "limits", "--test", "broadcast", "--test", "watch")
+# Each is a program with the names of its tests.
+CRATE = (("--lib",), ("--test=optimized", "model_broadcast::", "model_watch::", "limits::"), ("--test=calls", "journals::", "broadcast::", "watch::"))
 MOST_SECONDS = 900
 # Tests that take no time of a processor for so long wait for what never happens.
 MOST_IDLE_SECONDS = 60
@@ -177,4 +178,5 @@ class Lane:
         return run(words, f"{self.folder}/tests/core", f"{self.folder}/target-core")
 
     def crate_tests(self):
-        return run(["cargo", "test", "--locked", "-j2", *CRATE, "--", "--test-threads=2"], self.rust, self.target)
+        runs = (["cargo", "test", "--locked", "-j2", program, "--", "--test-threads=2", *names] for program, *names in CRATE)
+        return all(run(words, self.rust, self.target) for words in runs)

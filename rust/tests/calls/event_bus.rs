@@ -1,9 +1,7 @@
 //! An event bus whose slow subscriber lags. The step at which it began to lag is found in the
 //! journal.
 
-mod support;
-
-use support::{debugged, poll_once, temporary};
+use crate::support::{debugged, poll_once, temporary};
 use yovanelum::broadcast::{self, error::RecvError};
 use yovanelum::{Recorder, block_on, named};
 

@@ -1,9 +1,6 @@
 //! Closures that are called with a lag or a closing, on the channels of a recorder.
 
-#[path = "support/noted.rs"]
-mod noted;
-
-use noted::Noted;
+use crate::noted::Noted;
 use std::future::Future;
 use std::panic::{AssertUnwindSafe, Location, catch_unwind};
 use std::pin::pin;

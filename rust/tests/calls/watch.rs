@@ -1,11 +1,9 @@
 //! What tokio's documentation says about `sync::watch`.
 
-mod support;
-
+use crate::support::poll_once;
 use std::cell::Cell;
 use std::panic::{AssertUnwindSafe, RefUnwindSafe, UnwindSafe, catch_unwind};
 use std::thread;
-use support::poll_once;
 use yovanelum::watch::{self, error::SendError};
 use yovanelum::{Recorder, block_on};
 

@@ -1,12 +1,10 @@
 //! What a recorder records, and at which limits recording ends.
 
-mod support;
-
+use crate::support::named::checksum;
+use crate::support::{accepted, kept_journal, poll_once, temporary};
 use std::fs;
 use std::process::Command;
 use std::thread;
-use support::named::checksum;
-use support::{accepted, kept_journal, poll_once, temporary};
 use yovanelum::{Recorder, broadcast, named, watch};
 
 #[test]
@@ -183,16 +181,14 @@ fn installed_recorders_have_the_channels_of_all_threads_until_they_no_longer_are
         let ran = Command::new(program)
             .args([
                 "--exact",
-                "installed_recorders_have_the_channels_of_all_threads_until_they_no_longer_are",
+                "journals::installed_recorders_have_the_channels_of_all_threads_until_they_no_longer_are",
             ])
             .env("YOVANELUM_TEST_INSTALL", "1")
             .output()
             .unwrap();
-        assert!(
-            ran.status.success(),
-            "{}",
-            String::from_utf8_lossy(&ran.stdout)
-        );
+        let said = String::from_utf8_lossy(&ran.stdout);
+        // The name is that of this test, not of none.
+        assert!(ran.status.success() && said.contains(" 1 passed"), "{said}");
         return;
     }
     // Two calls of each channel are recorded: the drops of its sender and its receiver.

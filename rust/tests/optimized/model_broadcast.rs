@@ -1,10 +1,8 @@
 //! Random calls on a broadcast, compared with a plain model: how many values were sent, and the
 //! position of each receiver.
 
-mod support;
-
+use crate::support::{Random, accepted, poll_once};
 use std::rc::{Rc, Weak};
-use support::{Random, accepted, poll_once};
 use yovanelum::Recorder;
 use yovanelum::broadcast::{
     self, Receiver, Sender, WeakSender, error::RecvError, error::TryRecvError,

@@ -1,13 +1,11 @@
 //! What tokio's documentation says about `sync::broadcast`.
 
-mod support;
-
+use crate::support::poll_once;
 use std::panic::{RefUnwindSafe, UnwindSafe};
 use std::sync::Arc;
 use std::sync::atomic::{AtomicUsize, Ordering};
 use std::task::{Context, Poll, Wake, Waker};
 use std::{pin::pin, thread};
-use support::poll_once;
 use yovanelum::broadcast::{self, error::RecvError, error::SendError, error::TryRecvError};
 use yovanelum::{Recorder, block_on};
 

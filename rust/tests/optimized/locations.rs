@@ -1,10 +1,8 @@
 //! Where calls are made, and senders and receivers: the file and the line, as the names beside a
 //! journal say.
 
-mod support;
-
-use support::named::{call_lines, locations, made_lines, member};
-use support::{accepted, poll_once};
+use crate::support::named::{call_lines, locations, made_lines, member};
+use crate::support::{accepted, poll_once};
 use yovanelum::{Polled, Recorder, block_on, broadcast, watch};
 
 /// Evaluates an expression on one line, and adds that line to a list.

@@ -1,15 +1,11 @@
 //! A channel that creates many senders and receivers, of which few are alive: what the dropped ones
 //! had is used again, and each that is alive is the one that it was, for its calls and by its name.
 
-#[path = "support/noted.rs"]
-mod noted;
-mod support;
-
-use noted::Noted;
+use crate::noted::Noted;
+use crate::support::{accepted, poll_once};
 use std::future::Future;
 use std::pin::pin;
 use std::task::{Context, Poll, Waker};
-use support::{accepted, poll_once};
 use yovanelum::broadcast::error::{RecvError, TryRecvError};
 use yovanelum::{ChannelSnapshot, Handle, Lag, Recorder, broadcast, watch};
 

@@ -1,10 +1,8 @@
 //! Threads without async code: settings are changed while workers read them, and futures occur only
 //! within `block_on`.
 
-mod support;
-
+use crate::support::accepted;
 use std::thread::{self, JoinHandle};
-use support::accepted;
 use yovanelum::{Recorder, block_on, watch};
 
 #[derive(Clone, Debug, PartialEq)]
@@ -25,6 +23,7 @@ fn worker(number: usize, mut rx: watch::Receiver<Settings>) -> JoinHandle<u32> {
 }
 
 #[test]
+#[cfg_attr(target_family = "wasm", ignore = "WebAssembly has no threads")]
 fn workers_come_to_the_last_settings() {
     let recorder = Recorder::for_test("workers_come_to_the_last_settings");
     let (tx, rx) = watch::channel(Settings {

@@ -1,7 +1,6 @@
 //! Both channels under eight threads.
 
-mod support;
-
+use crate::support::{accepted, in_time, stamps};
 use std::collections::HashSet;
 use std::future::{Future, poll_fn};
 use std::pin::pin;
@@ -9,7 +8,6 @@ use std::sync::Arc;
 use std::sync::atomic::{AtomicBool, Ordering};
 use std::thread::{self, JoinHandle};
 use std::time::{Duration, Instant};
-use support::{accepted, in_time, stamps};
 use yovanelum::broadcast::{self, Receiver, error::RecvError};
 use yovanelum::{Recorder, block_on, named, watch};
 
@@ -79,6 +77,7 @@ fn receive_all(mut rx: Receiver<Sent>) -> Came {
 }
 
 #[test]
+#[cfg_attr(target_family = "wasm", ignore = "WebAssembly has no threads")]
 fn a_broadcast_of_four_senders_and_four_receivers() {
     let recorder = Recorder::new();
     let _entered = recorder.enter();
@@ -115,6 +114,7 @@ fn a_broadcast_of_four_senders_and_four_receivers() {
 }
 
 #[test]
+#[cfg_attr(target_family = "wasm", ignore = "WebAssembly has no threads")]
 fn a_watch_of_four_senders_and_four_receivers() {
     let recorder = Recorder::new();
     let _entered = recorder.enter();
@@ -153,6 +153,7 @@ fn a_watch_of_four_senders_and_four_receivers() {
 }
 
 #[test]
+#[cfg_attr(target_family = "wasm", ignore = "WebAssembly has no threads")]
 fn a_journal_saved_while_others_call_is_a_run() {
     let recorder = Recorder::new();
     let _entered = recorder.enter();
@@ -189,6 +190,7 @@ fn a_journal_saved_while_others_call_is_a_run() {
 }
 
 #[test]
+#[cfg_attr(target_family = "wasm", ignore = "WebAssembly has no threads")]
 fn tasks_on_threads_of_their_own() {
     let recorder = Recorder::new();
     let _entered = recorder.enter();
@@ -224,6 +226,7 @@ fn tasks_on_threads_of_their_own() {
 }
 
 #[test]
+#[cfg_attr(target_family = "wasm", ignore = "WebAssembly has no threads")]
 fn stamps_differ_where_a_second_channel_is_made_while_calls_go_on() {
     let recorder = Recorder::new();
     let _entered = recorder.enter();
@@ -256,6 +259,7 @@ fn stamps_differ_where_a_second_channel_is_made_while_calls_go_on() {
 }
 
 #[test]
+#[cfg_attr(target_family = "wasm", ignore = "WebAssembly has no threads")]
 fn a_thread_that_waits_is_woken_also_where_something_parks_within_the_poll() {
     let received = in_time(|| {
         let (tx, mut rx) = broadcast::channel(2);

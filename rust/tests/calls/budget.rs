@@ -1,7 +1,6 @@
 //! The budget of a task: one that receives from a channel that is never empty gives way to others.
 
-mod support;
-
+use crate::support::yielding::yield_now;
 use std::cell::{Cell, RefCell};
 use std::collections::VecDeque;
 use std::future::{Future, poll_fn};
@@ -10,7 +9,6 @@ use std::pin::{Pin, pin};
 use std::rc::Rc;
 use std::sync::{Arc, Condvar, Mutex};
 use std::task::{Context, Poll, Wake, Waker};
-use support::yielding::yield_now;
 use yovanelum::broadcast::error::RecvError;
 use yovanelum::{Recorder, block_on, broadcast, named, watch};
 
@@ -262,7 +260,7 @@ fn recorded_and_replayed(is_named: bool, run_recorded: impl FnOnce([Task<'_>; 2]
     let entered = recorder.enter();
     mails_and_sends(is_named, run_recorded);
     drop(entered);
-    let path = support::temporary::path(&format!("budget-{is_named}.journal"));
+    let path = crate::support::temporary::path(&format!("budget-{is_named}.journal"));
     recorder.save(&path).unwrap();
     let replay = Recorder::replay(&path).unwrap();
     std::fs::remove_file(&path).unwrap();

@@ -1,14 +1,12 @@
 //! At the limits of a run: which channels are in it, and channels with more handles than a journal
 //! names.
 
-mod support;
-
+use crate::support::{accepted, poll_once};
 use std::future::Future;
 use std::pin::pin;
 use std::sync::Arc;
 use std::sync::atomic::{AtomicUsize, Ordering};
 use std::task::{Context, Wake, Waker};
-use support::{accepted, poll_once};
 use yovanelum::broadcast::error::{RecvError, TryRecvError};
 use yovanelum::{Recorder, broadcast, watch};
 

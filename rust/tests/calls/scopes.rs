@@ -1,11 +1,9 @@
 //! Whose recorder a channel belongs to: that of the thread which creates it, of its future, of the
 //! thread that it follows, or none.
 
-mod support;
-
+use crate::support::accepted;
 use std::sync::mpsc;
 use std::thread;
-use support::accepted;
 use yovanelum::{Recorder, SaveOnPanic, Scoped, block_on, broadcast, follow_this_thread};
 
 /// Opens and drops a channel, which leaves two entries.
@@ -103,7 +101,7 @@ fn what_a_cancelled_future_creates_while_it_is_dropped_is_in_its_scope() {
         let _held = held;
         std::future::pending::<()>().await;
     });
-    assert_eq!(support::poll_once(task), None);
+    assert_eq!(crate::support::poll_once(task), None);
     assert_eq!(recorder.len(), 2);
 }
 
@@ -179,7 +177,7 @@ fn is_send<T: Send>(_: &T) -> bool {
 #[test]
 #[cfg_attr(target_family = "wasm", ignore = "WebAssembly has no threads")]
 fn a_test_that_is_a_task_may_be_sent_and_keeps_its_journal() {
-    let name = support::temporary::name("task");
+    let name = crate::support::temporary::name("task");
     let recorder = Recorder::new();
     let saved: SaveOnPanic = recorder.save_on_panic(&name);
     let test = recorder.scope(async move {
@@ -192,7 +190,7 @@ fn a_test_that_is_a_task_may_be_sent_and_keeps_its_journal() {
     assert!(is_send(&test));
     let failed = thread::spawn(move || block_on(test)).join();
     assert!(failed.is_err());
-    let path = support::kept_journal(&name);
+    let path = crate::support::kept_journal(&name);
     let journal = std::fs::read_to_string(&path).unwrap();
     // The task's guard is dropped last, so the drops of the sender and the receiver are in the
     // journal.

@@ -2,15 +2,13 @@
 //! runs while the channel is locked, except closures that change a watch's value and the texts of
 //! what they changed.
 
-mod support;
-
+use crate::support::in_time;
 use std::future::Future;
 use std::panic::{AssertUnwindSafe, catch_unwind};
 use std::pin::pin;
 use std::sync::atomic::{AtomicU32, Ordering};
 use std::sync::{Arc, Mutex, OnceLock};
 use std::task::{Context, Wake, Waker};
-use support::in_time;
 use yovanelum::broadcast::{self, Receiver, Sender};
 use yovanelum::watch::error::SendError;
 use yovanelum::{Recorder, block_on, watch};

@@ -1,14 +1,12 @@
 //! The calls that wait now, as a recorder lists them.
 
-mod support;
-
+use crate::support::named::{locations, member};
+use crate::support::{in_time, poll_once, saved_names};
 use std::future::Future;
 use std::pin::{Pin, pin};
 use std::sync::mpsc;
 use std::task::{Context, Waker};
 use std::thread;
-use support::named::{locations, member};
-use support::{in_time, poll_once, saved_names};
 use yovanelum::{Polled, Recorder, Waiting, block_on, broadcast, named, watch};
 
 /// Polls a future, which is still to wait.

@@ -1,10 +1,8 @@
 //! Random calls on a watch, compared with a plain model: the value, how many changes were notified,
 //! and what each receiver has seen.
 
-mod support;
-
+use crate::support::{Random, accepted, poll_once};
 use std::rc::{Rc, Weak};
-use support::{Random, accepted, poll_once};
 use yovanelum::Recorder;
 use yovanelum::watch::{self, Receiver, Sender};
 

@@ -1,11 +1,9 @@
 //! Functions for the texts of values, and names: which channels they may be for, and how long they
 //! live.
 
-mod support;
-
+use crate::support::in_time;
 use std::panic::{AssertUnwindSafe, catch_unwind};
 use std::sync::Arc;
-use support::in_time;
 use yovanelum::broadcast::error::RecvError;
 use yovanelum::{Handle, Recorder, block_on, broadcast, watch};
 
