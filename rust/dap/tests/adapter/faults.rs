@@ -1,10 +1,8 @@
 //! Journals, names and sources that aren't as they should be, and launches that are refused.
 
-mod support;
-
+use crate::support::{Client, Folder, save_bus, this_file};
 use serde_json::{Value, json};
 use std::fs;
-use support::{Client, Folder, save_bus, this_file};
 
 /// The thread of the bus that makes the first call.
 const TICKER: u64 = 1;
@@ -93,10 +91,14 @@ fn names_that_do_not_fit_are_left_out_and_changed_sources_are_said() {
         let said = format!("{shown} is left out: {said}");
         assert_eq!(first(warned_of_all(json!({"journal": journal}))), said);
     }
-    fs::write(&names_path, with_checksum(&names, "tests/support/mod.rs")).unwrap();
+    fs::write(
+        &names_path,
+        with_checksum(&names, "tests/adapter/support/mod.rs"),
+    )
+    .unwrap();
     let said = first(warned_of_all(json!({"journal": journal})));
     assert!(
-        said.ends_with("tests/support/mod.rs has changed since the run: lines may be off"),
+        said.ends_with("tests/adapter/support/mod.rs has changed since the run: lines may be off"),
         "{said}"
     );
     fs::write(
@@ -107,7 +109,7 @@ fn names_that_do_not_fit_are_left_out_and_changed_sources_are_said() {
     let said = first(warned_of_all(json!({"journal": journal})));
     assert!(
         said.ends_with(
-            "tests/support/gone.rs isn't found: give the folder that it is in as `root`"
+            "tests/adapter/support/gone.rs isn't found: give the folder that it is in as `root`"
         ),
         "{said}"
     );
@@ -159,7 +161,10 @@ fn a_source_that_is_missing_has_a_text_of_its_calls() {
     );
     assert_eq!(set["breakpoints"][0]["verified"], true);
     // A folder can be put in its place.
-    let (from, to) = ("tests/support/gone.rs", "tests/support/mod.rs");
+    let (from, to) = (
+        "tests/adapter/support/gone.rs",
+        "tests/adapter/support/mod.rs",
+    );
     let _ = warned(json!({"journal": journal}));
     let mut client = Client::new(false);
     let prefix = file_of(&names).replace(to, from);

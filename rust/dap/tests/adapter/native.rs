@@ -1,12 +1,10 @@
 //! The real call: the test is built, and the client is asked to start its own debugger on it.
 
-mod support;
-
+use crate::support::{Client, Folder, save_bus};
 use serde_json::{Value, json};
 use std::fs;
 use std::path::{Path, PathBuf};
 use std::process::Command;
-use support::{Client, Folder, save_bus};
 
 /// The test of a package whose name is that of the journal's. It prints what a replay would read.
 const TEST: &str = r#"

@@ -253,7 +253,7 @@ pub struct Lines {
 /// The path of this file, as cargo says it where the test runs.
 pub fn this_file() -> PathBuf {
     let package = std::env::var_os("CARGO_MANIFEST_DIR").expect("cargo runs the tests");
-    PathBuf::from(package).join("tests/support/mod.rs")
+    PathBuf::from(package).join("tests/adapter/support/mod.rs")
 }
 
 /// Saves the run of a ticker and an auditor as NAME.journal: of three prices in a channel of two,

@@ -1,10 +1,8 @@
 //! Whole sessions: from the launch to the cause of a loss and back, and breakpoints of each kind.
 
-mod support;
-
+use crate::support::{Client, Folder, save_bus, this_file};
 use serde_json::{Value, json};
 use std::fs;
-use support::{Client, Folder, save_bus, this_file};
 
 /// The threads of the bus: the ticker makes the first call.
 const TICKER: u64 = 1;

@@ -1,12 +1,10 @@
 //! Streams of random requests: each request has one response, and nothing is written or run.
 
-mod support;
-
+use crate::support::{Folder, Random, first_message, runs, save_bus, this_file};
 use serde_json::{Value, json};
 use std::fs;
 use std::io::Cursor;
 use std::path::Path;
-use support::{Folder, Random, first_message, runs, save_bus, this_file};
 use yovanelum_dap::{Options, serve};
 
 const COMMANDS: [&str; 37] = [

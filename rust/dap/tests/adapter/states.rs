@@ -1,14 +1,12 @@
 //! What the adapter shows of random runs is what the console of `ttd` shows, at each place and in
 //! both directions.
 
-mod support;
-
+use crate::support::{Client, Folder, Random, runs};
 use serde_json::json;
 use std::fs;
 use std::io::Write;
 use std::path::Path;
 use std::process::{Command, Stdio};
-use support::{Client, Folder, Random, runs};
 use yovanelum::{Recorder, broadcast, named, watch};
 
 /// Makes random calls on a broadcast and a watch by two tasks, and saves them.
