@@ -1,10 +1,7 @@
 //! The same random waits on tokio's channels and on these: the same tasks are woken, in the same
 //! order, and values are dropped before or after that as in tokio.
 
-#[path = "../../tests/support/random.rs"]
-mod random;
-
-use random::Random;
+use crate::random::Random;
 use std::future::Future;
 use std::pin::Pin;
 use std::sync::atomic::{AtomicBool, Ordering};

@@ -1,9 +1,7 @@
 //! The same tasks receive from channels that are never empty: one of tokio's that counts towards
 //! its budget, and those of this crate. Both give way after as many receives.
 
-#[path = "../../tests/support/yielding.rs"]
-mod yielding;
-
+use crate::yielding::yield_now;
 use std::cell::{Cell, RefCell};
 use std::future::{Future, poll_fn};
 use std::pin::pin;
@@ -13,7 +11,6 @@ use tokio::runtime::Builder;
 use tokio::sync::mpsc;
 use tokio::task::LocalSet;
 use tokio_stream::StreamExt;
-use yielding::yield_now;
 use yovanelum::{broadcast, named, watch};
 use yovanelum_stream::wrappers::BroadcastStream;
 

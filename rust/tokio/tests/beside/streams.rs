@@ -1,10 +1,7 @@
 //! The same random calls on tokio-stream's streams over tokio's channels, and on these: the same
 //! items, and the same wakes.
 
-#[path = "../../tests/support/random.rs"]
-mod random;
-
-use random::Random;
+use crate::random::Random;
 use std::pin::Pin;
 use std::sync::Arc;
 use std::sync::atomic::{AtomicU64, Ordering};

@@ -1,10 +1,7 @@
 //! The same random calls on tokio's channels and on these: the same answers, and values dropped at
 //! the same calls.
 
-#[path = "../../tests/support/random.rs"]
-mod random;
-
-use random::Random;
+use crate::random::Random;
 use std::future::Future;
 use std::pin::pin;
 use std::rc::{Rc, Weak};
