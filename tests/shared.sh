@@ -128,6 +128,10 @@ install_tool() {
   return 1
 }
 
+# Writes a program that cargo can call in rustc's place, which adds these words. Words in RUSTFLAGS, or a profile, would be for all that cargo compiles,
+# and so the crate would be compiled once more for each.
+make_wrapper() { printf '#!/bin/sh\nexec "$@" %s\n' "${*:2}" >"$1" && chmod +x "$1"; }
+
 # Has cargo install the program, as users do, and sets `installed` to its path.
 install_program() {
   installed=$out/program/bin/ttd
