@@ -70,6 +70,9 @@ impl RecordedChannel {
         if !is_added {
             lock(&state).end_recording();
         }
+        if recorder.is_none() {
+            lock(&state).core.leave_unnamed();
+        }
         let number = recorder.as_ref().map(|recorder| recorder.id);
         RecordedChannel {
             _registered: Registered::add(&state, number),

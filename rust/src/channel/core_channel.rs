@@ -2,7 +2,8 @@
 //!
 //! A machine makes 65,536 handles. Once a channel isn't recorded, dropped handles are taken out of
 //! it, and those that are alive get the first numbers there. Each keeps the number that this crate
-//! knows it by, from which a table leads to that in the machine ([`Numbers`]).
+//! knows it by, from which a table leads to that in the machine ([`Numbers`]). The look into it is
+//! inlined into each call, and finds nothing while the two are the same.
 //!
 //! Where more handles are alive, a further machine is opened beside the first, and makes them. From
 //! then on each send is made in all machines, and each receive in the one that made the receiver.
@@ -19,7 +20,7 @@ mod room;
 mod tests;
 
 use super::machine::{MOST_HANDLES, Machine, made};
-use super::numbers::Numbers;
+use super::numbers::{Numbers, Place};
 use crate::backend::{Caller, OpenFault, Recording, Spec};
 use crate::reply::Reply;
 use std::iter;
@@ -72,6 +73,13 @@ impl CoreChannel {
             self.numbers.keep(self.first.made());
             self.first.set_next_look();
         }
+    }
+
+    /// Says that no journal has the channel, so that the numbers of all its handles may be used
+    /// again.
+    pub(crate) fn leave_unnamed(&mut self) {
+        self.end();
+        self.numbers.keep(0);
     }
 
     /// How many entries the journal has.
@@ -148,22 +156,19 @@ impl CoreChannel {
     }
 
     /// Returns the machine of a handle, and the handle's number there.
-    #[inline]
+    #[inline(always)]
     fn machine_of(&mut self, handle: u32) -> (&mut Machine, u32) {
-        if !self.numbers.are_own() {
-            (&mut self.first, handle)
-        } else {
-            self.machine_of_own(handle)
+        let place = self.numbers.place(handle);
+        match place.machine() {
+            0 => (&mut self.first, place.handle()),
+            number => (self.further_machine(number), place.handle()),
         }
     }
 
-    /// As [`machine_of`](CoreChannel::machine_of), where handles have numbers of their own. It
-    /// isn't inlined, nor are those like it below, so that the call of a channel that is recorded
-    /// is.
+    #[cold]
     #[inline(never)]
-    fn machine_of_own(&mut self, handle: u32) -> (&mut Machine, u32) {
-        let place = self.numbers.place(handle);
-        (self.machine(place.machine), place.handle)
+    fn further_machine(&mut self, number: usize) -> &mut Machine {
+        self.machine(number)
     }
 
     /// Makes a call of a sender in all machines, and folds their replies.
@@ -174,39 +179,37 @@ impl CoreChannel {
         call: impl Fn(&mut Recording, u32) -> Reply,
         fold: fn(Reply, Reply) -> Reply,
     ) -> Reply {
-        if !self.numbers.are_own() {
-            call(&mut self.first.core, sender)
+        let place = self.numbers.place(sender);
+        if self.further.is_empty() {
+            call(&mut self.first.core, place.handle())
         } else {
-            self.call_all_by_own(sender, call, fold)
+            self.call_several(place, call, fold)
         }
     }
 
-    /// As [`call_all`](CoreChannel::call_all), where handles have numbers of their own. The
-    /// sender's machine is the first.
+    /// As [`call_all`](CoreChannel::call_all), where there are several machines. The sender's own
+    /// is the first. It isn't inlined, so that the call of a channel with one machine is.
+    #[cold]
     #[inline(never)]
-    fn call_all_by_own(
+    fn call_several(
         &mut self,
-        sender: u32,
+        place: Place,
         call: impl Fn(&mut Recording, u32) -> Reply,
         fold: fn(Reply, Reply) -> Reply,
     ) -> Reply {
-        let place = self.numbers.place(sender);
-        let reply = call(&mut self.machine(place.machine).core, place.handle);
-        if self.further.is_empty() {
-            return reply;
-        }
+        let own = place.machine();
+        let reply = call(&mut self.machine(own).core, place.handle());
         let first = iter::once(Some(&mut self.first));
         let all = first.chain(self.further.iter_mut().map(Option::as_mut));
-        let others = all.enumerate();
-        let others = others.filter(|(number, _)| *number != place.machine);
+        let others = all.enumerate().filter(|(number, _)| *number != own);
         let others = others.filter_map(|(_, machine)| machine);
         others.fold(reply.expect_made(), |reply, machine| {
             fold(reply, made(machine.by_sender(&call)))
         })
     }
 
-    /// Makes a call that creates a handle: by the caller, or in a machine of others by a handle
-    /// that stands for it.
+    /// Makes a call that creates a handle: by the caller, or where there are several machines in
+    /// one of them by a handle that stands for it.
     #[inline(always)]
     fn create(
         &mut self,
@@ -214,11 +217,12 @@ impl CoreChannel {
         by_caller: impl FnOnce(&mut Recording, u32) -> Reply,
         by_other: impl FnOnce(&mut Machine) -> Reply,
     ) -> Reply {
-        if self.numbers.are_own() || !self.first.has_room() {
-            return self.create_by_own(caller, by_caller, by_other);
+        if !self.has_room_in_first() {
+            return self.create_in_several(by_other);
         }
+        let caller = self.numbers.place(caller).handle();
         let reply = by_caller(&mut self.first.core, caller);
-        self.first.count_made(reply)
+        self.add_created(0, reply)
     }
 
     /// Makes the call that drops a handle.

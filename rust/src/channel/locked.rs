@@ -66,7 +66,8 @@ impl RecordedChannel {
     }
 
     /// Stores by whom and where the next call is made, if this recorder is to record it, and
-    /// returns the clock's number for it.
+    /// returns the clock's number for it. A call that isn't recorded leaves the clock as it is,
+    /// which the threads of all channels of the recorder write.
     #[inline(always)]
     fn tick(
         &self,
@@ -74,17 +75,16 @@ impl RecordedChannel {
         state: &mut ChannelState,
         (actor, called_at): (Actor, CallSite),
     ) -> u64 {
-        if state.is_recorded {
-            if recorder.has_ended() {
-                self.end_recording(state)
-            } else {
-                // It is added before the call, so that nothing of the reply has to be stored
-                // meanwhile.
-
-                state.locations.of_calls.push(called_at);
-                state.actors |= actor.bit();
-            }
+        if !state.is_recorded {
+            return 0;
         }
+        if recorder.has_ended() {
+            self.end_recording(state);
+            return 0;
+        }
+        // It is added before the call, so that nothing of the reply has to be stored meanwhile.
+        state.locations.of_calls.push(called_at);
+        state.actors |= actor.bit();
         recorder.tick()
     }
 
@@ -150,7 +150,7 @@ impl RecordedChannel {
             permit.would_wait();
             return reply.expect_made();
         }
-        if let Some(recorder) = &self.recorder.0 {
+        if let (Some(recorder), true) = (&self.recorder.0, state.is_recorded) {
             recorder.end_at(caller.clock);
         }
         self.end_recording(state);

@@ -188,25 +188,36 @@ impl Machine {
         dropped >= self.made.div_ceil(2) || self.made == self.most && dropped > self.most / FEW
     }
 
-    /// Says that the channel's numbers of these handles may differ from those here.
-    pub(super) fn begin_numbers(&mut self) -> Result<(), TryReserveError> {
-        self.numbers.clear();
-        self.numbers.try_reserve(self.made as usize)?;
-        self.numbers.extend(0..self.made);
-        Ok(())
+    /// Reserves memory for the channel's numbers of these handles.
+    pub(super) fn reserve_numbers(&mut self) -> Result<(), TryReserveError> {
+        self.numbers.try_reserve(self.made as usize)
     }
 
-    /// Takes the dropped handles out. The others have the numbers 0, 1, 2, .. from then on, in the
-    /// order of those that they had. Returns `false` if there was no memory for it, and nothing has
-    /// changed. The machine has this number.
-    pub(super) fn renumber(&mut self, number: usize, numbers: &mut Numbers) -> bool {
-        let Some(before) = self.core.renumber() else {
-            return false;
-        };
+    /// Says that the channel's numbers of these handles may differ from those here.
+    pub(super) fn begin_numbers(&mut self) {
+        self.numbers.extend(0..self.made);
+    }
+
+    /// Whether the channel's numbers of all handles are those here.
+    pub(super) fn has_same_numbers(&self) -> bool {
+        (0..)
+            .zip(&self.numbers)
+            .all(|(handle, number)| handle == *number)
+    }
+
+    /// Says that the channel's numbers of these handles are those here, from now on.
+    pub(super) fn end_numbers(&mut self) {
+        self.numbers.clear();
+        self.has_early = true;
+    }
+
+    /// Moves the channel's numbers of the handles that are alive, since the dropped ones were taken
+    /// out. `before` has the numbers that these had here. The machine has this number.
+    pub(super) fn renumber(&mut self, number: usize, before: &[u32], numbers: &mut Numbers) {
         if self.has_early {
-            self.remove_early(&before, numbers);
+            self.remove_early(before, numbers);
         }
-        self.move_numbers(number, &before, numbers);
+        self.move_numbers(number, before, numbers);
         let now = |handle: u32| {
             let now = before.binary_search(&handle);
             now.expect("a handle that is alive") as u32
@@ -214,9 +225,12 @@ impl Machine {
         self.sender = self.sender.map(now);
         self.receiver = self.receiver.map(now);
         self.weak = self.weak.map(now);
-        self.made = before.len() as u32;
+    }
+
+    /// Says that the dropped handles were taken out, and this many are alive.
+    pub(super) fn set_alive(&mut self, alive: u32) {
+        self.made = alive;
         self.set_next_look();
-        true
     }
 
     /// Moves the channel's numbers to the new places of their handles. `before` has the numbers
@@ -226,7 +240,7 @@ impl Machine {
             let number = self.numbers[*old as usize];
             self.numbers[handle as usize] = number;
             if number != NO_NUMBER {
-                numbers.set_place(number, Place { machine, handle });
+                numbers.set_place(number, Place::new(machine, handle));
             }
         }
         self.numbers.truncate(before.len());

@@ -2,27 +2,25 @@
 //! further machine is opened.
 
 use super::{CoreChannel, machine};
-use crate::backend::Recording;
 use crate::channel::machine::Machine;
 use crate::channel::numbers::Place;
 use crate::reply::Reply;
 use std::{iter, mem};
 
 impl CoreChannel {
-    /// As [`create`](CoreChannel::create), where handles have numbers of their own, or the first
-    /// machine has no room.
+    /// Whether the first machine makes the next handle: it is the only one, and has room.
+    #[inline(always)]
+    pub(super) fn has_room_in_first(&mut self) -> bool {
+        self.further.is_empty() && (self.first.has_room() || self.look_for_room(0))
+    }
+
+    /// As [`create`](CoreChannel::create), where there are several machines from now on.
+    #[cold]
     #[inline(never)]
-    pub(super) fn create_by_own(
+    pub(super) fn create_in_several(
         &mut self,
-        caller: u32,
-        by_caller: impl FnOnce(&mut Recording, u32) -> Reply,
         by_other: impl FnOnce(&mut Machine) -> Reply,
     ) -> Reply {
-        if self.further.is_empty() && self.make_room(0) {
-            let caller = self.numbers.in_first(caller);
-            let reply = by_caller(&mut self.first.core, caller);
-            return self.add_created(0, reply);
-        }
         let Some(number) = self.machine_with_room() else {
             return Reply::NoMemory;
         };
@@ -31,32 +29,65 @@ impl CoreChannel {
     }
 
     /// Counts the handle that a call has created in this machine, if it has, and gives it a number.
+    #[inline(always)]
     pub(super) fn add_created(&mut self, machine: usize, reply: Reply) -> Reply {
-        let Reply::New(handle) = self.machine(machine).count_made(reply) else {
-            return reply;
-        };
-        if !self.numbers.are_own() {
-            return reply;
+        let reply = self.machine(machine).count_made(reply);
+        match reply {
+            Reply::New(handle) if self.numbers.are_own() => self.give_number(machine, handle),
+            _ => reply,
         }
-        let handle = handle as u32;
-        let number = self.numbers.add(Place { machine, handle });
+    }
+
+    /// Gives a new handle of this machine a number of its own.
+    #[inline(never)]
+    fn give_number(&mut self, machine: usize, handle: u64) -> Reply {
+        let number = self.numbers.add(Place::new(machine, handle as u32));
         self.machine(machine).add_number(number);
         Reply::New(number.into())
     }
 
-    /// Gives handles numbers of their own, unless they have them. Returns `false` if there is no
-    /// memory for it.
-    fn begin_numbers(&mut self) -> bool {
+    /// Reserves memory for numbers of their own, unless handles have them. Returns `false` if there
+    /// is none.
+    fn reserve_numbers(&mut self) -> bool {
         self.numbers.are_own()
-            || self.first.begin_numbers().is_ok() && self.numbers.begin(self.first.made()).is_ok()
+            || self.first.reserve_numbers().is_ok()
+                && self.numbers.reserve(self.first.made()).is_ok()
     }
 
-    /// Takes the dropped handles out of a machine. Returns `false` if there is no memory for it,
-    /// and nothing has changed.
+    /// Gives handles numbers of their own, unless they have them. The memory is reserved.
+    fn begin_numbers(&mut self) {
+        if !self.numbers.are_own() {
+            self.first.begin_numbers();
+            self.numbers.begin(self.first.made());
+        }
+    }
+
+    /// Takes the dropped handles out of a machine. The others have the numbers 0, 1, 2, .. there
+    /// from then on, in the order of those that they had. Returns `false` if there was no memory
+    /// for it, and nothing has changed.
     pub(super) fn renumber(&mut self, number: usize) -> bool {
-        self.begin_numbers()
-            && machine(&mut self.first, &mut self.further, number)
-                .renumber(number, &mut self.numbers)
+        if !self.reserve_numbers() {
+            return false;
+        }
+        let Some(before) = self.machine(number).core.renumber() else {
+            return false;
+        };
+        let may_end = self.further.is_empty() && self.numbers.may_be_of_machine(before.len());
+        let have_moved = before
+            .last()
+            .is_some_and(|last| *last as usize >= before.len());
+        if self.numbers.are_own() || have_moved || !may_end {
+            self.begin_numbers();
+            let machine = machine(&mut self.first, &mut self.further, number);
+            machine.renumber(number, &before, &mut self.numbers);
+        }
+        let (alive, made) = (before.len() as u32, self.machine(number).made());
+        self.machine(number).set_alive(alive);
+        if may_end && self.first.has_same_numbers() {
+            self.numbers.be_of_machine(alive, made);
+            self.first.end_numbers();
+        }
+        true
     }
 
     /// Whether a machine can make a further handle, once its dropped ones are taken out if they are
@@ -80,9 +111,10 @@ impl CoreChannel {
     /// other machines. If there is none, a further one is opened. Returns `None` if there is no
     /// memory for the numbers of handles.
     fn machine_with_room(&mut self) -> Option<usize> {
-        if !self.begin_numbers() {
+        if !self.reserve_numbers() {
             return None;
         }
+        self.begin_numbers();
         let is_closed = self.senders() == 0;
         let number = match self.further_with_room(is_closed) {
             Some(number) => number,
@@ -145,9 +177,9 @@ impl CoreChannel {
     pub(super) fn remove(&mut self, number: u32) {
         let place = self.numbers.place(number);
         self.numbers.remove(number);
-        self.machine(place.machine).remove_number(place.handle);
+        self.machine(place.machine()).remove_number(place.handle());
         if !self.further.is_empty() {
-            self.settle_drop(place.machine);
+            self.settle_drop(place.machine());
         }
     }
 

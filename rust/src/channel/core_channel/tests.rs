@@ -40,6 +40,8 @@ struct Pair {
     values: u64,
     random: Random,
     renumbered: usize,
+    // How often handles had the machine's numbers after a renumbering.
+    as_in_machine: usize,
 }
 
 /// Makes a call on both by one handle, and compares the replies.
@@ -73,13 +75,18 @@ impl Pair {
             in_many: number,
             in_one: number,
         };
+        let mut many = CoreChannel::open(spec, most).unwrap();
+        if seed % 2 == 1 {
+            many.leave_unnamed();
+        }
         Pair {
-            many: CoreChannel::open(spec, most).unwrap(),
+            many,
             one: Recording::open(spec).unwrap(),
             handles: vec![handle(Kind::Sender, 0), handle(Kind::Receiver, 1)],
             values: 0,
             random: Random(seed.wrapping_mul(0x9E37_79B9_7F4A_7C15) | 1),
             renumbered: 0,
+            as_in_machine: 0,
         }
     }
 
@@ -256,7 +263,10 @@ impl Pair {
         self.many.end();
         let number = self.random.below(self.many.further.len() + 1);
         let is_there = number == 0 || self.many.further[number - 1].is_some();
-        self.renumbered += usize::from(is_there && self.many.renumber(number));
+        if is_there && self.many.renumber(number) {
+            self.renumbered += 1;
+            self.as_in_machine += usize::from(!self.many.numbers.are_own());
+        }
     }
 
     /// Compares what both show.
@@ -312,6 +322,7 @@ struct Played {
     // How often all of them were dropped again.
     alone_again: usize,
     renumbered: usize,
+    as_in_machine: usize,
 }
 
 /// Makes 200 random calls on both, for each seed. By turns many handles may be alive, and two.
@@ -339,6 +350,7 @@ fn play(spec_of: impl Fn(&mut Random) -> Spec<u64>, step: fn(&mut Pair, usize)) 
             "seed {seed}"
         );
         played.renumbered += pair.renumbered;
+        played.as_in_machine += pair.as_in_machine;
     }
     played
 }
@@ -353,6 +365,11 @@ impl Played {
             self.alone_again
         );
         assert!(self.renumbered as u64 > seeds(), "{}", self.renumbered);
+        assert!(
+            self.as_in_machine as u64 > seeds() / 4,
+            "{}",
+            self.as_in_machine
+        );
     }
 }
 
@@ -411,6 +428,22 @@ fn while_a_channel_is_recorded_a_handle_has_the_number_of_the_journal() {
     let alive = subscribe(&mut channel, 10_000, 100);
     assert!(alive.iter().all(|number| (256..512).contains(number)));
     assert_eq!(channel.broadcast_send(CALLER, 0, 7), Reply::Sent(101));
+}
+
+#[test]
+fn once_few_handles_are_left_without_a_journal_they_have_the_numbers_of_their_machine() {
+    let mut channel = CoreChannel::open(Spec::Broadcast(2), 256).unwrap();
+    channel.leave_unnamed();
+    let alive = subscribe(&mut channel, 1_000, 100);
+    assert!(channel.numbers.are_own());
+    for receiver in &alive {
+        assert_eq!(channel.broadcast_drop(CALLER, *receiver), Reply::Dropped);
+    }
+    assert!(subscribe(&mut channel, 1_000, 2_000).is_empty());
+    assert!(!channel.numbers.are_own());
+    let last = channel.broadcast_subscribe(CALLER, 0).new_handle();
+    assert_eq!([channel.nth(0), channel.nth(1)], [0, 1]);
+    assert_eq!(channel.nth(last), 2_002);
 }
 
 #[test]
