@@ -222,7 +222,12 @@ impl CoreChannel {
         }
         let caller = self.numbers.place(caller).handle();
         let reply = by_caller(&mut self.first.core, caller);
-        self.add_created(0, reply)
+        let reply = self.first.count_made(reply);
+        if self.numbers.are_own() {
+            self.add_created(0, reply)
+        } else {
+            reply
+        }
     }
 
     /// Makes the call that drops a handle.

@@ -24,23 +24,18 @@ impl CoreChannel {
         let Some(number) = self.machine_with_room() else {
             return Reply::NoMemory;
         };
-        let reply = by_other(self.machine(number));
+        let machine = self.machine(number);
+        let reply = by_other(machine);
+        let reply = machine.count_made(reply);
         self.add_created(number, reply)
     }
 
-    /// Counts the handle that a call has created in this machine, if it has, and gives it a number.
-    #[inline(always)]
-    pub(super) fn add_created(&mut self, machine: usize, reply: Reply) -> Reply {
-        let reply = self.machine(machine).count_made(reply);
-        match reply {
-            Reply::New(handle) if self.numbers.are_own() => self.give_number(machine, handle),
-            _ => reply,
-        }
-    }
-
-    /// Gives a new handle of this machine a number of its own.
+    /// Gives the handle that a call has created in this machine, if it has, a number of its own.
     #[inline(never)]
-    fn give_number(&mut self, machine: usize, handle: u64) -> Reply {
+    pub(super) fn add_created(&mut self, machine: usize, reply: Reply) -> Reply {
+        let Reply::New(handle) = reply else {
+            return reply;
+        };
         let number = self.numbers.add(Place::new(machine, handle as u32));
         self.machine(machine).add_number(number);
         Reply::New(number.into())
