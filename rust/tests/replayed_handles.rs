@@ -15,6 +15,14 @@ const MOST: usize = 65_536;
 /// The variable that says whether Ann waits until Bob has bid. Otherwise Bob is slow.
 const ANN_WAITS: &str = "YOVANELUM_TEST_ANN_WAITS";
 
+/// How often the run is replayed: three times, or as many as the variable `YOVANELUM_RUNS` says.
+fn replays() -> usize {
+    match std::env::var("YOVANELUM_RUNS") {
+        Ok(wanted) => wanted.parse().unwrap(),
+        Err(_) => 3,
+    }
+}
+
 /// Bids on a thread, once this was done there.
 fn bid(
     bids: &broadcast::Sender<u32>,
@@ -69,15 +77,16 @@ fn a_run_whose_recording_ended_at_its_handles_is_replayed() {
         .unwrap();
     assert!(!recorded.status.success());
     let journal = files(&folder.0).join("ann_is_the_first.journal");
-    let mut replay = started(test, &folder.0);
-    replay.env("YOVANELUM_REPLAY", &journal).arg("--nocapture");
-    let replayed = replay.output().unwrap();
-    let said = String::from_utf8(replayed.stderr).unwrap();
     // Two clones and their drops, two bids, and both calls of each further handle that the journal
     // names.
     let calls = 6 + 2 * (MOST - 4);
     let wanted = format!(
         "ann_is_the_first.journal: all {calls} calls in the recorded order; the same failure"
     );
-    assert!(said.contains(&wanted), "{wanted} in {said}");
+    for time in 1..=replays() {
+        let mut replay = started(test, &folder.0);
+        replay.env("YOVANELUM_REPLAY", &journal).arg("--nocapture");
+        let said = String::from_utf8(replay.output().unwrap().stderr).unwrap();
+        assert!(said.contains(&wanted), "replay {time}: {wanted} in {said}");
+    }
 }
