@@ -158,7 +158,15 @@ impl CoreChannel {
     /// Returns the machine of a handle, and the handle's number there.
     #[inline(always)]
     fn machine_of(&mut self, handle: u32) -> (&mut Machine, u32) {
-        let place = self.numbers.place(handle);
+        self.machine_at(self.numbers.own_place(handle), handle)
+    }
+
+    /// As [`machine_of`](CoreChannel::machine_of), of a handle that is at this place.
+    #[inline(always)]
+    fn machine_at(&mut self, place: Option<Place>, handle: u32) -> (&mut Machine, u32) {
+        let Some(place) = place else {
+            return (&mut self.first, handle);
+        };
         match place.machine() {
             0 => (&mut self.first, place.handle()),
             number => (self.further_machine(number), place.handle()),
@@ -179,12 +187,12 @@ impl CoreChannel {
         call: impl Fn(&mut Recording, u32) -> Reply,
         fold: fn(Reply, Reply) -> Reply,
     ) -> Reply {
-        let place = self.numbers.place(sender);
-        if self.further.is_empty() {
-            call(&mut self.first.core, place.handle())
-        } else {
-            self.call_several(place, call, fold)
-        }
+        let number = match self.numbers.own_place(sender) {
+            None => sender,
+            Some(place) if self.further.is_empty() => place.handle(),
+            Some(place) => return self.call_several(place, call, fold),
+        };
+        call(&mut self.first.core, number)
     }
 
     /// As [`call_all`](CoreChannel::call_all), where there are several machines. The sender's own
@@ -220,13 +228,13 @@ impl CoreChannel {
         if !self.has_room_in_first() {
             return self.create_in_several(by_other);
         }
-        let caller = self.numbers.place(caller).handle();
-        let reply = by_caller(&mut self.first.core, caller);
+        let place = self.numbers.own_place(caller);
+        let number = place.map_or(caller, Place::handle);
+        let reply = by_caller(&mut self.first.core, number);
         let reply = self.first.count_made(reply);
-        if self.numbers.are_own() {
-            self.add_created(0, reply)
-        } else {
-            reply
+        match place {
+            None => reply,
+            Some(_) => self.add_created(0, reply),
         }
     }
 
@@ -237,10 +245,11 @@ impl CoreChannel {
         handle: u32,
         drop: impl FnOnce(&mut Recording, u32) -> Reply,
     ) -> Reply {
-        let (machine, number) = self.machine_of(handle);
+        let place = self.numbers.own_place(handle);
+        let (machine, number) = self.machine_at(place, handle);
         let reply = machine.drop_handle(number, drop);
-        if self.numbers.are_own() && reply == Reply::Dropped {
-            self.remove(handle);
+        if let (Some(place), Reply::Dropped) = (place, reply) {
+            self.remove(handle, place);
         }
         reply
     }

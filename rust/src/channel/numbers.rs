@@ -117,13 +117,11 @@ impl Numbers {
         self.free = NO_NUMBER;
     }
 
-    /// Returns where the handle with this number is. It is looked up at each call.
+    /// Returns where the handle with this number is, where handles may have other numbers than
+    /// those that their machine gave them. Each call looks for it.
     #[inline(always)]
-    pub(super) fn place(&self, number: u32) -> Place {
-        match self.places.get(number as usize) {
-            Some(place) => *place,
-            None => Place(number),
-        }
+    pub(super) fn own_place(&self, number: u32) -> Option<Place> {
+        self.places.get(number as usize).copied()
     }
 
     /// How many handles the channel had created before the one with this number.

@@ -167,10 +167,9 @@ impl CoreChannel {
         index + 1
     }
 
-    /// Removes a handle that was dropped.
+    /// Removes a handle that was dropped, and was at this place.
     #[inline(never)]
-    pub(super) fn remove(&mut self, number: u32) {
-        let place = self.numbers.place(number);
+    pub(super) fn remove(&mut self, number: u32, place: Place) {
         self.numbers.remove(number);
         self.machine(place.machine()).remove_number(place.handle());
         if !self.further.is_empty() {
