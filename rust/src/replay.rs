@@ -73,6 +73,11 @@ impl ReplayedChannel {
         self.turns.leave(ticket);
     }
 
+    /// Whether a journal orders its calls.
+    pub(crate) fn follows_journal(&self) -> bool {
+        matches!(self.turns, Turns::Journal(_))
+    }
+
     /// Lets all calls of this channel pass.
     pub(crate) fn set_free(&self) {
         self.is_free.store(true, Ordering::Relaxed);

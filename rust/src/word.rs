@@ -132,6 +132,20 @@ impl Word {
         )
     }
 
+    /// Whether this call creates a sender or a receiver, if it isn't refused.
+    pub(crate) fn creates_handle(self) -> bool {
+        matches!(
+            self,
+            Word::Subscribe
+                | Word::CloneSender
+                | Word::CloneReceiver
+                | Word::Resubscribe
+                | Word::Downgrade
+                | Word::Upgrade
+                | Word::CloneWeak
+        )
+    }
+
     /// Whether the call only asks, so that it leaves no entry after `quiet_questions()`.
     pub(crate) fn is_question(self) -> bool {
         matches!(

@@ -7,7 +7,7 @@ use std::sync::mpsc;
 use std::thread::{self, JoinHandle};
 use std::time::Duration;
 use support::parts::{Folder, files, is_part, started};
-use yovanelum::{Recorder, broadcast};
+use yovanelum::{Recorder, broadcast, watch};
 
 /// How many handles a journal names.
 const MOST: usize = 65_536;
@@ -39,11 +39,12 @@ fn bid(
 }
 
 /// Two threads bid, and the test fails where Bob is the first. Then the channel creates more
-/// handles than a journal names.
+/// handles than a journal names, and another one is still recorded.
 fn ann_is_the_first() {
     let recorder = Recorder::for_test("ann_is_the_first");
     let (bids, mut auction) = broadcast::channel(4);
     recorder.name(&bids, "bids").name(&auction, "auction");
+    let (price, _shown) = watch::channel(0);
     let ann_waits = std::env::var_os(ANN_WAITS).is_some();
     let (has_bid, bob) = mpsc::channel();
     let ann = bid(&bids, "Ann", 1, move || {
@@ -61,6 +62,7 @@ fn ann_is_the_first() {
     ann.join().unwrap();
     (0..MOST + 3_000).for_each(|_| drop(bids.subscribe()));
     let _late = bids.subscribe();
+    price.send(2).unwrap();
     assert_eq!(auction.try_recv(), Ok(1));
 }
 
@@ -78,8 +80,8 @@ fn a_run_whose_recording_ended_at_its_handles_is_replayed() {
     assert!(!recorded.status.success());
     let journal = files(&folder.0).join("ann_is_the_first.journal");
     // Two clones and their drops, two bids, and both calls of each further handle that the journal
-    // names.
-    let calls = 6 + 2 * (MOST - 4);
+    // names. Of the price its send, and the drops of its sender and its receiver.
+    let calls = 6 + 2 * (MOST - 4) + 3;
     let wanted = format!(
         "ann_is_the_first.journal: all {calls} calls in the recorded order; the same failure"
     );

@@ -13,7 +13,19 @@ impl RecordedChannel {
     /// there.
     fn at_gate(&self, handle: u32, word: Word, called_at: CallSite) -> Option<(&Turns, Coming)> {
         let replayed = self.replayed.as_ref()?;
+        if word.creates_handle() && replayed.follows_journal() {
+            self.end_if_all_are_named();
+        }
         replayed.at_gate(handle, word, self.recorder.actor(called_at), called_at)
+    }
+
+    /// Ends the recording of a channel that is to create one handle more than a journal names. The
+    /// journal doesn't have that call, so it has no turn to wait for.
+    fn end_if_all_are_named(&self) {
+        let mut state = lock(&self.state);
+        if state.names_no_more_handles() {
+            self.end_for_handles(&mut state);
+        }
     }
 
     /// Whether this handle, a receiver of a broadcast, has anything to receive.

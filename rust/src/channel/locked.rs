@@ -100,7 +100,7 @@ impl RecordedChannel {
 
     /// Ends the recording of this channel, since no journal can name a further handle of it.
     #[cold]
-    fn end_for_handles(&self, state: &mut ChannelState) {
+    pub(super) fn end_for_handles(&self, state: &mut ChannelState) {
         self.end_recording(state);
         if let Some(recorder) = &self.recorder.0 {
             recorder.tell_of_too_many_handles();
@@ -181,7 +181,7 @@ impl<'a> LockedChannel<'a> {
     #[cfg_attr(debug_assertions, inline(never))]
     #[cfg_attr(not(debug_assertions), inline(always))]
     pub(crate) fn create(&mut self, kind: Kind, call: Call) -> (Reply, Slot) {
-        if self.state.is_recorded && self.state.core.has_named_all() {
+        if self.state.names_no_more_handles() {
             self.channel.end_for_handles(&mut self.state);
         }
         let reply = self.call(call);

@@ -205,6 +205,12 @@ impl ChannelState {
         }
     }
 
+    /// Whether the channel is recorded, and has created as many handles as a journal names.
+    #[inline]
+    pub(super) fn names_no_more_handles(&self) -> bool {
+        self.is_recorded && self.core.has_named_all()
+    }
+
     /// Returns the numbers of actors that are needed: those of stored calls, of calls that wait,
     /// and of looks. Each is a bit.
     pub(crate) fn stored_actors(&self) -> u64 {
