@@ -1,6 +1,6 @@
 //! Tests that need nothing of their process: no allocator, no hook for panics, no closures of the
-//! process. Each file would be a program otherwise, which takes as long to compile and to link as
-//! all of them do together.
+//! process. They are one program, since each program takes a second to compile and to link, in each
+//! of four builds. All files that they write have names of their own.
 
 #[path = "../support/noted.rs"]
 mod noted;

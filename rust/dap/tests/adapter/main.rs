@@ -1,4 +1,4 @@
-//! Tests of the adapter, in one program: each of several would take as long to compile and to link.
+//! Tests of the adapter, in one program, since each program is compiled and linked by itself.
 
 mod faults;
 mod fuzz;

@@ -1,4 +1,4 @@
-//! Tests beside tokio, in one program: each of several would take as long to compile and to link.
+//! Tests beside tokio, in one program, since each program is compiled and linked by itself.
 
 #[path = "../../../tests/support/random.rs"]
 mod random;
