@@ -77,6 +77,19 @@ impl<V: Copy> Broadcast<V> {
             limit: 2,
         })
     }
+
+    /// Returns a copy, which shows the same and has as much room. If an allocation fails, there is none.
+    pub fn copied(&self, alloc: Global) -> Result<Broadcast<V>, NoMemory>
+        ensures { IfOk result (λ copy. copy ≡ self.now) }
+    {
+        let handles = self.handles.copied(alloc)?;
+        let values = self.values.copied(alloc)?;
+        Ok(Broadcast {
+            values,
+            handles,
+            limit: self.limit,
+        })
+    }
 }
 
 /// Returns how many values are retained where this many are requested.
