@@ -46,4 +46,16 @@ impl<V: Copy> Watch<V> {
             handles: Table::of_two(alloc, None, Some(0))?,
         })
     }
+
+    /// Returns a copy, which shows the same and has as much room. If the allocation fails, there is none.
+    pub fn copied(&self, alloc: Global) -> Result<Watch<V>, NoMemory>
+        ensures { IfOk result (λ copy. copy ≡ self.now) }
+    {
+        Ok(Watch {
+            value: self.value,
+            version: self.version,
+            limit: self.limit,
+            handles: self.handles.copied(alloc)?,
+        })
+    }
 }
