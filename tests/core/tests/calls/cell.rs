@@ -1,5 +1,7 @@
 //! A machine for the tests of books.
 
+use proved::Global;
+use proved::rw_journal::Copied;
 use proved::rw_law::{NoMemory, Reversible};
 
 #[derive(Clone, Copy)]
@@ -94,5 +96,11 @@ impl Reversible for Cell {
 
     fn strays(reply: &Reply) -> bool {
         matches!(reply, Reply::NoChannel)
+    }
+}
+
+impl Copied for Cell {
+    fn copied(&self, _alloc: Global) -> Result<Cell, NoMemory> {
+        Ok(Cell { ..*self })
     }
 }

@@ -4,4 +4,5 @@ mod books;
 pub mod by_channel;
 mod ledgers;
 mod merges;
+mod recent_calls;
 mod recording;

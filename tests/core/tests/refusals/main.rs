@@ -16,6 +16,7 @@ mod machines;
 mod met;
 mod passes;
 mod readings;
+mod recent_calls;
 mod renumberings;
 mod runs;
 mod scripts;
@@ -60,6 +61,11 @@ fn machines() {
 #[test]
 fn renumberings() {
     is_answered(renumberings::play, include_str!("said/renumberings.txt"));
+}
+
+#[test]
+fn recent_calls() {
+    is_answered(recent_calls::play, include_str!("said/recent_calls.txt"));
 }
 
 #[test]

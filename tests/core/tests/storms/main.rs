@@ -9,6 +9,7 @@ mod mutations;
 mod notes;
 mod passes;
 mod receipts;
+mod recent_calls;
 mod samples;
 mod seats;
 mod texts;
