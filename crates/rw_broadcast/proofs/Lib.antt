@@ -1,6 +1,9 @@
+pub mod Leading
 pub mod LeastPosition
 pub mod LeastRenamed
+pub mod Planning
 pub mod Powers
+pub mod Raising
 pub mod Renaming
 pub mod Renumbering
 pub mod Rows

@@ -2,7 +2,10 @@ pub mod Arithmetic
 pub mod Channel
 pub mod Record
 pub mod Shown
+pub mod Raised
 pub mod Renaming
+pub mod Leading
+pub mod Planning
 pub mod Laws
 pub mod Soundness
 pub mod Machine

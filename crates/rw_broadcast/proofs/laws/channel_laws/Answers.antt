@@ -1,4 +1,5 @@
 use Rattle.rw_broadcast.proofs.Powers.{retains_next_power}
+use Rattle.rw_broadcast.proofs.Raising.{replies_raised}
 use Rattle.rw_broadcast.proofs.Renaming.{replies_renamed}
 use Rattle.rw_broadcast.proofs.Showing.{is_shown_by_some, replies_by_record, shows_allowed, shows_its_record, shows_its_steps}
 use Rattle.rw_broadcast.proofs.laws.channel_laws.Goals as goal
@@ -23,3 +24,6 @@ returns-clause-shown g c = is_shown_by_some _
 
 pub returns-clause-renamed : goal.returns-clause-renamed
 returns-clause-renamed g c = replies_renamed _
+
+pub returns-clause-raised : goal.returns-clause-raised
+returns-clause-raised g c = replies_raised _
