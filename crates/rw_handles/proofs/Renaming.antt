@@ -93,16 +93,24 @@ renames_live_ones X slots =
 
 -- ---- a handle is made
 
-get_push_first : {A : Type 0} (xs : List A) (a : A) (i : ℕ) → i < length xs → slice_get (xs ++ a ∷ []) i ≡ slice_get xs i
+pub get_push_first : {A : Type 0} (xs : List A) (a : A) (i : ℕ) → i < length xs → slice_get (xs ++ a ∷ []) i ≡ slice_get xs i
 get_push_first [] a i within = absurd (omega (arith, within))
 get_push_first (x ∷ xs) a zero within = refl
 get_push_first (x ∷ xs) a (suc i) within = get_push_first xs a i (omega (arith, within))
 
-get_push_next : {A : Type 0} (xs : List A) (a : A) (n : ℕ) → slice_get (xs ++ a ∷ []) (length xs + n) ≡ slice_get (a ∷ []) n
+pub get_push_next : {A : Type 0} (xs : List A) (a : A) (n : ℕ) → slice_get (xs ++ a ∷ []) (length xs + n) ≡ slice_get (a ∷ []) n
 get_push_next [] a n = let none : 0 + n ≡ n = omega arith in ap (slice_get (a ∷ [])) none
 get_push_next (x ∷ xs) a n =
     let one : suc (length xs) + n ≡ suc (length xs + n) = omega arith in
     ap (slice_get (x ∷ xs ++ a ∷ [])) one ∙ get_push_next xs a n
+
+-- a write leaves the other elements
+pub get_set_other : {A : Type 0} (xs : List A) (i j : ℕ) (a : A) → (j ≡ i → ⊥) → slice_get (set xs i a) j ≡ slice_get xs j
+get_set_other [] i j a other = refl
+get_set_other (x ∷ xs) zero zero a other = absurd (other refl)
+get_set_other (x ∷ xs) zero (suc j) a other = refl
+get_set_other (x ∷ xs) (suc i) zero a other = refl
+get_set_other (x ∷ xs) (suc i) (suc j) a other = get_set_other xs i j a (λ one. other (ap suc one))
 
 module _ {X : Type 0} (to : ℕ → ℕ) (xs ys : List (Slot X)) (is : IsRenaming to xs ys) where
   -- a handle that was made has a number of one that was made
@@ -140,13 +148,7 @@ module _ {X : Type 0} (to : ℕ → ℕ) (xs ys : List (Slot X)) (is : IsRenamin
     by_number (inl one) =
         ap (λ k. slice_get (set ys (to h) s) (to k)) one ∙ slice_get-set ys (to h) s was (is.found h ∙ at)
         ∙ sym (ap (slice_get (set xs h s)) one ∙ slice_get-set xs h s was at)
-    by_number (inr two) = get_set_other ys (to h) (to g) s (λ one. two (is.apart g h one)) ∙ is.found g ∙ sym (get_set_other xs h g s two) where
-      get_set_other : {A : Type 0} (xs : List A) (i j : ℕ) (a : A) → (j ≡ i → ⊥) → slice_get (set xs i a) j ≡ slice_get xs j
-      get_set_other [] i j a other = refl
-      get_set_other (x ∷ xs) zero zero a other = absurd (other refl)
-      get_set_other (x ∷ xs) zero (suc j) a other = refl
-      get_set_other (x ∷ xs) (suc i) zero a other = refl
-      get_set_other (x ∷ xs) (suc i) (suc j) a other = get_set_other xs i j a (λ one. other (ap suc one))
+    by_number (inr two) = get_set_other ys (to h) (to g) s (λ one. two (is.apart g h one)) ∙ is.found g ∙ sym (get_set_other xs h g s two)
 
   counted_set : (h : ℕ) (s was : Slot X) → slice_get xs h ≡ Some was → (test : Slot X → Bool) → test Spent ≡ false
       → count_by test (set ys (to h) s) ≡ count_by test (set xs h s)

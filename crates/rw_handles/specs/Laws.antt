@@ -1,5 +1,5 @@
 -- What each undoing restores, in the slots of a table, and which slots are renamings of others.
-use Rattle.std.specs.Prelude.{◌≡◌, ℕ, ◌-◌, List, [], ◌∷◌, ◌++◌, length, take, slice_get, slice_set, Some}
+use Rattle.std.specs.Prelude.{◌≡◌, ℕ, ◌-◌, List, [], ◌∷◌, ◌++◌, length, map, take, slice_get, slice_set, Some}
 use Rattle.rw_handles.specs.declared.kinds.Kind.{Kind}
 use Rattle.rw_handles.specs.declared.kinds.Slot.{Slot}
 use Rattle.rw_handles.specs.declared.kinds.Slot.TheVariants.{Live, Spent}
@@ -37,6 +37,11 @@ KeepsRenamingAtMake X = (to : ℕ → ℕ) (xs ys : List (Slot X)) (slot : Slot 
 abbrev pub KeepsRenamingAtSet : Type 0 → Type 0
 KeepsRenamingAtSet X = (to : ℕ → ℕ) (xs ys : List (Slot X)) (h : ℕ) (slot : Slot X) → IsRenaming to xs ys
     → IsRenaming to (slice_set xs h slot) (slice_set ys (to h) slot)
+
+-- a change of every handle in both, which leaves dropped ones dropped, too
+abbrev pub KeepsRenamingAtMap : Type 0 → Type 0
+KeepsRenamingAtMap X = (to : ℕ → ℕ) (xs ys : List (Slot X)) (change : Slot X → Slot X) → change Spent ≡ Spent → IsRenaming to xs ys
+    → IsRenaming to (map change xs) (map change ys)
 
 -- one renaming after another is a renaming
 abbrev pub RenamesTwice : Type 0 → Type 0

@@ -6,12 +6,14 @@
 //! Start reading at `kinds.rt`, the types, then at `specs/Slots.antt`, and then at `table.rt`.
 #![tactic(auto)]
 
+mod comparing;
 mod kinds;
 mod laws;
 mod refusals;
 mod table;
 mod tally;
 
+pub use comparing::is_renaming;
 pub use kinds::{Found, HandleFault, Kind, Slot};
 pub use laws::{renamings, undoings};
 pub use refusals::{Refusal, SendError};

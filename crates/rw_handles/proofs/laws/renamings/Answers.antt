@@ -1,5 +1,7 @@
+use Rattle.rw_handles.proofs.Changing.{keeps_renaming_at_map}
 use Rattle.rw_handles.proofs.Renaming.{keeps_renaming_at_make, keeps_renaming_at_set, renames_live_ones, renames_twice}
 use Rattle.rw_handles.proofs.Reordering.{renames_at_exchange, renames_at_insertion}
+use Rattle.rw_handles.proofs.Sorting.{renames_sorted}
 use Rattle.rw_handles.proofs.laws.renamings.Goals as goal
 
 pub returns-clause-live : goal.returns-clause-live
@@ -19,3 +21,9 @@ returns-clause-insertion g c = renames_at_insertion _
 
 pub returns-clause-exchange : goal.returns-clause-exchange
 returns-clause-exchange g c = renames_at_exchange _
+
+pub returns-clause-map : goal.returns-clause-map
+returns-clause-map g c = keeps_renaming_at_map _
+
+pub returns-clause-sorted : goal.returns-clause-sorted
+returns-clause-sorted g c = renames_sorted _
