@@ -1,5 +1,5 @@
 -- Acts of sender 0 lead to what they send and make.
-use Rattle.std.proofs.Common.{◌≡◌, ℕ, zero, suc, ◌+◌, ◌<◌, ◌≤◌, Bool, true, false, cond, List, [], ◌∷◌, ◌++◌, length, fold, refl, ap, sym, ◌∙◌, arith}
+use Rattle.std.proofs.Common.{◌≡◌, ℕ, suc, ◌+◌, ◌<◌, false, cond, List, [], ◌∷◌, ◌++◌, length, fold, ap, sym, ◌∙◌, arith}
 use Rattle.std.specs.Prelude.{nat_le, ◌==◌}
 use Rattle.std.proofs.lemmas.Bool.{lt-leb}
 use Rattle.std.proofs.lemmas.Bool.{ne_eqb}
@@ -10,12 +10,12 @@ use Rattle.rw_handles.specs.declared.kinds.Slot.{Slot}
 use Rattle.rw_handles.specs.declared.kinds.Slot.TheVariants.{Live}
 use Rattle.rw_handles.specs.declared.table.TheConstants.{MOST_HANDLES}
 use Rattle.rw_handles.specs.Slots.{alive, is_alive}
-use Rattle.rw_broadcast.specs.Channel.{Change, Append, Make, Keep, receivers, effect}
+use Rattle.rw_broadcast.specs.Channel.{Change, Append, Make, Keep}
 use Rattle.rw_broadcast.specs.declared.calls.BCall.TheVariants as call
 use Rattle.rw_broadcast.specs.declared.calls.BReply.{BReply}
 use Rattle.rw_broadcast.specs.declared.calls.BReply.TheVariants.{Sent, NoReceivers, New, TooManyHandles}
-use Rattle.rw_broadcast.specs.Record.{Record, channel_of, with_change, step, after}
-use Rattle.rw_broadcast.specs.Leading.{Act, Sends, MakesReceiver, MakesSender, MakesWeak, call_of, calls_of, sent_by, made_by, grown, LeadsTo}
+use Rattle.rw_broadcast.specs.Record.{with_change, step, after}
+use Rattle.rw_broadcast.specs.Leading.{Sends, MakesReceiver, MakesSender, MakesWeak, calls_of, sent_by, made_by, grown, LeadsTo}
 
 -- a count from a is a more
 count_more : (kind : Kind) (a : ℕ) (xs : List (Slot ℕ)) → fold (λ a s. a + cond (is_alive kind s) 1 0) a xs ≡ a + alive kind xs

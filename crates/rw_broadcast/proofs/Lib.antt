@@ -1,3 +1,5 @@
+pub mod Alike
+pub mod Comparing
 pub mod Leading
 pub mod LeastPosition
 pub mod LeastRenamed

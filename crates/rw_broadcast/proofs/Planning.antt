@@ -2,7 +2,6 @@
 use Rattle.std.proofs.Common.{◌≡◌, ℕ, suc, ◌+◌, ◌-◌, ◌≤◌, List, [], ◌∷◌, ◌++◌, length, map, take, drop, refl, ap, sym, subst, ◌∙◌, arith, length-drop, length-take-le}
 use Rattle.std.proofs.lemmas.List.{append-nil, take-append-drop}
 use Rattle.rw_handles.specs.declared.kinds.Kind.TheVariants.{Receiver}
-use Rattle.rw_handles.specs.declared.kinds.Slot.{Slot}
 use Rattle.rw_handles.specs.declared.kinds.Slot.TheVariants.{Live}
 use Rattle.rw_broadcast.specs.Leading.{Act, Sends, MakesReceiver, sent_by, made_by}
 use Rattle.rw_broadcast.specs.Planning.{Rises, plan, DoesWhatIsPlanned}

@@ -1,5 +1,5 @@
 -- It makes no difference to any call that more values were sent before.
-use Rattle.std.proofs.Common.{◌≡◌, ℕ, ◌+◌, ◌-◌, ◌<◌, ◌≤◌, min, max, Bool, true, false, cond, List, [], ◌∷◌, ◌++◌, zero, suc, length, map, fold, refl, ap, sym, ◌∙◌, subst, arith}
+use Rattle.std.proofs.Common.{◌≡◌, ℕ, ◌+◌, ◌-◌, min, max, Bool, true, false, cond, List, [], ◌∷◌, ◌++◌, zero, suc, length, map, fold, refl, ap, ◌∙◌, arith}
 use Rattle.std.specs.Prelude.{Option, Some, None, slice_get, slice_set, nat_lt, nat_le, ◌&&◌, ◌==◌}
 use Rattle.std.specs.Option.{option_map}
 use Rattle.std.proofs.lemmas.List.{length-map}
@@ -13,16 +13,16 @@ use Rattle.rw_handles.specs.declared.kinds.HandleFault.TheVariants.{WrongKind}
 use Rattle.rw_handles.specs.declared.kinds.Found.{Found}
 use Rattle.rw_handles.specs.declared.kinds.Found.TheVariants.{Fault, Handle}
 use Rattle.rw_handles.specs.declared.table.TheConstants.{MOST_HANDLES}
-use Rattle.rw_handles.specs.Slots.{lookup, lookup_at, serves, alive, is_alive, values, same_kind}
+use Rattle.rw_handles.specs.Slots.{lookup_at, serves, alive, is_alive, values, same_kind}
 use Rattle.rw_broadcast.specs.declared.calls.BCall.{BCall}
 use Rattle.rw_broadcast.specs.declared.calls.BCall.TheVariants.{Send, Subscribe, CloneSender, Resubscribe, TryRecv, Recv, DropHandle}
 use Rattle.rw_broadcast.specs.declared.calls.BCall.TheVariants.{SenderLen, ReceiverCount, ReceiverLen, Downgrade, Upgrade, CloneWeak}
 use Rattle.rw_broadcast.specs.declared.calls.BReply.{BReply}
-use Rattle.rw_broadcast.specs.declared.calls.BReply.TheVariants.{Sent, NoReceivers, Value, Lagged, Empty, Closed, Waits, New, Dropped, Count, TooManyHandles, NoSender}
+use Rattle.rw_broadcast.specs.declared.calls.BReply.TheVariants.{Sent, NoReceivers, Value, Lagged, Empty, Closed, Waits, New, Count, TooManyHandles, NoSender}
 use Rattle.rw_broadcast.specs.Arithmetic as number
 use Rattle.rw_broadcast.specs.Channel.{Channel, Change, Keep, Append, Make, Move, Leave, receivers, oldest, queued, is_closed, read, receive}
-use Rattle.rw_broadcast.specs.Channel.{effect_with, effect_found, effect, handle_of, wanted_kind, makes, fault_reply, send, upgrade}
-use Rattle.rw_broadcast.specs.Shown.{Shown, channel_of, with_change, next, reply_of}
+use Rattle.rw_broadcast.specs.Channel.{effect_with, effect_found, effect, handle_of, wanted_kind, makes, send, upgrade}
+use Rattle.rw_broadcast.specs.Shown.{Shown, channel_of, with_change}
 use Rattle.rw_broadcast.specs.Raised.{raised_position, raised_slot, raised, IsFull, RepliesRaised}
 
 -- the handles alive are the same ones

@@ -7,6 +7,7 @@ pub mod Renaming
 pub mod Leading
 pub mod Planning
 pub mod Laws
+pub mod Alike
 pub mod Soundness
 pub mod Machine
 pub mod Inside

@@ -1,4 +1,5 @@
 //! What holds of every broadcast channel.
+ghost use Rattle.rw_broadcast.specs.Alike.{RepliesAlike, RepliesAlikeThroughout};
 ghost use Rattle.rw_broadcast.specs.Leading.{LeadsTo};
 ghost use Rattle.rw_broadcast.specs.Planning.{DoesWhatIsPlanned};
 ghost use Rattle.rw_broadcast.specs.Raised.{RepliesRaised};
@@ -19,6 +20,10 @@ pub fn channel_laws<V: Copy>()
     ensures renamed { RepliesRenamed V }
     // Where a channel retains all that it can, no reply tells how many values were sent before.
     ensures raised { RepliesRaised V }
+    // Where the retained values are the same, and how many of them each handle has to receive, under whatever numbers, so are the
+    // replies, but for those numbers.
+    ensures alike { RepliesAlike V }
+    ensures throughout { RepliesAlikeThroughout V }
     // The retained capacity is the least power of two that is at least the requested one.
     ensures power { RetainsNextPower }
 {}

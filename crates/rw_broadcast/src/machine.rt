@@ -5,6 +5,7 @@ ghost use Rattle.rw_broadcast.specs.Arithmetic.{retained_capacity};
 ghost use Rattle.rw_broadcast.specs.Record.{opening_record};
 ghost use Rattle.rw_broadcast.specs.Shown.{shown};
 
+mod alike;
 mod readers;
 mod renumber;
 mod reversible;

@@ -1,3 +1,4 @@
+use Rattle.rw_broadcast.proofs.Alike.{replies_alike, replies_alike_throughout}
 use Rattle.rw_broadcast.proofs.Powers.{retains_next_power}
 use Rattle.rw_broadcast.proofs.Raising.{replies_raised}
 use Rattle.rw_broadcast.proofs.Renaming.{replies_renamed}
@@ -27,3 +28,9 @@ returns-clause-renamed g c = replies_renamed _
 
 pub returns-clause-raised : goal.returns-clause-raised
 returns-clause-raised g c = replies_raised _
+
+pub returns-clause-alike : goal.returns-clause-alike
+returns-clause-alike g c = replies_alike _
+
+pub returns-clause-throughout : goal.returns-clause-throughout
+returns-clause-throughout g c = replies_alike_throughout _
