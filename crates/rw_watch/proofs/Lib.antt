@@ -1,4 +1,7 @@
+pub mod Alike
 pub mod Cloning
+pub mod Comparing
+pub mod Forgetting
 pub mod Renaming
 pub mod Renumbering
 pub mod Rows

@@ -2,8 +2,10 @@ pub mod Channel
 pub mod Inside
 pub mod Renaming
 pub mod Laws
+pub mod Alike
 pub mod Machine
 pub mod Record
 pub mod Shown
+pub mod Recent
 pub mod Soundness
 pub mod Results

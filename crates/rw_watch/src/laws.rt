@@ -1,4 +1,6 @@
 //! What holds of every watch channel.
+ghost use Rattle.rw_watch.specs.Alike.{RepliesAlike, RepliesAlikeThroughout};
+ghost use Rattle.rw_watch.specs.Recent.{RepliesRecent};
 ghost use Rattle.rw_watch.specs.Renaming.{RepliesRenamed};
 ghost use Rattle.rw_watch.specs.Laws.{IsShownBySome, RepliesByRecord, ShowsAllowed, ShowsItsRecord, ShowsItsSteps};
 
@@ -14,4 +16,9 @@ pub fn channel_laws<V: Copy>()
     ensures shown { IsShownBySome V }
     // With other numbers of handles, each call has the same reply, but for the number of a new handle.
     ensures renamed { RepliesRenamed V }
+    // No reply tells which versions there were before.
+    ensures recent { RepliesRecent V }
+    // Where the value and those who have seen it are the same, under whatever numbers, so are the replies, but for those numbers.
+    ensures alike { RepliesAlike V }
+    ensures throughout { RepliesAlikeThroughout V }
 {}

@@ -3,6 +3,7 @@ ghost use Rattle.std.specs.Prelude.{◌≡◌, IfOk};
 ghost use Rattle.rw_watch.specs.Record.{opening_record};
 ghost use Rattle.rw_watch.specs.Shown.{shown};
 
+mod alike;
 mod readers;
 mod renumber;
 mod reversible;

@@ -1,3 +1,5 @@
+use Rattle.rw_watch.proofs.Alike.{replies_alike, replies_alike_throughout}
+use Rattle.rw_watch.proofs.Forgetting.{replies_recent}
 use Rattle.rw_watch.proofs.Renaming.{replies_renamed}
 use Rattle.rw_watch.proofs.Showing.{is_shown_by_some, replies_by_record, shows_allowed, shows_its_record, shows_its_steps}
 use Rattle.rw_watch.proofs.laws.channel_laws.Goals as goal
@@ -19,3 +21,12 @@ returns-clause-shown g c = is_shown_by_some _
 
 pub returns-clause-renamed : goal.returns-clause-renamed
 returns-clause-renamed g c = replies_renamed _
+
+pub returns-clause-recent : goal.returns-clause-recent
+returns-clause-recent g c = replies_recent _
+
+pub returns-clause-alike : goal.returns-clause-alike
+returns-clause-alike g c = replies_alike _
+
+pub returns-clause-throughout : goal.returns-clause-throughout
+returns-clause-throughout g c = replies_alike_throughout _
