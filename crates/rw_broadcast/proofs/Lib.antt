@@ -1,5 +1,7 @@
 pub mod Alike
 pub mod Comparing
+pub mod Dozed
+pub mod Dozing
 pub mod Leading
 pub mod LeastPosition
 pub mod LeastRenamed

@@ -3,6 +3,7 @@ pub mod Channel
 pub mod Record
 pub mod Shown
 pub mod Raised
+pub mod Dozing
 pub mod Renaming
 pub mod Leading
 pub mod Planning

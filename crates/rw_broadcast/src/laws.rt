@@ -1,5 +1,6 @@
 //! What holds of every broadcast channel.
 ghost use Rattle.rw_broadcast.specs.Alike.{RepliesAlike, RepliesAlikeThroughout};
+ghost use Rattle.rw_broadcast.specs.Dozing.{RepliesDozing, RepliesDozingThroughout};
 ghost use Rattle.rw_broadcast.specs.Leading.{LeadsTo};
 ghost use Rattle.rw_broadcast.specs.Planning.{DoesWhatIsPlanned};
 ghost use Rattle.rw_broadcast.specs.Raised.{RepliesRaised};
@@ -20,6 +21,9 @@ pub fn channel_laws<V: Copy>()
     ensures renamed { RepliesRenamed V }
     // Where a channel retains all that it can, no reply tells how many values were sent before.
     ensures raised { RepliesRaised V }
+    // As long as a receiver that lags isn't asked, no reply tells by how many values it lags.
+    ensures dozing { RepliesDozing V }
+    ensures dozing_throughout { RepliesDozingThroughout V }
     // Where the retained values are the same, and how many of them each handle has to receive, under whatever numbers, so are the
     // replies, but for those numbers.
     ensures alike { RepliesAlike V }

@@ -6,6 +6,7 @@ ghost use Rattle.rw_broadcast.specs.Record.{opening_record};
 ghost use Rattle.rw_broadcast.specs.Shown.{shown};
 
 mod alike;
+mod dozing;
 mod readers;
 mod renumber;
 mod reversible;

@@ -1,4 +1,5 @@
 use Rattle.rw_broadcast.proofs.Alike.{replies_alike, replies_alike_throughout}
+use Rattle.rw_broadcast.proofs.Dozing.{replies_dozing, replies_dozing_throughout}
 use Rattle.rw_broadcast.proofs.Powers.{retains_next_power}
 use Rattle.rw_broadcast.proofs.Raising.{replies_raised}
 use Rattle.rw_broadcast.proofs.Renaming.{replies_renamed}
@@ -34,3 +35,9 @@ returns-clause-alike g c = replies_alike _
 
 pub returns-clause-throughout : goal.returns-clause-throughout
 returns-clause-throughout g c = replies_alike_throughout _
+
+pub returns-clause-dozing : goal.returns-clause-dozing
+returns-clause-dozing g c = replies_dozing _
+
+pub returns-clause-dozing_throughout : goal.returns-clause-dozing_throughout
+returns-clause-dozing_throughout g c = replies_dozing_throughout _

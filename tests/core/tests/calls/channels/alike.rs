@@ -201,6 +201,36 @@ fn a_broadcast_is_unlike_one_that_differs_in_one_thing() {
 }
 
 #[test]
+fn a_dozing_receiver_lags_by_one_and_the_others_as_before() {
+    let mut channel = lagging();
+    call_of(&mut channel, &BCall::Subscribe(0));
+    for value in 4..=99 {
+        call_of(&mut channel, &BCall::Send(0, value));
+    }
+    assert_eq!([1, 2].map(|h| channel.lag(h)), [Some(97), Some(94)]);
+    let mut dozing = lagging();
+    call_of(&mut dozing, &BCall::Subscribe(0));
+    for value in 4..=99 {
+        call_of(&mut dozing, &BCall::Send(0, value));
+    }
+    for handle in [0, 1, 3] {
+        dozing.doze(handle);
+    }
+    assert_eq!([1, 2].map(|h| dozing.lag(h)), [Some(1), Some(94)]);
+    let calls = [
+        BCall::SenderLen(0),
+        BCall::Resubscribe(1),
+        BCall::Recv(2),
+        BCall::Recv(2),
+        BCall::DropHandle(1),
+        BCall::ReceiverCount(0),
+    ];
+    for call in calls {
+        assert_eq!(call_of(&mut channel, &call), call_of(&mut dozing, &call));
+    }
+}
+
+#[test]
 fn a_watch_is_unlike_one_that_differs_in_one_thing() {
     let channel = Watch::open(Global, 5).unwrap();
     let is_alike = |change: &[WCall<u64>], numbers: &[u32]| {
