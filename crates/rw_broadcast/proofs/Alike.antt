@@ -11,8 +11,9 @@ use Rattle.rw_handles.specs.declared.kinds.Slot.TheVariants.{Live, Spent}
 use Rattle.rw_handles.specs.declared.table.TheConstants.{MOST_HANDLES}
 use Rattle.rw_handles.specs.Renaming.{IsRenaming}
 use Rattle.rw_handles.proofs.Changing.{renaming_changed}
+use Rattle.rw_handles.proofs.Renaming.{renames_twice}
 use Rattle.rw_broadcast.specs.declared.calls.BCall.{BCall}
-use Rattle.rw_broadcast.specs.Alike.{unread_slot, unread_slots, IsAlike, RepliesAlike, replies_of, RepliesAlikeThroughout}
+use Rattle.rw_broadcast.specs.Alike.{unread_slot, unread_slots, IsAlike, RepliesAlike, replies_of, RepliesAlikeThroughout, RenamedAreAlike, AlikeTwice}
 use Rattle.rw_broadcast.specs.Channel.{Change, Keep, Append, Make, Move, Leave, effect, makes}
 use Rattle.rw_broadcast.specs.Raised.{raised_slot, raised, IsFull}
 use Rattle.rw_broadcast.specs.Renaming.{IsRenamed, renamed_call, renamed_reply}
@@ -47,7 +48,8 @@ placed_unread n s (Live Sender p) placed = refl
 placed_unread n s (Live Weak p) placed = refl
 placed_unread n s Spent placed = refl
 
-all_placed_unread : (n s : ℕ) (slots : List (Slot ℕ)) → All (IsPlaced s) slots → map (placed_slot (n + s)) (map (unread_slot s) slots) ≡ map (raised_slot n) slots
+all_placed_unread : (n s : ℕ) (slots : List (Slot ℕ)) → All (IsPlaced s) slots → map (placed_slot (n + s)) (map (unread_slot s) slots)
+    ≡ map (raised_slot n) slots
 all_placed_unread n s [] all = refl
 all_placed_unread n s (slot ∷ slots) all =
     ap (λ t. t ∷ map (placed_slot (n + s)) (map (unread_slot s) slots)) (placed_unread n s slot (All-head (IsPlaced s) slot slots all))
@@ -172,3 +174,21 @@ replies_alike_throughout V to x y (call ∷ calls) here there is few less =
       ap (λ r. r ∷ replies_of (next y other) (map (renamed_call to) calls)) step.0 ∙ ap (λ l. renamed_reply to (reply_of x call) ∷ l) rest.0,
       rest.1,
     )
+
+-- ---- other ways to be alike
+
+pub renamed_are_alike : (V : Type 0) → RenamedAreAlike V
+renamed_are_alike V to x y is = record {
+  capacity = ap (λ z. z.capacity) is.same;
+  window = ap (λ z. z.window) is.same;
+  renaming =
+      let left = renaming_changed to x.slots y.slots (unread_slot x.sent) refl is.renaming in
+      subst (λ n. IsRenaming to (unread_slots x) (map (unread_slot n) y.slots)) (sym (ap (λ z. z.sent) is.same)) left;
+}
+
+pub alike_twice : (V : Type 0) → AlikeTwice V
+alike_twice V to onto x y z is then = record {
+  capacity = then.capacity ∙ is.capacity;
+  window = then.window ∙ is.window;
+  renaming = renames_twice ℕ to onto (unread_slots x) (unread_slots y) (unread_slots z) is.renaming then.renaming;
+}

@@ -203,7 +203,8 @@ module _ {V : Type 0} where
     abbrev IsTold : BCall V → (p q : ℕ) → Type 0
     IsTold call p q = (p ≡ q) ⊎ (asks call ≡ false)
 
-    with_dozing : (call : BCall V) (kind : Kind) (p q : ℕ) → IsTold call p q → plain_effect (effect_with there call kind p) ≡ plain_effect (effect_with here call kind q)
+    with_dozing : (call : BCall V) (kind : Kind) (p q : ℕ) → IsTold call p q → plain_effect (effect_with there call kind p)
+        ≡ plain_effect (effect_with here call kind q)
     with_dozing (Send g v) kind p q told = ap plain_effect (same_send v)
     with_dozing (Subscribe g) kind p q told = ap plain_effect (same_make Receiver x.sent)
     with_dozing (CloneSender g) kind p q told = ap plain_effect (same_make Sender 0)
@@ -247,7 +248,8 @@ module _ {V : Type 0} where
     found_dozing call (Fault f) (Handle own q) is = elim is [ ]
     found_dozing call (Handle kind p) (Fault e) is = elim is [ ]
     found_dozing call (Handle kind p) (Handle own q) is =
-        ap (λ k. plain_effect (cond {A = Change V × BReply V} (makes call && nat_le MOST_HANDLES k) (Keep, TooManyHandles) (effect_with there call kind p))) same_length
+        ap (λ k. plain_effect (cond {A = Change V × BReply V} (makes call && nat_le MOST_HANDLES k) (Keep, TooManyHandles)
+        (effect_with there call kind p))) same_length
         ∙ by_test (makes call && nat_le MOST_HANDLES (length x.slots)) where
           same : plain_effect (effect_with there call kind p) ≡ plain_effect (effect_with here call own q)
           same = with_dozing call kind p q is.1 ∙ ap (λ k. plain_effect (effect_with here call k q)) is.0

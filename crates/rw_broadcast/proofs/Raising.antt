@@ -115,7 +115,8 @@ module _ {V : Type 0} (n : ℕ) where
 
     send_raised : (v : V) → send there v ≡ raised_effect (send here v)
     send_raised v = ap (λ k. cond (k == 0) (Keep, NoReceivers v) (Append v, Sent k)) (same_count Receiver) ∙ by_test (receivers here == 0) where
-      by_test : (b : Bool) → cond b (Keep, NoReceivers v) (Append v, Sent (receivers here)) ≡ raised_effect (cond b (Keep, NoReceivers v) (Append v, Sent (receivers here)))
+      by_test : (b : Bool) → cond b (Keep, NoReceivers v) (Append v, Sent (receivers here))
+          ≡ raised_effect (cond b (Keep, NoReceivers v) (Append v, Sent (receivers here)))
       by_test true = refl
       by_test false = refl
 

@@ -1,5 +1,5 @@
 //! What holds of every broadcast channel.
-ghost use Rattle.rw_broadcast.specs.Alike.{RepliesAlike, RepliesAlikeThroughout};
+ghost use Rattle.rw_broadcast.specs.Alike.{AlikeTwice, RenamedAreAlike, RepliesAlike, RepliesAlikeThroughout};
 ghost use Rattle.rw_broadcast.specs.Dozing.{RepliesDozing, RepliesDozingThroughout};
 ghost use Rattle.rw_broadcast.specs.Leading.{LeadsTo};
 ghost use Rattle.rw_broadcast.specs.Planning.{DoesWhatIsPlanned};
@@ -28,6 +28,8 @@ pub fn channel_laws<V: Copy>()
     // replies, but for those numbers.
     ensures alike { RepliesAlike V }
     ensures throughout { RepliesAlikeThroughout V }
+    ensures renamed_alike { RenamedAreAlike V }
+    ensures alike_twice { AlikeTwice V }
     // The retained capacity is the least power of two that is at least the requested one.
     ensures power { RetainsNextPower }
 {}

@@ -1,4 +1,4 @@
-use Rattle.rw_broadcast.proofs.Alike.{replies_alike, replies_alike_throughout}
+use Rattle.rw_broadcast.proofs.Alike.{alike_twice, renamed_are_alike, replies_alike, replies_alike_throughout}
 use Rattle.rw_broadcast.proofs.Dozing.{replies_dozing, replies_dozing_throughout}
 use Rattle.rw_broadcast.proofs.Powers.{retains_next_power}
 use Rattle.rw_broadcast.proofs.Raising.{replies_raised}
@@ -41,3 +41,9 @@ returns-clause-dozing g c = replies_dozing _
 
 pub returns-clause-dozing_throughout : goal.returns-clause-dozing_throughout
 returns-clause-dozing_throughout g c = replies_dozing_throughout _
+
+pub returns-clause-renamed_alike : goal.returns-clause-renamed_alike
+returns-clause-renamed_alike g c = renamed_are_alike _
+
+pub returns-clause-alike_twice : goal.returns-clause-alike_twice
+returns-clause-alike_twice g c = alike_twice _
