@@ -1,13 +1,15 @@
 -- Channels that are alike reply alike.
 use Rattle.std.proofs.Common.{◌≡◌, ℕ, ◌+◌, ◌<◌, ◌≤◌, true, [], ◌∷◌, length, map, refl, ap, sym, ◌∙◌, subst, arith, length-set}
+use Rattle.std.specs.Prelude.{Option}
 use Rattle.std.proofs.lemmas.List.{length-map, length_push}
 use Rattle.rw_handles.specs.declared.kinds.Kind.TheVariants.{Receiver}
 use Rattle.rw_handles.specs.declared.kinds.Slot.TheVariants.{Live, Spent}
 use Rattle.rw_handles.specs.declared.table.TheConstants.{MOST_HANDLES}
 use Rattle.rw_handles.specs.Renaming.{IsRenaming}
 use Rattle.rw_handles.proofs.Changing.{renaming_changed}
+use Rattle.rw_handles.proofs.Renaming.{renames_twice}
 use Rattle.rw_watch.specs.declared.calls.WCall.{WCall}
-use Rattle.rw_watch.specs.Alike.{RepliesAlike, replies_of, RepliesAlikeThroughout}
+use Rattle.rw_watch.specs.Alike.{AlikeTwice, RenamedAreAlike, RepliesAlike, replies_of, RepliesAlikeThroughout}
 use Rattle.rw_watch.specs.Channel.{Change, Keep, Write, Make, Mark, Leave, effect, makes}
 use Rattle.rw_watch.specs.Recent.{recent_slot, recent}
 use Rattle.rw_watch.specs.Renaming.{IsRenamed, renamed_call, renamed_reply}
@@ -64,3 +66,14 @@ replies_alike_throughout V to x y (call ∷ calls) here there is few less =
       ap (λ r. r ∷ replies_of (next y other) (map (renamed_call to) calls)) step.0 ∙ ap (λ l. renamed_reply to (reply_of x call) ∷ l) rest.0,
       rest.1,
     )
+
+-- ---- other ways to be alike
+
+pub renamed_are_alike : (V : Type 0) → RenamedAreAlike V
+renamed_are_alike V to x y is = recent_renamed to x y is
+
+pub alike_twice : (V : Type 0) → AlikeTwice V
+alike_twice V to onto x y z is then = record {
+  same = then.same ∙ ap (λ (c : Shown V). record c { slots = (recent z).slots }) is.same;
+  renaming = renames_twice (Option ℕ) to onto (recent x).slots (recent y).slots (recent z).slots is.renaming then.renaming;
+}

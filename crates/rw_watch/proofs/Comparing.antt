@@ -13,7 +13,8 @@ use Rattle.rw_watch.specs.Shown.{Shown}
 
 pub one_more_seen : (version : ℕ) (slots : List (Slot (Option ℕ))) (i : ℕ) (d : Slot (Option ℕ)) → i < length slots
     → map (seen_slot version) (take (i + 1) slots) ≡ map (seen_slot version) (take i slots) ++ seen_slot version (get_or slots i d) ∷ []
-one_more_seen version slots i d within = ap (map (seen_slot version)) (take_more slots i d within) ∙ map_push (seen_slot version) (take i slots) (get_or slots i d)
+one_more_seen version slots i d within = ap (map (seen_slot version)) (take_more slots i d within)
+    ∙ map_push (seen_slot version) (take i slots) (get_or slots i d)
 
 -- the mark of version 0 that says whether the value was seen
 abbrev marked_slot : Slot ℕ → Slot (Option ℕ)
@@ -49,6 +50,7 @@ pub alike_by_slots : (numbers : List ℕ) (x y : Shown ℕ) (here there : List (
     → IsRenaming (number_before numbers (length there)) here there → IsAlike (number_before numbers (length y.slots)) x y
 alike_by_slots numbers x y here there same first second is =
     alike_by_seen (number_before numbers (length y.slots)) x y same
-    (subst (λ n. IsRenaming (number_before numbers n) (map (seen_slot x.version) x.slots) (map (seen_slot y.version) y.slots)) (length-map y.slots (seen_slot y.version))
+    (subst (λ n. IsRenaming (number_before numbers n) (map (seen_slot x.version) x.slots) (map (seen_slot y.version) y.slots))
+    (length-map y.slots (seen_slot y.version))
     (subst (λ l. IsRenaming (number_before numbers (length l)) (map (seen_slot x.version) x.slots) l) second
     (subst (λ l. IsRenaming (number_before numbers (length there)) l there) first is)))

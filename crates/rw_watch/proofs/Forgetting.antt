@@ -38,7 +38,8 @@ abbrev recent_found : ℕ → Found (Option ℕ) → Found (Option ℕ)
 recent_found w (Fault fault) = Fault fault
 recent_found w (Handle kind m) = Handle kind (recent_mark w m)
 
-found_recent : (w : ℕ) (wanted : Option Kind) (o : Option (Slot (Option ℕ))) → lookup_at wanted (option_map (recent_slot w) o) ≡ recent_found w (lookup_at wanted o)
+found_recent : (w : ℕ) (wanted : Option Kind) (o : Option (Slot (Option ℕ))) → lookup_at wanted (option_map (recent_slot w) o)
+    ≡ recent_found w (lookup_at wanted o)
 found_recent w wanted None = refl
 found_recent w wanted (Some Spent) = refl
 found_recent w wanted (Some (Live own m)) = by_kind (serves wanted own) where
@@ -68,7 +69,8 @@ again_all : (w : ℕ) (slots : List (Slot (Option ℕ))) → map (recent_slot 0)
 again_all w [] = refl
 again_all w (s ∷ slots) = ap (λ t. t ∷ map (recent_slot 0) (map (recent_slot w) slots)) (again_slot w s) ∙ ap (λ l. recent_slot w s ∷ l) (again_all w slots)
 
-map_push : (w : ℕ) (slots : List (Slot (Option ℕ))) (s : Slot (Option ℕ)) → map (recent_slot w) (slots ++ s ∷ []) ≡ map (recent_slot w) slots ++ recent_slot w s ∷ []
+map_push : (w : ℕ) (slots : List (Slot (Option ℕ))) (s : Slot (Option ℕ)) → map (recent_slot w) (slots ++ s ∷ [])
+    ≡ map (recent_slot w) slots ++ recent_slot w s ∷ []
 map_push w [] s = refl
 map_push w (t ∷ slots) s = ap (λ l. recent_slot w t ∷ l) (map_push w slots s)
 
@@ -115,11 +117,12 @@ module _ {V : Type 0} (x : Shown V) where
   none_of kind = ap (λ k. k == 0) (alive_recent w kind x.slots)
 
   send_recent : (v : V) → send there v ≡ recent_effect (send x v)
-  send_recent v = ap (λ b. cond {A = Change V × WReply V} b (Keep, reply.NoReceivers v) (Write v true, reply.Stored)) (none_of Receiver) ∙ by_test (has_no_receiver x) where
-    by_test : (b : Bool) → cond {A = Change V × WReply V} b (Keep, reply.NoReceivers v) (Write v true, reply.Stored)
-        ≡ recent_effect (cond b (Keep, reply.NoReceivers v) (Write v true, reply.Stored))
-    by_test true = refl
-    by_test false = refl
+  send_recent v = ap (λ b. cond {A = Change V × WReply V} b (Keep, reply.NoReceivers v) (Write v true, reply.Stored)) (none_of Receiver)
+      ∙ by_test (has_no_receiver x) where
+        by_test : (b : Bool) → cond {A = Change V × WReply V} b (Keep, reply.NoReceivers v) (Write v true, reply.Stored)
+            ≡ recent_effect (cond b (Keep, reply.NoReceivers v) (Write v true, reply.Stored))
+        by_test true = refl
+        by_test false = refl
 
   made_recent : (kind : Kind) (n : Option ℕ) → make there kind (recent_mark w n) ≡ recent_effect (make x kind n)
   made_recent kind n = ap (λ k. (Make kind (recent_mark w n), reply.New k)) (length-map x.slots (recent_slot w))
@@ -129,11 +132,15 @@ module _ {V : Type 0} (x : Shown V) where
 
   waits_recent : (h : ℕ) (m : Option ℕ) → wait_effect there h (recent_mark w m) ≡ recent_effect (wait_effect x h m)
   waits_recent h m =
-      ap (λ b. cond {A = Change V × WReply V} b (Mark h (recent_mark w m) (Some 0), reply.Done) (Keep, cond (is_closed there) reply.Closed reply.Waits)) (unseen_recent w m)
-      ∙ ap (λ b. cond {A = Change V × WReply V} (is_unseen w m) (Mark h (recent_mark w m) (Some 0), reply.Done) (Keep, cond b reply.Closed reply.Waits)) (none_of Sender)
-      ∙ ap (λ k. cond {A = Change V × WReply V} (is_unseen w m) (Mark h (recent_mark w m) k, reply.Done) (Keep, cond (is_closed x) reply.Closed reply.Waits)) newest
+      ap (λ b. cond {A = Change V × WReply V} b (Mark h (recent_mark w m) (Some 0), reply.Done)
+      (Keep, cond (is_closed there) reply.Closed reply.Waits)) (unseen_recent w m)
+      ∙ ap (λ b. cond {A = Change V × WReply V} (is_unseen w m) (Mark h (recent_mark w m) (Some 0), reply.Done)
+      (Keep, cond b reply.Closed reply.Waits)) (none_of Sender)
+      ∙ ap (λ k. cond {A = Change V × WReply V} (is_unseen w m) (Mark h (recent_mark w m) k, reply.Done)
+      (Keep, cond (is_closed x) reply.Closed reply.Waits)) newest
       ∙ by_test (is_unseen w m) where
-        by_test : (b : Bool) → cond {A = Change V × WReply V} b (Mark h (recent_mark w m) (recent_mark w (Some w)), reply.Done) (Keep, cond (is_closed x) reply.Closed reply.Waits)
+        by_test : (b : Bool) → cond {A = Change V × WReply V} b (Mark h (recent_mark w m) (recent_mark w (Some w)), reply.Done)
+            (Keep, cond (is_closed x) reply.Closed reply.Waits)
             ≡ recent_effect (cond b (Mark h m (Some w), reply.Done) (Keep, cond (is_closed x) reply.Closed reply.Waits))
         by_test true = refl
         by_test false = refl
@@ -161,7 +168,8 @@ module _ {V : Type 0} (x : Shown V) where
   found_same : (c : WCall V) (f : Found (Option ℕ)) → effect_found there c (recent_found w f) ≡ recent_effect (effect_found x c f)
   found_same c (Fault fault) = refl
   found_same c (Handle kind m) =
-      ap (λ k. cond (makes c && nat_le MOST_HANDLES k) (Keep, reply.TooManyHandles) (effect_with there c kind (recent_mark w m))) (length-map x.slots (recent_slot w))
+      ap (λ k. cond (makes c && nat_le MOST_HANDLES k) (Keep, reply.TooManyHandles) (effect_with there c kind (recent_mark w m)))
+      (length-map x.slots (recent_slot w))
       ∙ ap (λ e. cond (makes c && nat_le MOST_HANDLES (length x.slots)) (Keep, reply.TooManyHandles) e) (with_recent c kind m)
       ∙ by_test (makes c && nat_le MOST_HANDLES (length x.slots)) where
         by_test : (b : Bool) → cond b (Keep, reply.TooManyHandles) (recent_effect (effect_with x c kind m))
@@ -178,7 +186,8 @@ module _ {V : Type 0} (x : Shown V) where
   -- after a notification nobody has seen the value
   none_seen : (slots : List (Slot (Option ℕ))) → All (IsMarked w) slots → map (recent_slot 1) (map (recent_slot w) slots) ≡ map (recent_slot (w + 1)) slots
   none_seen [] all = refl
-  none_seen (s ∷ slots) all = ap (λ t. t ∷ map (recent_slot 1) (map (recent_slot w) slots)) (none_slot w s (All-head (IsMarked w) s slots all)) ∙ ap (λ l. recent_slot (w + 1) s ∷ l) (none_seen slots (All-tail (IsMarked w) s slots all))
+  none_seen (s ∷ slots) all = ap (λ t. t ∷ map (recent_slot 1) (map (recent_slot w) slots)) (none_slot w s (All-head (IsMarked w) s slots all))
+      ∙ ap (λ l. recent_slot (w + 1) s ∷ l) (none_seen slots (All-tail (IsMarked w) s slots all))
 
   change_recent : All (IsMarked w) x.slots → (c : Change V) → recent (with_change there (recent_change c)) ≡ recent (with_change x c)
   change_recent all Keep = ap (λ l. record there { slots = l }) (again_all w x.slots)
@@ -187,7 +196,8 @@ module _ {V : Type 0} (x : Shown V) where
   change_recent all (Make kind m) =
       ap (λ l. record there { slots = l }) (ap (map (recent_slot 0)) (sym (map_push w x.slots (Live kind m))) ∙ again_all w (x.slots ++ Live kind m ∷ []))
   change_recent all (Mark h from to) =
-      ap (λ l. record there { slots = l }) (ap (map (recent_slot 0)) (sym (map_set w x.slots h (Live Receiver to))) ∙ again_all w (slice_set x.slots h (Live Receiver to)))
+      ap (λ l. record there { slots = l }) (ap (map (recent_slot 0)) (sym (map_set w x.slots h (Live Receiver to)))
+      ∙ again_all w (slice_set x.slots h (Live Receiver to)))
   change_recent all (Leave h kind m) =
       ap (λ l. record there { slots = l }) (ap (map (recent_slot 0)) (sym (map_set w x.slots h Spent)) ∙ again_all w (slice_set x.slots h Spent))
 

@@ -40,3 +40,11 @@ RepliesAlikeThroughout V = (to : ℕ → ℕ) (x y : Shown V) (calls : List (WCa
     → length x.slots + length calls ≤ MOST_HANDLES → length y.slots + length calls ≤ MOST_HANDLES
     → (replies_of y (map (renamed_call to) calls) ≡ map (renamed_reply to) (replies_of x calls))
     × IsAlike to (shown_after x calls) (shown_after y (map (renamed_call to) calls))
+
+-- a law: channels that differ in the numbers of handles alone are alike
+abbrev pub RenamedAreAlike : Type 0 → Type 0
+RenamedAreAlike V = (to : ℕ → ℕ) (x y : Shown V) → IsRenamed to x y → IsAlike to x y
+
+-- a law: what is like a channel that is like a third is like the third
+abbrev pub AlikeTwice : Type 0 → Type 0
+AlikeTwice V = (to onto : ℕ → ℕ) (x y z : Shown V) → IsAlike to x y → IsAlike onto y z → IsAlike (λ h. onto (to h)) x z

@@ -1,5 +1,5 @@
 //! What holds of every watch channel.
-ghost use Rattle.rw_watch.specs.Alike.{RepliesAlike, RepliesAlikeThroughout};
+ghost use Rattle.rw_watch.specs.Alike.{AlikeTwice, RenamedAreAlike, RepliesAlike, RepliesAlikeThroughout};
 ghost use Rattle.rw_watch.specs.Recent.{RepliesRecent};
 ghost use Rattle.rw_watch.specs.Renaming.{RepliesRenamed};
 ghost use Rattle.rw_watch.specs.Laws.{IsShownBySome, RepliesByRecord, ShowsAllowed, ShowsItsRecord, ShowsItsSteps};
@@ -21,4 +21,6 @@ pub fn channel_laws<V: Copy>()
     // Where the value and those who have seen it are the same, under whatever numbers, so are the replies, but for those numbers.
     ensures alike { RepliesAlike V }
     ensures throughout { RepliesAlikeThroughout V }
+    ensures renamed_alike { RenamedAreAlike V }
+    ensures alike_twice { AlikeTwice V }
 {}

@@ -1,4 +1,4 @@
-use Rattle.rw_watch.proofs.Alike.{replies_alike, replies_alike_throughout}
+use Rattle.rw_watch.proofs.Alike.{alike_twice, renamed_are_alike, replies_alike, replies_alike_throughout}
 use Rattle.rw_watch.proofs.Forgetting.{replies_recent}
 use Rattle.rw_watch.proofs.Renaming.{replies_renamed}
 use Rattle.rw_watch.proofs.Showing.{is_shown_by_some, replies_by_record, shows_allowed, shows_its_record, shows_its_steps}
@@ -30,3 +30,9 @@ returns-clause-alike g c = replies_alike _
 
 pub returns-clause-throughout : goal.returns-clause-throughout
 returns-clause-throughout g c = replies_alike_throughout _
+
+pub returns-clause-renamed_alike : goal.returns-clause-renamed_alike
+returns-clause-renamed_alike g c = renamed_are_alike _
+
+pub returns-clause-alike_twice : goal.returns-clause-alike_twice
+returns-clause-alike_twice g c = alike_twice _
