@@ -8,6 +8,7 @@ mod broadcasts;
 mod by_handles;
 mod callers;
 mod calls;
+mod comparisons;
 mod desks;
 mod hand_offs;
 mod journals;
@@ -66,6 +67,11 @@ fn renumberings() {
 #[test]
 fn recent_calls() {
     is_answered(recent_calls::play, include_str!("said/recent_calls.txt"));
+}
+
+#[test]
+fn comparisons() {
+    is_answered(comparisons::play, include_str!("said/comparisons.txt"));
 }
 
 #[test]
