@@ -6,6 +6,8 @@
 //~ ghost use Rattle.rw_broadcast.specs.Record.{opening_record};
 //~ ghost use Rattle.rw_broadcast.specs.Shown.{shown};
 
+mod alike;
+mod dozing;
 mod readers;
 mod renumber;
 mod reversible;
@@ -76,6 +78,19 @@ impl<V: Copy> Broadcast<V> {
             values,
             handles,
             limit: 2,
+        })
+    }
+
+    /// Returns a copy, which shows the same and has as much room. If an allocation fails, there is none.
+    pub fn copied(&self, alloc: Global) -> Result<Broadcast<V>, NoMemory>
+//~         ensures { IfOk result (λ copy. copy ≡ self.now) }
+    {
+        let handles = self.handles.copied(alloc)?;
+        let values = self.values.copied(alloc)?;
+        Ok(Broadcast {
+            values,
+            handles,
+            limit: self.limit,
         })
     }
 }

@@ -14,7 +14,7 @@ mod machine;
 mod results;
 
 pub use calls::{BCall, BPatch, BReply};
-pub use laws::channel_laws;
+pub use laws::{channel_laws, leads};
 pub use machine::{Broadcast, OpenFault};
 pub use results::TryRecvError;
 pub use crate::source::rw_handles::{Refusal, SendError};

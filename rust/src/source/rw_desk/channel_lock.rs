@@ -82,6 +82,7 @@ impl<V: Payload> ChannelLock<V> {
     }
 
     /// Makes a call under the lock, and blocks while its reply would be `Waits`.
+    #[inline(always)] //+
     pub fn wait_call<R: Wait>(
         &self,
         rt: &R,
@@ -156,6 +157,7 @@ impl<V: Payload> ChannelLock<V> {
     }
 
     /// Acquires the lock, and blocks until it is free.
+    #[inline(always)] //+
     fn acquire<R: Wait>(&self, rt: &R) -> MutexGuard<'_, GuardedBook<V>> {
         let mut spins = FIRST_SPINS;
         for _ in 0..TRIES {
@@ -200,6 +202,7 @@ impl<V: Payload> ChannelLock<V> {
 
     /// Releases the lock. If the call may have changed the channel, it tells the threads that look for a change, and wakes those
     /// that sleep.
+    #[inline(always)] //+
     fn leave(
         &self,
         mut guard: MutexGuard<'_, GuardedBook<V>>,
@@ -230,6 +233,7 @@ fn spin(times: u32) {
 }
 
 /// Whether this result means that the call changed nothing.
+#[inline(always)] //+
 fn is_refused<V: Copy>(answer: &Result<ChanReply<V>, DeskFault>) -> bool {
     match answer {
         Ok(reply) => reply.refuses(),

@@ -107,6 +107,7 @@ impl<V: Payload> Desk<V> {
     }
 
     /// Makes a call. If the reply would be `Waits`, it blocks until another thread's call changes that.
+    #[inline(always)] //+
     pub fn wait_call<R: Wait>(
         &self,
         rt: &R,
@@ -137,6 +138,7 @@ impl<V: Payload> Desk<V> {
     }
 
     /// Returns the spec and the lock of a call's channel, or `None` if the call strays.
+    #[inline(always)] //+
     pub(crate) fn lock_of(
         &self,
         channel: u32,

@@ -7,12 +7,14 @@
 //~ #![tactic(auto)]
 // From crates/rw_handles/src/lib.rt, with its contracts as comments. //+
 
+mod comparing;
 mod kinds;
 mod laws;
 mod refusals;
 mod table;
 mod tally;
 
+pub use comparing::is_renaming;
 pub use kinds::{Found, HandleFault, Kind, Slot};
 pub use laws::{renamings, undoings};
 pub use refusals::{Refusal, SendError};

@@ -84,6 +84,19 @@ impl<X: Copy> Table<X> {
         Ok(table)
     }
 
+    /// Returns a copy, with room for no fewer handles. If the allocation fails, there is none.
+    pub fn copied(&self, alloc: Global) -> Result<Self, NoMemory>
+//~         ensures slots { IfOk result (λ copy. copy.slots ≡ self.now.slots) }
+//~         ensures room { IfOk result (λ copy. self.now.room ≤ copy.room) }
+    {
+        let mut slots = Vec::with_capacity(alloc, self.slots.capacity())?;
+        slots.extend_from_slice(&self.slots)?;
+        Ok(Table {
+            slots,
+            tally: self.tally,
+        })
+    }
+
     /// Returns how many handles were made, without those that `renumber` took out.
     #[inline(always)] //+
     pub fn made(&self) -> u32

@@ -4,12 +4,14 @@
 //! from the state that the entries before it lead to, the stamps strictly rise, and no book has more than 1,048,576 entries.
 //! Start reading at `specs/Book.antt`, which defines what a book is and what it means that a call was recorded, and then at
 //! `book.rt`. A ledger (`ledger.rt`) promises the same and stores the calls alone: `specs/Ledger.antt` defines the entries that
-//! they make.
+//! they make. Recent calls (`recent_calls.rt`) are the last ones of any number of calls, in memory that doesn't grow with it:
+//! `specs/RecentCalls.antt` says of which book they are the end.
 //~ #![tactic(auto)]
 // From crates/rw_journal/src/lib.rt, with its contracts as comments. //+
 
 mod answers;
 mod book;
+mod copied;
 mod draft;
 mod expected;
 mod growth;
@@ -22,6 +24,7 @@ mod merges;
 mod merging;
 mod noted;
 mod out_of_order;
+mod recent_calls;
 mod records;
 mod row_draft;
 mod run;
@@ -31,6 +34,7 @@ mod stored_call;
 
 pub use answers::{Receipt, TakeFault};
 pub use book::{Book, MOST_ENTRIES};
+pub use copied::Copied;
 pub use draft::{PushFault, RunDraft, goes_on};
 pub use keeps::Keeps;
 pub use ledger::Ledger;
@@ -38,6 +42,7 @@ pub use made::entries_of;
 pub use merged_calls::merge_calls;
 pub use merges::{MergeFault, merge, merge_all, merges_once, refusal_to_merge};
 pub use noted::{CallForm, NotedCall, Notes};
+pub use recent_calls::{MOST_CHUNK, MOST_RECENT_STAMP, RecentCalls};
 pub use records::Records;
 pub use run::Run;
 pub use same::Same;

@@ -50,6 +50,19 @@ impl<V: Copy> Ring<V> {
         })
     }
 
+    /// Returns a copy: it has the same values, at the same positions. If the allocation fails, there is none.
+    pub fn copied(&self, alloc: Global) -> Result<Self, NoMemory>
+//~         ensures { IfOk result (λ copy. copy ≡ self.now) }
+    {
+        let mut cells = Vec::with_capacity(alloc, self.capacity as usize)?;
+        cells.extend_from_slice(&self.cells)?;
+        Ok(Ring {
+            cells,
+            capacity: self.capacity,
+            count: self.count,
+        })
+    }
+
     /// Returns how many values the ring retains at most.
     #[inline(always)] //+
     pub fn capacity(&self) -> u64

@@ -35,6 +35,7 @@ pub(crate) type SharedTable<B> = Shared<
 >;
 
 /// Acquires the book, and blocks until it is free.
+#[inline(always)] //+
 pub(crate) fn acquire<B: Keeps, R: Wait>(
     table: &SharedTable<B>,
     sleepers: &AtomicU64,
@@ -79,6 +80,7 @@ fn wait_until_free<B: Keeps, R: Wait>(table: &SharedTable<B>, sleepers: &AtomicU
 /// No wake is missed. A thread counts itself among the sleepers first, and then parks only if the word isn't `FREE`. All of these
 /// steps, on the word and on the count, have one order. If the count is 0 here, the thread counts itself later, and so after the
 /// word became `FREE`: it doesn't park, unless another seat has acquired the book since. The release by that seat then finds it.
+#[inline(always)] //+
 pub(crate) fn release<B: Keeps /*~+ Drop~*/>(
     table: &SharedTable<B>,
     sleepers: &AtomicU64,

@@ -21,6 +21,7 @@ use crate::shim::alloc::Global;
 use crate::shim::sync::Wait;
 
 /// Acquires the channel's ledger, makes a call, and releases the ledger.
+#[inline(always)] //+
 pub(crate) fn call_by_seat<V: Payload, R: Wait>(
     rt: &R,
     hand_off: &HandOff<BoxedLedger<V>>,

@@ -82,6 +82,7 @@ impl<V: Payload> DeskSeat<V> {
     }
 
     /// Splits the seat into its pass, its other `HandSeat`s, and its `HandSeat` at a channel.
+    #[inline(always)] //+
     pub(crate) fn reach(self, at: usize) -> (Pass<V>, Vec<ChannelSeat<V>>, ChannelSeat<V>)
 //~         requires { at < length self.hand_seats }
 //~         ensures pass { result.0 ≡ self.pass }
@@ -100,6 +101,7 @@ impl<V: Payload> DeskSeat<V> {
     }
 
     /// Puts together what `reach` has split.
+    #[inline(always)] //+
     pub(crate) fn whole(
         pass: Pass<V>,
         mut hand_seats: Vec<ChannelSeat<V>>,

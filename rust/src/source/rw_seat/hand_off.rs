@@ -125,6 +125,7 @@ impl<B: Keeps /*~+ Drop~*/> HandOff<B> {
 
     /// Acquires the book, and blocks while another seat has it. The book's journal begins with all that the seat has seen, and
     /// goes on with no entry by the seat.
+    #[inline(always)] //+
     pub fn take<R: Wait>(&self, rt: &R, seat: HandSeat<B>) -> Lent<'_, B>
 //~         requires { seat.home ≡ self.now.home }
 //~         ensures number { result.number ≡ seat.number }

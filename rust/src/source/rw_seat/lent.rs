@@ -23,6 +23,7 @@ pub struct Lent<'a, B: Keeps /*~+ Drop~*/> {
 
 impl<'a, B: Keeps /*~+ Drop~*/> Lent<'a, B> {
     /// Releases the book. The seat has then seen its whole journal.
+    #[inline(always)] //+
     pub fn give(self) -> HandSeat<B>
 //~         requires start { Some (B.start self.book) ≡ self.from.now.home.start }
 //~         requires adds { Adds B.author (self.number ∷ []) self.seat.me.0.front (B.journal self.book) }

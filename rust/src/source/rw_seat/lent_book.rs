@@ -10,6 +10,7 @@ use crate::source::rw_journal::Keeps;
 
 impl<'a, B: Keeps /*~+ Drop~*/> Lent<'a, B> {
     /// Returns the book. What is written through the borrow is in the book when the borrow ends.
+    #[inline(always)] //+
     pub fn book(&mut self) -> &mut B
 //~         ensures* writes_back { sem 𝓛 (LendsBook B.row B.Entry.row B.Start.row B.author B.start B.journal self.entry result) }
 //~         ensures value { result.now ≡ self.old.book }

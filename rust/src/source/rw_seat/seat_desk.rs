@@ -46,6 +46,7 @@ pub struct SeatDesk<V: Payload> {
 
 impl<V: Payload> SeatDesk<V> {
     /// Makes a call. It blocks until it has acquired the channel's book, but never for a value.
+    #[inline(always)] //+
     pub fn call<R: Wait>(
         &self,
         rt: &R,
@@ -101,6 +102,7 @@ impl<V: Payload> SeatDesk<V> {
     }
 
     /// Returns the hand-off of a call's channel, or `None` if the call strays.
+    #[inline(always)] //+
     fn hand_off(&self, channel: u32, call: &ChanCall<V>) -> Option<&HandOff<BoxedLedger<V>>>
 //~         ensures none { IsNone result ↔ IsTrue (stray_of strays_at (map spec_kind self.now.specs) (row_call channel call.now)) }
 //~         ensures home { IfSome result (λ h. slice_get self.now.homes channel ≡ Some h.now.home) }
@@ -115,6 +117,7 @@ impl<V: Payload> SeatDesk<V> {
     }
 
     /// Returns the hand-off of a channel, or `None` if there is no such channel.
+    #[inline(always)] //+
     pub(crate) fn hand_off_at(&self, at: usize) -> Option<&HandOff<BoxedLedger<V>>>
 //~         ensures none { IsNone result ↔ length self.now.specs ≤ at }
 //~         ensures home { IfSome result (λ h. slice_get self.now.homes at ≡ Some h.now.home) }

@@ -1,5 +1,7 @@
 //! What holds of every watch channel.
 // From crates/rw_watch/src/laws.rt, with its contracts as comments. //+
+//~ ghost use Rattle.rw_watch.specs.Alike.{AlikeTwice, RenamedAreAlike, RepliesAlike, RepliesAlikeThroughout};
+//~ ghost use Rattle.rw_watch.specs.Recent.{RepliesRecent};
 //~ ghost use Rattle.rw_watch.specs.Renaming.{RepliesRenamed};
 //~ ghost use Rattle.rw_watch.specs.Laws.{IsShownBySome, RepliesByRecord, ShowsAllowed, ShowsItsRecord, ShowsItsSteps};
 
@@ -15,4 +17,11 @@ pub fn channel_laws<V: Copy>()
 //~     ensures shown { IsShownBySome V }
     // With other numbers of handles, each call has the same reply, but for the number of a new handle.
 //~     ensures renamed { RepliesRenamed V }
+    // No reply tells which versions there were before.
+//~     ensures recent { RepliesRecent V }
+    // Where the value and those who have seen it are the same, under whatever numbers, so are the replies, but for those numbers.
+//~     ensures alike { RepliesAlike V }
+//~     ensures throughout { RepliesAlikeThroughout V }
+//~     ensures renamed_alike { RenamedAreAlike V }
+//~     ensures alike_twice { AlikeTwice V }
 {}

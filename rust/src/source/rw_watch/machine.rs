@@ -4,6 +4,7 @@
 //~ ghost use Rattle.rw_watch.specs.Record.{opening_record};
 //~ ghost use Rattle.rw_watch.specs.Shown.{shown};
 
+mod alike;
 mod readers;
 mod renumber;
 mod reversible;
@@ -45,6 +46,18 @@ impl<V: Copy> Watch<V> {
             version: 0,
             limit: 2,
             handles: Table::of_two(alloc, None, Some(0))?,
+        })
+    }
+
+    /// Returns a copy, which shows the same and has as much room. If the allocation fails, there is none.
+    pub fn copied(&self, alloc: Global) -> Result<Watch<V>, NoMemory>
+//~         ensures { IfOk result (λ copy. copy ≡ self.now) }
+    {
+        Ok(Watch {
+            value: self.value,
+            version: self.version,
+            limit: self.limit,
+            handles: self.handles.copied(alloc)?,
         })
     }
 }

@@ -102,6 +102,16 @@ impl<V: Copy> ChanReply<V> {
 }
 
 impl<V: Copy> Chan<V> {
+    /// Returns a copy, which shows the same and has as much room. If an allocation fails, there is none.
+    pub fn copied(&self, alloc: Global) -> Result<Chan<V>, NoMemory>
+//~         ensures { IfOk result (λ copy. copy ≡ self.now) }
+    {
+        match self {
+            Chan::Broadcast(machine) => Ok(Chan::Broadcast(machine.copied(alloc)?)),
+            Chan::Watch(machine) => Ok(Chan::Watch(machine.copied(alloc)?)),
+        }
+    }
+
     /// Returns how many handles the channel has made, without those that `renumber` took out.
     pub fn made(&self) -> u32
 //~         ensures { result ≡ handles_made (of_chan.shown self.now) }

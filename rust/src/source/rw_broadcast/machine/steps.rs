@@ -47,7 +47,7 @@ impl<V: Copy> Broadcast<V> {
 
     /// Moves a receiver from one position to another.
     #[inline(always)]
-    fn move_receiver(
+    pub(super) fn move_receiver(
         &mut self,
         handle: u32,
         from: u64,
