@@ -158,13 +158,7 @@ impl CoreChannel {
     /// Returns the machine of a handle, and the handle's number there.
     #[inline(always)]
     fn machine_of(&mut self, handle: u32) -> (&mut Machine, u32) {
-        self.machine_at(self.numbers.own_place(handle), handle)
-    }
-
-    /// As [`machine_of`](CoreChannel::machine_of), of a handle that is at this place.
-    #[inline(always)]
-    fn machine_at(&mut self, place: Option<Place>, handle: u32) -> (&mut Machine, u32) {
-        let Some(place) = place else {
+        let Some(place) = self.numbers.own_place(handle) else {
             return (&mut self.first, handle);
         };
         match place.machine() {
@@ -225,17 +219,11 @@ impl CoreChannel {
         by_caller: impl FnOnce(&mut Recording, u32) -> Reply,
         by_other: impl FnOnce(&mut Machine) -> Reply,
     ) -> Reply {
-        if !self.has_room_in_first() {
-            return self.create_in_several(by_other);
+        if self.numbers.are_own() || !self.first.has_room() {
+            return self.create_by_own(caller, by_caller, by_other);
         }
-        let place = self.numbers.own_place(caller);
-        let number = place.map_or(caller, Place::handle);
-        let reply = by_caller(&mut self.first.core, number);
-        let reply = self.first.count_made(reply);
-        match place {
-            None => reply,
-            Some(_) => self.add_created(0, reply),
-        }
+        let reply = by_caller(&mut self.first.core, caller);
+        self.first.count_made(reply)
     }
 
     /// Makes the call that drops a handle.
@@ -245,11 +233,10 @@ impl CoreChannel {
         handle: u32,
         drop: impl FnOnce(&mut Recording, u32) -> Reply,
     ) -> Reply {
-        let place = self.numbers.own_place(handle);
-        let (machine, number) = self.machine_at(place, handle);
+        let (machine, number) = self.machine_of(handle);
         let reply = machine.drop_handle(number, drop);
-        if let (Some(place), Reply::Dropped) = (place, reply) {
-            self.remove(handle, place);
+        if self.numbers.are_own() && reply == Reply::Dropped {
+            self.remove(handle);
         }
         reply
     }

@@ -124,6 +124,12 @@ impl Numbers {
         self.places.get(number as usize).copied()
     }
 
+    /// Returns where the handle with this number is, where it has one of its own.
+    #[inline]
+    pub(super) fn place(&self, number: u32) -> Place {
+        self.places[number as usize]
+    }
+
     /// How many handles the channel had created before the one with this number.
     pub(super) fn nth(&self, number: u32) -> u64 {
         match self.nths.get(number as usize) {

@@ -2,40 +2,42 @@
 //! further machine is opened.
 
 use super::{CoreChannel, machine};
+use crate::backend::Recording;
 use crate::channel::machine::Machine;
 use crate::channel::numbers::Place;
 use crate::reply::Reply;
 use std::{iter, mem};
 
 impl CoreChannel {
-    /// Whether the first machine makes the next handle: it is the only one, and has room.
-    #[inline(always)]
-    pub(super) fn has_room_in_first(&mut self) -> bool {
-        self.further.is_empty() && (self.first.has_room() || self.look_for_room(0))
-    }
-
-    /// As [`create`](CoreChannel::create), where there are several machines from now on.
-    #[cold]
+    /// As [`create`](CoreChannel::create), where handles have numbers of their own, or the first
+    /// machine has no room. It isn't inlined, so that the call of a channel that is recorded is.
     #[inline(never)]
-    pub(super) fn create_in_several(
+    pub(super) fn create_by_own(
         &mut self,
+        caller: u32,
+        by_caller: impl FnOnce(&mut Recording, u32) -> Reply,
         by_other: impl FnOnce(&mut Machine) -> Reply,
     ) -> Reply {
+        if self.further.is_empty() && self.make_room(0) {
+            let place = self.numbers.own_place(caller);
+            let reply = by_caller(&mut self.first.core, place.map_or(caller, Place::handle));
+            return self.add_created(0, reply);
+        }
         let Some(number) = self.machine_with_room() else {
             return Reply::NoMemory;
         };
-        let machine = self.machine(number);
-        let reply = by_other(machine);
-        let reply = machine.count_made(reply);
+        let reply = by_other(self.machine(number));
         self.add_created(number, reply)
     }
 
-    /// Gives the handle that a call has created in this machine, if it has, a number of its own.
-    #[inline(never)]
-    pub(super) fn add_created(&mut self, machine: usize, reply: Reply) -> Reply {
-        let Reply::New(handle) = reply else {
+    /// Counts the handle that a call has created in this machine, if it has, and gives it a number.
+    fn add_created(&mut self, machine: usize, reply: Reply) -> Reply {
+        let Reply::New(handle) = self.machine(machine).count_made(reply) else {
             return reply;
         };
+        if !self.numbers.are_own() {
+            return reply;
+        }
         let number = self.numbers.add(Place::new(machine, handle as u32));
         self.machine(machine).add_number(number);
         Reply::New(number.into())
@@ -167,9 +169,10 @@ impl CoreChannel {
         index + 1
     }
 
-    /// Removes a handle that was dropped, and was at this place.
+    /// Removes a handle that was dropped.
     #[inline(never)]
-    pub(super) fn remove(&mut self, number: u32, place: Place) {
+    pub(super) fn remove(&mut self, number: u32) {
+        let place = self.numbers.place(number);
         self.numbers.remove(number);
         self.machine(place.machine()).remove_number(place.handle());
         if !self.further.is_empty() {
