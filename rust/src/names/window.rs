@@ -4,7 +4,7 @@
 
 use super::json::Json;
 use super::reading::{by_number, list, number, object, optional, text_of};
-use super::{push_list, push_member, push_number, push_object, push_optional, push_string};
+use super::{Names, push_list, push_member, push_number, push_object, push_optional, push_string};
 use std::collections::BTreeMap;
 use std::fmt::Write;
 
@@ -50,10 +50,42 @@ pub(crate) struct TimedStamp {
     pub(crate) monotonic: u64,
 }
 
+impl Names {
+    /// How many entries of the journal lead to its window. It is 0 where there is none.
+    pub(crate) fn lead(&self) -> u64 {
+        self.window.as_ref().map_or(0, |window| window.lead)
+    }
+
+    /// Returns what the window leaves out of a channel. Returns `None` where all its calls are there.
+    pub(crate) fn window_of(&self, channel: u32) -> Option<&ChannelWindow> {
+        let channels = &self.window.as_ref()?.channels;
+        channels.get(&channel.into()).filter(|it| it.lead > 0)
+    }
+
+    /// Returns the number by which texts call a handle: its real one.
+    pub(crate) fn handle_number(&self, channel: u32, handle: u64) -> String {
+        let window = self.window.as_ref();
+        let channel = window.and_then(|window| window.channels.get(&channel.into()));
+        let number = channel.and_then(|channel| channel.handles.get(handle as usize));
+        match number {
+            Some(Some(number)) => number.to_string(),
+            Some(None) => format!("{handle} of the lead"),
+            None => handle.to_string(),
+        }
+    }
+}
+
 impl Window {
     /// Appends the window on one line.
     pub(crate) fn push(&self, out: &mut String) {
-        out.push_str("{\"trigger\": ");
+        out.push('{');
+        self.push_members(out);
+        out.push('}');
+    }
+
+    /// Appends its members.
+    pub(crate) fn push_members(&self, out: &mut String) {
+        out.push_str("\"trigger\": ");
         push_string(out, &self.trigger);
         out.push_str(", \"reason\": ");
         push_string(out, &self.reason);
@@ -61,7 +93,6 @@ impl Window {
         push_optional(out, &self.at);
         let _ = write!(out, ", \"lead\": {}, \"channels\": ", self.lead);
         push_object(out, &self.channels, push_channel);
-        out.push('}');
     }
 }
 
@@ -139,7 +170,6 @@ pub(super) fn times(value: Json) -> Result<Vec<TimedStamp>, String> {
 #[cfg(test)]
 mod tests {
     use super::*;
-    use crate::names::Names;
 
     fn example() -> Names {
         let prices = ChannelWindow {
@@ -190,6 +220,16 @@ mod tests {
         let json = example().to_json();
         assert_eq!(json, wanted);
         assert_eq!(Names::read(&json), Ok(example()));
+    }
+
+    #[test]
+    fn handles_are_called_by_their_real_numbers() {
+        let names = example();
+        let numbers = [0, 1, 2, 3, 4].map(|handle| names.handle_number(0, handle));
+        assert_eq!(numbers, ["0", "41", "2 of the lead", "1203", "4"]);
+        assert_eq!(names.handle_number(7, 3), "3");
+        assert_eq!(Names::default().handle_number(0, 1), "1");
+        assert_eq!((names.lead(), Names::default().lead()), (117, 0));
     }
 
     #[test]
