@@ -10,21 +10,27 @@ mod json;
 mod matching;
 mod reading;
 mod sources;
+mod window;
 
 pub use beside::read_whole;
 pub(crate) use beside::test_beside;
 pub(crate) use ending::{Ending, Panic, Returned, TestId, Unrecorded, checksum};
 pub(crate) use json::Json;
 pub(crate) use matching::{Maker, Matching};
+pub(crate) use window::{ChannelWindow, WindowNames};
 
+use crate::clock::Moment;
 use crate::run::Run;
 use std::collections::BTreeMap;
 use std::fmt::{Display, Write};
 use std::panic::Location;
 
-/// The version of the format that is written, and the last one that is read. A document of version
-/// 1 has no such key.
+/// The version of the format that is written. A document of version 1 has no such key.
 const VERSION: u64 = 3;
+
+/// The version that is written of a journal with the last calls alone, and the last one that is
+/// read. Who reads no later one than 3 would take a lead for calls that were made.
+const VERSION_OF_WINDOW: u64 = 4;
 
 /// A location in a source: the file as the compiler was given it, with the line and the column,
 /// which count from 1.
@@ -94,6 +100,10 @@ pub(crate) struct Names {
     pub(crate) waiting: Vec<WaitingCall>,
     pub(crate) matching: Matching,
     pub(crate) ending: Ending,
+    /// Of a journal that has the last calls of its channels alone.
+    pub(crate) window: Option<WindowNames>,
+    /// When calls were made, by their stamps.
+    pub(crate) times: Vec<Moment>,
     /// The account of the run as JSON, for readers that don't find it themselves. It is written and
     /// never read.
     pub(crate) account: Option<String>,
@@ -128,7 +138,11 @@ impl Names {
 
     /// Returns the document. What is empty is left out, unless version 1 had it.
     pub(crate) fn to_json(&self) -> String {
-        let mut out = format!("{{\n  \"version\": {VERSION}");
+        let version = match self.window {
+            Some(_) => VERSION_OF_WINDOW,
+            None => VERSION,
+        };
+        let mut out = format!("{{\n  \"version\": {version}");
         push_member(&mut out, "actors", |out| push_texts(out, &self.actors));
         push_member(&mut out, "channels", |out| push_texts(out, &self.channels));
         push_member(&mut out, "values", |out| {
@@ -138,6 +152,7 @@ impl Names {
         self.push_calls(&mut out);
         self.matching.push(&mut out);
         self.ending.push(&mut out);
+        window::push(&mut out, self.window.as_ref(), &self.times);
         if let Some(account) = &self.account {
             push_member(&mut out, "account", |out| push_nested(out, account));
         }

@@ -179,6 +179,11 @@ impl Machine {
         self.has_room()
     }
 
+    /// Says that it is to be looked for dropped handles only when it has made all that it can.
+    pub(super) fn look_when_full(&mut self) {
+        self.look_at = self.most;
+    }
+
     /// Whether so many handles are dropped that a renumbering takes no longer than it took to make
     /// them: half of them. In a full machine some of them are enough.
     pub(super) fn has_many_dropped(&self) -> bool {

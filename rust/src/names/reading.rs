@@ -2,7 +2,7 @@
 //! out.
 
 use super::json::{self, Json};
-use super::{HeldBy, Names, SourceLocation, VERSION, WaitingCall};
+use super::{HeldBy, Names, SourceLocation, VERSION_OF_WINDOW, WaitingCall, window};
 use std::collections::BTreeMap;
 
 impl Names {
@@ -33,6 +33,8 @@ impl Names {
                 "calls" => by_number(value, optional_indexes).map(|calls| names.calls = calls),
                 "tasks" => indexes(value).map(|tasks| names.tasks = tasks),
                 "waiting" => list(value, waiting).map(|waiting| names.waiting = waiting),
+                "window" => window::window(value).map(|window| names.window = Some(window)),
+                "times" => window::times(value).map(|times| names.times = times),
                 other => names.matching.read(other, value),
             };
             read.map_err(|fault| of_key(&key, fault))?;
@@ -63,9 +65,9 @@ fn of_key(key: &str, fault: String) -> String {
 /// Refuses a version that may mean something else by the same keys.
 fn version(value: Json) -> Result<(), String> {
     let version: u64 = number(value)?;
-    if version > VERSION {
+    if version > VERSION_OF_WINDOW {
         Err(format!(
-            "{version} is later than {VERSION}, the last one that this program reads"
+            "{version} is later than {VERSION_OF_WINDOW}, the last one that this program reads"
         ))
     } else {
         Ok(())
