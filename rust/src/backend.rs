@@ -4,20 +4,18 @@
 //! here: the number of an actor is an [`Actor`], which is below 64.
 
 mod flight;
-pub(crate) mod stub;
 #[cfg(test)]
 mod tests;
 
 pub(crate) use crate::source::rw_recording::{CutFault, OpenFault, Spec};
-pub(crate) use flight::{Kept, LEAD, MOST_CHUNK, MOST_ENTRIES, Window, WindowFault};
+pub(crate) use flight::{Kept, LEAD, Lead, MOST_CHUNK, MOST_ENTRIES, Window, WindowFault};
 
 use crate::reply::Reply;
 use crate::run::Run;
 use crate::shim::Vec;
 use crate::shim::alloc::Global;
 use crate::source::rw_law::NoMemory;
-use crate::source::rw_recording::{self, BCall, ChanCall, Kind, WCall};
-use stub::Flight;
+use crate::source::rw_recording::{self, BCall, ChanCall, Flight, Kind, WCall};
 
 /// The number of an actor, below 64.
 #[derive(Clone, Copy, Debug, PartialEq, Eq)]
@@ -84,7 +82,7 @@ impl Recording {
     /// changed.
     pub(crate) fn keep_last(&mut self, chunk: usize) -> Result<(), NoMemory> {
         if self.last.is_none() {
-            let flight = Flight::of(Global, &self.all, chunk)?;
+            let flight = flight_of(&self.all, chunk)?;
             self.all = nothing().map_err(|_| NoMemory)?;
             self.last = Some(Box::new(flight));
         }
@@ -112,7 +110,7 @@ impl Recording {
     pub(crate) fn kept(&self, chunk: usize) -> Result<Kept, NoMemory> {
         let kept = match &self.last {
             Some(flight) => flight.kept(Global),
-            None => Flight::of(Global, &self.all, chunk)?.kept(Global),
+            None => flight_of(&self.all, chunk)?.kept(Global),
         };
         kept.map(Kept::of)
     }
@@ -205,6 +203,11 @@ impl Recording {
             None => self.all.call(actor, clock, call()),
         })
     }
+}
+
+/// Goes on from a recording that hasn't ended with its last calls alone.
+fn flight_of(all: &rw_recording::Recording, chunk: usize) -> Result<Flight, NoMemory> {
+    Flight::of(Global, all, chunk).map_err(|_| NoMemory)
 }
 
 /// A small channel that nobody uses.

@@ -16,7 +16,7 @@ mod registry;
 mod state;
 
 pub(crate) use core_channel::{Call, CoreChannel, Send};
-pub(crate) use kept::KeptChannel;
+pub(crate) use kept::{KeptChannel, NotedChannel};
 pub(crate) use locations::{CallSite, CallSites, call_site};
 pub(crate) use locked::LockedChannel;
 pub(crate) use receivers::{LiveReceiver, NO_SLOT, Slot};

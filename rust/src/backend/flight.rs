@@ -1,10 +1,12 @@
 //! The last calls of a channel: what is copied of them, and the window that a journal has of them.
 
 use super::Actor;
-use super::stub as core;
 use crate::shim::alloc::Global;
 use crate::source::rw_journal;
-use crate::source::rw_recording::Recording;
+use crate::source::rw_law::NoMemory;
+use crate::source::rw_recording::{self as core, Recording};
+
+pub(crate) use core::WindowFault;
 
 /// How many calls a channel keeps at most in each of its two chunks.
 pub(crate) const MOST_CHUNK: usize = rw_journal::MOST_CHUNK;
@@ -14,26 +16,6 @@ pub(crate) const MOST_ENTRIES: u64 = 2 * MOST_CHUNK as u64;
 
 /// The actor of a lead's calls, which nobody has made.
 pub(crate) const LEAD: Actor = Actor(Actor::MOST as u32 - 1);
-
-/// Why a window isn't made.
-#[derive(Clone, Copy, Debug, PartialEq, Eq)]
-pub(crate) enum WindowFault {
-    NoMemory,
-    /// The lead and the calls are more than a journal has of a channel.
-    TooLong,
-    /// It differs from the channel. It is proved that this doesn't happen.
-    Unlike,
-}
-
-impl WindowFault {
-    fn of(fault: core::WindowFault) -> WindowFault {
-        match fault {
-            core::WindowFault::NoMemory => WindowFault::NoMemory,
-            core::WindowFault::TooLong => WindowFault::TooLong,
-            core::WindowFault::Unlike => WindowFault::Unlike,
-        }
-    }
-}
 
 /// The last calls of a channel, and the channel as it was before them.
 pub(crate) struct Kept(core::Kept);
@@ -48,25 +30,54 @@ impl Kept {
         self.0.len()
     }
 
-    /// Returns the stamp of its first call.
+    /// How many values were sent before, on a broadcast.
+    pub(crate) fn sent(&self) -> u64 {
+        self.0.sent()
+    }
+
+    /// Begins behind the last call that asks a receiver which lags by more than this.
+    pub(crate) fn settle(&mut self, most: u64) -> Result<(), NoMemory> {
+        self.0.settle(Global, most)
+    }
+
+    /// Leaves out this many of its first calls.
+    pub(crate) fn skip(&mut self, count: u64) -> Result<(), NoMemory> {
+        self.0.skip(Global, count)
+    }
+
+    /// Begins a window by its lead, whose entries have the stamps after `clock`.
+    pub(crate) fn lead(self, clock: u64) -> Result<Lead, WindowFault> {
+        self.0.lead(Global, LEAD.number(), clock).map(Lead)
+    }
+}
+
+/// The lead of a window, before the calls that were kept.
+pub(crate) struct Lead(core::Lead);
+
+impl Lead {
+    /// How many entries it has.
+    pub(crate) fn len(&self) -> u64 {
+        self.0.len()
+    }
+
+    /// How many calls come after it.
+    pub(crate) fn calls(&self) -> u64 {
+        self.0.kept.len()
+    }
+
+    /// Returns the stamp of the first one of these.
     pub(crate) fn first_stamp(&self) -> Option<u64> {
         self.0.first_stamp()
     }
 
-    /// Begins behind the last call that asks a receiver which lags by more than this.
-    pub(crate) fn settle(&mut self, most: u64) {
-        self.0.settle(most);
+    /// Forgets the lead.
+    pub(crate) fn into_kept(self) -> Kept {
+        Kept(self.0.kept)
     }
 
-    /// Leaves out this many of its first calls. There are as many.
-    pub(crate) fn skip(&mut self, count: u64) {
-        self.0.skip(count);
-    }
-
-    /// Returns a window without calls. Those of its lead have the stamps after `clock`.
-    pub(crate) fn window(&self, clock: u64) -> Result<Window, WindowFault> {
-        let window = self.0.window(Global, LEAD.number(), clock);
-        window.map(Window).map_err(WindowFault::of)
+    /// Adds the calls, with their stamps raised by this.
+    pub(crate) fn play(self, raised: u64) -> Result<Window, WindowFault> {
+        self.0.play(raised).map(Window)
     }
 }
 
@@ -74,12 +85,6 @@ impl Kept {
 pub(crate) struct Window(core::Window);
 
 impl Window {
-    /// Adds the calls that were kept, with their stamps raised by this.
-    pub(crate) fn play(&mut self, kept: &Kept, raised: u64) -> Result<(), WindowFault> {
-        let played = self.0.play(Global, &kept.0, raised);
-        played.map_err(WindowFault::of)
-    }
-
     pub(super) fn recording(&self) -> &Recording {
         self.0.recording()
     }
@@ -97,11 +102,7 @@ impl Window {
     /// Returns the receivers of the channel that lagged further, when the window began, than the
     /// journal says: each with how many values it had lost.
     pub(crate) fn lags(&self) -> impl Iterator<Item = (u32, u64)> {
-        self.0.lags().iter().copied()
-    }
-
-    /// How many values were sent before the window. Of a watch it says nothing.
-    pub(crate) fn sent_before(&self) -> u64 {
-        self.0.sent_before()
+        let dozing = self.0.dozing().iter();
+        dozing.map(|dozing| (dozing.receiver, dozing.lag))
     }
 }

@@ -71,6 +71,15 @@ impl CoreChannel {
     pub(crate) fn fly(&mut self, chunk: usize) -> Result<(), NoMemory> {
         let core = Recording::open_flight(self.first.core.spec(), chunk);
         self.first.core = core.map_err(|_| NoMemory)?;
+        self.first.look_when_full();
+        Ok(())
+    }
+
+    /// Goes on with the last calls alone. It makes each recorded call again. At an error nothing
+    /// has changed.
+    pub(crate) fn keep_last(&mut self, chunk: usize) -> Result<(), NoMemory> {
+        self.first.core.keep_last(chunk)?;
+        self.first.look_when_full();
         Ok(())
     }
 

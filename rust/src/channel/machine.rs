@@ -179,8 +179,10 @@ impl Machine {
         self.has_room()
     }
 
-    /// Says that it is to be looked for dropped handles only when it has made all that it can.
+    /// Keeps its last calls alone. It is looked for dropped handles only when it has made nearly all
+    /// that it can: the lead of a journal may need two.
     pub(super) fn look_when_full(&mut self) {
+        self.most = self.most.min(MOST_HANDLES - 2);
         self.look_at = self.most;
     }
 

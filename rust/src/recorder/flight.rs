@@ -71,7 +71,7 @@ impl Recorder {
     ///
     /// // It begins with a lead, which nobody has called, and ends with the last receive.
     /// let journal = recorder.journal().unwrap();
-    /// assert!(journal.ends_with(" try-recv 1 = value 999999\nend\n"));
+    /// assert!(journal.ends_with(" = value 999999\nend\n"));
     /// ```
     pub fn flight(calls_per_channel: usize) -> Recorder {
         Recorder::with(Arc::new(Shared::flight(calls_per_channel)))

@@ -4,7 +4,7 @@ use super::Shared;
 use super::test_run::TestRun;
 use super::waiting::Waiting;
 use super::window_names::{self, Why};
-use super::windows::{Most, Windows};
+use super::windows::{Calls, Most, Windows};
 use crate::backend::{Actor, Cut, CutFault};
 use crate::channel::{CallSites, ChannelState, KeptChannel};
 use crate::lock::{lock, try_lock_for};
@@ -277,8 +277,16 @@ pub(super) struct Copied {
 impl Copied {
     /// Makes a run of them, and its names. No channel is locked.
     pub(super) fn into_run(mut self, why: Why, most: Most) -> io::Result<(run::Run, Names)> {
-        let made = Windows::of(&mut self.channels, self.last, most)?;
-        let channels = (&*self.channels, &made);
+        let (mut calls, mut noted) = (Vec::new(), Vec::new());
+        for channel in self.channels {
+            calls.push(Calls {
+                most_of_lead: channel.most_of_lead(),
+                kept: channel.calls,
+            });
+            noted.push(channel.noted);
+        }
+        let made = Windows::of(calls, self.last, most)?;
+        let channels = (&*noted, &made);
         window_names::add(&mut self.names, &mut self.indexes, channels, why);
         self.names.locations = self.indexes.locations;
         Ok((made.run, self.names))

@@ -1,9 +1,9 @@
 //! The names beside a journal that has the last calls of its channels.
 
 use super::run::Indexes;
-use super::windows::Windows;
+use super::windows::{MadeWindow, Windows};
 use crate::backend::{LEAD, MOST_ENTRIES, Window};
-use crate::channel::KeptChannel;
+use crate::channel::NotedChannel;
 use crate::clock::{Moment, wall};
 use crate::names::{ChannelWindow, Names, WindowNames};
 use crate::wait::Wait;
@@ -48,17 +48,19 @@ impl Why {
 pub(super) fn add(
     names: &mut Names,
     indexes: &mut Indexes,
-    (channels, made): (&[KeptChannel], &Windows),
+    (channels, made): (&[NotedChannel], &Windows),
     why: Why,
 ) {
     let mut of_channels = Vec::new();
-    for (channel, window) in channels.iter().zip(&made.windows) {
+    for (channel, made) in channels.iter().zip(&made.windows) {
+        let window = &made.window;
         let number = of_channels.len() as u64;
         let mut adding = Adding {
             names,
             indexes,
             number,
             channel,
+            made,
             window,
             real: real_handles(channel, window),
         };
@@ -84,9 +86,9 @@ pub(super) fn add(
 
 /// Returns the number in the channel's table of each handle of the journal that isn't only in the
 /// lead.
-fn real_handles(channel: &KeptChannel, window: &Window) -> Vec<Option<u32>> {
+fn real_handles(channel: &NotedChannel, window: &Window) -> Vec<Option<u32>> {
     let mut real = Vec::new();
-    for number in 0..channel.noted.handles.len() {
+    for number in 0..channel.calls.handles.len() {
         if let Some(in_journal) = window.number(number) {
             let index = in_journal as usize;
             real.resize(real.len().max(index + 1), None);
@@ -97,8 +99,8 @@ fn real_handles(channel: &KeptChannel, window: &Window) -> Vec<Option<u32>> {
 }
 
 /// Returns the times of calls, in the order of their stamps.
-fn times(channels: &[KeptChannel]) -> Vec<Moment> {
-    let moments = channels.iter().flat_map(|channel| &channel.noted.moments);
+fn times(channels: &[NotedChannel]) -> Vec<Moment> {
+    let moments = channels.iter().flat_map(|channel| &channel.calls.moments);
     let mut moments: Vec<Moment> = moments.copied().collect();
     moments.sort_by_key(|moment| moment.stamp);
     moments.dedup_by_key(|moment| moment.stamp);
@@ -124,7 +126,8 @@ struct Adding<'a> {
     names: &'a mut Names,
     indexes: &'a mut Indexes,
     number: u64,
-    channel: &'a KeptChannel,
+    channel: &'a NotedChannel,
+    made: &'a MadeWindow,
     window: &'a Window,
     // By the journal's numbers.
     real: Vec<Option<u32>>,
@@ -135,14 +138,14 @@ impl Adding<'_> {
     /// its values.
     fn add_names(&mut self) {
         let Adding { names, number, channel, .. } = self;
-        let (number, handles) = (*number, &channel.noted.handles);
+        let (number, handles) = (*number, &channel.calls.handles);
         if let Some(name) = &channel.name {
             names.channels.insert(number, name.clone());
         }
         if let Some(maker) = &channel.made_by {
             names.matching.made_by.insert(number, maker.clone());
         }
-        let texts = channel.noted.texts.iter();
+        let texts = channel.calls.texts.iter();
         let texts = texts.map(|(value, text)| (*value, text.to_string()));
         let texts: BTreeMap<_, _> = texts.collect();
         if !texts.is_empty() {
@@ -168,22 +171,22 @@ impl Adding<'_> {
     fn add_calls(&mut self) {
         let (number, lead) = (self.number, self.window.lead());
         let nowhere = iter::repeat_n(None, lead as usize);
-        let sites = self.channel.sites();
+        let sites = self.channel.sites(self.made.calls);
         let sites = sites.map(|site| site.map(|location| self.indexes.of(location)));
         let calls: Vec<_> = nowhere.chain(sites).collect();
         if !calls.is_empty() {
             self.names.calls.insert(number, calls);
         }
-        let before = self.channel.before();
+        let before = self.channel.before(self.made.calls);
         let entries = |indexes: &[u64]| -> Vec<u64> {
             let kept = indexes.iter().filter_map(|index| index.checked_sub(before));
             kept.map(|index| lead + index).collect()
         };
-        let waited = entries(&self.channel.noted.waited);
+        let waited = entries(&self.channel.calls.waited);
         if !waited.is_empty() {
             self.names.matching.waited.insert(number, waited);
         }
-        let cancelled = entries(&self.channel.noted.cancelled);
+        let cancelled = entries(&self.channel.calls.cancelled);
         if !cancelled.is_empty() {
             self.names.matching.cancelled.insert(number, cancelled);
         }
@@ -200,14 +203,14 @@ impl Adding<'_> {
 
     /// Returns how the window of the channel begins.
     fn described(&self) -> ChannelWindow {
-        let handles = &self.channel.noted.handles;
+        let handles = &self.channel.calls.handles;
         let real = self.real.iter();
         let lags = self.window.lags();
         let lags = lags.filter_map(|(real, lag)| Some((self.window.number(real)?.into(), lag)));
         ChannelWindow {
             lead: self.window.lead(),
-            calls: self.channel.before(),
-            sent: (!self.channel.is_watch).then(|| self.window.sent_before()),
+            calls: self.channel.before(self.made.calls),
+            sent: (!self.channel.is_watch).then(|| self.made.sent),
             handles: real.map(|real| real.map(|real| handles.nth(real))).collect(),
             lags: lags.collect(),
         }

@@ -1,9 +1,9 @@
 //! The windows of a recorder's channels as one run: the leads first, and then the calls that were
 //! kept.
 
-use crate::backend::{Cut, CutFault, MOST_ENTRIES, Window, WindowFault};
-use crate::channel::KeptChannel;
+use crate::backend::{Cut, CutFault, Kept, Lead, MOST_ENTRIES, Window, WindowFault};
 use crate::run::Run;
+use crate::source::rw_law::NoMemory;
 use std::io;
 
 /// How many entries the journal of a flight recorder has at most, all channels together.
@@ -34,7 +34,7 @@ impl Most {
     pub(super) fn of_test() -> Most {
         Most {
             all: u64::MAX,
-            lag: MOST_ENTRIES / 2,
+            lag: MOST_ENTRIES / 4,
             wanted: None,
         }
     }
@@ -50,7 +50,7 @@ impl Most {
 /// The windows of channels, in their order.
 pub(super) struct Windows {
     pub(super) run: Run,
-    pub(super) windows: Vec<Window>,
+    pub(super) windows: Vec<MadeWindow>,
     /// How many entries the leads have together.
     pub(super) lead: u64,
     /// By how much the stamps of the calls are raised.
@@ -59,24 +59,44 @@ pub(super) struct Windows {
     pub(super) last: u64,
 }
 
+/// The window of a channel, and how it begins.
+pub(super) struct MadeWindow {
+    pub(super) window: Window,
+    /// How many calls it has after the lead.
+    pub(super) calls: u64,
+    /// How many values were sent before these, on a broadcast.
+    pub(super) sent: u64,
+}
+
+/// The last calls of a channel, and how many entries a lead of it can have at most, without the
+/// values that its receivers have lost.
+pub(super) struct Calls {
+    pub(super) kept: Kept,
+    pub(super) most_of_lead: u64,
+}
+
 impl Windows {
     /// Makes the windows of these channels, whose calls end before the first one that is stamped
     /// above `last`. Where that is before the first call of a channel, all end later.
-    pub(super) fn of(channels: &mut [KeptChannel], last: u64, most: Most) -> io::Result<Windows> {
-        for (number, channel) in channels.iter_mut().enumerate() {
-            channel.calls.settle(most.lag_on(number));
-        }
-        let mut windows = fit(channels, most).map_err(of_fault)?;
-        let lead: u64 = windows.iter().map(Window::lead).sum();
-        let firsts = channels.iter().filter_map(|it| it.calls.first_stamp());
+    pub(super) fn of(channels: Vec<Calls>, last: u64, most: Most) -> io::Result<Windows> {
+        let leads = fit(channels, most).map_err(of_fault)?;
+        let lead = leads.iter().map(|(lead, _)| lead.len()).sum();
+        let firsts = leads.iter().filter_map(|(lead, _)| lead.first_stamp());
         let first = firsts.clone().min().unwrap_or(u64::MAX);
-        let raised = (lead + 1).saturating_sub(first);
+        let raised = first_above(lead).saturating_sub(first);
         let is_late = firsts.max().is_some_and(|first| first > last);
         let last = if is_late { u64::MAX } else { last + raised };
         let mut cut = Cut::new();
-        for (window, channel) in windows.iter_mut().zip(&*channels) {
-            window.play(&channel.calls, raised).map_err(of_fault)?;
-            cut.add_window(window, last).map_err(of_cut)?;
+        let mut windows = Vec::new();
+        for (lead, sent) in leads {
+            let calls = lead.calls();
+            let window = lead.play(raised).map_err(of_fault)?;
+            cut.add_window(&window, last).map_err(of_cut)?;
+            windows.push(MadeWindow {
+                window,
+                calls,
+                sent,
+            });
         }
         Ok(Windows {
             run: cut.run().map_err(of_cut)?,
@@ -88,44 +108,65 @@ impl Windows {
     }
 }
 
-/// Leaves out the first calls of channels until a journal has room for all, and returns the windows
-/// without calls.
-fn fit(channels: &mut [KeptChannel], most: Most) -> Result<Vec<Window>, WindowFault> {
-    share(channels, most.all);
+/// Returns the least stamp that a call can have after leads of so many entries.
+fn first_above(lead: u64) -> u64 {
+    lead + 1
+}
+
+/// Leaves out the first calls of channels until a journal has room for all, and returns the leads,
+/// each with how many values were sent before its calls.
+fn fit(channels: Vec<Calls>, most: Most) -> Result<Vec<(Lead, u64)>, WindowFault> {
+    let mut all = Vec::new();
+    for (number, mut channel) in channels.into_iter().enumerate() {
+        let lag = most.lag_on(number);
+        channel.kept.settle(lag)?;
+        let room = MOST_ENTRIES.saturating_sub(channel.most_of_lead + lag);
+        // With all calls from the opening on there is no lead.
+        if channel.kept.len() > room && channel.most_of_lead > 0 {
+            skip_to(&mut channel.kept, room)?;
+        }
+        all.push(channel.kept);
+    }
+    share(&mut all, most.all)?;
     loop {
-        let windows = leads(channels)?;
-        let leads: u64 = windows.iter().map(Window::lead).sum();
-        let mut skipped = share(channels, most.all.saturating_sub(leads));
-        for (window, channel) in windows.iter().zip(&mut *channels) {
-            skipped |= skip_to(channel, MOST_ENTRIES.saturating_sub(window.lead()));
+        let leads = leads(all)?;
+        let entries: u64 = leads.iter().map(|(lead, _)| lead.len()).sum();
+        let calls: Vec<u64> = leads.iter().map(|(lead, _)| lead.calls()).collect();
+        let room = most.all.saturating_sub(entries);
+        let (few, none) = (calls.iter().sum::<u64>() <= room, calls.iter().all(|it| *it == 0));
+        if few || none {
+            return Ok(leads);
         }
-        if !skipped {
-            return Ok(windows);
-        }
+        all = leads.into_iter().map(|(lead, _)| lead.into_kept()).collect();
+        share(&mut all, room)?;
     }
 }
 
-/// Returns the windows without calls, their leads one after the other.
-fn leads(channels: &[KeptChannel]) -> Result<Vec<Window>, WindowFault> {
+/// Returns the leads of channels, one after the other.
+fn leads(channels: Vec<Kept>) -> Result<Vec<(Lead, u64)>, WindowFault> {
     let mut clock = 0;
-    let windows = channels.iter().map(|channel| {
-        let window = channel.calls.window(clock)?;
-        clock += window.lead();
-        Ok(window)
+    let leads = channels.into_iter().map(|kept| {
+        let sent = kept.sent();
+        let lead = kept.lead(clock)?;
+        clock += lead.len();
+        Ok((lead, sent))
     });
-    windows.collect()
+    leads.collect()
 }
 
 /// Leaves out the first calls of the longest channels, so that all have no more calls than this
-/// together. Returns whether any was left out.
-fn share(channels: &mut [KeptChannel], most: u64) -> bool {
-    let lengths: Vec<u64> = channels.iter().map(|channel| channel.calls.len()).collect();
-    let most = greatest_share(lengths, most);
-    let mut skipped = false;
-    for channel in channels {
-        skipped |= skip_to(channel, most);
+/// together.
+fn share(channels: &mut [Kept], most: u64) -> Result<(), NoMemory> {
+    let most = greatest_share(channels.iter().map(Kept::len).collect(), most);
+    channels.iter_mut().try_for_each(|kept| skip_to(kept, most))
+}
+
+/// Leaves out the first calls of a channel that has more than this.
+fn skip_to(kept: &mut Kept, most: u64) -> Result<(), NoMemory> {
+    match kept.len().saturating_sub(most) {
+        0 => Ok(()),
+        too_many => kept.skip(too_many),
     }
-    skipped
 }
 
 /// Returns how many calls each channel may have, so that all have no more than this together.
@@ -142,20 +183,11 @@ fn greatest_share(mut lengths: Vec<u64>, most: u64) -> u64 {
     u64::MAX
 }
 
-/// Leaves out the first calls of a channel that has more than this. Returns whether it has.
-fn skip_to(channel: &mut KeptChannel, most: u64) -> bool {
-    let too_many = channel.calls.len().saturating_sub(most);
-    if too_many > 0 {
-        channel.calls.skip(too_many);
-    }
-    too_many > 0
-}
-
 fn of_fault(fault: WindowFault) -> io::Error {
     io::Error::other(match fault {
         WindowFault::NoMemory => "no memory for the journal",
         WindowFault::TooLong => "a channel has more handles and values than a journal takes",
-        WindowFault::Unlike => "the journal differs from its channel, which is a bug of yovanelum",
+        WindowFault::OutOfOrder | WindowFault::Dropped | WindowFault::Unlike => "the journal differs from its channel, which is a bug of yovanelum",
     })
 }
 
