@@ -149,9 +149,7 @@ impl Event {
         close: impl FnOnce() -> Close,
     ) -> Event {
         let find = |hooks: &Hooks| lock(&hooks.close).clone();
-        Event::of(recorder, dump, find, |hook| {
-            ToldEvent::Close(hook, close())
-        })
+        Event::of(recorder, dump, find, |hook| ToldEvent::Close(hook, close()))
     }
 
     fn of<E: ?Sized>(

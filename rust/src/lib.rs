@@ -128,7 +128,8 @@ pub use polled::Polled;
 #[doc(hidden)]
 pub use program::set_patch;
 pub use recorder::{
-    Dump, DumpTo, Dumps, Entered, ForTest, Handle, Installed, Recorder, SaveOnPanic, Scoped, Waiting, follow_this_thread,
+    Dump, DumpTo, Dumps, Entered, ForTest, Handle, Installed, Recorder, SaveOnPanic, Scoped,
+    Waiting, follow_this_thread,
 };
 pub use replay::Replayed;
 pub use snapshot::{ChannelSnapshot, ReceiverSnapshot, Snapshot, snapshot};

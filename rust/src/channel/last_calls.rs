@@ -288,6 +288,9 @@ mod tests {
             calls.remove_last();
         }
         let copy = calls.copy();
-        assert_eq!((copy.count, copy.sites.len(), copy.moments.len()), (0, 0, 0));
+        assert_eq!(
+            (copy.count, copy.sites.len(), copy.moments.len()),
+            (0, 0, 0)
+        );
     }
 }

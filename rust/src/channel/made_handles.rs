@@ -60,7 +60,10 @@ mod tests {
         handles.renumber(&[0, 2, 5]);
         assert_eq!(handles.len(), 3);
         assert_eq!([0, 1, 2, 3, 4].map(|it| handles.nth(it)), [0, 2, 5, 6, 7]);
-        assert_eq!([0, 1, 2].map(|it| handles.made_at(it)), [sites[0], sites[2], sites[2]]);
+        assert_eq!(
+            [0, 1, 2].map(|it| handles.made_at(it)),
+            [sites[0], sites[2], sites[2]]
+        );
         handles.add(sites[1]);
         handles.add(sites[0]);
         handles.renumber(&[2, 4]);

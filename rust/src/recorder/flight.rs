@@ -113,7 +113,9 @@ impl Recorder {
     #[track_caller]
     pub fn dump_to(&self, folder: impl AsRef<Path>) -> DumpTo {
         let Some(flight) = &self.0.flight else {
-            panic!("yovanelum: this recorder is no flight recorder: `Recorder::flight` creates one");
+            panic!(
+                "yovanelum: this recorder is no flight recorder: `Recorder::flight` creates one"
+            );
         };
         flight.dumping.set_folder(folder.as_ref());
         DumpTo::new(&self.0)

@@ -161,7 +161,10 @@ impl RunSoFar<'_> {
         &self,
         (channel, kept): (Arc<Mutex<ChannelState>>, KeptChannel),
     ) -> Option<(usize, KeptChannel)> {
-        let number = self.channels.iter().position(|it| Arc::ptr_eq(it, &channel))?;
+        let number = self
+            .channels
+            .iter()
+            .position(|it| Arc::ptr_eq(it, &channel))?;
         Some((number, kept))
     }
 

@@ -351,7 +351,9 @@ impl Shared {
         };
         let flies = channel.fly(flight.calls_per_channel, self.times).is_ok();
         if !flies {
-            eprintln!("yovanelum: no memory for the last calls of a channel; it is recorded by none");
+            eprintln!(
+                "yovanelum: no memory for the last calls of a channel; it is recorded by none"
+            );
         }
         flies
     }

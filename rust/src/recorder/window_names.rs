@@ -137,7 +137,12 @@ impl Adding<'_> {
     /// Adds the names of the channel and of its handles, where these were created, and the texts of
     /// its values.
     fn add_names(&mut self) {
-        let Adding { names, number, channel, .. } = self;
+        let Adding {
+            names,
+            number,
+            channel,
+            ..
+        } = self;
         let (number, handles) = (*number, &channel.calls.handles);
         if let Some(name) = &channel.name {
             names.channels.insert(number, name.clone());
@@ -211,7 +216,9 @@ impl Adding<'_> {
             lead: self.window.lead(),
             calls: self.channel.before(self.made.calls),
             sent: (!self.channel.is_watch).then(|| self.made.sent),
-            handles: real.map(|real| real.map(|real| handles.nth(real))).collect(),
+            handles: real
+                .map(|real| real.map(|real| handles.nth(real)))
+                .collect(),
             lags: lags.collect(),
         }
     }

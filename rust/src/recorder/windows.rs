@@ -133,11 +133,17 @@ fn fit(channels: Vec<Calls>, most: Most) -> Result<Vec<(Lead, u64)>, WindowFault
         let entries: u64 = leads.iter().map(|(lead, _)| lead.len()).sum();
         let calls: Vec<u64> = leads.iter().map(|(lead, _)| lead.calls()).collect();
         let room = most.all.saturating_sub(entries);
-        let (few, none) = (calls.iter().sum::<u64>() <= room, calls.iter().all(|it| *it == 0));
+        let (few, none) = (
+            calls.iter().sum::<u64>() <= room,
+            calls.iter().all(|it| *it == 0),
+        );
         if few || none {
             return Ok(leads);
         }
-        all = leads.into_iter().map(|(lead, _)| lead.into_kept()).collect();
+        all = leads
+            .into_iter()
+            .map(|(lead, _)| lead.into_kept())
+            .collect();
         share(&mut all, room)?;
     }
 }
@@ -187,7 +193,9 @@ fn of_fault(fault: WindowFault) -> io::Error {
     io::Error::other(match fault {
         WindowFault::NoMemory => "no memory for the journal",
         WindowFault::TooLong => "a channel has more handles and values than a journal takes",
-        WindowFault::OutOfOrder | WindowFault::Dropped | WindowFault::Unlike => "the journal differs from its channel, which is a bug of yovanelum",
+        WindowFault::OutOfOrder | WindowFault::Dropped | WindowFault::Unlike => {
+            "the journal differs from its channel, which is a bug of yovanelum"
+        }
     })
 }
 

@@ -15,8 +15,15 @@ const START: &str = "flight-";
 pub(super) fn name(at: Option<u64>) -> String {
     static NEXT: AtomicU64 = AtomicU64::new(1);
     let number = NEXT.fetch_add(1, Ordering::Relaxed);
-    let process = if cfg!(target_family = "wasm") { 0 } else { process::id() };
-    format!("{START}{}-{process}-{number}", time_in_digits(at.unwrap_or_default()))
+    let process = if cfg!(target_family = "wasm") {
+        0
+    } else {
+        process::id()
+    };
+    format!(
+        "{START}{}-{process}-{number}",
+        time_in_digits(at.unwrap_or_default())
+    )
 }
 
 /// Returns a time as in `20261129T031245120Z`.
@@ -72,7 +79,10 @@ pub(super) fn keep(folder: &Path, keep: usize) {
     for file in files.flatten() {
         let name = file.file_name();
         if let Some(dump) = name.to_str().and_then(dump_of) {
-            dumps.entry(dump.to_string()).or_default().insert(file.path());
+            dumps
+                .entry(dump.to_string())
+                .or_default()
+                .insert(file.path());
         }
     }
     let too_many = dumps.len().saturating_sub(keep);
@@ -123,11 +133,20 @@ mod tests {
     fn the_last_dumps_stay_and_what_is_no_dump() {
         let folder = crate::temporary::path("flight-kept");
         let _ = fs::remove_dir_all(&folder);
-        let dumps = ["20260101T000000000Z-9-1", "20260101T000000001Z-8-1", "20260102T000000000Z-7-9"];
+        let dumps = [
+            "20260101T000000000Z-9-1",
+            "20260101T000000001Z-8-1",
+            "20260102T000000000Z-7-9",
+        ];
         for dump in dumps {
             write(&folder.join(format!("{START}{dump}")), "j", "n").unwrap();
         }
-        let others = ["flight-1.journal", "flight-20260101T0Z-1-1-1.names", "a.journal", "flight-20260101T0Z-1-1.html"];
+        let others = [
+            "flight-1.journal",
+            "flight-20260101T0Z-1-1-1.names",
+            "a.journal",
+            "flight-20260101T0Z-1-1.html",
+        ];
         for other in others {
             fs::write(folder.join(other), "").unwrap();
         }
@@ -135,7 +154,9 @@ mod tests {
         fs::write(&part, "").unwrap();
         keep(&folder, 2);
         let files = fs::read_dir(&folder).unwrap();
-        let mut left: Vec<_> = files.map(|it| it.unwrap().file_name().into_string().unwrap()).collect();
+        let mut left: Vec<_> = files
+            .map(|it| it.unwrap().file_name().into_string().unwrap())
+            .collect();
         left.sort();
         let mut wanted: Vec<_> = others.map(str::to_string).to_vec();
         for dump in &dumps[1..] {

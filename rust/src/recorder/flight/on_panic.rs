@@ -18,7 +18,10 @@ static FOLLOWING: Mutex<Vec<Weak<Shared>>> = Mutex::new(Vec::new());
 pub(super) fn follow(recorder: &Arc<Shared>) {
     let mut following = crate::lock::lock(&FOLLOWING);
     following.retain(|other| other.strong_count() > 0);
-    if !following.iter().any(|other| other.as_ptr() == Arc::as_ptr(recorder)) {
+    if !following
+        .iter()
+        .any(|other| other.as_ptr() == Arc::as_ptr(recorder))
+    {
         following.push(Arc::downgrade(recorder));
     }
 }

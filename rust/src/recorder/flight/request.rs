@@ -149,8 +149,7 @@ impl DumpRequest {
 
     /// Begins a dump that a panic calls for, unless it is too soon.
     pub(super) fn on_panic(recorder: &Arc<Shared>, panic: NotedPanic) -> Option<Dump> {
-        let (mut request, dump) =
-            DumpRequest::new(recorder, "panic", panic.in_words()).ok()?;
+        let (mut request, dump) = DumpRequest::new(recorder, "panic", panic.in_words()).ok()?;
         request.panic = Some(panic);
         request.begin();
         Some(dump)

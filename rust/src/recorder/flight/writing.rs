@@ -28,7 +28,9 @@ pub(super) fn write(request: &mut DumpRequest) -> io::Result<PathBuf> {
         panic.add_to(&mut names);
     }
     let journal = text_of(&run)?;
-    names.times.extend(recorder.times.moment(run.last_stamp(u64::MAX)));
+    names
+        .times
+        .extend(recorder.times.moment(run.last_stamp(u64::MAX)));
     names.fit_to(&run, &journal);
     names.add_sources();
     let name = files::name(request.why.at);
