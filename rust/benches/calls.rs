@@ -1,5 +1,5 @@
-//! Nanoseconds a call, recorded and with no recorder set, the cases those of tokio's own bench:
-//! `cargo bench -- CALLS REPEATS`.
+//! Nanoseconds a call, recorded, with a flight recorder and with no recorder set, the cases those of
+//! tokio's own bench: `cargo bench -- CALLS REPEATS`.
 
 use std::hint::black_box;
 use std::sync::Barrier;
@@ -216,6 +216,13 @@ fn recorded(calls: u64, case: fn(u64) -> Timed) -> Recorded {
     }
 }
 
+/// Nanoseconds a call of a run of a case whose channels each keep their last calls.
+fn flight(calls: u64, case: fn(u64) -> Timed) -> f64 {
+    let recorder = Recorder::flight(10_000);
+    let _entered = recorder.enter();
+    unset(calls, case)
+}
+
 /// Nanoseconds a call of a run of a case whose channels belong to no recorder.
 fn unset(calls: u64, case: fn(u64) -> Timed) -> f64 {
     let (calls, took) = case(calls);
@@ -244,19 +251,23 @@ fn main() {
         ("snapshot-8rx", snapshots),
     ];
     println!(
-        "{:30} {:>9} {:>9} {:>10} {:>9} {:>13} {:>9}",
-        "case", "calls", "least ns", "median ns", "unset ns", "save ns/call", "bytes"
+        "{:30} {:>9} {:>9} {:>10} {:>9} {:>9} {:>13} {:>9}",
+        "case", "calls", "least ns", "median ns", "flight ns", "unset ns", "save ns/call", "bytes"
     );
     for (name, case) in cases {
-        // In turn, so that both have the same share of what else the machine does.
-        let in_turn = (0..repeats).map(|_| (recorded(calls, case), unset(calls, case)));
-        let (mut runs, unset): (Vec<_>, Vec<_>) = in_turn.unzip();
-        let unset = unset.into_iter().fold(f64::INFINITY, f64::min);
+        // In turn, so that all have the same share of what else the machine does.
+        let (mut runs, mut others) = (Vec::new(), [f64::INFINITY; 2]);
+        for _ in 0..repeats {
+            runs.push(recorded(calls, case));
+            let [flown, unrecorded] = [flight, unset].map(|run| run(calls, case));
+            others = [others[0].min(flown), others[1].min(unrecorded)];
+        }
+        let [flight, unset] = others;
         let bytes = runs[0].bytes;
         runs.sort_by(|a, b| a.call.total_cmp(&b.call));
         let (least, median) = (&runs[0], &runs[runs.len() / 2]);
         println!(
-            "{name:30} {:>9} {:>9.1} {:>10.1} {unset:>9.1} {:>13.1} {bytes:>9}",
+            "{name:30} {:>9} {:>9.1} {:>10.1} {flight:>9.1} {unset:>9.1} {:>13.1} {bytes:>9}",
             least.calls, least.call, median.call, least.save
         );
     }

@@ -60,9 +60,21 @@ pub(crate) struct Actors {
     free: VecDeque<usize>,
     // The numbers that nobody has any more, and no stored call.
     given_away: VecDeque<usize>,
+    // How many numbers are for others than those who call.
+    reserved: usize,
 }
 
 impl Actors {
+    /// Gives nobody the last number, since a flight recorder needs it.
+    pub(crate) fn reserve_last(&mut self) {
+        self.reserved = 1;
+    }
+
+    /// How many numbers there are for those who call.
+    fn most(&self) -> usize {
+        Actor::MOST - self.reserved
+    }
+
     /// Returns the number of the current actor, whose call is made here in the source, if it has
     /// one or there is one for it.
     pub(crate) fn find(&mut self, task: Option<u64>, called_at: CallSite) -> Option<Actor> {
@@ -81,7 +93,7 @@ impl Actors {
             let name = name_of_future().unwrap_or_else(name_of_thread);
             self.sharing.insert(name);
         }
-        (Actor::of(Actor::MOST), is_first)
+        (Actor::of(self.most() - 1), is_first)
     }
 
     /// Whether it is time to look for numbers that nobody needs, since the current actor got none:
@@ -131,7 +143,7 @@ impl Actors {
     fn known_by(&self, name: &str) -> Option<Actor> {
         let is_sharing = self.sharing.contains(name);
         let own = self.numbers.get(name).copied();
-        own.or_else(|| is_sharing.then(|| Actor::of(Actor::MOST)))
+        own.or_else(|| is_sharing.then(|| Actor::of(self.most() - 1)))
     }
 
     /// Returns the number of a task without a name, unless so many others have one that this one
@@ -169,7 +181,7 @@ impl Actors {
                     self.holders[number].taken();
                     number
                 }
-                None if self.names.len() == Actor::MOST => return None,
+                None if self.names.len() >= self.most() => return None,
                 None => {
                     self.names.push(name.to_string());
                     self.holders.push(Holders::default());

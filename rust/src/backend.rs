@@ -3,16 +3,19 @@
 //! The core is the proved source in `source/`. What its functions require of a caller is a type
 //! here: the number of an actor is an [`Actor`], which is below 64.
 
+mod flight;
 #[cfg(test)]
 mod tests;
 
 pub(crate) use crate::source::rw_recording::{CutFault, OpenFault, Spec};
+pub(crate) use flight::{Kept, LEAD, Lead, MOST_CHUNK, MOST_ENTRIES, Window, WindowFault};
 
 use crate::reply::Reply;
 use crate::run::Run;
 use crate::shim::Vec;
 use crate::shim::alloc::Global;
-use crate::source::rw_recording::{self, BCall, ChanCall, Kind, WCall};
+use crate::source::rw_law::NoMemory;
+use crate::source::rw_recording::{self, BCall, ChanCall, Flight, Kind, WCall};
 
 /// The number of an actor, below 64.
 #[derive(Clone, Copy, Debug, PartialEq, Eq)]
@@ -50,84 +53,168 @@ pub(crate) struct Caller {
     pub(crate) clock: u64,
 }
 
-/// A channel of the core with its journal.
-pub(crate) struct Recording(rw_recording::Recording);
+/// A channel of the core with its journal: all of its calls, the last ones, or those before its
+/// recording has ended.
+pub(crate) struct Recording {
+    // Of a channel with its last calls, another one that has ended. So a call that is recorded asks
+    // no more than whether this one has.
+    all: rw_recording::Recording,
+    last: Option<Box<Flight>>,
+}
 
 impl Recording {
     /// Opens a channel with sender 0 and receiver 1.
     pub(crate) fn open(spec: Spec<u64>) -> Result<Recording, OpenFault> {
-        rw_recording::Recording::open(Global, spec).map(Recording)
+        let all = rw_recording::Recording::open(Global, spec)?;
+        Ok(Recording { all, last: None })
+    }
+
+    /// Opens a channel that keeps its last calls: between this many and twice as many.
+    pub(crate) fn open_flight(spec: Spec<u64>, chunk: usize) -> Result<Recording, OpenFault> {
+        let flight = Flight::open(Global, spec, chunk)?;
+        Ok(Recording {
+            all: nothing()?,
+            last: Some(Box::new(flight)),
+        })
+    }
+
+    /// Goes on with the last calls alone. It makes each call again. At an error nothing has
+    /// changed.
+    pub(crate) fn keep_last(&mut self, chunk: usize) -> Result<(), NoMemory> {
+        if self.last.is_none() {
+            let flight = flight_of(&self.all, chunk)?;
+            self.all = nothing().map_err(|_| NoMemory)?;
+            self.last = Some(Box::new(flight));
+        }
+        Ok(())
     }
 
     /// Ends recording: later calls are made as before, and leave no entry.
     pub(crate) fn end(&mut self) {
-        self.0.end();
+        self.all.end();
     }
 
-    /// Whether calls are recorded.
+    /// Whether all calls are recorded.
     #[inline]
     pub(crate) fn is_recorded(&self) -> bool {
-        self.0.is_recorded()
+        self.all.is_recorded()
     }
 
-    /// Takes the dropped handles out of a channel that isn't recorded: those that are alive get the
-    /// numbers 0, 1, 2, .., in the order of those that they had. Returns the numbers that they had,
-    /// or `None` if there is no memory for it, and nothing has changed.
+    /// Whether the last calls alone are kept.
+    pub(crate) fn keeps_last(&self) -> bool {
+        self.last.is_some()
+    }
+
+    /// Copies the last calls of the channel, and how it was before them. Of one that has recorded
+    /// all of its calls, it makes them again, and keeps at least this many.
+    pub(crate) fn kept(&self, chunk: usize) -> Result<Kept, NoMemory> {
+        let kept = match &self.last {
+            Some(flight) => flight.kept(Global),
+            None => flight_of(&self.all, chunk)?.kept(Global),
+        };
+        kept.map(Kept::of)
+    }
+
+    /// Takes the dropped handles out of a channel of which not all calls are recorded: those that
+    /// are alive get the numbers 0, 1, 2, .., in the order of those that they had. Returns the
+    /// numbers that they had, or `None` if there is no memory for it, and nothing has changed. A
+    /// channel with its last calls has none then.
     pub(crate) fn renumber(&mut self) -> Option<Vec<u32>> {
-        self.0.renumber(Global).ok().flatten()
+        match &mut self.last {
+            Some(flight) => flight.renumber(Global).ok().flatten(),
+            None => self.all.renumber(Global).ok().flatten(),
+        }
     }
 
     /// Returns the spec that the channel was opened from.
     pub(crate) fn spec(&self) -> Spec<u64> {
-        self.0.spec()
+        match &self.last {
+            Some(flight) => flight.spec(),
+            None => self.all.spec(),
+        }
     }
 
-    /// How many entries the journal has.
+    /// How many calls are kept.
     pub(crate) fn entries(&self) -> u64 {
-        self.0.len()
+        match &self.last {
+            Some(flight) => flight.len(),
+            None => self.all.len(),
+        }
+    }
+
+    fn alive(&self, kind: Kind) -> u64 {
+        match &self.last {
+            Some(flight) => flight.alive(kind),
+            None => self.all.alive(kind),
+        }
     }
 
     /// How many senders are alive.
     pub(crate) fn senders(&self) -> u64 {
-        self.0.alive(Kind::Sender)
+        self.alive(Kind::Sender)
     }
 
     /// How many weak senders are alive.
     pub(crate) fn weak_senders(&self) -> u64 {
-        self.0.alive(Kind::Weak)
+        self.alive(Kind::Weak)
     }
 
     /// How many receivers are alive.
     pub(crate) fn receivers(&self) -> u64 {
-        self.0.alive(Kind::Receiver)
+        self.alive(Kind::Receiver)
     }
 
     /// How many values a broadcast retains for some receiver.
     pub(crate) fn queued(&self) -> u64 {
-        self.0.queued()
+        match &self.last {
+            Some(flight) => flight.queued(),
+            None => self.all.queued(),
+        }
     }
 
     /// How many values a receiver of a broadcast has yet to receive.
     pub(crate) fn unread(&self, receiver: u32) -> u64 {
-        let unread = self.0.unread(receiver);
+        let unread = match &self.last {
+            Some(flight) => flight.unread(receiver),
+            None => self.all.unread(receiver),
+        };
         unread.expect("a live receiver of a broadcast")
     }
 
     /// Whether a receiver of a watch has seen its value.
     #[inline]
     pub(crate) fn seen(&self, receiver: u32) -> bool {
-        let seen = self.0.is_seen(receiver);
+        let seen = match &self.last {
+            Some(flight) => flight.is_seen(receiver),
+            None => self.all.is_seen(receiver),
+        };
         seen.expect("a live receiver of a watch")
     }
 
-    /// Makes a call once recording has ended.
+    /// Makes a call where not all calls are recorded.
     // Apart, since the reply of a call that is recorded would be stored where this one is. Each
     // call has its own, of which the branches for others are left out.
     #[cold]
     #[inline(never)]
-    fn call_unrecorded(&mut self, caller: Caller, call: impl FnOnce() -> ChanCall<u64>) -> Reply {
-        Reply::of(&self.0.call(caller.actor.number(), caller.clock, call()))
+    fn call_apart(&mut self, caller: Caller, call: impl FnOnce() -> ChanCall<u64>) -> Reply {
+        let (actor, clock) = (caller.actor.number(), caller.clock);
+        Reply::of(&match &mut self.last {
+            Some(flight) => flight.call(actor, clock, call()),
+            None => self.all.call(actor, clock, call()),
+        })
     }
+}
+
+/// Goes on from a recording that hasn't ended with its last calls alone.
+fn flight_of(all: &rw_recording::Recording, chunk: usize) -> Result<Flight, NoMemory> {
+    Flight::of(Global, all, chunk).map_err(|_| NoMemory)
+}
+
+/// A small channel that nobody uses.
+fn nothing() -> Result<rw_recording::Recording, OpenFault> {
+    let mut nothing = rw_recording::Recording::open(Global, Spec::Watch(0))?;
+    nothing.end();
+    Ok(nothing)
 }
 
 /// The calls of the core by name: each becomes a method.
@@ -136,10 +223,10 @@ macro_rules! calls {
         impl Recording {
             $(#[inline]
             pub(crate) fn $method(&mut self, caller: Caller, $($arg: $type),*) -> Reply {
-                if !self.0.is_recorded() {
-                    return self.call_unrecorded(caller, move || $call);
+                if !self.all.is_recorded() {
+                    return self.call_apart(caller, move || $call);
                 }
-                Reply::of(&self.0.call(caller.actor.number(), caller.clock, $call))
+                Reply::of(&self.all.call(caller.actor.number(), caller.clock, $call))
             })*
         }
     };
@@ -187,7 +274,12 @@ impl Cut {
 
     /// Adds a channel, with its entries before the first that is stamped above `last`.
     pub(crate) fn add(&mut self, channel: &Recording, last: u64) -> Result<(), CutFault> {
-        self.0.add(Global, &channel.0, last)
+        self.0.add(Global, &channel.all, last)
+    }
+
+    /// Adds a channel's window, in the same way.
+    pub(crate) fn add_window(&mut self, window: &Window, last: u64) -> Result<(), CutFault> {
+        self.0.add(Global, window.recording(), last)
     }
 
     /// Returns the run of all added channels.

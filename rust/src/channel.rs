@@ -3,16 +3,20 @@
 
 mod at_gate;
 mod core_channel;
+mod kept;
 mod last_caller;
+mod last_calls;
 mod locations;
 mod locked;
 mod machine;
+mod made_handles;
 mod numbers;
 mod receivers;
 mod registry;
 mod state;
 
 pub(crate) use core_channel::{Call, CoreChannel, Send};
+pub(crate) use kept::{KeptChannel, NotedChannel};
 pub(crate) use locations::{CallSite, CallSites, call_site};
 pub(crate) use locked::LockedChannel;
 pub(crate) use receivers::{LiveReceiver, NO_SLOT, Slot};
@@ -49,7 +53,9 @@ impl RecordedChannel {
         let recorder = current.map(|current| current.0).filter(|it| !it.is_off());
         let mut state = ChannelState::new(core, value_count, made_at);
         state.receivers.add(1, made_at);
+        let mut may_be_added = true;
         if let Some(recorder) = &recorder {
+            may_be_added = recorder.begin_flight(&mut state);
             state.made_by = Some(recorder.maker());
             state.store_making(made_at);
             state.store_making(made_at);
@@ -66,7 +72,7 @@ impl RecordedChannel {
         let state = Arc::new(Mutex::new(state));
         let is_added = recorder
             .as_ref()
-            .is_some_and(|recorder| recorder.add(&state));
+            .is_some_and(|recorder| may_be_added && recorder.add(&state));
         if !is_added {
             lock(&state).end_recording();
         }

@@ -9,7 +9,7 @@ pub use lag::Lag;
 
 use crate::channel::{CallSite, ChannelState};
 use crate::lock::lock;
-use crate::recorder::{HeldTexts, RecordedBy};
+use crate::recorder::{DumpRequest, HeldTexts, RecordedBy};
 use std::fmt;
 use std::panic::{self, AssertUnwindSafe};
 use std::sync::{Arc, Mutex};
@@ -120,34 +120,49 @@ impl ToldEvent {
 }
 
 /// An event of a call, if somebody asked for it. Whoever makes the call drops this while nothing is
-/// locked: then the closure is called.
+/// locked: then the closure is called, and the dump is begun.
 #[derive(Default)]
-pub(crate) struct Event(Option<Box<(Option<ToldEvent>, Option<HeldTexts>)>>);
+pub(crate) struct Event(Option<Box<Told>>);
+
+/// What an event calls for. What the recorder holds may be dropped with it, which runs user code.
+struct Told {
+    event: Option<ToldEvent>,
+    held: Option<HeldTexts>,
+    dump: Option<DumpRequest>,
+}
 
 impl Event {
     /// A lag on a channel of this recorder.
-    pub(crate) fn lag(recorder: &RecordedBy, lag: impl FnOnce() -> Lag) -> Event {
+    pub(crate) fn lag(
+        recorder: &RecordedBy,
+        dump: Option<DumpRequest>,
+        lag: impl FnOnce() -> Lag,
+    ) -> Event {
         let find = |hooks: &Hooks| lock(&hooks.lag).clone();
-        Event::of(recorder, find, |hook| ToldEvent::Lag(hook, lag()))
+        Event::of(recorder, dump, find, |hook| ToldEvent::Lag(hook, lag()))
     }
 
     /// The drop of the last sender of a channel of this recorder.
-    pub(crate) fn close(recorder: &RecordedBy, close: impl FnOnce() -> Close) -> Event {
+    pub(crate) fn close(
+        recorder: &RecordedBy,
+        dump: Option<DumpRequest>,
+        close: impl FnOnce() -> Close,
+    ) -> Event {
         let find = |hooks: &Hooks| lock(&hooks.close).clone();
-        Event::of(recorder, find, |hook| ToldEvent::Close(hook, close()))
+        Event::of(recorder, dump, find, |hook| ToldEvent::Close(hook, close()))
     }
 
     fn of<E: ?Sized>(
         recorder: &RecordedBy,
+        dump: Option<DumpRequest>,
         find: impl Fn(&Hooks) -> Option<Arc<E>>,
         told: impl FnOnce(Arc<E>) -> ToldEvent,
     ) -> Event {
         let held = recorder.held();
         let own = held.as_ref().and_then(|held| find(held.hooks()));
-        let told = own.or_else(|| find(&PROCESS)).map(told);
-        // What the recorder holds may be dropped with this, which runs user code.
-        let has_any = told.is_some() || held.is_some();
-        Event(has_any.then(|| Box::new((told, held))))
+        let event = own.or_else(|| find(&PROCESS)).map(told);
+        let has_any = event.is_some() || held.is_some() || dump.is_some();
+        Event(has_any.then(|| Box::new(Told { event, held, dump })))
     }
 }
 
@@ -164,14 +179,17 @@ impl Drop for Event {
 // It gets the box, since what is in it would else be moved where the event is dropped.
 #[cold]
 #[allow(clippy::boxed_local)]
-fn tell(event: Box<(Option<ToldEvent>, Option<HeldTexts>)>) {
-    let (told, held) = *event;
+fn tell(told: Box<Told>) {
+    let Told { event, held, dump } = *told;
+    if let Some(dump) = dump {
+        dump.begin();
+    }
     let called = panic::catch_unwind(AssertUnwindSafe(|| {
-        if let Some(told) = &told {
-            told.tell();
+        if let Some(event) = &event {
+            event.tell();
         }
     }));
-    drop((told, held));
+    drop((event, held));
     if let Err(panicked) = called {
         if !thread::panicking() {
             panic::resume_unwind(panicked);
@@ -213,7 +231,7 @@ impl ChannelOf {
 }
 
 /// Formats a count of values.
-fn values(count: u64) -> String {
+pub(crate) fn values(count: u64) -> String {
     match count {
         1 => "1 value".to_string(),
         _ => format!("{count} values"),

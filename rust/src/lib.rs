@@ -79,6 +79,7 @@ mod block_on;
 pub mod broadcast;
 mod budget;
 mod channel;
+mod clock;
 mod command;
 mod cut;
 pub mod debugger;
@@ -127,7 +128,8 @@ pub use polled::Polled;
 #[doc(hidden)]
 pub use program::set_patch;
 pub use recorder::{
-    Entered, ForTest, Handle, Installed, Recorder, SaveOnPanic, Scoped, Waiting, follow_this_thread,
+    Dump, DumpTo, Dumps, Entered, ForTest, Handle, Installed, Recorder, SaveOnPanic, Scoped,
+    Waiting, follow_this_thread,
 };
 pub use replay::Replayed;
 pub use snapshot::{ChannelSnapshot, ReceiverSnapshot, Snapshot, snapshot};

@@ -17,19 +17,19 @@ pub(crate) use beside::test_beside;
 pub(crate) use ending::{Ending, Panic, Returned, TestId, Unrecorded, checksum};
 pub(crate) use json::Json;
 pub(crate) use matching::{Maker, Matching};
-pub(crate) use window::{ChannelWindow, TimedStamp, Window};
+pub(crate) use window::{ChannelWindow, WindowNames};
 
+use crate::clock::Moment;
 use crate::run::Run;
 use std::collections::BTreeMap;
 use std::fmt::{Display, Write};
 use std::panic::Location;
 
-/// The version of the format that is written where there is no window. A document of version 1 has
-/// no such key.
+/// The version of the format that is written. A document of version 1 has no such key.
 const VERSION: u64 = 3;
 
-/// The version of the format that is written where there is a window, and the last one that is read:
-/// who knows no window would count what its lead has as what happened.
+/// The version that is written of a journal with the last calls alone, and the last one that is
+/// read. Who reads no later one than 3 would take a lead for calls that were made.
 const VERSION_OF_WINDOW: u64 = 4;
 
 /// A location in a source: the file as the compiler was given it, with the line and the column,
@@ -100,10 +100,10 @@ pub(crate) struct Names {
     pub(crate) waiting: Vec<WaitingCall>,
     pub(crate) matching: Matching,
     pub(crate) ending: Ending,
-    /// Where the journal doesn't begin with the openings of its channels, what was before.
-    pub(crate) window: Option<Window>,
-    /// When some of the calls were made, in the order of their stamps.
-    pub(crate) times: Vec<TimedStamp>,
+    /// Of a journal that has the last calls of its channels alone.
+    pub(crate) window: Option<WindowNames>,
+    /// When calls were made, by their stamps.
+    pub(crate) times: Vec<Moment>,
     /// The account of the run as JSON, for readers that don't find it themselves. It is written and
     /// never read.
     pub(crate) account: Option<String>,
@@ -152,7 +152,7 @@ impl Names {
         self.push_calls(&mut out);
         self.matching.push(&mut out);
         self.ending.push(&mut out);
-        window::push_members(&mut out, self.window.as_ref(), &self.times);
+        window::push(&mut out, self.window.as_ref(), &self.times);
         if let Some(account) = &self.account {
             push_member(&mut out, "account", |out| push_nested(out, account));
         }

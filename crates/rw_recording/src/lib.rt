@@ -5,15 +5,30 @@
 //! run. A `RunReader` returns each entry of a text's run, in their order. Start reading at `specs/Calls.antt`, and then read `recording.rt`.
 #![tactic(auto)]
 
+mod broadcast_lead;
+mod channels;
 mod cut;
+mod faults;
 mod findings;
+mod flight;
+mod kept;
+mod lead;
+mod leading;
+mod numbering;
 mod recording;
 mod run_reader;
+mod watch_lead;
+mod window;
 
 pub use cut::{Cut, CutFault};
+pub use faults::WindowFault;
 pub use findings::Findings;
+pub use flight::{Flight, MOST_NUMBERED_WEIGHT};
+pub use kept::Kept;
+pub use lead::{Dozing, Lead};
 pub use recording::Recording;
 pub use run_reader::RunReader;
+pub use window::Window;
 pub use rw_broadcast::{BCall, BReply};
 pub use rw_findings::{
     BroadcastCounts, Closing, Counts, LateReader, Loss, LossEnd, Totals, WatchCounts,

@@ -1,6 +1,7 @@
 //! When calls were made, in words: by the clock of UTC, and how long before the dump.
 
-use crate::names::{Names, TimedStamp};
+use crate::clock::Moment;
+use crate::names::Names;
 
 const MILLISECONDS_OF_DAY: u64 = 86_400_000;
 
@@ -15,7 +16,7 @@ const UNITS: [(&str, u64, u64); 4] = [
 /// The times that a window knows.
 pub(super) struct Times<'a> {
     // The last one is that of the dump.
-    known: &'a [TimedStamp],
+    known: &'a [Moment],
 }
 
 /// When a call was made.
@@ -52,10 +53,10 @@ impl<'a> Times<'a> {
         let dump = self.known.last()?;
         let part = (stamp - before.stamp, after.stamp - before.stamp);
         let wall = between(before.wall, after.wall, part);
-        let monotonic = between(before.monotonic, after.monotonic, part);
+        let since_start = between(before.since_start, after.since_start, part);
         Some(CallTime {
             wall,
-            before_dump: dump.monotonic.saturating_sub(monotonic),
+            before_dump: dump.since_start.saturating_sub(since_start),
             is_on_day_of_dump: wall / MILLISECONDS_OF_DAY == dump.wall / MILLISECONDS_OF_DAY,
         })
     }
@@ -137,7 +138,7 @@ fn date_and_clock(wall: u64) -> (String, String) {
 #[cfg(test)]
 mod tests {
     use super::*;
-    use crate::names::Window;
+    use crate::names::WindowNames;
 
     #[test]
     fn a_time_is_that_of_the_calendar() {
@@ -172,13 +173,13 @@ mod tests {
     }
 
     fn names(times: &[[u64; 3]]) -> Names {
-        let time = |[stamp, wall, monotonic]: [u64; 3]| TimedStamp {
+        let time = |[stamp, wall, since_start]: [u64; 3]| Moment {
             stamp,
             wall,
-            monotonic,
+            since_start,
         };
         Names {
-            window: Some(Window::default()),
+            window: Some(WindowNames::default()),
             times: times.iter().copied().map(time).collect(),
             ..Names::default()
         }

@@ -2,7 +2,7 @@
 
 use super::times::utc;
 use super::visible;
-use crate::names::{Names, Window};
+use crate::names::{Names, WindowNames};
 
 /// What a call is called that was made before the window, of which its journal has no place.
 pub(super) const BEFORE: &str = "before the window";
@@ -12,7 +12,7 @@ pub(super) const BEFORE: &str = "before the window";
 pub(crate) struct WindowSaid {
     /// When and why it was written, and its calls by their numbers.
     pub(crate) text: String,
-    pub(super) window: Window,
+    pub(super) window: WindowNames,
 }
 
 impl WindowSaid {
@@ -63,9 +63,9 @@ mod tests {
 
     #[test]
     fn a_reason_is_on_one_line() {
-        let window = Window {
+        let window = WindowNames {
             reason: "asked\nfor".to_string(),
-            ..Window::default()
+            ..WindowNames::default()
         };
         let mut names = Names {
             window: Some(window),

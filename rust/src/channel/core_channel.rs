@@ -23,6 +23,7 @@ use super::machine::{MOST_HANDLES, Machine, made};
 use super::numbers::{Numbers, Place};
 use crate::backend::{Caller, OpenFault, Recording, Spec};
 use crate::reply::Reply;
+use crate::source::rw_law::NoMemory;
 use std::iter;
 
 /// A channel of the core.
@@ -64,6 +65,40 @@ impl CoreChannel {
             newest: 0,
             numbers: Numbers::of_machine(),
         })
+    }
+
+    /// Keeps the last calls alone, from the opening on. No call was made yet.
+    pub(crate) fn fly(&mut self, chunk: usize) -> Result<(), NoMemory> {
+        let core = Recording::open_flight(self.first.core.spec(), chunk);
+        self.first.core = core.map_err(|_| NoMemory)?;
+        self.first.look_when_full();
+        Ok(())
+    }
+
+    /// Goes on with the last calls alone. It makes each recorded call again. At an error nothing
+    /// has changed.
+    pub(crate) fn keep_last(&mut self, chunk: usize) -> Result<(), NoMemory> {
+        self.first.core.keep_last(chunk)?;
+        self.first.look_when_full();
+        Ok(())
+    }
+
+    /// Takes the dropped handles out of the table of a channel that keeps its last calls, if they
+    /// are many. These calls are no longer kept then. Returns the numbers that the others had, or
+    /// `None` if nothing has changed.
+    pub(crate) fn renumber_last(&mut self) -> Option<Vec<u32>> {
+        if !self.further.is_empty() || !self.first.has_many_dropped() {
+            return None;
+        }
+        let before = self.renumber(0)?;
+        self.first.look_when_full();
+        Some(before)
+    }
+
+    /// Returns the number of a handle in the table of the machine that has the journal.
+    pub(crate) fn number_in_table(&self, handle: u32) -> u32 {
+        let place = self.numbers.own_place(handle);
+        place.map_or(handle, Place::handle)
     }
 
     /// Ends recording: later calls are made as before, and leave no entry.

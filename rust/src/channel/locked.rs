@@ -8,13 +8,13 @@ use crate::guarded_by::GuardedBy;
 use crate::handle::Kind;
 use crate::lock::lock;
 use crate::queue::ItemNumber;
-use crate::recorder::Shared;
+use crate::recorder::{DumpRequest, Shared};
 use crate::replay::Permit;
 use crate::reply::Reply;
 use crate::wait::{Awaited, Look, Method, Wait, WaitFor, now};
 use crate::wakers::{WakeAtEnd, Wakers};
 use crate::word::Word;
-use std::sync::MutexGuard;
+use std::sync::{Arc, MutexGuard};
 
 /// A channel whose lock is held, for the calls of one actor by one handle.
 ///
@@ -75,17 +75,52 @@ impl RecordedChannel {
         state: &mut ChannelState,
         (actor, called_at): (Actor, CallSite),
     ) -> u64 {
-        if !state.is_recorded {
-            return 0;
+        if !state.keeps_all {
+            return self.tick_apart(recorder, state, (actor, called_at));
         }
-        if recorder.has_ended() {
-            self.end_recording(state);
-            return 0;
+        if recorder.is_past_limit() {
+            return self.tick_past_limit(recorder, state, (actor, called_at));
         }
         // It is added before the call, so that nothing of the reply has to be stored meanwhile.
         state.locations.of_calls.push(called_at);
         state.actors |= actor.bit();
         recorder.tick()
+    }
+
+    /// As [`tick`](RecordedChannel::tick), where the last calls alone are kept, or none.
+    // What is cold is laid out apart, and so leaves the calls that are recorded as fast as they
+    // are.
+    #[cold]
+    #[inline(never)]
+    fn tick_apart(
+        &self,
+        recorder: &Shared,
+        state: &mut ChannelState,
+        (actor, called_at): (Actor, CallSite),
+    ) -> u64 {
+        let Some(last) = &mut state.last_calls else {
+            return 0;
+        };
+        let clock = recorder.tick();
+        last.add(called_at, actor, clock + 1);
+        clock
+    }
+
+    /// As [`tick`](RecordedChannel::tick), once a channel of the recorder has recorded as many
+    /// calls as a journal takes. This one then keeps its last calls alone, or none.
+    #[cold]
+    #[inline(never)]
+    fn tick_past_limit(
+        &self,
+        recorder: &Shared,
+        state: &mut ChannelState,
+        caller: (Actor, CallSite),
+    ) -> u64 {
+        if recorder.has_ended() || state.keep_last(recorder.times).is_err() {
+            self.end_recording(state);
+            return 0;
+        }
+        self.tick_apart(recorder, state, caller)
     }
 
     /// Ends the recording of this channel, whose state this is. A replay no longer orders its
@@ -98,9 +133,13 @@ impl RecordedChannel {
         }
     }
 
-    /// Ends the recording of this channel, since no journal can name a further handle of it.
+    /// Makes room for a further handle in a channel that keeps its last calls, or ends the
+    /// recording of this channel, since no journal can name a further handle of it.
     #[cold]
     pub(super) fn end_for_handles(&self, state: &mut ChannelState) {
+        if state.make_room_for_handles() {
+            return;
+        }
         self.end_recording(state);
         if let Some(recorder) = &self.recorder.0 {
             recorder.tell_of_too_many_handles();
@@ -117,11 +156,14 @@ impl RecordedChannel {
         &self,
         state: &mut ChannelState,
         receiver: (u32, Slot),
-        received_at: CallSite,
+        (received_at, stamp): (CallSite, u64),
         lost: u64,
     ) -> Event {
         state.receivers.lose(receiver.1, lost);
-        Event::lag(&self.recorder, || {
+        let dump = self.note_event(state, stamp, |recorder, state| {
+            recorder.dump_on_lag(&self.state, state, receiver.0, lost)
+        });
+        Event::lag(&self.recorder, dump, || {
             Lag::new(state, receiver, received_at, lost)
         })
     }
@@ -129,8 +171,22 @@ impl RecordedChannel {
     /// Returns the event of the drop of the last sender.
     #[cold]
     #[inline(never)]
-    fn note_close(&self, state: &mut ChannelState) -> Event {
-        Event::close(&self.recorder, || Close::new(state))
+    fn note_close(&self, state: &mut ChannelState, stamp: u64) -> Event {
+        let dump = self.note_event(state, stamp, |recorder, state| {
+            recorder.dump_on_close(&self.state, state)
+        });
+        Event::close(&self.recorder, dump, || Close::new(state))
+    }
+
+    /// Notes the time of an event, and returns the dump that it calls for.
+    fn note_event(
+        &self,
+        state: &mut ChannelState,
+        stamp: u64,
+        dump: impl FnOnce(&Arc<Shared>, &mut ChannelState) -> Option<DumpRequest>,
+    ) -> Option<DumpRequest> {
+        state.last_calls.as_mut()?.note_time(stamp);
+        dump(self.recorder.0.as_ref()?, state)
     }
 
     /// Ends a call that has left no entry and replied so, and returns its reply. A call for which
@@ -141,7 +197,7 @@ impl RecordedChannel {
         &self,
         state: &mut ChannelState,
         mut permit: Permit<'_>,
-        caller: Caller,
+        (caller, called_at): (Caller, CallSite),
         reply: Reply,
         call: impl Fn(&mut CoreChannel, Caller) -> Reply,
     ) -> Reply {
@@ -150,11 +206,36 @@ impl RecordedChannel {
             permit.would_wait();
             return reply.expect_made();
         }
-        if let (Some(recorder), true) = (&self.recorder.0, state.is_recorded) {
-            recorder.end_at(caller.clock);
+        if !self.goes_on_past_limit(state, (caller, called_at)) {
+            self.end_recording(state);
         }
-        self.end_recording(state);
-        call(&mut state.core, caller).expect_made()
+        let reply = call(&mut state.core, caller);
+        if !reply.leaves_entry() {
+            state.remove_location();
+            permit.would_wait();
+        }
+        reply.expect_made()
+    }
+
+    /// Whether the last calls of this channel are kept from now on, since the journal has no room
+    /// for all. Else the recording of all channels ends here.
+    fn goes_on_past_limit(
+        &self,
+        state: &mut ChannelState,
+        (caller, called_at): (Caller, CallSite),
+    ) -> bool {
+        let (Some(recorder), true) = (&self.recorder.0, state.is_recorded) else {
+            return false;
+        };
+        if recorder.may_go_on() && state.keep_last(recorder.times).is_ok() {
+            recorder.go_on();
+            if let Some(last) = &mut state.last_calls {
+                last.add(called_at, caller.actor, caller.clock + 1);
+            }
+            return true;
+        }
+        recorder.end_at(caller.clock);
+        false
     }
 }
 
@@ -212,7 +293,8 @@ impl<'a> LockedChannel<'a> {
             _ => self.state.last_send.note(self.called_at),
         }
         if let Some(text) = text {
-            self.state.store_text(number, text);
+            let is_sent = !matches!(reply, Reply::NoReceivers(_));
+            self.state.store_text(number, text, is_sent);
         }
         (number, reply)
     }
@@ -243,9 +325,13 @@ impl<'a> LockedChannel<'a> {
         let reply = call(&mut state.core, caller);
         if !reply.leaves_entry() {
             let permit = self.permit.take();
-            return self
-                .channel
-                .end_unrecorded(state, permit, caller, reply, call);
+            return self.channel.end_unrecorded(
+                state,
+                permit,
+                (caller, self.called_at),
+                reply,
+                call,
+            );
         }
         if self.permit.is_held() {
             tell_made(self.permit.take(), state.is_recorded, text.as_deref());
@@ -256,8 +342,7 @@ impl<'a> LockedChannel<'a> {
     /// Makes a call that waits, and for which a journal has the word of one that doesn't.
     pub(crate) fn call_that_waits(&mut self, call: Call) {
         self.call(call);
-        let entry = self.state.last_entry();
-        self.state.waited.extend(entry);
+        self.state.note_waited();
     }
 
     /// Notes that the receiver in this slot has received a value.
@@ -273,7 +358,8 @@ impl<'a> LockedChannel<'a> {
     /// be dropped once the channel is unlocked.
     pub(crate) fn note_lag(&mut self, slot: Slot, lost: u64) -> Event {
         let (state, receiver) = (&mut *self.state, (self.handle, slot));
-        self.channel.note_lag(state, receiver, self.called_at, lost)
+        let at = (self.called_at, self.stamp);
+        self.channel.note_lag(state, receiver, at, lost)
     }
 
     /// Returns the greatest stamp that a recorded call can have so far.
@@ -350,12 +436,11 @@ impl<'a> LockedChannel<'a> {
         self.call(call);
         self.state.remove_name(self.handle);
         if actors::is_dropping_future() {
-            let entry = self.state.last_entry();
-            self.state.cancelled.extend(entry);
+            self.state.note_cancelled();
         }
         match kind {
             Kind::Sender if self.core().senders() == 0 => {
-                let event = self.channel.note_close(&mut self.state);
+                let event = self.channel.note_close(&mut self.state, self.stamp);
                 (self.remove_wakers(WaitFor::Value), event)
             }
             Kind::Receiver => {

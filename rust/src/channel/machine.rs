@@ -179,6 +179,13 @@ impl Machine {
         self.has_room()
     }
 
+    /// Keeps its last calls alone. It is looked for dropped handles only when it has made nearly all
+    /// that it can: the lead of a journal may need two.
+    pub(super) fn look_when_full(&mut self) {
+        self.most = self.most.min(MOST_HANDLES - 2);
+        self.look_at = self.most;
+    }
+
     /// Whether so many handles are dropped that a renumbering takes no longer than it took to make
     /// them: half of them. In a full machine some of them are enough.
     pub(super) fn has_many_dropped(&self) -> bool {

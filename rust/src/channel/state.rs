@@ -2,8 +2,10 @@
 
 use super::CoreChannel;
 use super::last_caller::LastCaller;
+use super::last_calls::LastCalls;
 use super::locations::{CallSite, Locations};
 use super::receivers::Receivers;
+use crate::clock::Times;
 use crate::explore::{Known, KnownReceiver};
 use crate::handle::Kind;
 use crate::names::Maker;
@@ -11,12 +13,17 @@ use crate::queue::Queue;
 use crate::wait::{Look, Pending, Wait, WaitFor};
 use crate::wakers::WakerQueue;
 use std::collections::BTreeMap;
+use std::mem;
 use std::task::Waker;
 
 /// What the lock of a channel guards: the core's channel and the futures that wait for it.
 pub(crate) struct ChannelState {
     pub(crate) core: CoreChannel,
     pub(super) is_recorded: bool,
+    // Whether all calls are recorded, and not the last ones alone.
+    pub(super) keeps_all: bool,
+    // If the last ones alone are, what is known of them.
+    pub(super) last_calls: Option<Box<LastCalls>>,
     // How many values were passed to the core, which is the number of the next one.
     pub(super) value_count: u64,
     // How many of these were not sent, since there was no receiver.
@@ -60,6 +67,8 @@ impl ChannelState {
         ChannelState {
             core,
             is_recorded: true,
+            keeps_all: true,
+            last_calls: None,
             value_count,
             unsent_count: 0,
             opened_with: value_count,
@@ -81,19 +90,43 @@ impl ChannelState {
         }
     }
 
-    /// Returns the index of the entry that the call before has left, if it is recorded.
-    pub(super) fn last_entry(&mut self) -> Option<u64> {
-        if self.is_recorded {
+    /// Returns the index of the entry that the call before has left, if all calls are recorded.
+    fn last_entry(&mut self) -> Option<u64> {
+        if self.keeps_all {
             self.core.entries().checked_sub(1)
         } else {
             None
         }
     }
 
+    /// Notes that the call before has waited, if it is recorded.
+    pub(super) fn note_waited(&mut self) {
+        match &mut self.last_calls {
+            Some(last) => last.note_waited(),
+            None => {
+                let entry = self.last_entry();
+                self.waited.extend(entry);
+            }
+        }
+    }
+
+    /// Notes that the call before was a drop by the drop of a named future, if it is recorded.
+    pub(super) fn note_cancelled(&mut self) {
+        match &mut self.last_calls {
+            Some(last) => last.note_cancelled(),
+            None => {
+                let entry = self.last_entry();
+                self.cancelled.extend(entry);
+            }
+        }
+    }
+
     /// Removes what was stored for a call that then wasn't recorded.
     pub(super) fn remove_location(&mut self) {
-        if self.is_recorded {
+        if self.keeps_all {
             self.locations.of_calls.pop();
+        } else if let Some(last) = &mut self.last_calls {
+            last.remove_last();
         }
     }
 
@@ -101,8 +134,10 @@ impl ChannelState {
     /// their numbers.
     #[inline]
     pub(crate) fn store_making(&mut self, made_at: CallSite) {
-        if self.is_recorded {
+        if self.keeps_all {
             self.locations.of_handles.push(made_at);
+        } else if let Some(last) = &mut self.last_calls {
+            last.handles.add(made_at);
         }
     }
 
@@ -115,7 +150,15 @@ impl ChannelState {
     #[inline]
     pub(super) fn remove_name(&mut self, number: u32) {
         if !self.handle_names.is_empty() && number as usize >= self.locations.of_handles.len() {
-            self.handle_names.remove(&number.into());
+            self.remove_name_now(number);
+        }
+    }
+
+    #[cold]
+    fn remove_name_now(&mut self, number: u32) {
+        let name = self.handle_names.remove(&number.into());
+        if let (Some(last), Some(name)) = (&mut self.last_calls, name) {
+            last.add_name(self.core.nth(number), name);
         }
     }
 
@@ -198,11 +241,38 @@ impl ChannelState {
         self.value_count - self.opened_with - self.unsent_count
     }
 
+    /// Returns what is known of the last calls, of what is known of all calls.
+    pub(super) fn noted(&self, chunk: usize, capacity: usize, times: Times) -> LastCalls {
+        let mut last = LastCalls::new(chunk, capacity, times);
+        last.add_all(&self.locations, self.actors);
+        last.add_indexes(&self.waited, &self.cancelled);
+        for (number, text) in &self.texts {
+            last.add_text(*number, text.clone(), true);
+        }
+        last
+    }
+
     /// Ends recording: later calls leave no entry.
     pub(crate) fn end_recording(&mut self) {
-        if std::mem::take(&mut self.is_recorded) {
+        if mem::take(&mut self.is_recorded) {
             self.core.end();
+            self.keeps_all = false;
+            self.last_calls = None;
         }
+    }
+
+    /// Makes room for a further handle in a channel that keeps its last calls, if many of its
+    /// handles are dropped. The calls before are no longer kept then, since they have the handles'
+    /// previous numbers. Returns whether there is room.
+    pub(super) fn make_room_for_handles(&mut self) -> bool {
+        let Some(last) = &mut self.last_calls else {
+            return false;
+        };
+        let before = self.core.renumber_last();
+        before.is_some_and(|before| {
+            last.begin_again(&before);
+            !self.core.has_named_all()
+        })
     }
 
     /// Whether the channel is recorded, and has created as many handles as a journal names.
@@ -219,6 +289,7 @@ impl ChannelState {
         waits
             .chain(looks)
             .fold(self.actors, |all, actor| all | actor.bit())
+            | self.last_calls.as_ref().map_or(0, |last| last.actors())
     }
 
     /// Whether all senders, weak senders and receivers are dropped.
@@ -227,10 +298,12 @@ impl ChannelState {
         core.receivers() == 0 && core.senders() == 0 && core.weak_senders() == 0
     }
 
-    /// Stores the text of a value, if its channel is recorded.
+    /// Stores the text of a value, which was sent or wasn't, if its channel is recorded.
     #[cold]
-    pub(super) fn store_text(&mut self, number: u64, text: String) {
-        if self.is_recorded {
+    pub(super) fn store_text(&mut self, number: u64, text: String, is_sent: bool) {
+        if let Some(last) = &mut self.last_calls {
+            last.add_text(number, text, is_sent);
+        } else if self.is_recorded {
             self.texts.insert(number, text);
         }
     }
@@ -238,8 +311,8 @@ impl ChannelState {
     /// Stores the text of the value that the channel was opened with, if no other was passed to the
     /// core yet.
     pub(crate) fn store_first_text(&mut self, text: String) {
-        if self.value_count == 1 && self.is_recorded {
-            self.texts.insert(0, text);
+        if self.value_count == 1 {
+            self.store_text(0, text, true);
         }
     }
 

@@ -95,8 +95,12 @@ impl TestRun {
         let call = call.unwrap_or(report.call());
         let (look, more) = match write(&path, &journal, &names, call) {
             Ok((path, look)) => {
-                let lines = replay_line::of(&path, self) + &compare_line(&path, recorder);
-                (Some(look), lines)
+                let replay = match names.window {
+                    // Nobody makes the calls of a lead.
+                    Some(_) => String::new(),
+                    None => replay_line::of(&path, self),
+                };
+                (Some(look), replay + &compare_line(&path, recorder))
             }
             Err(error) => (None, not_written(&path, &error)),
         };

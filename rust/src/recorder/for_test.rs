@@ -61,6 +61,7 @@ impl Recorder {
     #[must_use = "dropped at once, it records nothing"]
     pub fn for_test(name: &str) -> ForTest {
         let recorder = Recorder::of_test(name);
+        recorder.0.go_on_past_limit();
         ForTest {
             saved: recorder.save_on_panic(name),
             _entered: recorder.enter(),

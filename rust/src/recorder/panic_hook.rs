@@ -1,6 +1,7 @@
 //! The hook that notes the panics of tests, and writes the files of a test where a panic ends the
 //! process.
 
+use super::flight::dump_on_panic;
 use super::test_run::{self, TestRun};
 use crate::lock::lock;
 use crate::program::Program;
@@ -29,6 +30,7 @@ pub(super) fn install() {
     }
     let before = panic::take_hook();
     panic::set_hook(Box::new(move |info| {
+        dump_on_panic(info, is_last(info));
         let mut ended = note(info);
         if cfg!(panic = "abort") && Program::this().target.is_test {
             ended.drain(..).for_each(Ended::print);

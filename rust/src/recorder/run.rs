@@ -3,13 +3,15 @@
 use super::Shared;
 use super::test_run::TestRun;
 use super::waiting::Waiting;
+use super::window_names::{self, Why};
+use super::windows::{Calls, Most, Windows};
 use crate::backend::{Actor, Cut, CutFault};
-use crate::channel::{CallSites, ChannelState};
+use crate::channel::{CallSites, ChannelState, KeptChannel};
 use crate::lock::{lock, try_lock_for};
 use crate::names::{HeldBy, Names, SourceLocation, WaitingCall};
 use crate::run;
 use crate::source::rw_law::NoMemory;
-use crate::wait::Awaited;
+use crate::wait::{Awaited, Wait};
 use std::collections::HashMap;
 use std::panic::Location;
 use std::path::Path;
@@ -95,6 +97,9 @@ impl RunSoFar<'_> {
 
     /// Returns what the channels have recorded up to now.
     fn recorded(&self) -> io::Result<run::Run> {
+        if self.shared.keeps_last() {
+            return self.window().map(|(run, _)| run);
+        }
         // Each call gets its number under its channel's lock. So once `cut` has locked a channel,
         // its calls before the cut are recorded.
         self.cut(self.shared.last()).map_err(|fault| {
@@ -131,6 +136,14 @@ impl RunSoFar<'_> {
         for (number, channel) in (0..).zip(&self.channels) {
             add_channel(&mut names, &mut indexes, number, &lock(channel));
         }
+        self.add_shared(&mut names, &mut indexes);
+        names.locations = indexes.locations;
+        names.waiting.sort_by_key(|wait| wait.since);
+        names
+    }
+
+    /// Adds what is known of all channels.
+    fn add_shared(&self, names: &mut Names, indexes: &mut Indexes) {
         let actors = lock(&self.shared.actors);
         names.actors = (0..).zip(actors.names()).collect();
         let first_calls = actors.first_calls().iter();
@@ -139,11 +152,59 @@ impl RunSoFar<'_> {
             .collect();
         names.matching.unnamed = actors.unnamed().clone();
         names.matching.is_quiet = self.shared.is_quiet();
-        names.locations = indexes.locations;
         names.ending.unrecorded = self.shared.unrecorded();
         names.ending.unrecorded.locked = self.locked;
-        names.waiting.sort_by_key(|wait| wait.since);
-        names
+    }
+
+    /// Returns the number of this channel with its copy, if the run has it.
+    pub(super) fn number_of(
+        &self,
+        (channel, kept): (Arc<Mutex<ChannelState>>, KeptChannel),
+    ) -> Option<(usize, KeptChannel)> {
+        let number = self
+            .channels
+            .iter()
+            .position(|it| Arc::ptr_eq(it, &channel))?;
+        Some((number, kept))
+    }
+
+    /// Copies the last calls of the channels. `own` is the copy of one of them, by its number, that
+    /// was made before.
+    pub(super) fn copied(&self, mut own: Option<(usize, KeptChannel)>) -> io::Result<Copied> {
+        let last = self.shared.last();
+        let mut channels = Vec::new();
+        let mut wanted = None;
+        for (number, channel) in self.channels.iter().enumerate() {
+            let kept = match own.take_if(|(own, _)| *own == number) {
+                Some((_, kept)) => {
+                    wanted = Some(channels.len());
+                    Some(kept)
+                }
+                None => lock(channel)
+                    .kept(self.shared.times)
+                    .map_err(|NoMemory| io::Error::other("no memory for the journal"))?,
+            };
+            channels.extend(kept);
+        }
+        let (mut names, mut indexes) = (Names::default(), Indexes::default());
+        self.add_shared(&mut names, &mut indexes);
+        Ok(Copied {
+            channels,
+            wanted,
+            last,
+            names,
+            indexes,
+        })
+    }
+
+    /// Returns the run of the last calls, and its names.
+    fn window(&self) -> io::Result<(run::Run, Names)> {
+        let copied = self.copied(None)?;
+        let (why, most) = match &self.shared.flight {
+            Some(_) => (Why::asked(), Most::of_dump(copied.channels.len(), None)),
+            None => (Why::past_limit(), Most::of_test()),
+        };
+        copied.into_run(why, most)
     }
 
     /// Returns the calls that wait, in the order in which they began to.
@@ -168,9 +229,8 @@ impl RunSoFar<'_> {
     /// Returns the recorded run, its journal text, and the names that belong to it. They are also
     /// about the test, if it is one of a test.
     pub(super) fn saved(&self, test: Option<&TestRun>) -> io::Result<Saved> {
-        let run = self.recorded()?;
+        let (run, mut names) = self.read()?;
         let journal = text_of(&run)?;
-        let mut names = self.names();
         if let Some(test) = test {
             test.add_to(&mut names);
         }
@@ -183,10 +243,18 @@ impl RunSoFar<'_> {
         })
     }
 
+    /// Returns the recorded run, and names that may be of calls after it too.
+    fn read(&self) -> io::Result<(run::Run, Names)> {
+        if self.shared.keeps_last() {
+            return self.window();
+        }
+        let run = self.recorded()?;
+        Ok((run, self.names()))
+    }
+
     /// Returns the recorded run with its names, without the texts of its files.
     pub(crate) fn with_names(&self) -> io::Result<(run::Run, Names)> {
-        let run = self.recorded()?;
-        let mut names = self.names();
+        let (run, mut names) = self.read()?;
         names.fit_to(&run, "");
         Ok((run, names))
     }
@@ -199,6 +267,35 @@ impl RunSoFar<'_> {
     }
 }
 
+/// The last calls of channels, and what is known of them all.
+pub(super) struct Copied {
+    pub(super) channels: Vec<KeptChannel>,
+    /// The channel that the dump is about, by its number.
+    pub(super) wanted: Option<usize>,
+    last: u64,
+    pub(super) names: Names,
+    indexes: Indexes,
+}
+
+impl Copied {
+    /// Makes a run of them, and its names. No channel is locked.
+    pub(super) fn into_run(mut self, why: Why, most: Most) -> io::Result<(run::Run, Names)> {
+        let (mut calls, mut noted) = (Vec::new(), Vec::new());
+        for channel in self.channels {
+            calls.push(Calls {
+                most_of_lead: channel.most_of_lead(),
+                kept: channel.calls,
+            });
+            noted.push(channel.noted);
+        }
+        let made = Windows::of(calls, self.last, most)?;
+        let channels = (&*noted, &made);
+        window_names::add(&mut self.names, &mut self.indexes, channels, why);
+        self.names.locations = self.indexes.locations;
+        Ok((made.run, self.names))
+    }
+}
+
 /// A recorded run, as its files have it.
 pub(crate) struct Saved {
     pub(crate) run: run::Run,
@@ -206,7 +303,7 @@ pub(crate) struct Saved {
     pub(crate) names: Names,
 }
 
-fn text_of(run: &run::Run) -> io::Result<String> {
+pub(super) fn text_of(run: &run::Run) -> io::Result<String> {
     let text = run.text();
     let text = text.map_err(|NoMemory| io::Error::other("no memory for the journal"))?;
     String::from_utf8(text).map_err(io::Error::other)
@@ -217,7 +314,7 @@ const RECENT: usize = 16;
 
 /// The locations of a run without repeats, and the index of each.
 #[derive(Default)]
-struct Indexes {
+pub(super) struct Indexes {
     locations: Vec<SourceLocation>,
     by_location: HashMap<&'static Location<'static>, usize>,
     // Some that were looked up last, by a part of their address.
@@ -225,7 +322,7 @@ struct Indexes {
 }
 
 impl Indexes {
-    fn of(&mut self, location: &'static Location<'static>) -> usize {
+    pub(super) fn of(&mut self, location: &'static Location<'static>) -> usize {
         let address = ptr::from_ref(location).addr() / align_of::<Location<'_>>();
         if let Some((recent, index)) = self.recent[address % RECENT] {
             if ptr::eq(recent, location) {
@@ -238,6 +335,28 @@ impl Indexes {
         });
         self.recent[address % RECENT] = Some((location, index));
         index
+    }
+
+    /// Describes a call that waits, by the numbers of its channel and handle.
+    pub(super) fn waiting(&mut self, wait: &Wait, channel: u64, handle: u64) -> WaitingCall {
+        let held_by = match wait.awaited {
+            Awaited::Value | Awaited::NoReceiver => None,
+            Awaited::Lock(look) => Some(HeldBy {
+                actor: look.map(|look| look.actor.number().into()),
+                location: look
+                    .and_then(|look| look.called_at)
+                    .map(|location| self.of(location)),
+            }),
+        };
+        WaitingCall {
+            actor: wait.actor.number().into(),
+            channel,
+            handle,
+            call: wait.method.name.to_string(),
+            since: wait.since,
+            location: wait.method.called_at.map(|location| self.of(location)),
+            held_by,
+        }
     }
 
     fn of_all(&mut self, sites: &CallSites) -> Vec<Option<usize>> {
@@ -280,23 +399,7 @@ fn add_channel(names: &mut Names, indexes: &mut Indexes, number: u64, channel: &
         names.calls.insert(number, calls);
     }
     let waits = channel.waits.items();
-    let waits = waits.map(|wait| WaitingCall {
-        actor: wait.actor.number().into(),
-        channel: number,
-        handle: channel.core.nth(wait.handle),
-        call: wait.method.name.to_string(),
-        since: wait.since,
-        location: wait.method.called_at.map(|location| indexes.of(location)),
-        held_by: match wait.awaited {
-            Awaited::Value | Awaited::NoReceiver => None,
-            Awaited::Lock(look) => Some(HeldBy {
-                actor: look.map(|look| look.actor.number().into()),
-                location: look
-                    .and_then(|look| look.called_at)
-                    .map(|location| indexes.of(location)),
-            }),
-        },
-    });
+    let waits = waits.map(|wait| indexes.waiting(wait, number, channel.core.nth(wait.handle)));
     names.waiting.extend(waits);
 }
 

@@ -1,5 +1,6 @@
 //! What the channels of a recorder share.
 
+use super::flight::Flight;
 use super::makers::Makers;
 use super::test_run::PATIENCE;
 use super::texts::Texts;
@@ -7,6 +8,7 @@ use crate::actors::{self, Actors};
 use crate::atomic::AtomicU64;
 use crate::backend::Actor;
 use crate::channel::{CallSite, ChannelState};
+use crate::clock::Times;
 use crate::explore::{self, Known};
 use crate::lock::{lock, try_lock_for};
 use crate::names::{Maker, Unrecorded};
@@ -23,6 +25,13 @@ const MOST_CHANNELS: usize = 64;
 /// The value of `end` while recording continues.
 const NEVER: u64 = u64::MAX;
 
+/// The value of `end` once each channel keeps its last calls alone.
+const GOES_ON: u64 = NEVER - 1;
+
+/// Where the clock of a flight recorder begins. It is more than the leads of all channels can have
+/// entries, and these have the stamps from 1 on. So a call has the same stamp in each dump.
+const FLIGHT_START: u64 = 64 * 1_048_576;
+
 static NEXT_ID: AtomicU64 = AtomicU64::new(1);
 
 /// Counts calls. Each gets a number under its channel's lock, and passes it to the core as its
@@ -35,6 +44,11 @@ pub(crate) struct Shared {
     pub(crate) id: u64,
     // Whether channels that are created under this recorder aren't recorded.
     pub(super) is_off: bool,
+    // Whether channels keep their last calls once one of them has as many as a journal takes.
+    may_go_on: AtomicBool,
+    // Of a recorder whose channels keep their last calls from their opening on.
+    pub(super) flight: Option<Flight>,
+    pub(crate) times: Times,
     clock: CallCounter,
     // Changes once, while the first channel's lock is held.
     has_several: AtomicBool,
@@ -80,6 +94,9 @@ impl Shared {
         Shared {
             id: NEXT_ID.fetch_add(1, Ordering::Relaxed),
             is_off,
+            may_go_on: AtomicBool::new(false),
+            flight: None,
+            times: Times::begin(),
             clock: CallCounter(AtomicU64::new(0)),
             has_several: AtomicBool::new(false),
             end: AtomicU64::new(NEVER),
@@ -92,6 +109,15 @@ impl Shared {
             makers: Mutex::default(),
             texts: Mutex::default(),
         }
+    }
+
+    /// Creates the shared part of a recorder whose channels each keep their last calls.
+    pub(super) fn flight(calls_per_channel: usize) -> Shared {
+        let mut shared = Shared::new(false);
+        shared.flight = Some(Flight::new(calls_per_channel));
+        shared.clock = CallCounter(AtomicU64::new(FLIGHT_START));
+        lock(&shared.actors).reserve_last();
+        shared
     }
 
     /// Creates the shared part of a recorder that replays the journal at this path.
@@ -189,10 +215,41 @@ impl Shared {
         now
     }
 
+    /// Whether a channel has recorded as many calls as a journal takes.
+    #[inline]
+    pub(crate) fn is_past_limit(&self) -> bool {
+        self.end.load(Ordering::SeqCst) != NEVER
+    }
+
     /// Whether the recording of all channels has ended.
     #[inline]
     pub(crate) fn has_ended(&self) -> bool {
-        self.end.load(Ordering::SeqCst) != NEVER
+        self.end.load(Ordering::SeqCst) < GOES_ON
+    }
+
+    /// Lets channels keep their last calls once one has as many as a journal takes.
+    pub(super) fn go_on_past_limit(&self) {
+        let is_fixed = self.gate.is_some() || explore::current().is_some();
+        self.may_go_on.store(!is_fixed, Ordering::Relaxed);
+    }
+
+    /// Whether channels may keep their last calls, where a journal has no room for all.
+    pub(crate) fn may_go_on(&self) -> bool {
+        self.may_go_on.load(Ordering::Relaxed) && !self.has_ended()
+    }
+
+    /// Says that channels keep their last calls alone from now on.
+    pub(crate) fn go_on(&self) {
+        if self.end.fetch_min(GOES_ON, Ordering::SeqCst) == NEVER {
+            eprintln!(
+                "yovanelum: a channel has recorded as many calls as a journal takes (1048576); from here on, the last calls of each channel are kept"
+            );
+        }
+    }
+
+    /// Whether the last calls of channels are kept, and not all.
+    pub(super) fn keeps_last(&self) -> bool {
+        self.flight.is_some() || self.end.load(Ordering::SeqCst) == GOES_ON
     }
 
     /// Returns the actor of a call that is made here in the source.
@@ -212,8 +269,9 @@ impl Shared {
         }
         let (actor, is_first_to_share) = lock(&self.actors).share();
         if is_first_to_share {
+            let most = actor.number() + 1;
             eprintln!(
-                "yovanelum: a journal names 64 actors; those who come later are recorded as the last one"
+                "yovanelum: a journal names {most} actors; those who come later are recorded as the last one"
             );
         }
         actor
@@ -269,7 +327,7 @@ impl Shared {
 
     /// Ends the recording of all channels. Calls with a stamp above this are not recorded.
     pub(crate) fn end_at(&self, last: u64) {
-        if self.end.fetch_min(last, Ordering::SeqCst) == NEVER {
+        if self.end.fetch_min(last, Ordering::SeqCst) >= GOES_ON {
             eprintln!(
                 "yovanelum: a channel has recorded as many calls as a journal takes (1048576); recording ended there, and calls go on unrecorded"
             );
@@ -283,6 +341,21 @@ impl Shared {
             &self.left_out.too_many_handles,
             "a channel has created as many handles as a journal names (65536); its recording ended there, and its calls go on unrecorded",
         );
+    }
+
+    /// Keeps the last calls of a new channel alone, if that is what the recorder does. Returns
+    /// `false` if there is no memory for it.
+    pub(crate) fn begin_flight(&self, channel: &mut ChannelState) -> bool {
+        let Some(flight) = &self.flight else {
+            return true;
+        };
+        let flies = channel.fly(flight.calls_per_channel, self.times).is_ok();
+        if !flies {
+            eprintln!(
+                "yovanelum: no memory for the last calls of a channel; it is recorded by none"
+            );
+        }
+        flies
     }
 
     /// Adds a channel to the run. If the run is full, the oldest dead channel leaves it. Returns

@@ -53,6 +53,40 @@ pub(crate) struct NotedPanic {
     since: u64,
 }
 
+impl NotedPanic {
+    /// Notes a panic of this thread, for a run of this recorder.
+    pub(super) fn of(info: &PanicHookInfo<'_>, recorder: &Shared) -> NotedPanic {
+        NotedPanic {
+            text: text_of(info),
+            location: info.location().map(SourceLocation::from),
+            actor: recorder.known_actor(PATIENCE),
+            since: recorder.last(),
+        }
+    }
+
+    /// Adds it to the names.
+    pub(super) fn add_to(&self, names: &mut Names) {
+        let location = self.location.as_ref();
+        let location = location.map(|location| names.index_of(location));
+        names.ending.panics.push(Panic {
+            text: self.text.clone(),
+            location,
+            actor: self.actor,
+            since: self.since,
+        });
+    }
+
+    /// Says who has panicked, and where.
+    pub(super) fn in_words(&self) -> String {
+        let thread = thread::current();
+        let name = thread.name().unwrap_or("a thread without a name");
+        match &self.location {
+            Some(at) => format!("{name} panicked at {}:{}: {}", at.file, at.line, self.text),
+            None => format!("{name} panicked: {}", self.text),
+        }
+    }
+}
+
 impl TestRun {
     /// Begins to note what happens to the test of this name, whose recorder is made on this thread.
     pub(super) fn start(recorder: &Arc<Shared>, name: &str) -> Arc<TestRun> {
@@ -85,12 +119,7 @@ impl TestRun {
         let Some(recorder) = self.recorder.upgrade() else {
             return;
         };
-        let panic = NotedPanic {
-            text: text_of(info),
-            location: info.location().map(SourceLocation::from),
-            actor: recorder.known_actor(PATIENCE),
-            since: recorder.last(),
-        };
+        let panic = NotedPanic::of(info, &recorder);
         if let Some(mut noted) = try_lock_for(&self.noted, PATIENCE) {
             noted.panics.truncate(MOST_PANICS - 1);
             noted.panics.push(panic);
@@ -137,14 +166,7 @@ impl TestRun {
             return;
         };
         for panic in &noted.panics {
-            let location = panic.location.as_ref();
-            let location = location.map(|location| names.index_of(location));
-            names.ending.panics.push(Panic {
-                text: panic.text.clone(),
-                location,
-                actor: panic.actor,
-                since: panic.since,
-            });
+            panic.add_to(names);
         }
         if let Some((since, location)) = &noted.returned {
             names.ending.returned = Some(Returned {

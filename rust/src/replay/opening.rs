@@ -41,7 +41,12 @@ pub(crate) fn open(path: &Path, recorder: u64) -> io::Result<Arc<Gate>> {
     let run = Run::read(&text).map_err(|fault| of_file(path, &run::said(fault)))?;
     let names = Names::beside(path, &text)
         .map_err(|fault| of_file(&path.with_extension("names"), &fault))?;
-    let plan = Plan::new(&run, names.map(|(names, _)| names).unwrap_or_default());
+    let names = names.map(|(names, _)| names).unwrap_or_default();
+    if names.window.is_some() {
+        let fault = "it has the last calls of a run alone, which can't be replayed";
+        return Err(of_file(path, &fault));
+    }
+    let plan = Plan::new(&run, names);
     let stop_at = stop::index(env::var(stop::STOP).ok(), plan.steps.len())?;
     let gate = Arc::new(Gate::new(path, recorder, plan, patience).stopping_at(stop_at));
     helper::start(&gate)?;

@@ -60,15 +60,13 @@ impl CoreChannel {
     }
 
     /// Takes the dropped handles out of a machine. The others have the numbers 0, 1, 2, .. there
-    /// from then on, in the order of those that they had. Returns `false` if there was no memory
-    /// for it, and nothing has changed.
-    pub(super) fn renumber(&mut self, number: usize) -> bool {
+    /// from then on, in the order of those that they had. Returns these, or `None` if there was no
+    /// memory for it, and nothing has changed.
+    pub(super) fn renumber(&mut self, number: usize) -> Option<Vec<u32>> {
         if !self.reserve_numbers() {
-            return false;
+            return None;
         }
-        let Some(before) = self.machine(number).core.renumber() else {
-            return false;
-        };
+        let before = self.machine(number).core.renumber()?;
         let may_end = self.further.is_empty() && self.numbers.may_be_of_machine(before.len());
         let have_moved = before
             .last()
@@ -84,7 +82,7 @@ impl CoreChannel {
             self.numbers.be_of_machine(alive, made);
             self.first.end_numbers();
         }
-        true
+        Some(before.iter().copied().collect())
     }
 
     /// Whether a machine can make a further handle, once its dropped ones are taken out if they are
@@ -101,7 +99,8 @@ impl CoreChannel {
     fn look_for_room(&mut self, number: usize) -> bool {
         self.end();
         let machine = self.machine(number);
-        machine.has_many_dropped() && self.renumber(number) || self.machine(number).set_next_look()
+        machine.has_many_dropped() && self.renumber(number).is_some()
+            || self.machine(number).set_next_look()
     }
 
     /// Returns the number of a machine that has room for a handle, and what creates it for those of

@@ -263,7 +263,7 @@ impl Pair {
         self.many.end();
         let number = self.random.below(self.many.further.len() + 1);
         let is_there = number == 0 || self.many.further[number - 1].is_some();
-        if is_there && self.many.renumber(number) {
+        if is_there && self.many.renumber(number).is_some() {
             self.renumbered += 1;
             self.as_in_machine += usize::from(!self.many.numbers.are_own());
         }

@@ -14,6 +14,7 @@ mod samples;
 mod seats;
 mod texts;
 mod waiting;
+mod windows;
 
 use std::env;
 use std::ops::Range;

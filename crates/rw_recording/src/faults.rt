@@ -1,0 +1,48 @@
+//! Why there is no window of a channel.
+
+use rw_journal::TakeFault;
+use rw_law::NoMemory;
+use thiserror::Error;
+
+/// Why there is no window of a channel.
+#[derive(Clone, Copy, Debug, PartialEq, Eq, Error)]
+pub enum WindowFault {
+    /// An allocation failed.
+    #[error("no memory")]
+    NoMemory,
+    /// The lead and the kept calls have more entries, handles or stamps than a journal may have.
+    #[error("the window is too long")]
+    TooLong,
+    /// A kept call has a stamp that doesn't come after those before it.
+    #[error("out of order")]
+    OutOfOrder,
+    /// A kept call is by a handle that had been dropped before the window begins.
+    #[error("a call by a handle that was dropped before")]
+    Dropped,
+    /// The lead doesn't lead to what the channel was like. It never happens, but no proof says so.
+    #[error("the lead misses the channel")]
+    Unlike,
+}
+
+impl From<NoMemory> for WindowFault {
+    ghost use Rattle.std.specs.Prelude.{◌≡◌};
+    ghost use Rattle.rw_recording.specs.declared.faults.WindowFault.{WindowFault};
+
+    ghost from_gives = { λ _ fault. fault ≡ WindowFault.NoMemory };
+
+    fn from(_error: NoMemory) -> WindowFault {
+        WindowFault::NoMemory
+    }
+}
+
+impl WindowFault {
+    /// Returns why a window isn't made if one of its calls isn't.
+    pub(crate) fn of(fault: TakeFault) -> WindowFault
+    {
+        match fault {
+            TakeFault::JournalFull => WindowFault::TooLong,
+            TakeFault::NoMemory => WindowFault::NoMemory,
+            TakeFault::Waits | TakeFault::NoChannel => WindowFault::Unlike,
+        }
+    }
+}

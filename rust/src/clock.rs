@@ -1,0 +1,43 @@
+//! What time it is, beside the stamps of calls, which say no more than their order.
+
+use crate::wait::now;
+use std::time::{Instant, SystemTime, UNIX_EPOCH};
+
+/// When a call was made.
+#[derive(Clone, Copy, Debug, PartialEq, Eq)]
+pub(crate) struct Moment {
+    /// The stamp of the call.
+    pub(crate) stamp: u64,
+    /// Milliseconds since 1970, of a clock that may be set.
+    pub(crate) wall: u64,
+    /// Microseconds since the recorder was created, of a clock that only goes on.
+    pub(crate) since_start: u64,
+}
+
+/// The clocks of a recorder.
+#[derive(Clone, Copy, Debug)]
+pub(crate) struct Times(Option<Instant>);
+
+impl Times {
+    /// The clocks of a recorder that is created now.
+    pub(crate) fn begin() -> Times {
+        Times(now())
+    }
+
+    /// Returns the time of a call with this stamp, which is made now, if there is a clock.
+    pub(crate) fn moment(self, stamp: u64) -> Option<Moment> {
+        let since_start = now()?.saturating_duration_since(self.0?);
+        Some(Moment {
+            stamp,
+            wall: wall()?,
+            since_start: since_start.as_micros() as u64,
+        })
+    }
+}
+
+/// Returns the milliseconds since 1970, if there is a clock.
+pub(crate) fn wall() -> Option<u64> {
+    now()?;
+    let since = SystemTime::now().duration_since(UNIX_EPOCH).ok()?;
+    Some(since.as_millis() as u64)
+}

@@ -1,0 +1,117 @@
+//! When dumps are written, and how many were.
+
+use super::dump::Dumps;
+use crate::atomic::AtomicU64;
+use crate::lock::lock;
+use crate::wait::now;
+use std::io;
+use std::path::{Path, PathBuf};
+use std::sync::Mutex;
+use std::sync::atomic::{AtomicBool, Ordering};
+use std::time::{Duration, Instant};
+
+/// What calls for dumps, and where they are written.
+pub(super) struct Settings {
+    folder: Option<PathBuf>,
+    pub(super) lag: Option<u64>,
+    pub(super) closed: Vec<String>,
+    pub(super) at_most_every: Duration,
+    pub(super) keep: usize,
+    // When the last dump was begun.
+    last: Option<Instant>,
+}
+
+/// The dumps of a recorder.
+pub(super) struct Dumping {
+    settings: Mutex<Settings>,
+    // Whether one is being written.
+    is_busy: AtomicBool,
+    written: AtomicU64,
+    failed: AtomicU64,
+    left_out: AtomicU64,
+}
+
+impl Default for Dumping {
+    fn default() -> Dumping {
+        Dumping {
+            settings: Mutex::new(Settings {
+                folder: None,
+                lag: None,
+                closed: Vec::new(),
+                at_most_every: Duration::from_secs(60),
+                keep: 16,
+                last: None,
+            }),
+            is_busy: AtomicBool::new(false),
+            written: AtomicU64::new(0),
+            failed: AtomicU64::new(0),
+            left_out: AtomicU64::new(0),
+        }
+    }
+}
+
+impl Dumping {
+    pub(super) fn set_folder(&self, folder: &Path) {
+        lock(&self.settings).folder = Some(folder.to_path_buf());
+    }
+
+    pub(super) fn set(&self, set: impl FnOnce(&mut Settings)) {
+        set(&mut lock(&self.settings));
+    }
+
+    /// Whether these settings call for a dump.
+    pub(super) fn are(&self, wanted: impl FnOnce(&Settings) -> bool) -> bool {
+        wanted(&lock(&self.settings))
+    }
+
+    /// Begins a dump, which `end` is to be told of. Returns its folder and how many are kept there.
+    ///
+    /// # Errors
+    ///
+    /// Returns why it isn't begun: there is no folder, another one is being written, or something
+    /// has triggered it too short a time after the last one.
+    pub(super) fn begin(&self, is_asked: bool) -> io::Result<(PathBuf, usize)> {
+        let mut settings = lock(&self.settings);
+        let Some(folder) = settings.folder.clone() else {
+            return self.fail(io::Error::other("it has no folder: `dump_to` sets one"));
+        };
+        let now = now();
+        let since = now.zip(settings.last).map(|(now, last)| now - last);
+        let is_near = since.is_some_and(|since| since < settings.at_most_every);
+        if is_near && !is_asked || self.is_busy.swap(true, Ordering::SeqCst) {
+            self.left_out.fetch_add(1, Ordering::Relaxed);
+            return Err(io::Error::new(
+                io::ErrorKind::WouldBlock,
+                "another dump of this recorder is being written",
+            ));
+        }
+        settings.last = now;
+        Ok((folder, settings.keep))
+    }
+
+    /// Ends a dump that was begun.
+    pub(super) fn end(&self) {
+        self.is_busy.store(false, Ordering::SeqCst);
+    }
+
+    /// Counts a dump that is written.
+    pub(super) fn count_written(&self) {
+        self.written.fetch_add(1, Ordering::Relaxed);
+    }
+
+    /// Counts a dump that has failed, and says why.
+    pub(super) fn fail<T>(&self, error: io::Error) -> io::Result<T> {
+        self.failed.fetch_add(1, Ordering::Relaxed);
+        eprintln!("yovanelum: a dump isn't written: {error}");
+        Err(error)
+    }
+
+    pub(super) fn counts(&self) -> Dumps {
+        let count = |count: &AtomicU64| count.load(Ordering::Relaxed);
+        Dumps {
+            written: count(&self.written),
+            failed: count(&self.failed),
+            left_out: count(&self.left_out),
+        }
+    }
+}

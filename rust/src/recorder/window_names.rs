@@ -1,0 +1,225 @@
+//! The names beside a journal that has the last calls of its channels.
+
+use super::run::Indexes;
+use super::windows::{MadeWindow, Windows};
+use crate::backend::{LEAD, MOST_ENTRIES, Window};
+use crate::channel::NotedChannel;
+use crate::clock::{Moment, wall};
+use crate::names::{ChannelWindow, Names, WindowNames};
+use crate::wait::Wait;
+use std::collections::BTreeMap;
+use std::iter;
+
+/// What the actor of leads is called.
+const BEFORE: &str = "before the window";
+
+/// What called for a journal of the last calls.
+#[derive(Clone, Debug)]
+pub(crate) struct Why {
+    pub(crate) trigger: &'static str,
+    pub(crate) reason: String,
+    /// In milliseconds since 1970.
+    pub(crate) at: Option<u64>,
+}
+
+impl Why {
+    /// Somebody has asked for the journal of a flight recorder.
+    pub(super) fn asked() -> Why {
+        Why {
+            trigger: "call",
+            reason: "the journal was asked for".to_string(),
+            at: wall(),
+        }
+    }
+
+    /// A test has recorded more than a journal takes.
+    pub(super) fn past_limit() -> Why {
+        Why {
+            trigger: "limit",
+            reason: format!(
+                "a channel had more calls than a journal takes ({MOST_ENTRIES}), so the beginning was dropped"
+            ),
+            at: wall(),
+        }
+    }
+}
+
+/// Adds what is known of the channels, whose windows these are, to the names of the recorder.
+pub(super) fn add(
+    names: &mut Names,
+    indexes: &mut Indexes,
+    (channels, made): (&[NotedChannel], &Windows),
+    why: Why,
+) {
+    let mut of_channels = Vec::new();
+    for (channel, made) in channels.iter().zip(&made.windows) {
+        let window = &made.window;
+        let number = of_channels.len() as u64;
+        let mut adding = Adding {
+            names,
+            indexes,
+            number,
+            channel,
+            made,
+            window,
+            real: real_handles(channel, window),
+        };
+        adding.add_names();
+        adding.add_calls();
+        adding.add_waits();
+        of_channels.push((number, adding.described()));
+    }
+    if made.lead > 0 {
+        let lead = LEAD.number().into();
+        names.actors.entry(lead).or_insert_with(|| BEFORE.into());
+    }
+    names.window = Some(WindowNames {
+        trigger: why.trigger.to_string(),
+        reason: why.reason,
+        at: why.at,
+        lead: made.lead,
+        channels: of_channels.into_iter().collect(),
+    });
+    names.times = times(channels);
+    raise(names, made);
+}
+
+/// Returns the number in the channel's table of each handle of the journal that isn't only in the
+/// lead.
+fn real_handles(channel: &NotedChannel, window: &Window) -> Vec<Option<u32>> {
+    let mut real = Vec::new();
+    for number in 0..channel.calls.handles.len() {
+        if let Some(in_journal) = window.number(number) {
+            let index = in_journal as usize;
+            real.resize(real.len().max(index + 1), None);
+            real[index] = Some(number);
+        }
+    }
+    real
+}
+
+/// Returns the times of calls, in the order of their stamps.
+fn times(channels: &[NotedChannel]) -> Vec<Moment> {
+    let moments = channels.iter().flat_map(|channel| &channel.calls.moments);
+    let mut moments: Vec<Moment> = moments.copied().collect();
+    moments.sort_by_key(|moment| moment.stamp);
+    moments.dedup_by_key(|moment| moment.stamp);
+    moments
+}
+
+/// Raises the stamps of the names as those of the calls are.
+fn raise(names: &mut Names, made: &Windows) {
+    let waits = names.waiting.iter_mut().map(|wait| &mut wait.since);
+    let panics = names.ending.panics.iter_mut();
+    let panics = panics.map(|panic| &mut panic.since);
+    let returned = names.ending.returned.iter_mut().map(|it| &mut it.since);
+    let times = names.times.iter_mut().map(|moment| &mut moment.stamp);
+    for stamp in waits.chain(panics).chain(returned).chain(times) {
+        *stamp = stamp.saturating_add(made.raised);
+    }
+    names.times.retain(|moment| moment.stamp <= made.last);
+    names.waiting.sort_by_key(|wait| wait.since);
+}
+
+/// Adds what is known of one channel.
+struct Adding<'a> {
+    names: &'a mut Names,
+    indexes: &'a mut Indexes,
+    number: u64,
+    channel: &'a NotedChannel,
+    made: &'a MadeWindow,
+    window: &'a Window,
+    // By the journal's numbers.
+    real: Vec<Option<u32>>,
+}
+
+impl Adding<'_> {
+    /// Adds the names of the channel and of its handles, where these were created, and the texts of
+    /// its values.
+    fn add_names(&mut self) {
+        let Adding {
+            names,
+            number,
+            channel,
+            ..
+        } = self;
+        let (number, handles) = (*number, &channel.calls.handles);
+        if let Some(name) = &channel.name {
+            names.channels.insert(number, name.clone());
+        }
+        if let Some(maker) = &channel.made_by {
+            names.matching.made_by.insert(number, maker.clone());
+        }
+        let texts = channel.calls.texts.iter();
+        let texts = texts.map(|(value, text)| (*value, text.to_string()));
+        let texts: BTreeMap<_, _> = texts.collect();
+        if !texts.is_empty() {
+            names.values.insert(number, texts);
+        }
+        let real = (0..).zip(&self.real);
+        let real = real.filter_map(|(in_journal, real)| Some((in_journal, (*real)?)));
+        let named = real.clone().filter_map(|(in_journal, real)| {
+            Some((in_journal, channel.name_of(handles.nth(real))?.clone()))
+        });
+        let named: BTreeMap<u64, String> = named.collect();
+        if !named.is_empty() {
+            names.handles.insert(number, named);
+        }
+        let made = real.filter_map(|(in_journal, real)| {
+            Some((in_journal, self.indexes.of(handles.made_at(real)?)))
+        });
+        names.made.insert(number, made.collect());
+    }
+
+    /// Adds where each call was made, and which ones have waited or were cancelled. The lead's were
+    /// made nowhere.
+    fn add_calls(&mut self) {
+        let (number, lead) = (self.number, self.window.lead());
+        let nowhere = iter::repeat_n(None, lead as usize);
+        let sites = self.channel.sites(self.made.calls);
+        let sites = sites.map(|site| site.map(|location| self.indexes.of(location)));
+        let calls: Vec<_> = nowhere.chain(sites).collect();
+        if !calls.is_empty() {
+            self.names.calls.insert(number, calls);
+        }
+        let before = self.channel.before(self.made.calls);
+        let entries = |indexes: &[u64]| -> Vec<u64> {
+            let kept = indexes.iter().filter_map(|index| index.checked_sub(before));
+            kept.map(|index| lead + index).collect()
+        };
+        let waited = entries(&self.channel.calls.waited);
+        if !waited.is_empty() {
+            self.names.matching.waited.insert(number, waited);
+        }
+        let cancelled = entries(&self.channel.calls.cancelled);
+        if !cancelled.is_empty() {
+            self.names.matching.cancelled.insert(number, cancelled);
+        }
+    }
+
+    fn add_waits(&mut self) {
+        let waits = self.channel.waits.iter();
+        let waits = waits.filter_map(|(handle, wait): &(u32, Wait)| {
+            let handle = self.window.number(*handle)?;
+            Some(self.indexes.waiting(wait, self.number, handle.into()))
+        });
+        self.names.waiting.extend(waits);
+    }
+
+    /// Returns how the window of the channel begins.
+    fn described(&self) -> ChannelWindow {
+        let handles = &self.channel.calls.handles;
+        let real = self.real.iter();
+        let lags = self.window.lags();
+        let lags = lags.filter_map(|(real, lag)| Some((self.window.number(real)?.into(), lag)));
+        ChannelWindow {
+            lead: self.window.lead(),
+            calls: self.channel.before(self.made.calls),
+            sent: (!self.channel.is_watch).then(|| self.made.sent),
+            handles: real
+                .map(|real| real.map(|real| handles.nth(real)))
+                .collect(),
+            lags: lags.collect(),
+        }
+    }
+}

@@ -1,0 +1,245 @@
+//! What calls for a dump, and what is written.
+
+use super::support::named::member;
+use super::support::temporary;
+use super::windows::{lead, times, trigger, windows};
+use std::path::{Path, PathBuf};
+use std::time::Duration;
+use std::{fs, panic, thread};
+use yovanelum::debugger::Walk;
+use yovanelum::{Recorder, broadcast, watch};
+
+/// A folder that isn't there.
+fn folder(name: &str) -> PathBuf {
+    let folder = temporary::path(name);
+    let _ = fs::remove_dir_all(&folder);
+    folder
+}
+
+/// Waits until so many dumps were written or have failed.
+fn wait_for(recorder: &Recorder, dumps: u64) {
+    while recorder.dumps().written() + recorder.dumps().failed() < dumps {
+        thread::yield_now();
+    }
+}
+
+/// Returns the journals of a folder in order, each with its names.
+fn dumps_in(folder: &Path) -> Vec<(String, String)> {
+    let files = fs::read_dir(folder)
+        .unwrap()
+        .map(|file| file.unwrap().path());
+    let mut journals: Vec<_> = files
+        .filter(|path| path.extension().is_some_and(|it| it == "journal"))
+        .collect();
+    journals.sort();
+    let read = |path: &Path| fs::read_to_string(path).unwrap();
+    journals
+        .iter()
+        .map(|path| (read(path), read(&path.with_extension("names"))))
+        .collect()
+}
+
+/// Sends until the receiver has lost so many values, and asks it.
+fn lag(tx: &broadcast::Sender<u64>, rx: &mut broadcast::Receiver<u64>, lost: u64) {
+    while rx.try_recv().is_ok() {}
+    for value in 0..lost + 4 {
+        tx.send(value).unwrap();
+    }
+    assert_eq!(
+        rx.try_recv(),
+        Err(broadcast::error::TryRecvError::Lagged(lost))
+    );
+}
+
+#[test]
+fn a_lag_calls_for_a_dump_if_it_is_great_enough() {
+    let folder = folder("flight-lag");
+    let recorder = Recorder::flight(10);
+    recorder
+        .dump_to(&folder)
+        .when_lag(50)
+        .at_most_every(Duration::ZERO);
+    let _entered = recorder.enter();
+    let (prices, mut chart) = broadcast::channel(4);
+    recorder.name(&prices, "prices").name(&chart, "chart");
+    lag(&prices, &mut chart, 49);
+    assert_eq!(recorder.dumps(), Default::default());
+    lag(&prices, &mut chart, 50);
+    wait_for(&recorder, 1);
+    let (journal, names) = dumps_in(&folder).pop().unwrap();
+    let walk = Walk::open(journal.as_bytes()).unwrap();
+    let last = walk.entry(walk.len()).unwrap();
+    assert_eq!((last.reply(), last.returned()), ("lagged", Some(50)));
+    assert_eq!(trigger(&names), "lag");
+    assert!(
+        member(&names, "window").contains("\"reason\": \"`chart` lost 50 values of `prices`\"")
+    );
+    // The time of the lag, and that of the dump.
+    let times = times(&names);
+    let stamps: Vec<_> = times.iter().map(|time| time[0]).collect();
+    assert_eq!(
+        stamps
+            .iter()
+            .filter(|stamp| **stamp == last.stamp())
+            .count(),
+        2,
+        "{stamps:?}"
+    );
+    fs::remove_dir_all(folder).unwrap();
+}
+
+#[test]
+fn a_close_and_a_panic_call_for_dumps() {
+    let folder = folder("flight-close");
+    let recorder = Recorder::flight(10);
+    let dumps = recorder.dump_to(&folder).when_closed("config").on_panic();
+    dumps.at_most_every(Duration::ZERO);
+    let entered = recorder.enter();
+    let (config, server) = watch::channel(0);
+    let (other, _rx) = watch::channel(0);
+    recorder.name(&config, "config").name(&other, "other");
+    drop(other);
+    assert_eq!(recorder.dumps(), Default::default());
+    config.send(1).unwrap();
+    drop(config);
+    wait_for(&recorder, 1);
+    let panicked = thread::Builder::new().name("server".into()).spawn(move || {
+        let _ = server.has_changed();
+        panic!("no config");
+    });
+    assert!(panicked.unwrap().join().is_err());
+    wait_for(&recorder, 2);
+    let dumps = dumps_in(&folder);
+    assert_eq!(
+        [trigger(&dumps[0].1), trigger(&dumps[1].1)],
+        ["close", "panic"]
+    );
+    assert!(dumps[0].0.ends_with(" drop 0 = dropped\nend\n"));
+    let names = &dumps[1].1;
+    assert!(member(names, "window").contains("\"reason\": \"server panicked at "));
+    assert!(member(names, "panics").starts_with("[{\"text\": \"no config\", "));
+    drop(entered);
+    fs::remove_dir_all(folder).unwrap();
+}
+
+#[test]
+fn dumps_are_not_too_near_and_not_too_many() {
+    let folder = folder("flight-many");
+    let recorder = Recorder::flight(10);
+    recorder.dump_to(&folder).when_lag(1).keep(2);
+    let _entered = recorder.enter();
+    let (prices, mut chart) = broadcast::channel(4);
+    lag(&prices, &mut chart, 1);
+    wait_for(&recorder, 1);
+    (0..3).for_each(|_| lag(&prices, &mut chart, 1));
+    let dumps = recorder.dumps();
+    assert_eq!(
+        (dumps.written(), dumps.failed(), dumps.left_out()),
+        (1, 0, 3)
+    );
+    // Those that are asked for are not limited.
+    for number in 0..3 {
+        let path = recorder.dump(&format!("try {number}")).wait().unwrap();
+        assert!(path.starts_with(&folder) && path.with_extension("names").exists());
+    }
+    let reasons: Vec<_> = dumps_in(&folder)
+        .into_iter()
+        .map(|(_, names)| names)
+        .collect();
+    assert_eq!(reasons.len(), 2);
+    assert!(reasons[0].contains("\"try 1\"") && reasons[1].contains("\"try 2\""));
+    fs::remove_dir_all(folder).unwrap();
+}
+
+#[test]
+fn a_dump_that_cannot_be_written_is_counted_and_the_service_goes_on() {
+    let folder = folder("flight-no-folder");
+    fs::write(&folder, "a file is in its place").unwrap();
+    let recorder = Recorder::flight(10);
+    recorder.dump_to(&folder).when_lag(1);
+    let _entered = recorder.enter();
+    let (prices, mut chart) = broadcast::channel(4);
+    lag(&prices, &mut chart, 1);
+    wait_for(&recorder, 1);
+    assert_eq!((recorder.dumps().failed(), chart.try_recv()), (1, Ok(1)));
+    fs::remove_file(folder).unwrap();
+}
+
+#[test]
+fn a_recorder_without_channels_has_no_dump() {
+    let recorder = Recorder::flight(10);
+    recorder.dump_to(folder("flight-nothing"));
+    let error = recorder.dump("a try").wait().unwrap_err();
+    assert_eq!(error.to_string(), "no channel is recorded");
+}
+
+#[test]
+#[should_panic(expected = "this recorder is no flight recorder")]
+fn other_recorders_have_no_dumps() {
+    Recorder::new().dump_to("dumps");
+}
+
+#[test]
+fn a_receiver_that_lags_far_and_is_not_asked_has_its_real_lag_in_the_names() {
+    let recorder = Recorder::flight(100);
+    let _entered = recorder.enter();
+    let (prices, mut chart) = broadcast::channel(4);
+    let audit = prices.subscribe();
+    recorder.name(&audit, "audit");
+    for price in 0..1_000_000 {
+        prices.send(price).unwrap();
+        assert_eq!(chart.try_recv(), Ok(price));
+    }
+    let names = recorder.names();
+    let window = &windows(&names)[0];
+    assert!(lead(&names) < 20);
+    let (receiver, lag) = window.lags.iter().next().unwrap();
+    assert_eq!(window.handles[*receiver as usize], Some(2));
+    assert_eq!(*lag, window.sent.unwrap() - 4);
+    // If it is asked, the window begins behind that call, since the lead would be too long.
+    let mut audit = audit;
+    assert!(audit.try_recv().is_err());
+    prices.send(7).unwrap();
+    let journal = recorder.journal().unwrap();
+    let calls = journal
+        .lines()
+        .filter(|line| line.contains(" = ") && !line.contains(" 63 0 "));
+    assert_eq!(calls.count(), 1);
+}
+
+#[test]
+fn the_busiest_channels_have_fewer_calls_in_a_dump_of_many() {
+    let folder = folder("flight-share");
+    let recorder = Recorder::flight(100_000);
+    recorder.dump_to(&folder);
+    let _entered = recorder.enter();
+    let quiet = broadcast::channel(4);
+    let busy: Vec<_> = (0..12).map(|_| broadcast::channel(4)).collect();
+    quiet.0.send(0).unwrap();
+    for value in 0..100_000 {
+        for (tx, _) in &busy {
+            tx.send(value).unwrap();
+        }
+    }
+    let path = recorder.dump("asked for").wait().unwrap();
+    let journal = fs::read_to_string(path).unwrap();
+    let entries = journal.lines().filter(|line| line.contains(" = ")).count();
+    assert!((900_000..=1_000_000).contains(&entries), "{entries}");
+    Walk::open(journal.as_bytes()).unwrap();
+    fs::remove_dir_all(folder).unwrap();
+}
+
+#[test]
+fn a_panic_in_the_closure_of_a_lag_goes_on_and_the_dump_is_written() {
+    let folder = folder("flight-closure");
+    let recorder = Recorder::flight(10);
+    recorder.dump_to(&folder).when_lag(1);
+    recorder.on_lag(|lag| panic!("{lag}"));
+    let _entered = recorder.enter();
+    let (prices, mut chart) = broadcast::channel(4);
+    let lags = || lag(&prices, &mut chart, 1);
+    assert!(panic::catch_unwind(panic::AssertUnwindSafe(lags)).is_err());
+    wait_for(&recorder, 1);
+    assert_eq!(recorder.dumps().written(), 1);
+    fs::remove_dir_all(folder).unwrap();
+}

@@ -1,0 +1,246 @@
+//! What a flight recorder keeps: the last calls of each channel, with where they were made, the
+//! names and texts of what they are about, and when they were.
+
+use super::support::named::{call_lines, member};
+use super::windows::{lead, texts, times, trigger, windows};
+use std::thread;
+use yovanelum::debugger::Walk;
+use yovanelum::{Recorder, block_on, broadcast, named, watch};
+
+#[test]
+fn a_channel_keeps_at_least_so_many_calls_and_at_most_twice_as_many() {
+    let recorder = Recorder::flight(100);
+    let _entered = recorder.enter();
+    let (prices, mut chart) = broadcast::channel(4);
+    for calls in (2..1000).step_by(2) {
+        prices.send(calls).unwrap();
+        assert_eq!(chart.try_recv(), Ok(calls));
+        assert!((calls.min(100)..=calls.min(200)).contains(&recorder.len()));
+    }
+}
+
+#[test]
+fn a_short_run_has_no_lead() {
+    let recorder = Recorder::flight(100);
+    let _entered = recorder.enter();
+    let (prices, mut chart) = broadcast::channel(2);
+    for price in [101, 102, 103] {
+        prices.send(price).unwrap();
+    }
+    assert!(chart.try_recv().is_err());
+    let journal = recorder.journal().unwrap();
+    let calls: Vec<_> = journal
+        .lines()
+        .filter_map(|line| line.split_once(" 0 0 "))
+        .collect();
+    let stamps: Vec<u64> = calls
+        .iter()
+        .map(|(stamp, _)| stamp.parse().unwrap())
+        .collect();
+    assert_eq!(stamps, [67_108_865, 67_108_866, 67_108_867, 67_108_868]);
+    assert_eq!(calls[3].1, "try-recv 1 = lagged 1");
+    let names = recorder.names();
+    assert_eq!((lead(&names), trigger(&names)), (0, "call"));
+    let window = &windows(&names)[0];
+    assert_eq!(
+        (window.calls, window.sent, &*window.handles),
+        (0, Some(0), &[Some(0), Some(1)][..])
+    );
+    assert!(!names.contains("before the window"));
+}
+
+#[test]
+fn names_and_texts_are_those_of_what_the_journal_has() {
+    let recorder = Recorder::flight(4);
+    let _entered = recorder.enter();
+    let (prices, chart) = broadcast::channel(2);
+    recorder
+        .name(&prices, "prices")
+        .name(&chart, "chart")
+        .show(&prices, |price| format!("{price} EUR"));
+    for connection in 0..100 {
+        recorder.name(&prices.subscribe(), &format!("connection {connection}"));
+    }
+    let mut audit = prices.subscribe();
+    recorder.name(&audit, "audit");
+    for price in 0..100 {
+        prices.send(price).unwrap();
+        let _ = audit.try_recv();
+    }
+    recorder.name(&prices.subscribe(), "the last connection");
+    let (journal, names) = (recorder.journal().unwrap(), recorder.names());
+    let window = &windows(&names)[0];
+    // Of the 101 that were dropped, the journal has the last one.
+    let named = member(&names, "handles")
+        .trim_start_matches("{\"0\": ")
+        .trim_end_matches('}');
+    let named = texts(named);
+    let of = |name: &str| {
+        let found = named.iter().find(|(_, named)| *named == name);
+        window.handles[*found.unwrap().0 as usize]
+    };
+    assert_eq!(named.len(), 3);
+    assert_eq!(
+        [of("chart"), of("audit"), of("the last connection")],
+        [Some(1), Some(102), Some(103)]
+    );
+    // The channel retains two values before the window.
+    let values = member(&names, "values")
+        .trim_start_matches("{\"0\": ")
+        .trim_end_matches('}');
+    let values = texts(values);
+    let sends = journal
+        .lines()
+        .filter(|line| !line.contains(" 63 0 ") && line.contains(" send "));
+    let first: u64 = sends
+        .clone()
+        .next()
+        .unwrap()
+        .split(' ')
+        .nth(5)
+        .unwrap()
+        .parse()
+        .unwrap();
+    assert!(values.contains_key(&(first - 1)) && values.contains_key(&(first - 2)));
+    assert_eq!(values[&99], "99 EUR");
+    assert!(values.len() < 16, "{values:?}");
+    assert_eq!(texts(member(&names, "actors"))[&63], "before the window");
+}
+
+#[test]
+fn each_call_has_its_place_and_the_lead_has_none() {
+    let recorder = Recorder::flight(3);
+    let _entered = recorder.enter();
+    let (config, mut server) = watch::channel(0);
+    for version in 1..20 {
+        config.send(version).unwrap();
+        assert_eq!(*server.borrow_and_update(), version);
+    }
+    let sent_at = line!() + 1;
+    config.send(20).unwrap();
+    let names = recorder.names();
+    let lead = lead(&names);
+    let lines = call_lines(&names, 0, file!());
+    assert!(lead > 0 && lines[..lead as usize].iter().all(Option::is_none));
+    assert!(lines[lead as usize..].iter().all(Option::is_some));
+    assert_eq!(lines.last(), Some(&Some(sent_at)));
+}
+
+#[test]
+fn when_a_table_of_handles_is_full_the_window_begins_again() {
+    let recorder = Recorder::flight(1_000);
+    let _entered = recorder.enter();
+    let (prices, mut chart) = broadcast::channel(4);
+    recorder.name(&prices, "prices").name(&chart, "chart");
+    let mut least = u64::MAX;
+    for connection in 0..150_000 {
+        drop(prices.subscribe());
+        if connection > 1_000 {
+            least = least.min(recorder.len());
+        }
+    }
+    assert!(least < 10, "{least}");
+    prices.send(7).unwrap();
+    assert_eq!(chart.try_recv(), Ok(7));
+    let mut late = prices.subscribe();
+    assert!(late.try_recv().is_err());
+    let (journal, names) = (recorder.journal().unwrap(), recorder.names());
+    let mut walk = Walk::open(journal.as_bytes()).unwrap();
+    let end = walk.len();
+    walk.go_to(end);
+    let window = &windows(&names)[0];
+    let alive: Vec<_> = walk
+        .channel(0)
+        .unwrap()
+        .receivers()
+        .map(|it| window.handles[it as usize])
+        .collect();
+    assert_eq!(alive, [Some(1), Some(150_002)]);
+    assert!(window.calls > 250_000);
+    assert_eq!(
+        recorder.snapshot().channels()[0].receivers()[1].name(),
+        "receiver 150002"
+    );
+    assert!(member(&names, "handles").contains("\"chart\""));
+}
+
+#[test]
+fn a_channel_of_which_nearly_all_handles_are_alive_is_recorded_no_longer() {
+    let recorder = Recorder::flight(1_000);
+    let _entered = recorder.enter();
+    let (orders, _mailer) = broadcast::channel(4);
+    let (prices, mut chart) = broadcast::channel(4);
+    recorder.name(&orders, "orders").name(&prices, "prices");
+    let mut all: Vec<_> = (0..70_000).map(|_| prices.subscribe()).collect();
+    prices.send(7).unwrap();
+    assert_eq!((chart.try_recv(), all[69_999].try_recv()), (Ok(7), Ok(7)));
+    orders.send(8).unwrap();
+    let names = recorder.names();
+    assert_eq!(member(&names, "channels"), "{\"0\": \"orders\"}");
+    assert!(member(&names, "unrecorded").contains("\"handles\": 1"));
+    drop(all);
+    prices.send(9).unwrap();
+    assert_eq!(chart.try_recv(), Ok(9));
+}
+
+#[test]
+fn sixty_three_callers_have_numbers() {
+    let recorder = Recorder::flight(1_000);
+    let _entered = recorder.enter();
+    let (prices, _chart) = broadcast::channel(4);
+    let mut waits = Vec::new();
+    for number in 0..70 {
+        let mut rx = prices.subscribe();
+        let mut task = Box::pin(named(
+            &format!("task {number}"),
+            async move { rx.recv().await },
+        ));
+        assert!(super::support::poll_once(task.as_mut()).is_none());
+        waits.push(task);
+    }
+    prices.send(7).unwrap();
+    for task in waits {
+        block_on(task).unwrap();
+    }
+    let actors = texts(member(&recorder.names(), "actors"));
+    assert_eq!(*actors.keys().max().unwrap(), 62);
+    assert!(actors[&62].ends_with("others"), "{}", actors[&62]);
+}
+
+#[test]
+fn times_rise_with_the_stamps() {
+    let recorder = Recorder::flight(3_000);
+    let _entered = recorder.enter();
+    let (prices, mut chart) = broadcast::channel(4);
+    for price in 0..10_000 {
+        prices.send(price).unwrap();
+        assert_eq!(chart.try_recv(), Ok(price));
+    }
+    // Two chunks at most, each with its first call and two more.
+    let times = times(&recorder.names());
+    assert!((3..=6).contains(&times.len()), "{times:?}");
+    for pair in times.windows(2) {
+        assert!(pair[0][0] < pair[1][0] && pair[0][2] <= pair[1][2]);
+    }
+}
+
+#[test]
+fn calls_of_several_threads_are_in_their_order() {
+    let recorder = Recorder::flight(500);
+    let _entered = recorder.enter();
+    let channels: Vec<_> = (0..4).map(|_| broadcast::channel(16)).collect();
+    thread::scope(|scope| {
+        for (tx, mut rx) in channels {
+            scope.spawn(move || {
+                for value in 0..5_000 {
+                    tx.send(value).unwrap();
+                    rx.try_recv().unwrap();
+                }
+            });
+        }
+        for _ in 0..20 {
+            let journal = recorder.journal().unwrap();
+            Walk::open(journal.as_bytes()).unwrap();
+        }
+    });
+}

@@ -1,0 +1,237 @@
+//! Windows of channels beside a plain list of all their calls.
+
+use crate::seeds;
+use proved::Global;
+use proved::rw_law::Reversible;
+use proved::rw_recording::{
+    BCall, BReply, ChanCall, ChanReply, Cut, Flight, Kind, Recording, RunReader, Spec, TakeFault,
+    WCall, WReply, Window, WindowFault,
+};
+use proved::rw_world::{Chan, open_channel};
+use support::Random;
+use support::fixtures::{to_broadcast, to_watch};
+
+/// How many calls of a channel are tried.
+const CALLS: usize = 500;
+
+/// A call that was made: its actor, its stamp, the call and its reply.
+type Made = (u32, u64, ChanCall<u64>, ChanReply<u64>);
+
+/// A channel with its last calls, and the same channel with a plain list of the calls since its handles were numbered anew.
+struct Played {
+    flight: Flight,
+    plain: Chan<u64>,
+    all: Vec<Made>,
+    last: u64,
+}
+
+/// What the windows of a storm were.
+#[derive(Default)]
+struct Told {
+    windows: u64,
+    entries: u64,
+    dropped: u64,
+    dozing: u64,
+}
+
+fn any_call(random: &mut Random, is_watch: bool, handles: usize) -> ChanCall<u64> {
+    let (kind, handle) = (random.any(), random.below(handles) as u32);
+    let value = random.any() % 100;
+    if is_watch {
+        ChanCall::W(to_watch(kind, handle, value))
+    } else if random.below(4) == 0 {
+        ChanCall::B(BCall::Send(handle, value))
+    } else {
+        ChanCall::B(to_broadcast(kind, handle, value))
+    }
+}
+
+/// Whether the handle can be used.
+fn is_live(channel: &Chan<u64>, handle: u32) -> bool {
+    match channel {
+        Chan::Broadcast(machine) => machine.kind(handle).is_some(),
+        Chan::Watch(machine) => machine.kind(handle).is_some(),
+    }
+}
+
+fn make(channel: &mut Chan<u64>, call: &ChanCall<u64>) -> ChanReply<u64> {
+    channel.ready(1).unwrap();
+    channel.apply(call).0
+}
+
+impl Played {
+    fn open(spec: Spec<u64>, chunk: usize) -> Played {
+        Played {
+            flight: Flight::open(Global, spec, chunk).unwrap(),
+            plain: open_channel(Global, &spec).unwrap(),
+            all: Vec::new(),
+            last: 0,
+        }
+    }
+
+    fn call(&mut self, random: &mut Random) {
+        let is_watch = matches!(self.plain, Chan::Watch(_));
+        let handles = self.plain.made() as usize + 1;
+        let mut call = any_call(random, is_watch, handles);
+        // Most calls are by live handles, as those of programs are. Handles are seldom dropped while there are few.
+        while (!is_live(&self.plain, call.handle()) && random.below(200) != 0)
+            || (is_drop(&call) && random.below(2) == 0)
+        {
+            call = any_call(random, is_watch, handles);
+        }
+        let (actor, clock) = (random.below(64) as u32, random.any() % 1_000);
+        let reply = make(&mut self.plain, &call);
+        match self.flight.call(actor, clock, call) {
+            Ok(got) => {
+                assert_eq!(got, reply);
+                self.last = 1 + clock.max(self.last);
+                self.all.push((actor, self.last, call, reply));
+            }
+            Err(fault) => {
+                assert_eq!(fault, TakeFault::Waits);
+                assert!(Chan::<u64>::waits(&reply));
+            }
+        }
+    }
+
+    fn renumber(&mut self) {
+        let before = self.flight.renumber(Global).unwrap().unwrap();
+        let plain = self.plain.renumber(Global).unwrap();
+        assert!(before == plain);
+        assert_eq!((self.flight.len(), self.flight.dropped()), (0, 0));
+        self.all.clear();
+    }
+
+    /// Makes a window of the last calls, and compares it with them.
+    fn window(&self, random: &mut Random, told: &mut Told) {
+        let mut kept = self.flight.kept(Global).unwrap();
+        assert_eq!(kept.len() + kept.dropped(), self.all.len() as u64);
+        let most = random.any() % 12;
+        kept.settle(Global, most).unwrap();
+        if random.below(3) == 0 {
+            kept.skip(Global, random.any() % 20).unwrap();
+        }
+        let dropped = kept.dropped() as usize;
+        let made = &self.all[dropped..];
+        assert_eq!(kept.len(), made.len() as u64);
+        assert_eq!(kept.first_stamp(), made.first().map(|made| made.1));
+        let spec = self.flight.spec();
+        let clock = random.any() % 10;
+        let lead = kept.lead(Global, 63, clock).unwrap();
+        let raised = lead.last_stamp();
+        let length = lead.len();
+        match lead.play(raised) {
+            Ok(window) => {
+                assert_eq!(window.lead(), length);
+                told.windows += 1;
+                told.entries += window.recording().len();
+                told.dozing += window.dozing().len() as u64;
+                compare(spec, &window, made, (clock, raised), most);
+                compare_state(&window, &self.flight, self.plain.made());
+            }
+            Err(fault) => {
+                assert_eq!(fault, WindowFault::Dropped);
+                told.dropped += 1;
+            }
+        }
+    }
+}
+
+fn is_drop(call: &ChanCall<u64>) -> bool {
+    matches!(
+        call,
+        ChanCall::B(BCall::DropHandle(_)) | ChanCall::W(WCall::DropHandle(_))
+    )
+}
+
+/// The reply with the number that a new handle has in the journal.
+fn renamed(window: &Window, reply: ChanReply<u64>) -> ChanReply<u64> {
+    match reply {
+        ChanReply::B(BReply::New(handle)) => {
+            ChanReply::B(BReply::New(window.number(handle).unwrap()))
+        }
+        ChanReply::W(WReply::New(handle)) => {
+            ChanReply::W(WReply::New(window.number(handle).unwrap()))
+        }
+        other => other,
+    }
+}
+
+/// Compares the text of a window's run with the calls.
+fn compare(spec: Spec<u64>, window: &Window, made: &[Made], stamps: (u64, u64), most: u64) {
+    let (clock, raised) = stamps;
+    let mut cut = Cut::new(Global);
+    cut.add(Global, window.recording(), u64::MAX).unwrap();
+    let text = cut.text(Global).unwrap();
+    let mut reader = RunReader::read(Global, &text).unwrap();
+    let handles = made.iter().filter(|made| made.2.makes()).count();
+    let bound = 2 * 8 + most + 3 + 2 * (handles as u64 + 600);
+    assert!(window.lead() <= bound, "{spec:?} {}", window.lead());
+    for place in 0..window.lead() {
+        let entry = reader.next_call().unwrap();
+        assert_eq!((entry.actor, entry.stamp), (63, clock + place + 1));
+    }
+    for (actor, stamp, call, reply) in made {
+        let entry = reader.next_call().unwrap();
+        let number = window.number(call.handle()).unwrap();
+        assert_eq!((entry.actor, entry.stamp), (*actor, stamp + raised));
+        assert_eq!(entry.call.call, call.with_handle(number));
+        assert_eq!(entry.reply, renamed(window, *reply), "{spec:?} {call:?}");
+    }
+    assert!(reader.next_call().is_none());
+}
+
+/// Compares what the window shows at its end with the channel.
+fn compare_state(window: &Window, flight: &Flight, handles: u32) {
+    let recording: &Recording = window.recording();
+    for kind in [Kind::Sender, Kind::Receiver, Kind::Weak] {
+        assert_eq!(recording.alive(kind), flight.alive(kind));
+    }
+    assert_eq!(recording.queued(), flight.queued());
+    let is_dozing = |handle| window.dozing().iter().any(|it| it.receiver == handle);
+    for handle in 0..handles {
+        let number = window.number(handle);
+        assert!(number.is_some() || flight.position(handle).is_none());
+        let Some(number) = number else { continue };
+        assert_eq!(recording.is_seen(number), flight.is_seen(handle));
+        if !is_dozing(handle) {
+            assert_eq!(recording.unread(number), flight.unread(handle));
+            let before = |position| position + window.sent_before();
+            let position = recording.position(number).map(before);
+            assert_eq!(position, flight.position(handle));
+        }
+    }
+}
+
+/// Plays one channel, and makes windows of it at random places.
+fn play(random: &mut Random, spec: Spec<u64>, told: &mut Told) {
+    let chunk = 1 + random.below(60);
+    let mut played = Played::open(spec, chunk);
+    for _ in 0..CALLS {
+        played.call(random);
+        if random.below(8) == 0 {
+            played.window(random, told);
+        }
+        if random.below(300) == 0 {
+            played.renumber();
+        }
+    }
+}
+
+#[test]
+fn windows_have_the_last_calls() {
+    let mut told = Told::default();
+    for seed in seeds() {
+        let mut random = Random::new(seed);
+        for capacity in 1..=8 {
+            play(&mut random, Spec::Broadcast(capacity), &mut told);
+        }
+        for value in 0..4 {
+            play(&mut random, Spec::Watch(value), &mut told);
+        }
+    }
+    println!(
+        "{} windows, {} entries, {} with calls by handles dropped before, {} dozing",
+        told.windows, told.entries, told.dropped, told.dozing
+    );
+}
