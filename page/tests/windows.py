@@ -184,13 +184,13 @@ def losses_in_window(whole, *, cut, made, places, **_):
     """The losses of a whole run that didn't end before a call, by the places of the window and the real numbers of receivers."""
     back = dict(zip(places, range(made["window"]["lead"] + 1, 10 ** 9)))
     those = [it for it in whole["losses"] if it["to"] is None or it["to"] > cut]
-    return sorted((it["channel"], it["receiver"], "before" if it["from"] <= cut else back[it["from"]], back.get(it["to"], "open"), it["lost"]) for it in those)
+    return sorted(((it["channel"], it["receiver"], "before" if it["from"] <= cut else back[it["from"]], back.get(it["to"], "open"), it["lost"]) for it in those), key=str)
 
 
 def losses_told(account, made):
     window = made["window"]
     real = lambda it: window["channels"][str(it["channel"])]["handles"][it["receiver"]]
-    return sorted((it["channel"], real(it), "before" if it["from"] <= window["lead"] else it["from"], it["to"] or "open", it["lost"]) for it in account["losses"])
+    return sorted(((it["channel"], real(it), "before" if it["from"] <= window["lead"] else it["from"], it["to"] or "open", it["lost"]) for it in account["losses"]), key=str)
 
 
 def window_as_why_says(tab, folder, journals):

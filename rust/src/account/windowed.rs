@@ -48,7 +48,7 @@ fn a_loss_that_began_before_the_window_is_told_with_what_is_known() {
     let window = found.window.as_ref().unwrap();
     let wanted = "dump of 2026-11-29 03:12:45.120 UTC: `audit` lost 84 values of `prices`; calls 82 to 101; 1 to 81 lead to the window";
     assert_eq!(window.text, wanted);
-    assert_eq!(found.unknown, ["9999881 calls were made before the window"]);
+    assert_eq!(found.unknown, ["9999881 calls came before the window"]);
     assert_eq!((found.look, found.nothing.as_ref()), (101, None));
 }
 
@@ -135,7 +135,7 @@ fn what_the_lead_has_is_none_of_the_run() {
     let names = names(8, bus, state, "");
     let found = account(&["broadcast 1", "watch 0"], &entries, &names);
     assert_eq!(heads(&found), Vec::<&str>::new());
-    assert_eq!(found.unknown, ["1 call was made before the window"]);
+    assert_eq!(found.unknown, ["1 call came before the window"]);
     let nothing = "nothing was found in 3 calls on 2 channels";
     assert_eq!(found.nothing.as_deref(), Some(nothing));
     assert!(found.to_json().contains("\"losses\": [],"));
